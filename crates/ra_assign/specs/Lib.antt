@@ -1,0 +1,4 @@
+pub mod Answers
+pub mod ClosedLists
+pub mod Lists
+pub mod Reading

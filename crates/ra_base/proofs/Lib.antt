@@ -1,0 +1,9 @@
+pub mod Sums
+pub mod Counts
+pub mod Named
+pub mod Greatest
+pub mod Searches
+pub mod ListLaws
+pub mod Picks
+pub mod Least
+pub mod Tables

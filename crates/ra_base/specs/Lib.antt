@@ -1,0 +1,4 @@
+pub mod Listed
+pub mod Searches
+pub mod Sums
+pub mod Tables

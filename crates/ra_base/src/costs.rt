@@ -1,0 +1,29 @@
+use crate::ids::Service;
+
+/// The five parts of the cost of an assignment, each multiplied by its weight, and their sum.
+#[derive(Clone, Copy, Debug, PartialEq, Eq)]
+pub struct Parts {
+    /// Use above the safety capacities.
+    pub load: u128,
+    /// Want of one available resource beside another.
+    pub balance: u128,
+    /// Moves of processes.
+    pub process: u128,
+    /// The greatest number of moved processes of one service.
+    pub service: u128,
+    /// Ways from machine to machine.
+    pub machine: u128,
+    /// The sum of the five.
+    pub total: u128,
+}
+
+/// How many processes of a service aren't on their initial machine, before and after a move.
+#[derive(Clone, Copy, Debug, PartialEq, Eq)]
+pub struct MovedCount {
+    /// The service.
+    pub service: Service,
+    /// The number before the move.
+    pub before: u32,
+    /// The number after the move.
+    pub after: u32,
+}

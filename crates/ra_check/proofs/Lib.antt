@@ -1,0 +1,11 @@
+pub mod CapacityLaws
+pub mod ClosedLaws
+pub mod CostLaws
+pub mod MovedLaws
+pub mod SampleLaws
+pub mod TableLaws
+pub mod TransientLaws
+pub mod StampLemmas
+pub mod ConflictLemmas
+pub mod SpreadLemmas
+pub mod DependencyLemmas

@@ -1,0 +1,5 @@
+-- The ledger is the one of the blank that is handed in.
+use Rattle.ra_check.proofs.transient.broken_transient.Given as goal
+
+abbrev pub ghosts-sum_transient : goal.ghosts-sum_transient
+ghosts-sum_transient a = record { name = a.blank.name; parts = a.blank.parts }

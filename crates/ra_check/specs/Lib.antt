@@ -1,0 +1,4 @@
+pub mod Made
+pub mod Stands
+pub mod Services
+pub mod Stamps

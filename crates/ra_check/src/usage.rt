@@ -1,0 +1,118 @@
+ghost use Rattle.std.specs.Prelude.{◌≡◌, ◌*◌, ◌^◌, ◌<◌, List, length};
+ghost use Rattle.ra_base.specs.declared.ids.Machine.{Machine};
+ghost use Rattle.ra_model.specs.Numbers.{resource_count, machine_count, process_count};
+ghost use Rattle.ra_model.specs.Assignments.{IsAssignment, machine_at};
+ghost use Rattle.ra_model.specs.Usage.{use_share, transient_share};
+ghost use Rattle.ra_check.specs.Stands.{IsUsage, IsTransientUse, AddsShare, IsBelow};
+
+use crate::cells::add_to_cell;
+use crate::scratch::fill;
+use ra_base::{Assignment, Fixed, Machine, Process, Resource, Steps};
+use ra_model::Instance;
+use std::sync::ledger::{Blank, Ledger};
+
+/// Writes the use of each machine's resources into a table, whatever stands in it.
+pub(crate) fn sum_usage<L: Ledger>(
+    inst: &Instance,
+    a: &Assignment,
+    table: &mut Fixed<u64>,
+    blank: Blank,
+)
+    requires name { blank.name ≡ L.name }
+    requires parts { blank.parts ≡ L.parts }
+    requires some { 0 < blank.parts }
+    requires fits { IsAssignment inst.now.tables a.now.items }
+    requires grid { length table.old.items ≡ machine_count inst.now.tables * resource_count inst.now.tables }
+    ensures sums { IsUsage inst.now.tables a.now.items table.new.items }
+    ensures grid { length table.new.items ≡ machine_count inst.now.tables * resource_count inst.now.tables }
+{
+    let mut steps = Steps::<L>::make(blank);
+    let cells = table.len();
+    fill(table, cells, 0);
+    for p in 0..inst.processes() {
+        let at = machine_of(a, p);
+        add_row(inst, Process(p), at, table, &mut steps);
+    }
+}
+
+/// Writes the transient use of each machine's resources into a table, whatever stands in it.
+pub(crate) fn sum_transient<L: Ledger>(
+    inst: &Instance,
+    a0: &Assignment,
+    a: &Assignment,
+    table: &mut Fixed<u64>,
+    blank: Blank,
+)
+    requires name { blank.name ≡ L.name }
+    requires parts { blank.parts ≡ L.parts }
+    requires some { 0 < blank.parts }
+    requires start_fits { IsAssignment inst.now.tables a0.now.items }
+    requires fits { IsAssignment inst.now.tables a.now.items }
+    requires grid { length table.old.items ≡ machine_count inst.now.tables * resource_count inst.now.tables }
+    ensures sums { IsTransientUse inst.now.tables a0.now.items a.now.items table.new.items }
+    ensures grid { length table.new.items ≡ machine_count inst.now.tables * resource_count inst.now.tables }
+{
+    let mut steps = Steps::<L>::make(blank);
+    let cells = table.len();
+    fill(table, cells, 0);
+    for p in 0..inst.processes() {
+        let from = machine_of(a0, p);
+        let at = machine_of(a, p);
+        add_rows(inst, Process(p), from, at, table, &mut steps);
+    }
+}
+
+/// The machine of a process.
+#[tactic(auto, using(crate::proofs::TableLaws::machine_read))]
+pub(crate) fn machine_of(a: &Assignment, p: u32) -> Machine
+    requires { p < length a.now.items }
+    ensures { result.0 ≡ machine_at a.now.items p }
+{
+    let _count = a.len();
+    a.get(p as usize)
+}
+
+/// Adds the requirements of a process to the row of the machine that it leaves and to that of the machine that it
+/// takes; where it stays, they are one row.
+fn add_rows<L: Ledger>(
+    inst: &Instance,
+    p: Process,
+    from: Machine,
+    at: Machine,
+    table: &mut Fixed<u64>,
+    steps: &mut Steps<L>,
+)
+    requires process { p.0 < process_count inst.now.tables }
+    requires from { from.0 < machine_count inst.now.tables }
+    requires at { at.0 < machine_count inst.now.tables }
+    requires grid { length table.old.items ≡ machine_count inst.now.tables * resource_count inst.now.tables }
+    requires below { IsBelow (resource_count inst.now.tables) (2 ^ 62) table.old.items }
+    ensures adds { (a0 : List Machine) → machine_at a0 p.0 ≡ from.0 → AddsShare (resource_count inst.now.tables) (transient_share inst.now.tables a0) p.0 at.0 table.old.items table.new.items }
+    ensures grid { length table.new.items ≡ length table.old.items }
+{
+    add_row(inst, p, from, table, steps);
+    if from != at {
+        add_row(inst, p, at, table, steps);
+    }
+}
+
+/// Adds the requirements of a process to the row of a machine.
+fn add_row<L: Ledger>(
+    inst: &Instance,
+    p: Process,
+    at: Machine,
+    table: &mut Fixed<u64>,
+    steps: &mut Steps<L>,
+)
+    requires process { p.0 < process_count inst.now.tables }
+    requires at { at.0 < machine_count inst.now.tables }
+    requires grid { length table.old.items ≡ machine_count inst.now.tables * resource_count inst.now.tables }
+    requires below { IsBelow (resource_count inst.now.tables) (2 ^ 63) table.old.items }
+    ensures adds { AddsShare (resource_count inst.now.tables) (use_share inst.now.tables) p.0 at.0 table.old.items table.new.items }
+    ensures grid { length table.new.items ≡ length table.old.items }
+{
+    for r in 0..inst.resources() {
+        let amount = inst.requirement(p, Resource(r), steps);
+        add_to_cell(table, inst.resources(), at.0, r, amount);
+    }
+}

@@ -1,0 +1,5 @@
+pub mod Allowance
+pub mod Drawn
+pub mod Lots
+pub mod Readers
+pub mod Words

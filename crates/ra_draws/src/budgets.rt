@@ -1,0 +1,63 @@
+ghost use Rattle.std.specs.Prelude.{◌≡◌, ◌<◌, ◌≤◌, length};
+ghost use Rattle.ra_draws.specs.Lots.{IsLots, lot_at};
+
+use crate::sources::Lot;
+use ra_base::Drawing;
+
+/// The lots of a run, one for each worker, with the slack and the drawing that all of them share.
+#[derive(Debug, Drop)]
+pub struct Lots {
+    slack: u64,
+    drawing: Drawing,
+    lots: Vec<Lot>,
+    pub ghost fitting: { IsLots lots.items },
+}
+
+impl Lots {
+    /// These lots: 1 to 16 of them, with budgets of at most 1,000,000 together, and with eight words for each
+    /// proposal of a written lot.
+    pub fn of(slack: u64, drawing: Drawing, lots: Vec<Lot>) -> Lots
+        requires { IsLots lots.items }
+        ensures slack { result.slack ≡ slack }
+        ensures drawing { result.drawing ≡ drawing }
+        ensures lots { result.lots.items ≡ lots.items }
+    {
+        Lots {
+            slack,
+            drawing,
+            lots,
+        }
+    }
+
+    /// The rise of cost that a worker's first proposal is allowed at most; it falls to 0 at the last one.
+    pub fn slack(&self) -> u64
+        ensures { result ≡ self.now.slack }
+    {
+        self.slack
+    }
+
+    /// How the words of a proposal name the machines of a shift.
+    pub fn drawing(&self) -> Drawing
+        ensures { result ≡ self.now.drawing }
+    {
+        self.drawing
+    }
+
+    /// How many lots there are, from 1 to 16.
+    pub fn len(&self) -> u32
+        ensures value { result ≡ length self.now.lots.items }
+        ensures some { 1 ≤ result }
+        ensures few { result ≤ 16 }
+    {
+        self.lots.len() as u32
+    }
+
+    /// The lot of worker `w`.
+    #[tactic(auto, unfolding(crate::specs::Lots::lot_at))]
+    pub fn lot(&self, w: u32) -> &Lot
+        requires { w < length self.now.lots.items }
+        ensures { result.now ≡ lot_at self.now.lots.items w }
+    {
+        &self.lots[w as usize]
+    }
+}

@@ -1,0 +1,24 @@
+-- What was asked of files in memory, and how many calls and faults there were.
+use Rattle.std.specs.Prelude.{ℕ, List, Option}
+use Rattle.ra_io.specs.declared.memory.MemoryFiles.{MemoryFiles}
+use Rattle.ra_io.specs.Texts.{held_in}
+
+-- the most bytes of one fetch
+abbrev pub each : MemoryFiles → ℕ
+each files = files.each
+
+-- the numbers of the fetches that fail
+abbrev pub fails : MemoryFiles → List ℕ
+fails files = files.fails.items
+
+-- how many fetches there were, and so the number of the next
+abbrev pub calls : MemoryFiles → ℕ
+calls files = files.calls.value
+
+-- how many fetches failed
+abbrev pub faults : MemoryFiles → ℕ
+faults files = files.faults.value
+
+-- the bytes of a name, where it was added
+abbrev pub held : MemoryFiles → List ℕ → Option (List ℕ)
+held files name = held_in files.texts name

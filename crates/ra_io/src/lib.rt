@@ -1,0 +1,25 @@
+//! The outside: files that are read in pieces, sinks that take bytes in pieces, and the gate that a
+//! worker passes before it commits.
+//!
+//! What a file holds and what a sink has taken may be untold, as for real files. Then only the clauses
+//! on counts of faults say something.
+#![tactic(auto)]
+
+mod counts;
+mod disk;
+mod memory;
+mod outside;
+mod steady;
+mod streams;
+mod texts;
+mod whole;
+
+pub use disk::DiskFiles;
+pub use memory::{MemoryFiles, MemorySink};
+pub use outside::{Failed, Files, Gate, NoGate, Sink};
+pub use steady::{CountSink, SteadyFiles};
+pub use streams::{ErrSink, OutSink};
+pub use whole::{MOST_BYTES, Unread, put_all, read_all};
+
+#[cfg(test)]
+mod tests;

@@ -1,0 +1,125 @@
+-- The limits of an instance's numbers, by their types and with machines closed.
+use native.Mathlib.Numerals.{unary_clauses}
+use Rattle.std.proofs.lemmas.List.{get_or_read, get_or-take, get_or-drop}
+use Rattle.std.proofs.Math.ListN.{take, drop}
+use Rattle.std.proofs.Common.{refl, ◌-◌, ◌≡◌, ℕ, zero, suc, ◌<◌, ◌≤◌, length, length-take, length-drop, List, Bool, arith}
+use Rattle.std.specs.Prelude.{slice_index_or}
+use Rattle.ra_base.specs.Listed.{Listed}
+use Rattle.ra_base.specs.declared.ids.Service.{Service}
+use Rattle.ra_base.specs.Tables.{cell}
+use Rattle.ra_model.specs.declared.raw.Tables.{Tables}
+use Rattle.ra_model.specs.declared.raw.BalanceRow.{BalanceRow}
+use Rattle.ra_model.specs.declared.raw.MachineRow.{MachineRow}
+use Rattle.ra_model.specs.declared.raw.ProcessRow.{ProcessRow}
+use Rattle.ra_model.specs.declared.raw.ResourceRow.{ResourceRow}
+use Rattle.ra_model.specs.declared.raw.ServiceRow.{ServiceRow}
+use Rattle.ra_model.specs.Limits.{WellFormed, Small, IsSmallTable}
+use Rattle.ra_model.specs.Numbers.{with_closed, resource_row, machine_row, service_row, process_row, balance_row, resource_count, machine_count, service_count, process_count, balance_count, load_weight_of, neighbourhood_of, location_of, capacity_of, safety_of, way_cost_of, spread_of, dependency_end, dependency_start, need_at, need_of, dependency_count, service_of, requirement_of, process_cost_of, first_of, second_of, target_of, balance_weight_of, process_weight_of, service_weight_of, machine_weight_of}
+
+-- the numbers of rows are small by their types
+pub small_tables : (i : Tables) → IsSmallTable i.raw.capacities.items → IsSmallTable i.raw.safeties.items → IsSmallTable i.raw.move_costs.items → IsSmallTable i.raw.requirements.items → Small i
+unfolding cell load_weight_of neighbourhood_of location_of capacity_of safety_of way_cost_of spread_of dependency_end requirement_of process_cost_of target_of balance_weight_of process_weight_of service_weight_of machine_weight_of
+small_tables i capacities safeties way_costs requirements = record {
+  load_weights = λ r. (resource_row i r).small;
+  neighbourhoods = λ m. (machine_row i m).small_neighbourhood;
+  locations = λ m. (machine_row i m).small_location;
+  capacities = λ m r. capacities.each _;
+  safeties = λ m r. safeties.each _;
+  way_costs = λ from to. way_costs.each _;
+  spreads = λ s. (service_row i s).small_spread;
+  dependency_ends = λ s. (service_row i s).small_end;
+  requirements = λ p r. requirements.each _;
+  process_costs = λ p. (process_row i p).small;
+  targets = λ b. (balance_row i b).small_target;
+  balance_weights = λ b. (balance_row i b).small_weight;
+  process_weight = i.raw.small_process_weight;
+  service_weight = i.raw.small_service_weight;
+  machine_weight = i.raw.small_machine_weight;
+}
+
+-- closing machines changes no number
+pub small_closed : (i : Tables) (flags : Listed Bool) → Small i → Small (with_closed i flags)
+unfolding resource_count machine_count resource_row machine_row service_row process_row balance_row load_weight_of neighbourhood_of location_of capacity_of safety_of way_cost_of spread_of dependency_end requirement_of process_cost_of target_of balance_weight_of process_weight_of service_weight_of machine_weight_of
+small_closed i flags h = record {
+  load_weights = h.load_weights;
+  neighbourhoods = h.neighbourhoods;
+  locations = h.locations;
+  capacities = h.capacities;
+  safeties = h.safeties;
+  way_costs = h.way_costs;
+  spreads = h.spreads;
+  dependency_ends = h.dependency_ends;
+  requirements = h.requirements;
+  process_costs = h.process_costs;
+  targets = h.targets;
+  balance_weights = h.balance_weights;
+  process_weight = h.process_weight;
+  service_weight = h.service_weight;
+  machine_weight = h.machine_weight;
+}
+
+pub well_formed_closed : (i : Tables) (flags : Listed Bool) → WellFormed i → WellFormed (with_closed i flags)
+unfolding resource_count machine_count service_count process_count balance_count resource_row machine_row service_row process_row balance_row dependency_end dependency_start need_at service_of first_of second_of
+well_formed_closed i flags h = record {
+  some_resource = h.some_resource;
+  few_resources = h.few_resources;
+  some_machine = h.some_machine;
+  few_machines = h.few_machines;
+  some_service = h.some_service;
+  few_services = h.few_services;
+  some_process = h.some_process;
+  few_processes = h.few_processes;
+  few_balances = h.few_balances;
+  few_dependencies = h.few_dependencies;
+  capacities = h.capacities;
+  safeties = h.safeties;
+  way_costs = h.way_costs;
+  requirements = h.requirements;
+  in_order = λ s. h.in_order s;
+  within = h.within;
+  all_owned = h.all_owned;
+  needs = h.needs;
+  services = h.services;
+  firsts = h.firsts;
+  seconds = h.seconds;
+}
+
+-- what a read of a row gives
+
+pub resource_read : (i : Tables) (k : ℕ) (row : ResourceRow) → k < resource_count i → row ≡ slice_index_or i.raw.resources.items k row → row ≡ resource_row i k
+unfolding resource_count resource_row
+resource_read i k row within read = get_or_read i.raw.resources.items k row within read _
+
+pub machine_read : (i : Tables) (k : ℕ) (row : MachineRow) → k < machine_count i → row ≡ slice_index_or i.raw.machines.items k row → row ≡ machine_row i k
+unfolding machine_count machine_row
+machine_read i k row within read = get_or_read i.raw.machines.items k row within read _
+
+pub service_read : (i : Tables) (k : ℕ) (row : ServiceRow) → k < service_count i → row ≡ slice_index_or i.raw.services.items k row → row ≡ service_row i k
+unfolding service_count service_row
+service_read i k row within read = get_or_read i.raw.services.items k row within read _
+
+pub process_read : (i : Tables) (k : ℕ) (row : ProcessRow) → k < process_count i → row ≡ slice_index_or i.raw.processes.items k row → row ≡ process_row i k
+unfolding process_count process_row
+process_read i k row within read = get_or_read i.raw.processes.items k row within read _
+
+pub balance_read : (i : Tables) (k : ℕ) (row : BalanceRow) → k < balance_count i → row ≡ slice_index_or i.raw.balances.items k row → row ≡ balance_row i k
+unfolding balance_count balance_row
+balance_read i k row within read = get_or_read i.raw.balances.items k row within read _
+
+pub start_first : (i : Tables) → dependency_start i 0 ≡ 0
+unfolding dependency_start
+start_first i = refl
+
+pub start_next : (i : Tables) (s : ℕ) → 0 < s → dependency_start i s ≡ dependency_end i (s - 1)
+unfolding dependency_start
+start_next i zero some = absurd (omega arith)
+start_next i (suc s) some = simp unary_clauses refl
+
+-- the dependencies of a service, cut out of the list of all
+pub needs_count : (i : Tables) (s : ℕ) (needs : List Service) → needs ≡ i.raw.dependencies.items → dependency_start i s ≤ dependency_end i s → dependency_end i s ≤ length i.raw.dependencies.items → length (take (dependency_end i s - dependency_start i s) (drop (dependency_start i s) needs)) ≡ dependency_count i s
+unfolding dependency_count
+needs_count i s needs all ordered within = rw all (grind (arith, length-take, length-drop))
+
+pub needs_each : (i : Tables) (s : ℕ) (needs : List Service) → needs ≡ i.raw.dependencies.items → (k : ℕ) → k < dependency_count i s → (slice_index_or (take (dependency_end i s - dependency_start i s) (drop (dependency_start i s) needs)) k (record { 0 = 0 })).0 ≡ need_of i s k
+unfolding dependency_count need_of need_at
+needs_each i s needs all k within = rw (all, get_or-take, get_or-drop) refl

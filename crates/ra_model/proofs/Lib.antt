@@ -1,0 +1,9 @@
+pub mod InstanceLemmas
+pub mod TallyLemmas
+pub mod BrokenLemmas
+pub mod BoundLemmas
+pub mod CopyLemmas
+pub mod PartLemmas
+pub mod SortingLemmas
+pub mod MemberLemmas
+pub mod PlaceLemmas

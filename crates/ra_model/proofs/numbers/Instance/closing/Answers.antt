@@ -1,0 +1,8 @@
+use Rattle.ra_model.proofs.InstanceLemmas.{small_closed, well_formed_closed}
+use Rattle.ra_model.proofs.numbers.Instance.closing.Goals as goal
+
+pub invariant_of-result : goal.invariant_of-result
+invariant_of-result c = record {
+  well_formed = well_formed_closed c.args.self.tables c.args.flags c.args.self.well_formed;
+  small = small_closed c.args.self.tables c.args.flags c.args.self.small;
+}

@@ -1,0 +1,15 @@
+pub mod Assignments
+pub mod Broken
+pub mod Causes
+pub mod Costs
+pub mod Feasible
+pub mod Laws
+pub mod Limits
+pub mod Members
+pub mod Numbers
+pub mod Parts
+pub mod PlaceLists
+pub mod Places
+pub mod Services
+pub mod Sorting
+pub mod Usage

@@ -1,0 +1,27 @@
+//! Laws of the definitions: each function does nothing, and its contract is a law that was proved.
+ghost use Rattle.ra_model.specs.Laws.{BrokenNamesAll, BrokenNamesConstraints, OneShareChanges, CountsGoOverMembers, AllSumsFit};
+
+/// An assignment for which no broken constraint is named is feasible, and for a feasible one none is named.
+pub fn broken_names_all()
+    ensures { BrokenNamesAll }
+{}
+
+/// What is named as broken is one of the six constraints.
+pub fn broken_names_constraints()
+    ensures { BrokenNamesConstraints }
+{}
+
+/// Where one process is put on another machine, a sum over the processes changes by its share alone.
+pub fn one_share_changes()
+    ensures { OneShareChanges }
+{}
+
+/// A count over the processes of a service may go over a list of them alone.
+pub fn counts_go_over_members()
+    ensures { CountsGoOverMembers }
+{}
+
+/// No sum of an instance is too large for the numbers of a program.
+pub fn all_sums_fit()
+    ensures { AllSumsFit }
+{}

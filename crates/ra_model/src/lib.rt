@@ -1,0 +1,22 @@
+//! An instance of the machine reassignment problem and what the problem's words mean over it.
+//!
+//! The words (usage, feasible, the first broken constraint, the costs) stand in `specs/`, each with a sentence
+//! of the challenge's problem definition; the code here is the instance with its accessors, and the laws of the words.
+#![tactic(auto)]
+
+mod copying;
+mod labels;
+pub mod laws;
+mod members;
+mod numbers;
+mod raw;
+mod tables;
+
+pub use copying::copies;
+pub use labels::Places;
+pub use members::Members;
+pub use numbers::Instance;
+pub use raw::{BalanceRow, MachineRow, ProcessRow, RawInstance, ResourceRow, ServiceRow, Tables};
+
+#[cfg(test)]
+mod tests;

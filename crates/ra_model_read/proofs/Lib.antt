@@ -1,0 +1,12 @@
+pub mod Outcomes
+pub mod Steps
+pub mod Limited
+pub mod NextToken
+pub mod Rows
+pub mod WholeTables
+pub mod Acceptance
+pub mod TextAccepted
+pub mod Inversion
+pub mod TextTaken
+pub mod TextTakenParts
+pub mod Meaning

@@ -1,0 +1,66 @@
+-- What a format gives at the start of a file is what the bytes mean.
+use Rattle.std.proofs.Common.{◌≡◌, ℕ, refl, sym, subst, true, List, Option, Some, None, Result, Ok, Err, IfSome}
+use Rattle.std.specs.Prelude.{option_map}
+use Rattle.ra_model.specs.declared.raw.RawInstance.{RawInstance}
+use Rattle.ra_model.specs.declared.raw.Tables.{Tables}
+use Rattle.ra_model.specs.Limits.{WellFormed}
+use Rattle.ra_model.specs.Numbers.{all_open}
+use Rattle.ra_token.specs.TokenList.{tokens_before}
+use Rattle.ra_model_read.specs.declared.faults.ModelFault.TheVariants.{NoMemory}
+use Rattle.ra_model_read.specs.declared.faults.ModelFault.{ModelFault}
+use Rattle.ra_model_read.specs.Formats.{Left, Outcome, Read, Refused, Format}
+use Rattle.ra_model_read.specs.Lists.{Lists, lists_of}
+use Rattle.ra_model_read.specs.ModelText.{model, all_of, answer_of, model_of, model_refusal, IsModel}
+use Rattle.ra_model_read.specs.FieldOrder.{IsTextOf}
+use Rattle.ra_model_read.specs.Texts.{TextsAreModels}
+use Rattle.ra_model_read.proofs.TextAccepted.{text_accepted}
+use Rattle.ra_model_read.proofs.TextTakenParts.{text_taken}
+use Rattle.ra_model_read.specs.Reading.{Here, left_from, left_of, Gives, Refuses, is_by_content}
+
+all_left : (place : ℕ) (bytes : List ℕ) → tokens_before bytes place ≡ 0 → left_from place bytes ≡ all_of bytes
+unfolding left_from all_of
+all_left place bytes start = rw start refl
+
+meant_by : (bytes : List ℕ) (place : ℕ) (lists : Lists) (after : Left) → tokens_before bytes place ≡ 0 → model (left_from place bytes) ≡ Read lists after → model_of bytes ≡ Ok lists
+unfolding model_of answer_of
+meant_by bytes place lists after start e = rw (← all_left place bytes start, e) refl
+
+refused_by : (bytes : List ℕ) (place : ℕ) (fault : ModelFault) → tokens_before bytes place ≡ 0 → model (left_from place bytes) ≡ Refused fault → model_refusal bytes ≡ Some fault
+unfolding model_refusal model_of answer_of
+refused_by bytes place fault start e = rw (← all_left place bytes start, e) refl
+
+told_lists : (told : Option (List ℕ)) (place : ℕ) (lists : Lists) (after : Option Left) → ((bytes : List ℕ) → tokens_before bytes place ≡ 0) → option_map model (option_map (left_from place) told) ≡ option_map (Read lists) after → IfSome told (λ bytes. model_of bytes ≡ Ok lists)
+told_lists None place lists after start e = tt
+told_lists (Some bytes) place lists None start e = cc
+told_lists (Some bytes) place lists (Some after) start e = let read : model (left_from place bytes) ≡ Read lists after = cc in meant_by bytes place lists after (start bytes) read
+
+told_refusal : (told : Option (List ℕ)) (place : ℕ) (fault : ModelFault) → ((bytes : List ℕ) → tokens_before bytes place ≡ 0) → option_map model (option_map (left_from place) told) ≡ option_map (λ _. Refused fault) (option_map (left_from place) told) → IfSome told (λ bytes. model_refusal bytes ≡ Some fault)
+told_refusal None place fault start e = tt
+told_refusal (Some bytes) place fault start e = let refused : model (left_from place bytes) ≡ Refused fault = cc in refused_by bytes place fault (start bytes) refused
+
+pub means : (a b : Here) (name : List ℕ) (lists : Lists) → a.tokens.name ≡ name → ((bytes : List ℕ) → tokens_before bytes a.tokens.place ≡ 0) → Gives model a b lists → IfSome (a.held name) (λ bytes. model_of bytes ≡ Ok lists)
+unfolding left_of
+means a b name lists e start gives = rw (← e) (told_lists (a.held a.tokens.name) a.tokens.place lists (left_of b) start gives.value)
+
+pub refuses_as : (a b : Here) (name : List ℕ) (fault : ModelFault) → a.tokens.name ≡ name → ((bytes : List ℕ) → tokens_before bytes a.tokens.place ≡ 0) → Refuses model a b fault → is_by_content fault ≡ true → IfSome (a.held name) (λ bytes. model_refusal bytes ≡ Some fault)
+unfolding left_of
+refuses_as a b name fault e start refuses by_content = rw (← e) (told_refusal (a.held a.tokens.name) a.tokens.place fault start (refuses.told by_content))
+
+pub is_model : (told : Option (List ℕ)) (raw : RawInstance) (i : Tables) → i ≡ all_open raw → IfSome told (λ bytes. model_of bytes ≡ Ok (lists_of raw)) → IfSome told (λ bytes. IsModel bytes i)
+is_model None raw i e meant = tt
+is_model (Some bytes) raw i e meant = subst (IsModel bytes) (sym e) (record { lists = meant; open_to_all = refl })
+
+-- want of memory is no matter of content
+pub no_content : is_by_content NoMemory ≡ true → ⊥
+unfolding is_by_content
+no_content e = cc
+
+-- the text of an instance, and the instance of a text
+
+pub has_text : (told : Option (List ℕ)) (raw : RawInstance) (i : Tables) → WellFormed (all_open raw) → i ≡ all_open raw → IfSome told (λ bytes. model_of bytes ≡ Ok (lists_of raw)) → IfSome told (λ bytes. IsTextOf bytes i)
+has_text None raw i h e meant = tt
+has_text (Some bytes) raw i h e meant = subst (IsTextOf bytes) (sym e) (text_taken raw bytes h meant)
+
+pub texts_are_models : (told : Option (List ℕ)) → IfSome told TextsAreModels
+texts_are_models None = tt
+texts_are_models (Some bytes) = λ raw h text. record { lists = text_accepted raw bytes h text; open_to_all = refl }

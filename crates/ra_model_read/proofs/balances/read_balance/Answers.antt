@@ -1,0 +1,29 @@
+use Rattle.std.proofs.Common.{refl, sym, ap, arith}
+use Rattle.ra_model_read.specs.Formats.{pure}
+use Rattle.ra_model_read.specs.ModelText.{balance}
+use Rattle.ra_model_read.proofs.Steps.{gives_bind, gives_then, refuses_first, refuses_next, refused_at_exit}
+use Rattle.ra_model_read.proofs.Rows.{balance_pushed, balances_pushed}
+use Rattle.ra_model_read.proofs.balances.read_balance.Goals as goal
+
+pub returns-in_err-first-clause-refuses : goal.returns-in_err-first-clause-refuses
+unfolding balance
+returns-in_err-first-clause-refuses g c = refused_at_exit _ c.from_residual.ensures (refuses_first _ c.in_err-first.ensures.refuses)
+
+pub returns-in_err-second-clause-refuses : goal.returns-in_err-second-clause-refuses
+unfolding balance
+returns-in_err-second-clause-refuses g c = refused_at_exit _ c.from_residual-in_err-second.ensures (refuses_next _ c.in_ok-first.ensures.gives (refuses_first _ c.in_err-second.ensures.refuses))
+
+pub returns-in_err-target-clause-refuses : goal.returns-in_err-target-clause-refuses
+unfolding balance
+returns-in_err-target-clause-refuses g c = refused_at_exit _ c.from_residual-in_err-target.ensures (refuses_next _ c.in_ok-first.ensures.gives (refuses_next _ c.in_ok-second.ensures.gives (refuses_first _ c.in_err-target.ensures.refuses)))
+
+pub returns-in_err-weight-clause-refuses : goal.returns-in_err-weight-clause-refuses
+unfolding balance
+returns-in_err-weight-clause-refuses g c = refused_at_exit _ c.from_residual-in_err-weight.ensures (refuses_next _ c.in_ok-first.ensures.gives (refuses_next _ c.in_ok-second.ensures.gives (refuses_next _ c.in_ok-target.ensures.gives (refuses_first _ c.in_err-weight.ensures.refuses))))
+
+pub returns-clause-gives : goal.returns-clause-gives
+unfolding balance
+returns-clause-gives g c = gives_bind _ c.in_ok-first.ensures.gives (gives_bind _ c.in_ok-second.ensures.gives (gives_bind _ c.in_ok-target.ensures.gives (gives_then _ c.in_ok-weight.ensures.gives (ap pure (sym (balance_pushed _ _ _ c.push.ensures.items))))))
+
+pub returns-clause-among : goal.returns-clause-among
+returns-clause-among g c = balances_pushed _ _ _ _ c.push.ensures.items c.requires.among (omega (arith, c.in_ok-first.ensures.high)) (omega (arith, c.in_ok-second.ensures.high))

@@ -1,0 +1,57 @@
+-- The numbers of an instance in the order in which a model file has them.
+use Rattle.std.specs.Prelude.{◌≡◌, ℕ, zero, suc, List, [], ◌∷◌, ◌++◌, map, Option, None}
+use Rattle.ra_base.specs.Sums.{one_if}
+use Rattle.ra_model.specs.declared.raw.Tables.{Tables}
+use Rattle.ra_model.specs.Numbers.{resource_count, machine_count, service_count, process_count, balance_count, transient_at, load_weight_of, neighbourhood_of, location_of, capacity_of, safety_of, way_cost_of, spread_of, dependency_count, need_of, service_of, requirement_of, process_cost_of, first_of, second_of, target_of, balance_weight_of, process_weight_of, service_weight_of, machine_weight_of}
+use Rattle.ra_token.specs.declared.answers.Token.{Token}
+use Rattle.ra_token.specs.Faults.{first_fault}
+use Rattle.ra_token.specs.TokenList.{tokens}
+
+-- f 0, f 1 .. f (n - 1) end to end
+unfoldable pub joined : ℕ → (ℕ → List ℕ) → List ℕ
+joined zero f = []
+joined (suc n) f = joined n f ++ f n
+
+-- f 0, f 1 .. f (n - 1)
+abbrev pub row_of : ℕ → (ℕ → ℕ) → List ℕ
+row_of n f = joined n (λ k. f k ∷ [])
+
+-- a count, and then the numbers of each
+abbrev pub counted : ℕ → (ℕ → List ℕ) → List ℕ
+counted n f = n ∷ joined n f
+
+unfoldable pub resource_numbers : Tables → ℕ → List ℕ
+resource_numbers i r = one_if (transient_at i r) ∷ load_weight_of i r ∷ []
+
+unfoldable pub machine_numbers : Tables → ℕ → List ℕ
+machine_numbers i m =
+    neighbourhood_of i m ∷ location_of i m ∷ (row_of (resource_count i) (capacity_of i m)
+    ++ (row_of (resource_count i) (safety_of i m)
+    ++ row_of (machine_count i) (way_cost_of i m)))
+
+unfoldable pub service_numbers : Tables → ℕ → List ℕ
+service_numbers i s = spread_of i s ∷ dependency_count i s ∷ row_of (dependency_count i s) (need_of i s)
+
+unfoldable pub process_numbers : Tables → ℕ → List ℕ
+process_numbers i p = service_of i p ∷ (row_of (resource_count i) (requirement_of i p) ++ process_cost_of i p ∷ [])
+
+unfoldable pub balance_numbers : Tables → ℕ → List ℕ
+balance_numbers i b = first_of i b ∷ second_of i b ∷ target_of i b ∷ balance_weight_of i b ∷ []
+
+-- all numbers
+unfoldable pub numbers_of : Tables → List ℕ
+numbers_of i =
+    counted (resource_count i) (resource_numbers i)
+    ++ (counted (machine_count i) (machine_numbers i)
+    ++ (counted (service_count i) (service_numbers i)
+    ++ (counted (process_count i) (process_numbers i)
+    ++ (counted (balance_count i) (balance_numbers i)
+    ++ (process_weight_of i ∷ service_weight_of i ∷ machine_weight_of i ∷ [])))))
+
+abbrev pub value_of : Token → ℕ
+value_of t = t.value
+
+-- the bytes are the text of an instance: no fault, and its numbers, no more and no fewer
+pub record IsTextOf (bytes : List ℕ) (i : Tables) : Type 0 where
+  pub sound : first_fault bytes ≡ None
+  pub numbers : map value_of (tokens bytes) ≡ numbers_of i

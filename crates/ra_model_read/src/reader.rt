@@ -1,0 +1,108 @@
+ghost use Rattle.std.specs.Prelude.{◌≡◌, ℕ, ◌≤◌, List, Some, Err, IsTrue, IfSome, IfOk, IfErr};
+ghost use Rattle.ra_io.specs.Faults.{Rose};
+ghost use Rattle.ra_model.specs.Limits.{WellFormed};
+ghost use Rattle.ra_model.specs.Numbers.{all_open};
+ghost use Rattle.ra_model_read.specs.FieldOrder.{IsTextOf};
+ghost use Rattle.ra_model_read.specs.Lists.{lists_of};
+ghost use Rattle.ra_model_read.specs.ModelText.{weights, model, IsModel, model_refusal};
+ghost use Rattle.ra_model_read.specs.Reading.{here, Stands, Gives, Refuses, is_by_content};
+ghost use Rattle.ra_model_read.specs.TableShapes.{weight_numbers};
+ghost use Rattle.ra_model_read.specs.Texts.{TextsAreModels};
+
+use crate::balances::read_balances;
+use crate::faults::{Field, ModelFault};
+use crate::fields::{read_any, read_end};
+use crate::machines::read_machines;
+use crate::processes::read_processes;
+use crate::resources::read_resources;
+use crate::services::read_services;
+use crate::tables::WeightNumbers;
+use ra_io::Files;
+use ra_model::{Instance, RawInstance};
+use ra_token::Tokens;
+use std::alloc::Global;
+
+/// The instance that the bytes of a model file mean. The file was read to its end.
+///
+/// # Errors
+///
+/// The first thing that is wrong with the file, field after field; `ReadFault` where a fetch failed; `NoMemory`.
+pub fn read_model<F: Files>(
+    alloc: Global,
+    files: &mut F,
+    name: &str,
+) -> Result<Instance, ModelFault>
+    // Where the bytes are told, they mean this instance, or this is what is wrong with them first.
+    ensures model { IfOk result (λ inst. IfSome (F.held files.old name.now) (λ bytes. IsModel bytes inst.tables)) }
+    ensures refused { IfErr result (λ fault. IsTrue (is_by_content fault) →
+        IfSome (F.held files.old name.now) (λ bytes. model_refusal bytes ≡ Some fault)) }
+
+    // The told bytes have no fault, and their tokens are the numbers of the instance, no more and no fewer. Whatever
+    // instance has such a text is meant by it.
+    ensures text { IfOk result (λ inst. IfSome (F.held files.old name.now) (λ bytes. IsTextOf bytes inst.tables)) }
+    ensures every_text { IfSome (F.held files.old name.now) TextsAreModels }
+
+    // A failed fetch is counted.
+    ensures fault { result ≡ Err ModelFault.ReadFault → Rose (F.faults files.old name.now) (F.faults files.new name.now) }
+    ensures kept { (other : List ℕ) → F.held files.new other ≡ F.held files.old other }
+    ensures never_fall { (other : List ℕ) → F.faults files.old other ≤ F.faults files.new other }
+{
+    let Ok(mut tokens) = Tokens::make(alloc, name) else {
+        return Err(ModelFault::NoMemory);
+    };
+    let raw = read_raw(alloc, files, &mut tokens)?;
+    Ok(Instance::of(raw))
+}
+
+/// The lists of a model file.
+fn read_raw<F: Files>(
+    alloc: Global,
+    files: &mut F,
+    tokens: &mut Tokens,
+) -> Result<RawInstance, ModelFault>
+    requires { Stands (here (F.held files.old) (F.faults files.old) tokens.old) }
+    ensures well_formed { IfOk result (λ raw. WellFormed (all_open raw)) }
+    ensures gives { IfOk result (λ raw. Gives model (here (F.held files.old) (F.faults files.old) tokens.old) (here (F.held files.new) (F.faults files.new) tokens.new) (lists_of raw)) }
+    ensures refuses { IfErr result (Refuses model (here (F.held files.old) (F.faults files.old) tokens.old) (here (F.held files.new) (F.faults files.new) tokens.new)) }
+{
+    let resources = read_resources(alloc, files, tokens)?;
+    let resource_count = resources.len() as u32;
+    let machines = read_machines(alloc, files, tokens, resource_count)?;
+    let services = read_services(alloc, files, tokens)?;
+    let service_count = services.rows.len() as u32;
+    let processes = read_processes(alloc, files, tokens, service_count, resource_count)?;
+    let balances = read_balances(alloc, files, tokens, resource_count)?;
+    let weights = read_weights(files, tokens)?;
+    read_end(files, tokens)?;
+    Ok(RawInstance {
+        resources,
+        machines: machines.rows,
+        capacities: machines.capacities,
+        safeties: machines.safeties,
+        move_costs: machines.move_costs,
+        services: services.rows,
+        dependencies: services.dependencies,
+        processes: processes.rows,
+        requirements: processes.requirements,
+        balances,
+        process_weight: weights.process,
+        service_weight: weights.service,
+        machine_weight: weights.machine,
+    })
+}
+
+/// The three weights of moves.
+fn read_weights<F: Files>(files: &mut F, tokens: &mut Tokens) -> Result<WeightNumbers, ModelFault>
+    requires { Stands (here (F.held files.old) (F.faults files.old) tokens.old) }
+    ensures gives { IfOk result (λ read. Gives weights (here (F.held files.old) (F.faults files.old) tokens.old) (here (F.held files.new) (F.faults files.new) tokens.new) (weight_numbers read)) }
+    ensures refuses { IfErr result (Refuses weights (here (F.held files.old) (F.faults files.old) tokens.old) (here (F.held files.new) (F.faults files.new) tokens.new)) }
+{
+    let process = read_any(files, tokens, Field::ProcessWeight, 0)?;
+    let service = read_any(files, tokens, Field::ServiceWeight, 0)?;
+    let machine = read_any(files, tokens, Field::MachineWeight, 0)?;
+    Ok(WeightNumbers {
+        process,
+        service,
+        machine,
+    })
+}

@@ -1,0 +1,299 @@
+use super::*;
+use ra_base::{Fixed, Machine, Process, Resource, Service};
+use ra_io::{MemoryFiles, SteadyFiles};
+use ra_model::Instance;
+use std::alloc::Global;
+use std::test::Fail;
+
+/// The sample instance: two resources, four machines, two services and three processes.
+const SAMPLE: &[u8; 184] =
+    b"2\n1 100\n0 10\n4\n0 0 30 400 16 80 0 1 4 5\n0 0 10 240 8 160 1 0 3 4\n1 1 15 100 12 80 4 3 0 2\n1 2 10 100 8 80 5 4 2 0\n2\n2 0\n1 1 0\n3\n0 12 10 1000\n0 10 20 100\n1 6 200 1\n1\n0 1 20\n10\n1 10 100\n";
+
+/// What is read of a file that has these bytes.
+fn read(alloc: Global, bytes: &[u8]) -> Result<Result<Instance, ModelFault>, Fail> {
+    let mut files = SteadyFiles::make(alloc)?;
+    files.add(alloc, "model", bytes)?;
+    Ok(read_model(alloc, &mut files, "model"))
+}
+
+/// Files that mean no instance, with what is wrong with each first.
+const REFUSED: [(&str, ModelFault); 22] = [
+    (
+        "0",
+        ModelFault::Range {
+            what: Field::ResourceCount,
+            at: 0,
+            value: 0,
+            least: 1,
+            most: 20,
+        },
+    ),
+    (
+        "21",
+        ModelFault::Range {
+            what: Field::ResourceCount,
+            at: 0,
+            value: 21,
+            least: 1,
+            most: 20,
+        },
+    ),
+    (
+        "1 1 1 5001",
+        ModelFault::Range {
+            what: Field::MachineCount,
+            at: 6,
+            value: 5001,
+            least: 1,
+            most: 5000,
+        },
+    ),
+    (
+        "1 1 1 1 0 0 5 5 0 50001",
+        ModelFault::Range {
+            what: Field::ServiceCount,
+            at: 18,
+            value: 50001,
+            least: 1,
+            most: 50000,
+        },
+    ),
+    (
+        "1 1 1 1 0 0 5 5 0 1 1 100001",
+        ModelFault::Range {
+            what: Field::DependencyCount,
+            at: 22,
+            value: 100001,
+            least: 0,
+            most: 100000,
+        },
+    ),
+    (
+        "1 1 1 1 0 0 5 5 0 2 1 1 0 1 100000",
+        ModelFault::Range {
+            what: Field::DependencyCount,
+            at: 28,
+            value: 100000,
+            least: 0,
+            most: 99999,
+        },
+    ),
+    (
+        "1 1 1 1 0 0 5 5 0 1 1 1 1",
+        ModelFault::Range {
+            what: Field::Dependency,
+            at: 24,
+            value: 1,
+            least: 0,
+            most: 0,
+        },
+    ),
+    (
+        "1 1 1 1 0 0 5 5 0 1 1 0 0",
+        ModelFault::Range {
+            what: Field::ProcessCount,
+            at: 24,
+            value: 0,
+            least: 1,
+            most: 50000,
+        },
+    ),
+    (
+        "1 1 1 1 0 0 5 5 0 1 1 0 50001",
+        ModelFault::Range {
+            what: Field::ProcessCount,
+            at: 24,
+            value: 50001,
+            least: 1,
+            most: 50000,
+        },
+    ),
+    (
+        "1 1 1 1 0 0 5 5 0 1 1 0 1 1",
+        ModelFault::Range {
+            what: Field::ProcessService,
+            at: 26,
+            value: 1,
+            least: 0,
+            most: 0,
+        },
+    ),
+    (
+        "1 1 1 1 0 0 5 5 0 1 1 0 1 0 2 1 11",
+        ModelFault::Range {
+            what: Field::BalanceCount,
+            at: 32,
+            value: 11,
+            least: 0,
+            most: 10,
+        },
+    ),
+    (
+        "1 1 1 1 0 0 5 5 0 1 1 0 1 0 2 1 1 0 1",
+        ModelFault::Range {
+            what: Field::BalanceSecond,
+            at: 36,
+            value: 1,
+            least: 0,
+            most: 0,
+        },
+    ),
+    (
+        "",
+        ModelFault::Missing {
+            what: Field::ResourceCount,
+            item: 0,
+        },
+    ),
+    (
+        "1 1 1 5000",
+        ModelFault::Missing {
+            what: Field::Neighbourhood,
+            item: 0,
+        },
+    ),
+    (
+        "2 0 1 0 1 2 0 0 5 5 6 6 0 1 0 0 7",
+        ModelFault::Missing {
+            what: Field::Capacity,
+            item: 3,
+        },
+    ),
+    (
+        "1 1 1 2 0 0 5 5 0 1 0 0 5 5 1",
+        ModelFault::Missing {
+            what: Field::MoveCost,
+            item: 3,
+        },
+    ),
+    (
+        "1 1 1 1 0 0 5 5 0 50000",
+        ModelFault::Missing {
+            what: Field::SpreadMin,
+            item: 0,
+        },
+    ),
+    (
+        "1 1 1 1 0 0 5 5 0 2 1 1 0 1 2 1",
+        ModelFault::Missing {
+            what: Field::Dependency,
+            item: 2,
+        },
+    ),
+    ("1 2", ModelFault::Flag { at: 2, value: 2 }),
+    ("2x", ModelFault::BadByte { at: 1, byte: b'x' }),
+    ("4294967296x", ModelFault::TooLarge { at: 0 }),
+    ("1 1 1 1 0 0 4294967296", ModelFault::TooLarge { at: 12 }),
+];
+
+/// The sample cut off before each of the last three fields.
+const CUT: [(usize, ModelFault); 3] = [
+    (
+        175,
+        ModelFault::Missing {
+            what: Field::ProcessWeight,
+            item: 0,
+        },
+    ),
+    (
+        177,
+        ModelFault::Missing {
+            what: Field::ServiceWeight,
+            item: 0,
+        },
+    ),
+    (
+        179,
+        ModelFault::Missing {
+            what: Field::MachineWeight,
+            item: 0,
+        },
+    ),
+];
+
+#[test]
+fn the_numbers_of_the_sample_are_read(rt: HostRuntime) -> Result<(), Fail> {
+    let inst = read(rt.alloc(), SAMPLE)??;
+    assert_eq!(rt; inst.resources(), 2);
+    assert_eq!(rt; inst.machines(), 4);
+    assert_eq!(rt; inst.services(), 2);
+    assert_eq!(rt; inst.processes(), 3);
+    assert_eq!(rt; inst.balances(), 1);
+    assert!(rt; inst.transient(Resource(0)));
+    assert_eq!(rt; inst.load_weight(Resource(1)), 10);
+    assert_eq!(rt; inst.neighbourhood(Machine(3)), 1);
+    assert_eq!(rt; inst.location(Machine(3)), 2);
+    assert_eq!(rt; inst.capacity(Machine(1), Resource(1)), 240);
+    assert_eq!(rt; inst.safety(Machine(2), Resource(0)), 12);
+    assert_eq!(rt; inst.move_cost(Machine(3), Machine(0)), 5);
+    assert_eq!(rt; inst.spread_min(Service(0)), 2);
+    assert_eq!(rt; inst.depends(Service(1)), [Service(0)].as_slice());
+    assert_eq!(rt; inst.service_of(Process(2)), Service(1));
+    assert_eq!(rt; inst.process_cost(Process(0)), 1000);
+    Ok(())
+}
+
+#[test]
+fn the_weights_of_the_sample_are_read(rt: HostRuntime) -> Result<(), Fail> {
+    let inst = read(rt.alloc(), SAMPLE)??;
+    assert_eq!(rt; inst.balances(), 1);
+    let row = inst.balance(0);
+    assert_eq!(rt; (row.first, row.second), (Resource(0), Resource(1)));
+    assert_eq!(rt; (row.target, row.weight), (20, 10));
+    assert_eq!(rt; inst.process_weight(), 1);
+    assert_eq!(rt; inst.service_weight(), 10);
+    assert_eq!(rt; inst.machine_weight(), 100);
+    Ok(())
+}
+
+#[test]
+fn the_first_thing_that_is_wrong_is_told(rt: HostRuntime) -> Result<(), Fail> {
+    for (text, fault) in REFUSED {
+        assert_eq!(rt;
+            read(rt.alloc(), text.as_bytes())?.err(),
+            Some(fault),
+            "at {text}"
+        );
+    }
+    Ok(())
+}
+
+#[test]
+fn a_weight_that_is_missing_is_named(rt: HostRuntime) -> Result<(), Fail> {
+    for (end, fault) in CUT {
+        let front = SAMPLE.get(..end).ok_or("too long")?;
+        assert_eq!(rt; read(rt.alloc(), front)?.err(), Some(fault), "at {end}");
+    }
+    Ok(())
+}
+
+#[test]
+fn the_file_is_read_to_its_end(rt: HostRuntime) -> Result<(), Fail> {
+    let mut longer = Vec::from_slice(rt.alloc(), SAMPLE)?;
+    longer.push(b'7')?;
+    assert_eq!(rt;
+        read(rt.alloc(), &longer)?.err(),
+        Some(ModelFault::Extra { at: 184 })
+    );
+    longer.push(b'-')?;
+    assert_eq!(rt;
+        read(rt.alloc(), &longer)?.err(),
+        Some(ModelFault::Extra { at: 184 })
+    );
+    Ok(())
+}
+
+#[test]
+fn a_failed_fetch_in_mid_file_is_a_read_fault(rt: HostRuntime) -> Result<(), Fail> {
+    for each in [1, 40] {
+        let mut fails = Fixed::make(rt.alloc(), 1)?;
+        fails.extend_from_slice(&[3]);
+        let mut files = MemoryFiles::make(rt.alloc(), each, fails)?;
+        files.add(rt.alloc(), "model", SAMPLE)?;
+        let first = read_model(rt.alloc(), &mut files, "model");
+        assert_eq!(rt; first.err(), Some(ModelFault::ReadFault));
+        let second = read_model(rt.alloc(), &mut files, "model");
+        assert!(rt; second.is_ok());
+    }
+    Ok(())
+}

@@ -1,0 +1,5 @@
+pub mod Applying
+pub mod OptionLemmas
+pub mod Settled
+pub mod StepLemmas
+pub mod Repeats

@@ -1,0 +1,24 @@
+-- Reads of a list of steps and of an assignment.
+use Rattle.std.proofs.Common.{◌≡◌, ℕ, ◌<◌, List, ◌∷◌, length, refl, ap}
+use Rattle.std.specs.Prelude.{slice_index_or}
+use Rattle.std.proofs.lemmas.List.{get_or_read}
+use Rattle.ra_base.specs.declared.ids.Machine.{Machine}
+use Rattle.ra_model.specs.Assignments.{machine_at}
+use Rattle.ra_moves.specs.declared.steps.Step.{Step}
+use Rattle.ra_moves.specs.Steps.{step_at}
+
+pub machine_read : (a : List Machine) (p : ℕ) (m : Machine) → p < length a → m ≡ slice_index_or a p m → m.0 ≡ machine_at a p
+unfolding machine_at
+machine_read a p m within read = ap (λ (n : Machine). n.0) (get_or_read a p m within read _)
+
+pub step_first : (i : ℕ) (s : Step) (steps : List Step) → i ≡ 0 → s ≡ step_at (s ∷ steps) i
+unfolding step_at
+step_first i s steps here = rw here refl
+
+pub step_second : (i : ℕ) (s t : Step) (steps : List Step) → i ≡ 1 → t ≡ step_at (s ∷ t ∷ steps) i
+unfolding step_at
+step_second i s t steps here = rw here refl
+
+pub step_third : (i : ℕ) (s t u : Step) (steps : List Step) → i ≡ 2 → u ≡ step_at (s ∷ t ∷ u ∷ steps) i
+unfolding step_at
+step_third i s t u steps here = rw here refl

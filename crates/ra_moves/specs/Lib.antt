@@ -1,0 +1,7 @@
+pub mod Forms
+pub mod Judging
+pub mod MoveSteps
+pub mod Options
+pub mod Replacing
+pub mod Settling
+pub mod Steps

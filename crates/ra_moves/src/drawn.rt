@@ -1,0 +1,162 @@
+ghost use Rattle.std.specs.Prelude.{◌≡◌, ℕ, None, ◌+◌, ◌%◌, ◌^◌, ◌<◌, ◌≤◌, length, slice_index};
+ghost use Rattle.ra_model.specs.Assignments.{machine_at};
+ghost use Rattle.ra_moves.specs.declared.steps.MoveKind.TheVariants.{Shift};
+ghost use Rattle.ra_moves.specs.Judging.{repeat_of};
+ghost use Rattle.ra_moves.specs.Steps.{StandsAt, Distinct, from_in, to_in};
+ghost use Rattle.ra_moves.specs.Options.{kind_of, count_of, option_count, target, leaving, shift_of, swap_of, chain_of, option_at};
+
+use crate::moves::Move;
+use crate::steps::{MoveKind, Step};
+use ra_base::{Assignment, Drawing, Machine, Process};
+
+/// How many moves the eight words of a proposal name, over this number of machines.
+#[tactic(auto, unfolding(crate::specs::Options::option_count, crate::specs::Options::count_of))]
+pub fn options(words: &[u64; 8], machines: u32, drawing: Drawing) -> u32
+    requires { 1 ≤ machines }
+    ensures value { result ≡ option_count words.now machines drawing }
+    ensures some { 1 ≤ result }
+    ensures few { result ≤ 64 }
+{
+    count(kind(words), machines, drawing)
+}
+
+/// One of the moves that the eight words of a proposal name: option `option` of assignment `a`, counted from 0. Each of
+/// its processes is on the machine that its step leaves, and they differ unless the move is refused as Repeat.
+pub fn resolve(
+    a: &Assignment,
+    words: &[u64; 8],
+    machines: u32,
+    drawing: Drawing,
+    option: u32,
+) -> Move
+    requires some_process { 1 ≤ length a.now.items }
+    requires few_processes { length a.now.items ≤ 50000 }
+    requires some_machine { 1 ≤ machines }
+    requires named { option < option_count words.now machines drawing }
+    ensures option { result ≡ option_at a.now.items words.now machines drawing option }
+    ensures stands { StandsAt from_in result.steps a.now.items }
+    ensures reaches { ((p : ℕ) → p < length a.now.items → machine_at a.now.items p < machines)
+        → (j : ℕ) → j < length result.steps → to_in result.steps j < machines }
+    ensures distinct { repeat_of result.steps ≡ None → Distinct result.steps }
+{
+    let p = process_of(a, words[1]);
+    match kind(words) {
+        MoveKind::Shift => shift(a, p, machine_of(words, machines, drawing, option)),
+        MoveKind::Swap => swap(a, p, process_of(a, words[2 + option as usize])),
+        MoveKind::Chain => {
+            let q = process_of(a, words[2]);
+            let r = process_of(a, words[3]);
+            chain(a, p, q, r, rest(words[4], machines))
+        }
+    }
+}
+
+/// The kind of move that the first of a proposal's words asks for.
+#[tactic(auto, unfolding(crate::specs::Options::kind_of))]
+fn kind(words: &[u64; 8]) -> MoveKind
+    ensures { result ≡ kind_of words.now }
+{
+    match words[0] % 8 {
+        0..=4 => MoveKind::Shift,
+        5 | 6 => MoveKind::Swap,
+        _ => MoveKind::Chain,
+    }
+}
+
+#[tactic(auto, unfolding(crate::specs::Options::count_of))]
+fn count(kind: MoveKind, machines: u32, drawing: Drawing) -> u32
+    requires { 1 ≤ machines }
+    ensures value { result ≡ count_of kind drawing machines }
+    ensures some { 1 ≤ result }
+    ensures few { result ≤ 64 }
+{
+    match (kind, drawing) {
+        (MoveKind::Shift, Drawing::One) => 4,
+        (MoveKind::Shift, Drawing::Two) => machines.min(64),
+        (MoveKind::Swap, _) => 4,
+        (MoveKind::Chain, _) => 1,
+    }
+}
+
+/// The machine of a shift's option.
+#[tactic(auto, unfolding(crate::specs::Options::target, crate::specs::Options::count_of))]
+fn machine_of(words: &[u64; 8], machines: u32, drawing: Drawing, option: u32) -> Machine
+    requires some { 1 ≤ machines }
+    requires named { option < count_of Shift drawing machines }
+    ensures { result.0 ≡ target drawing words.now machines option }
+{
+    match drawing {
+        Drawing::One => rest(words[2 + option as usize], machines),
+        Drawing::Two => {
+            let first = rest(words[2], machines);
+            rest(first.0 as u64 + option as u64, machines)
+        }
+    }
+}
+
+/// The machine that a word names.
+fn rest(word: u64, machines: u32) -> Machine
+    requires { 1 ≤ machines }
+    ensures { result.0 ≡ word % machines }
+{
+    Machine((word % machines as u64) as u32)
+}
+
+/// The process that a word names.
+fn process_of(a: &Assignment, word: u64) -> Process
+    requires some { 1 ≤ length a.now.items }
+    requires few { length a.now.items ≤ 50000 }
+    ensures value { result.0 ≡ word % length a.now.items }
+    ensures known { result.0 < length a.now.items }
+{
+    Process((word % a.len() as u64) as u32)
+}
+
+#[tactic(auto, unfolding(crate::specs::Options::shift_of))]
+fn shift(a: &Assignment, p: Process, to: Machine) -> Move
+    requires { p.0 < length a.now.items }
+    ensures { result ≡ shift_of a.now.items p.0 to.0 }
+{
+    Move::shift(step(a, p, to))
+}
+
+#[tactic(auto, unfolding(crate::specs::Options::swap_of))]
+fn swap(a: &Assignment, p: Process, q: Process) -> Move
+    requires first { p.0 < length a.now.items }
+    requires second { q.0 < length a.now.items }
+    ensures { result ≡ swap_of a.now.items p.0 q.0 }
+{
+    Move::swap(step(a, p, at(a, q)), step(a, q, at(a, p)))
+}
+
+#[tactic(auto, unfolding(crate::specs::Options::chain_of))]
+fn chain(a: &Assignment, p: Process, q: Process, r: Process, to: Machine) -> Move
+    requires first { p.0 < length a.now.items }
+    requires second { q.0 < length a.now.items }
+    requires third { r.0 < length a.now.items }
+    ensures { result ≡ chain_of a.now.items p.0 q.0 r.0 to.0 }
+{
+    Move::chain(step(a, p, at(a, q)), step(a, q, at(a, r)), step(a, r, to))
+}
+
+/// The step of a process from its machine to another.
+#[tactic(auto, unfolding(crate::specs::Options::leaving))]
+fn step(a: &Assignment, process: Process, to: Machine) -> Step
+    requires { process.0 < length a.now.items }
+    ensures { result ≡ leaving a.now.items process.0 to.0 }
+{
+    Step {
+        process,
+        from: at(a, process),
+        to,
+    }
+}
+
+/// The machine of a process.
+#[tactic(auto, using(crate::proofs::StepLemmas::machine_read))]
+fn at(a: &Assignment, p: Process) -> Machine
+    requires { p.0 < length a.now.items }
+    ensures { result.0 ≡ machine_at a.now.items p.0 }
+{
+    a.get(p.0 as usize)
+}

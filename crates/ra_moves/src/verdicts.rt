@@ -1,0 +1,99 @@
+ghost use Rattle.std.specs.Prelude.{◌≡◌, ℕ, ◌+◌, ◌^◌, ◌<◌, pos, ◌≤ℤ◌, ◌<ℤ◌};
+ghost use Rattle.ra_base.specs.Searches.{or_else};
+ghost use Rattle.ra_moves.specs.Judging.{rise_test, verdict_of};
+ghost use Rattle.ra_moves.specs.Settling.{settled_cost};
+
+use crate::moves::Move;
+use ra_base::{Cause, MovedCount};
+
+/// What is said of a move.
+#[derive(Clone, Copy, Debug, PartialEq, Eq)]
+pub enum Verdict {
+    /// It is done, and the cost is then this.
+    Done { cost: u128 },
+    /// It is refused for this cause.
+    Refused { cause: Cause },
+}
+
+/// What a move breaks or changes, which doesn't depend on the other services.
+#[derive(Clone, Copy, Debug, PartialEq, Eq)]
+pub struct Weighed {
+    /// The cause other than Rise for which the move is refused. Where there is one, `local` is 0 and no count is there.
+    pub broken: Option<Cause>,
+    /// The change of load, balance, process and machine cost together.
+    pub local: i128,
+    /// The moved counts of the different services of the move, in the order of its steps.
+    pub first: Option<MovedCount>,
+    pub second: Option<MovedCount>,
+    pub third: Option<MovedCount>,
+}
+
+/// The move that a worker proposes, with its weighing.
+#[derive(Clone, Copy, Debug, PartialEq, Eq)]
+pub struct Plan {
+    /// How many entries of the journal the worker had taken in.
+    pub q: u64,
+    /// The number of the worker's proposal, counted from 0.
+    pub k: u64,
+    /// The move.
+    pub mv: Move,
+    /// Its weighing at that state.
+    pub weighed: Weighed,
+}
+
+/// The verdict on a weighed move: its broken cause, or else Rise or Done by the cost after it, which is `kept`, the
+/// cost so far, and `local`, and the weight times the change of the greatest moved count from `now` to `after`.
+pub fn settle(
+    kept: u128,
+    now: u32,
+    after: u32,
+    service_weight: u32,
+    weighed: &Weighed,
+    allowed: u64,
+) -> Verdict
+    requires not_negative { pos 0 ≤ℤ settled_cost kept now after service_weight weighed.now.local }
+    requires fits { settled_cost kept now after service_weight weighed.now.local <ℤ pos (2 ^ 114) }
+    ensures { (cost : ℕ) → settled_cost kept now after service_weight weighed.now.local ≡ pos cost
+        → result ≡ verdict_of (or_else weighed.now.broken (rise_test kept cost allowed)) cost }
+{
+    let cost = cost_after(kept, now, after, service_weight, weighed.local);
+    match weighed.broken {
+        Some(cause) => Verdict::Refused { cause },
+        None => by_rise(kept, cost, allowed),
+    }
+}
+
+/// Rise or Done.
+#[tactic(auto, using(crate::proofs::Settled::risen, crate::proofs::Settled::done))]
+fn by_rise(kept: u128, cost: u128, allowed: u64) -> Verdict
+    requires { kept < 2 ^ 127 + 2 ^ 115 }
+    ensures { result ≡ verdict_of (rise_test kept cost allowed) cost }
+{
+    if cost > kept + allowed as u128 {
+        Verdict::Refused {
+            cause: Cause::Rise {
+                before: kept,
+                after: cost,
+                allowed,
+            },
+        }
+    } else {
+        Verdict::Done { cost }
+    }
+}
+
+/// The cost after a move: what is added, less what is taken away.
+fn cost_after(kept: u128, now: u32, after: u32, weight: u32, local: i128) -> u128
+    requires not_negative { pos 0 ≤ℤ settled_cost kept now after weight local }
+    requires fits { settled_cost kept now after weight local <ℤ pos (2 ^ 114) }
+    ensures value { pos result ≡ settled_cost kept now after weight local }
+    ensures near { kept < 2 ^ 127 + 2 ^ 115 }
+{
+    let added = weight as u128 * after as u128;
+    let taken = weight as u128 * now as u128;
+    if local < 0 {
+        kept + added - (local.unsigned_abs() + taken)
+    } else {
+        kept + local.unsigned_abs() + added - taken
+    }
+}

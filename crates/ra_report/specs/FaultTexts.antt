@@ -1,0 +1,111 @@
+-- The lines on the error sink.
+use Rattle.std.specs.Prelude.{ℕ, List, [], ◌∷◌, ◌++◌, codes}
+use Rattle.std.specs.Fmt.{decimal}
+use Rattle.ra_assign.specs.declared.faults.AssignFault.{AssignFault}
+use Rattle.ra_assign.specs.declared.faults.AssignFault.TheVariants as assign
+use Rattle.ra_assign.specs.declared.faults.ClosedFault.{ClosedFault}
+use Rattle.ra_assign.specs.declared.faults.ClosedFault.TheVariants as closed
+use Rattle.ra_model_read.specs.declared.faults.Field.{Field}
+use Rattle.ra_model_read.specs.declared.faults.Field.TheVariants as field
+use Rattle.ra_model_read.specs.declared.faults.ModelFault.{ModelFault}
+use Rattle.ra_model_read.specs.declared.faults.ModelFault.TheVariants as model
+use Rattle.ra_report.specs.declared.faults.Fault.{Fault}
+use Rattle.ra_report.specs.declared.faults.Fault.TheVariants.{Usage, Read, Model, Closed, Assign, Infeasible, Write, Memory}
+use Rattle.ra_report.specs.Pieces.{joined}
+use Rattle.ra_report.specs.Texts.{space, line_end, cause_text}
+
+-- the printed name of a field of a model file
+unfoldable pub field_text : Field → List ℕ
+field_text field.ResourceCount = codes "resource count"
+field_text field.Transient = codes "transient flag"
+field_text field.LoadWeight = codes "load weight"
+field_text field.MachineCount = codes "machine count"
+field_text field.Neighbourhood = codes "neighbourhood"
+field_text field.Location = codes "location"
+field_text field.Capacity = codes "capacity"
+field_text field.Safety = codes "safety capacity"
+field_text field.MoveCost = codes "machine move cost"
+field_text field.ServiceCount = codes "service count"
+field_text field.SpreadMin = codes "spread"
+field_text field.DependencyCount = codes "dependency count"
+field_text field.Dependency = codes "dependency"
+field_text field.ProcessCount = codes "process count"
+field_text field.ProcessService = codes "service"
+field_text field.Requirement = codes "requirement"
+field_text field.ProcessCost = codes "process move cost"
+field_text field.BalanceCount = codes "balance count"
+field_text field.BalanceFirst = codes "first resource"
+field_text field.BalanceSecond = codes "second resource"
+field_text field.BalanceTarget = codes "target"
+field_text field.BalanceWeight = codes "balance weight"
+field_text field.ProcessWeight = codes "process move weight"
+field_text field.ServiceWeight = codes "service move weight"
+field_text field.MachineWeight = codes "machine move weight"
+
+-- a byte that is neither a digit nor a blank; a number that is too large; a number too many
+abbrev pub bad_byte : ℕ → ℕ → List ℕ
+bad_byte at byte = joined (codes "bad byte " ∷ decimal byte ∷ codes " at " ∷ decimal at ∷ [])
+
+abbrev pub too_large : ℕ → List ℕ
+too_large at = joined (codes "number too large at " ∷ decimal at ∷ [])
+
+abbrev pub extra : ℕ → List ℕ
+extra at = joined (codes "extra at " ∷ decimal at ∷ [])
+
+-- what is wrong with a model file; a failed fetch and want of memory have lines of their own
+unfoldable pub model_detail : ModelFault → List ℕ
+model_detail model.ReadFault = []
+model_detail (model.BadByte at byte) = bad_byte at byte
+model_detail (model.TooLarge at) = too_large at
+model_detail model.TooLong = joined (codes "file too long" ∷ [])
+model_detail (model.Missing what item) = joined (codes "missing " ∷ field_text what ∷ space ∷ decimal item ∷ [])
+model_detail (model.Range what at value least most) =
+    joined (codes "range " ∷ field_text what ∷ codes " at " ∷ decimal at ∷ codes ": " ∷ decimal value ∷ codes " not in " ∷ decimal least ∷ codes " to " ∷ decimal most ∷ [])
+model_detail (model.Flag at value) = joined (codes "flag at " ∷ decimal at ∷ codes ": " ∷ decimal value ∷ [])
+model_detail (model.Extra at) = extra at
+model_detail model.NoMemory = []
+
+-- what is wrong with an assignment file
+unfoldable pub assign_detail : AssignFault → List ℕ
+assign_detail assign.ReadFault = []
+assign_detail (assign.BadByte at byte) = bad_byte at byte
+assign_detail (assign.TooLarge at) = too_large at
+assign_detail assign.TooLong = joined (codes "file too long" ∷ [])
+assign_detail (assign.Missing process) = joined (codes "missing process " ∷ decimal process.0 ∷ [])
+assign_detail (assign.NoMachine process value) = joined (codes "no machine for process " ∷ decimal process.0 ∷ codes ", value " ∷ decimal value ∷ [])
+assign_detail (assign.Extra at) = extra at
+assign_detail assign.NoMemory = []
+
+-- what is wrong with a closed list
+unfoldable pub closed_detail : ClosedFault → List ℕ
+closed_detail closed.ReadFault = []
+closed_detail (closed.BadByte at byte) = bad_byte at byte
+closed_detail (closed.TooLarge at) = too_large at
+closed_detail closed.TooLong = joined (codes "file too long" ∷ [])
+closed_detail (closed.NoMachine at value) = joined (codes "no machine at " ∷ decimal at ∷ codes ", value " ∷ decimal value ∷ [])
+closed_detail closed.NoMemory = []
+
+abbrev pub usage_line : List ℕ
+usage_line = codes "usage: reassign check MODEL INITIAL NEW [--closed FILE] | bound MODEL | solve MODEL INITIAL [--slack N] [--closed FILE] [--draws 1|2] LOT ... | trial N"
+
+-- a line about a file: what comes before, what is wrong, and the end of the line
+abbrev pub line_of : List ℕ → List ℕ → List ℕ
+line_of before detail = before ++ (detail ++ line_end)
+
+-- a line about a file: some words, its name, and what is wrong with it
+abbrev pub about : List ℕ → List ℕ → List ℕ → List ℕ
+about words name detail = line_of (joined (words ∷ name ∷ codes ": " ∷ [])) detail
+
+abbrev pub read_fault_line : List ℕ → List ℕ
+read_fault_line name = joined (codes "read fault: " ∷ name ∷ line_end ∷ [])
+
+-- the line of a fault
+unfoldable pub fault_text : Fault → List ℕ
+fault_text Usage = joined (usage_line ∷ line_end ∷ [])
+fault_text (Read name) = read_fault_line name.now
+fault_text (Model fault) = line_of (joined (codes "bad model: " ∷ [])) (model_detail fault)
+fault_text (Closed name fault) = about (codes "bad closed list: ") name.now (closed_detail fault)
+fault_text (Assign name fault) = about (codes "bad assignment: ") name.now (assign_detail fault)
+fault_text (Infeasible name cause) = about (codes "infeasible: ") name.now (cause_text cause)
+fault_text Write = joined (codes "write fault" ∷ line_end ∷ [])
+fault_text Memory = joined (codes "no memory" ∷ line_end ∷ [])

@@ -1,0 +1,9 @@
+pub mod Pieces
+pub mod RunLaws
+pub mod FaultLaws
+pub mod TokenLaws
+pub mod Steps
+pub mod InPiece
+pub mod Told
+pub mod Scanning
+pub mod ToldByte

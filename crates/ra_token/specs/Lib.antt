@@ -1,0 +1,6 @@
+pub mod Runs
+pub mod Faults
+pub mod TokenList
+pub mod Standing
+pub mod Reads
+pub mod Scan

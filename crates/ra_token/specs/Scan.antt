@@ -1,0 +1,61 @@
+-- What is known on the way to the next token.
+use Rattle.std.specs.Prelude.{◌≡◌, ℕ, ◌+◌, ◌-◌, ◌<◌, ◌≤◌, true, List, length, take, slice_get, slice_index, Option, Some, None, IfSome, Err}
+use Rattle.ra_base.specs.Searches.{first}
+use Rattle.ra_token.specs.declared.answers.Token.{Token}
+use Rattle.ra_token.specs.declared.answers.TokenFault.{TokenFault}
+use Rattle.ra_token.specs.declared.window.Window.{Window}
+use Rattle.ra_token.specs.Runs.{digit_at, worth, run_start}
+use Rattle.ra_token.specs.Faults.{fault_at}
+use Rattle.ra_token.specs.TokenList.{tokens, tokens_before, IsAnswer}
+use Rattle.ra_token.specs.Reads.{IsBetween, IsPiece}
+
+-- where the bytes of the file are told, the window shows some of them
+abbrev pub Shows : Option (List ℕ) → Window → Type 0
+Shows told w = IfSome told (λ bytes. IsPiece bytes w.start (take w.filled w.buffer.items))
+
+-- the window has the byte at a place ready
+pub record Covers (w : Window) (place : ℕ) : Type 0 where
+  pub low : w.start ≤ place
+  pub high : place < w.start + w.filled
+
+-- the byte that the window has ready for a place
+abbrev pub ready_byte : Window → ℕ → ℕ
+ready_byte w place = slice_index w.buffer.items (place - w.start)
+
+-- a place that was reached from an earlier one, and no token ends between them
+pub record IsReached (bytes : List ℕ) (from place : ℕ) : Type 0 where
+  pub between : IsBetween bytes place
+  pub given : tokens_before bytes place ≡ tokens_before bytes from
+
+-- a token begins at a place that was reached
+pub record Begins (bytes : List ℕ) (from place : ℕ) : Type 0 where
+  pub reached : IsReached bytes from place
+  pub digit : digit_at bytes place ≡ true
+
+-- the run that begins at a place was looked at up to another, and is worth so much there
+pub record InRun (bytes : List ℕ) (start place value : ℕ) : Type 0 where
+  pub within : place ≤ length bytes
+  pub worth_is : worth bytes place ≡ value
+  pub start_is : run_start bytes place ≡ start
+  pub sound : first place (fault_at bytes) ≡ None
+  pub given : tokens_before bytes (place - 1) ≡ tokens_before bytes start
+
+-- a token of a value at a place
+abbrev pub token_of : ℕ → ℕ → Token
+token_of value at = record { value = value; at = at }
+
+-- the run from one place to another is the next token, of this value
+pub record IsTaken (bytes : List ℕ) (start place value : ℕ) : Type 0 where
+  pub token : slice_get (tokens bytes) (tokens_before bytes start) ≡ Some (token_of value start)
+  pub between : IsBetween bytes place
+  pub given : tokens_before bytes place ≡ tokens_before bytes start + 1
+
+-- from a place on, the run from one place to another is the next token, of this value
+pub record IsNext (bytes : List ℕ) (from start place value : ℕ) : Type 0 where
+  pub token : slice_get (tokens bytes) (tokens_before bytes from) ≡ Some (token_of value start)
+  pub between : IsBetween bytes place
+  pub given : tokens_before bytes place ≡ tokens_before bytes from + 1
+
+-- the fault comes next
+abbrev pub FaultsAt : List ℕ → ℕ → TokenFault → Type 0
+FaultsAt bytes place fault = IsAnswer bytes (tokens_before bytes place) (Err fault)

@@ -1,0 +1,302 @@
+ghost use Rattle.std.specs.Prelude.{◌≡◌, ℕ, ◌+◌, ◌<◌, ◌≤◌, true, List, length, Option, None, Some, Ok, Err, IfSome, IfNone, IfOk, IfErr, OnErr, slice_get, vec_len};
+ghost use Rattle.ra_io.specs.Faults.{Rose};
+ghost use Rattle.ra_token.specs.declared.answers.TheConstants.{PLACE_LIMIT};
+ghost use Rattle.ra_token.specs.declared.window.TheConstants.{BUFFER_BYTES};
+
+use crate::answers::{LARGEST, PLACE_LIMIT, TokenFault};
+use crate::scan::{gather, is_blank, skip_blanks};
+use ra_io::Files;
+use std::alloc::{AllocError, Global};
+
+/// How many bytes are fetched at once.
+pub const BUFFER_BYTES: usize = 65_536;
+
+/// Some bytes of a file, held ready.
+#[derive(Drop)]
+pub struct Window {
+    /// The place of the first byte that is held ready.
+    pub start: u64,
+    /// How many bytes are held ready.
+    pub filled: usize,
+    /// Those bytes, and room for more.
+    pub buffer: Vec<u8>,
+    pub ghost whole: { vec_len buffer ≡ BUFFER_BYTES },
+    pub ghost within: { filled ≤ BUFFER_BYTES },
+    pub ghost below: { start + filled ≤ PLACE_LIMIT },
+}
+
+/// A run of digits of a file.
+#[derive(Clone, Copy, Debug, PartialEq, Eq)]
+pub struct Run {
+    /// The place behind its last digit.
+    pub end: u64,
+    /// What it is worth.
+    pub value: u64,
+}
+
+impl Window {
+    ghost use Rattle.std.specs.Prelude.{take};
+    ghost use Rattle.ra_token.specs.declared.answers.TheConstants.{LARGEST};
+    ghost use Rattle.std.specs.Char.{is_ascii_digit};
+    ghost use Rattle.ra_token.specs.Runs.{is_blank};
+    ghost use Rattle.ra_token.specs.TokenList.{IsAnswer, tokens_before};
+    ghost use Rattle.ra_token.specs.Reads.{IsBetween};
+    ghost use Rattle.ra_token.specs.Scan.{Shows, Covers, ready_byte, Begins, IsTaken, IsNext, FaultsAt, IsReached, InRun};
+
+    /// A window with nothing ready.
+    pub fn make(alloc: Global) -> Result<Window, AllocError>
+        ensures { IfOk result (λ w. w.filled ≡ 0) }
+    {
+        let buffer = vec![in alloc; 0; BUFFER_BYTES]?;
+        Ok(Window {
+            start: 0,
+            filled: 0,
+            buffer,
+        })
+    }
+
+    /// The next run of digits from `place` on, with the place of its first digit, and none where blanks alone are left.
+    pub fn next_run<F: Files>(
+        &mut self,
+        files: &mut F,
+        name: &str,
+        place: u64,
+    ) -> Result<Option<(u64, Run)>, TokenFault>
+        requires place { place ≤ PLACE_LIMIT }
+        requires shows { Shows (F.held files.old name.now) self.old }
+        requires between { IfSome (F.held files.old name.now) (λ bytes. IsBetween bytes place) }
+        ensures shows { Shows (F.held files.new name.now) self.new }
+        ensures next { IfSome (F.held files.old name.now) (λ bytes. IfOk result (λ found. IfSome found (λ run. IsNext bytes place run.0 run.1.end run.1.value))) }
+        ensures ended { IfSome (F.held files.old name.now) (λ bytes. IfOk result (λ found. IfNone found (IsAnswer bytes (tokens_before bytes place) (Ok None)))) }
+        ensures refused { IfSome (F.held files.old name.now) (λ bytes. IfErr result (FaultsAt bytes place)) }
+        ensures place { IfOk result (λ found. IfSome found (λ run. run.1.end ≤ PLACE_LIMIT)) }
+        ensures small { IfOk result (λ found. IfSome found (λ run. run.1.value ≤ LARGEST)) }
+        ensures memory { result ≡ Err TokenFault.NoMemory → ⊥ }
+        ensures fault { result ≡ Err TokenFault.ReadFault → Rose (F.faults files.old name.now) (F.faults files.new name.now) }
+        ensures kept { (other : List ℕ) → F.held files.new other ≡ F.held files.old other }
+        ensures never_fall { (other : List ℕ) → F.faults files.old other ≤ F.faults files.new other }
+    {
+        match self.ready_run(place) {
+            Some(found) => Ok(Some(found)),
+            None => self.fetched_run(files, name, place),
+        }
+    }
+
+    /// The next run, where it, the blanks before it and the byte behind it are ready, and it is not too large.
+    fn ready_run(&self, place: u64) -> Option<(u64, Run)>
+        ensures next { (told : Option (List ℕ)) → Shows told self.now → IfSome told (λ bytes. IsBetween bytes place
+            → IfSome result (λ run. IsNext bytes place run.0 run.1.end run.1.value)) }
+        ensures place { IfSome result (λ run. run.1.end ≤ PLACE_LIMIT) }
+        ensures small { IfSome result (λ run. run.1.value ≤ LARGEST) }
+    {
+        if place < self.start || place - self.start >= self.filled as u64 {
+            return None;
+        }
+        let ready = &self.buffer[..self.filled];
+        let first = skip_blanks(ready, (place - self.start) as usize);
+        let stretch = gather(ready, first, 0);
+        if stretch.end == first || stretch.end == ready.len() || stretch.value > LARGEST {
+            return None;
+        }
+        let run = Run {
+            end: self.start + stretch.end as u64,
+            value: stretch.value,
+        };
+        Some((self.start + first as u64, run))
+    }
+
+    /// The next run, byte by byte where the bytes have to be fetched.
+    #[cold]
+    #[inline(never)]
+    fn fetched_run<F: Files>(
+        &mut self,
+        files: &mut F,
+        name: &str,
+        place: u64,
+    ) -> Result<Option<(u64, Run)>, TokenFault>
+        requires place { place ≤ PLACE_LIMIT }
+        requires shows { Shows (F.held files.old name.now) self.old }
+        requires between { IfSome (F.held files.old name.now) (λ bytes. IsBetween bytes place) }
+        ensures shows { Shows (F.held files.new name.now) self.new }
+        ensures next { IfSome (F.held files.old name.now) (λ bytes. IfOk result (λ found. IfSome found (λ run. IsNext bytes place run.0 run.1.end run.1.value))) }
+        ensures ended { IfSome (F.held files.old name.now) (λ bytes. IfOk result (λ found. IfNone found (IsAnswer bytes (tokens_before bytes place) (Ok None)))) }
+        ensures refused { IfSome (F.held files.old name.now) (λ bytes. IfErr result (FaultsAt bytes place)) }
+        ensures place { IfOk result (λ found. IfSome found (λ run. run.1.end ≤ PLACE_LIMIT)) }
+        ensures small { IfOk result (λ found. IfSome found (λ run. run.1.value ≤ LARGEST)) }
+        ensures memory { result ≡ Err TokenFault.NoMemory → ⊥ }
+        ensures fault { result ≡ Err TokenFault.ReadFault → Rose (F.faults files.old name.now) (F.faults files.new name.now) }
+        ensures kept { (other : List ℕ) → F.held files.new other ≡ F.held files.old other }
+        ensures never_fall { (other : List ℕ) → F.faults files.old other ≤ F.faults files.new other }
+    {
+        let Some(first) = self.first_digit(files, name, place)? else {
+            return Ok(None);
+        };
+        let run = self.run_from(files, name, first)?;
+        Ok(Some((first, run)))
+    }
+
+    /// The byte at a place, and none past the end of the file. It is held ready then, unless it stands at
+    /// `PLACE_LIMIT`.
+    fn byte<F: Files>(
+        &mut self,
+        files: &mut F,
+        name: &str,
+        at: u64,
+    ) -> Result<Option<u8>, TokenFault>
+        requires place { at ≤ PLACE_LIMIT }
+        requires shows { Shows (F.held files.old name.now) self.old }
+        ensures shows { Shows (F.held files.new name.now) self.new }
+        ensures byte { IfSome (F.held files.old name.now) (λ bytes. IfOk result (λ byte. byte ≡ slice_get bytes at)) }
+        ensures covers { IfOk result (λ byte. IfSome byte (λ _. at < PLACE_LIMIT → Covers self.new at)) }
+        ensures ready { IfOk result (λ byte. IfSome byte (λ x. at < PLACE_LIMIT → ready_byte self.new at ≡ x)) }
+        ensures cause { IfErr result (λ fault. fault ≡ TokenFault.ReadFault) }
+        ensures fault { OnErr result (Rose (F.faults files.old name.now) (F.faults files.new name.now)) }
+        ensures kept { (other : List ℕ) → F.held files.new other ≡ F.held files.old other }
+        ensures never_fall { (other : List ℕ) → F.faults files.old other ≤ F.faults files.new other }
+    {
+        if self.start <= at && at - self.start < self.filled as u64 {
+            return Ok(Some(self.buffer[(at - self.start) as usize]));
+        }
+        self.fill(files, name, at)
+    }
+
+    /// Fetches the bytes from a place on, and gives the first.
+    fn fill<F: Files>(
+        &mut self,
+        files: &mut F,
+        name: &str,
+        at: u64,
+    ) -> Result<Option<u8>, TokenFault>
+        requires place { at ≤ PLACE_LIMIT }
+        ensures shows { Shows (F.held files.new name.now) self.new }
+        ensures byte { IfSome (F.held files.old name.now) (λ bytes. IfOk result (λ byte. byte ≡ slice_get bytes at)) }
+        ensures covers { IfOk result (λ byte. IfSome byte (λ _. at < PLACE_LIMIT → Covers self.new at)) }
+        ensures ready { IfOk result (λ byte. IfSome byte (λ x. at < PLACE_LIMIT → ready_byte self.new at ≡ x)) }
+        ensures cause { IfErr result (λ fault. fault ≡ TokenFault.ReadFault) }
+        ensures fault { OnErr result (Rose (F.faults files.old name.now) (F.faults files.new name.now)) }
+        ensures kept { (other : List ℕ) → F.held files.new other ≡ F.held files.old other }
+        ensures never_fall { (other : List ℕ) → F.faults files.old other ≤ F.faults files.new other }
+    {
+        self.filled = 0;
+        let Ok(number) = files.fetch(name, at, self.buffer.as_mut_slice()) else {
+            return Err(TokenFault::ReadFault);
+        };
+        self.start = at;
+        self.filled = number.min((PLACE_LIMIT - at) as usize);
+        if number == 0 {
+            return Ok(None);
+        }
+        Ok(Some(self.buffer[0]))
+    }
+
+    /// The place of the first byte from `place` on that is ready and no blank, or else of the first that isn't ready.
+    fn past_blanks(&self, place: u64) -> u64
+        requires { Covers self.now place }
+        ensures low { place ≤ result }
+        ensures high { result ≤ self.now.start + self.now.filled }
+        ensures moves { is_blank (ready_byte self.now place) ≡ true → place < result }
+        ensures reached { (told : Option (List ℕ)) → Shows told self.now → IfSome told (λ bytes. IsBetween bytes place → IsReached bytes place result) }
+    {
+        let index = skip_blanks(&self.buffer[..self.filled], (place - self.start) as usize);
+        self.start + index as u64
+    }
+
+    /// Where the next run of digits begins, from `place` on, and none where blanks alone are left.
+    fn first_digit<F: Files>(
+        &mut self,
+        files: &mut F,
+        name: &str,
+        place: u64,
+    ) -> Result<Option<u64>, TokenFault>
+        requires place { place ≤ PLACE_LIMIT }
+        requires shows { Shows (F.held files.old name.now) self.old }
+        requires between { IfSome (F.held files.old name.now) (λ bytes. IsBetween bytes place) }
+        ensures shows { Shows (F.held files.new name.now) self.new }
+        ensures begins { IfSome (F.held files.old name.now) (λ bytes. IfOk result (λ found. IfSome found (λ at. Begins bytes place at))) }
+        ensures ended { IfSome (F.held files.old name.now) (λ bytes. IfOk result (λ found. IfNone found (IsAnswer bytes (tokens_before bytes place) (Ok None)))) }
+        ensures refused { IfSome (F.held files.old name.now) (λ bytes. IfErr result (FaultsAt bytes place)) }
+        ensures low { IfOk result (λ found. IfSome found (λ at. at < PLACE_LIMIT)) }
+        ensures memory { result ≡ Err TokenFault.NoMemory → ⊥ }
+        ensures fault { result ≡ Err TokenFault.ReadFault → Rose (F.faults files.old name.now) (F.faults files.new name.now) }
+        ensures kept { (other : List ℕ) → F.held files.new other ≡ F.held files.old other }
+        ensures never_fall { (other : List ℕ) → F.faults files.old other ≤ F.faults files.new other }
+    {
+        let mut at = place;
+        while let Some(byte) = self.byte(files, name, at)? {
+            if at == PLACE_LIMIT {
+                return Err(TokenFault::TooLong);
+            }
+            if byte.is_ascii_digit() {
+                return Ok(Some(at));
+            }
+            if !is_blank(byte) {
+                return Err(TokenFault::BadByte { at, byte });
+            }
+            at = self.past_blanks(at);
+        }
+        Ok(None)
+    }
+
+    /// The run of digits that begins at `first`.
+    fn run_from<F: Files>(
+        &mut self,
+        files: &mut F,
+        name: &str,
+        first: u64,
+    ) -> Result<Run, TokenFault>
+        requires place { first < PLACE_LIMIT }
+        requires shows { Shows (F.held files.old name.now) self.old }
+        requires begins { IfSome (F.held files.old name.now) (λ bytes. Begins bytes first first) }
+        ensures shows { Shows (F.held files.new name.now) self.new }
+        ensures taken { IfSome (F.held files.old name.now) (λ bytes. IfOk result (λ run. IsTaken bytes first run.end run.value)) }
+        ensures refused { IfSome (F.held files.old name.now) (λ bytes. IfErr result (FaultsAt bytes first)) }
+        ensures place { IfOk result (λ run. run.end ≤ PLACE_LIMIT) }
+        ensures small { IfOk result (λ run. run.value ≤ LARGEST) }
+        ensures memory { result ≡ Err TokenFault.NoMemory → ⊥ }
+        ensures fault { result ≡ Err TokenFault.ReadFault → Rose (F.faults files.old name.now) (F.faults files.new name.now) }
+        ensures kept { (other : List ℕ) → F.held files.new other ≡ F.held files.old other }
+        ensures never_fall { (other : List ℕ) → F.faults files.old other ≤ F.faults files.new other }
+    {
+        let mut end = first;
+        let mut value = 0;
+        while let Some(byte) = self.byte(files, name, end)? {
+            if !byte.is_ascii_digit() {
+                break;
+            }
+            if end == PLACE_LIMIT {
+                return Err(TokenFault::TooLong);
+            }
+            let run = self.more_digits(end, value);
+            if run.value > LARGEST {
+                return Err(TokenFault::TooLarge { at: first });
+            }
+            end = run.end;
+            value = run.value;
+        }
+        Ok(Run { end, value })
+    }
+
+    /// The run that is worth `carried` up to a place, with the digits from there on that are ready, as far as
+    /// they go or until it is worth more than `LARGEST`.
+    fn more_digits(&self, place: u64, carried: u64) -> Run
+        requires covers { Covers self.now place }
+        requires small { carried ≤ LARGEST }
+        ensures low { place ≤ result.end }
+        ensures high { result.end ≤ self.now.start + self.now.filled }
+        ensures moves { is_ascii_digit (ready_byte self.now place) ≡ true → place < result.end }
+        ensures goes_on { (told : Option (List ℕ)) → Shows told self.now → IfSome told (λ bytes. (first : ℕ) → InRun bytes first place carried
+            → result.value ≤ LARGEST → InRun bytes first result.end result.value) }
+        ensures too_large { (told : Option (List ℕ)) → Shows told self.now → IfSome told (λ bytes. (first : ℕ) → InRun bytes first place carried
+            → LARGEST < result.value → FaultsAt bytes first (TokenFault.TooLarge first)) }
+    {
+        let stretch = gather(
+            &self.buffer[..self.filled],
+            (place - self.start) as usize,
+            carried,
+        );
+        Run {
+            end: self.start + stretch.end as u64,
+            value: stretch.value,
+        }
+    }
+}

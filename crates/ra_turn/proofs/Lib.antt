@@ -1,0 +1,13 @@
+pub mod Lists
+pub mod Stages
+pub mod Keeps
+pub mod Turns
+pub mod Gives
+pub mod Ends
+pub mod Joining
+pub mod Closing
+pub mod Versions
+pub mod Latches
+pub mod Grips
+pub mod Passing
+pub mod Holding

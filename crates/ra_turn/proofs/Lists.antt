@@ -1,0 +1,74 @@
+-- Beginnings of lists, the notes by one number, and sums where one element changes.
+use Rattle.std.proofs.Common.{◌≡◌, ◌≢◌, ℕ, zero, suc, ◌+◌, ◌==◌, ◌⊎◌, ◌≤◌, ◌<◌, Bool, true, false, cond, List, [], ◌∷◌, ◌++◌, length, drop, set, All, sum_by, filter, refl, ap, sym, ◌∙◌, inl, inr, ne_eqb, eq-eqb, arith, append_assoc}
+use Rattle.std.proofs.Math.Seq.{drop-append_seam}
+use Rattle.std.proofs.lemmas.List.{append-nil}
+use Rattle.std.proofs.lemmas.List.Sums.{sum_by-cons}
+use Rattle.std.proofs.lemmas.List.Elements.{filter-append}
+use mathlib.Core.Option.{some, some-injective, some-ne-none}
+use mathlib.Core.List.{IsPrefix}
+use lib.ListN.{get_elem?}
+use Rattle.ra_turn.specs.Notes.{by}
+
+module _ {A : Type 0} where
+  -- each list begins with itself
+  pub prefix_self : (xs : List A) → IsPrefix xs xs
+  prefix_self xs = ([], append-nil xs)
+
+  pub prefix_longer : (xs ys zs : List A) → IsPrefix xs ys → IsPrefix xs (ys ++ zs)
+  prefix_longer xs ys zs p = (p.0 ++ zs, sym (append_assoc xs p.0 zs) ∙ ap (λ (w : List A). w ++ zs) p.1)
+
+  -- an element that stands at the end or before it
+  pub at_end : (l : List A) (a b : A) (j : ℕ) → get_elem? (l ++ a ∷ []) j ≡ some b → (get_elem? l j ≡ some b) ⊎ ((j ≡ length l) × (a ≡ b))
+  at_end [] a b zero e = inr (refl, some-injective a b e)
+  at_end [] a b (suc j) e = absurd (some-ne-none b (sym e))
+  at_end (x ∷ xs) a b zero e = inl e
+  at_end (x ∷ xs) a b (suc j) e = elim (at_end xs a b j e) [ inl h ↦ inl h | inr h ↦ inr (omega (arith, h.0), h.1) ]
+
+  pub at_below : (l : List A) (j : ℕ) (b : A) → get_elem? l j ≡ some b → j < length l
+  at_below [] j b e = absurd (some-ne-none b (sym e))
+  at_below (x ∷ xs) zero b e = omega arith
+  at_below (x ∷ xs) (suc j) b e = omega (arith, at_below xs j b e)
+
+  -- a sum where one element changes
+  pub sum_changes : (f : A → ℕ) (l : List A) (i : ℕ) (v w : A) → get_elem? l i ≡ some v → sum_by f (set l i w) + f v ≡ sum_by f l + f w
+  sum_changes f [] i v w e = absurd (some-ne-none v (sym e))
+  sum_changes f (x ∷ xs) zero v w e =
+      let same : f x ≡ f v = ap f (some-injective x v e) in
+      omega (arith, sum_by-cons f x xs, sum_by-cons f w xs)
+  sum_changes f (x ∷ xs) (suc i) v w e = omega (arith, sum_changes f xs i v w e, sum_by-cons f x xs, sum_by-cons f x (set xs i w))
+
+  pub sum_has : (f : A → ℕ) (l : List A) (i : ℕ) (v : A) → get_elem? l i ≡ some v → f v ≤ sum_by f l
+  sum_has f [] i v e = absurd (some-ne-none v (sym e))
+  sum_has f (x ∷ xs) zero v e = let same : f x ≡ f v = ap f (some-injective x v e) in omega (arith, sum_by-cons f x xs)
+  sum_has f (x ∷ xs) (suc i) v e = omega (arith, sum_has f xs i v e, sum_by-cons f x xs)
+
+  pub all_first : (P : A → Type 0) (x y : A) (xs : List A) → P y → All P (x ∷ xs) → All P (y ∷ xs)
+  all_first P x y xs p all zero d lt = p
+  all_first P x y xs p all (suc k) d lt = all (suc k) d lt
+
+  pub all_one : (P : A → Type 0) (x : A) (xs : List A) → length xs ≡ 0 → P x → All P (x ∷ xs)
+  all_one P x xs none p zero d lt = p
+  all_one P x xs none p (suc k) d lt = absurd (omega arith)
+
+  pub all_map : (P Q : A → Type 0) (xs : List A) → ((x : A) → P x → Q x) → All P xs → All Q xs
+  all_map P Q xs f all k d lt = f _ (all k d lt)
+
+module _ {N : Type 0} (author : N → ℕ) where
+  -- a note by another number doesn't count
+  pub by_other : (number : ℕ) (xs : List N) (x : N) → author x ≢ number → by author number (xs ++ x ∷ []) ≡ by author number xs
+  by_other number xs x ne =
+      let test : N → Bool = λ y. author y == number in
+      let away : (author x == number) ≡ false = ne_eqb (author x) number ne in
+      filter-append test xs (x ∷ []) ∙ (ap (λ (b : Bool). filter test xs ++ cond b (x ∷ []) []) away ∙ append-nil (filter test xs))
+
+  pub by_same : (number : ℕ) (xs : List N) (x : N) → author x ≡ number → by author number (xs ++ x ∷ []) ≡ by author number xs ++ x ∷ []
+  by_same number xs x e =
+      let test : N → Bool = λ y. author y == number in
+      let here : (author x == number) ≡ true = eq-eqb (author x) number e in
+      filter-append test xs (x ∷ []) ∙ ap (λ (b : Bool). filter test xs ++ cond b (x ∷ []) []) here
+
+  -- one note more by the number is the one that comes after those that were seen
+  pub by_one_more : (number : ℕ) (seen mine xs : List N) (x : N) → xs ≡ seen ++ x ∷ [] → author x ≡ number → by author number seen ≡ mine → by author number xs ≡ mine ++ drop (length seen) xs
+  by_one_more number seen mine xs x added here told =
+      let last : drop (length seen) xs ≡ x ∷ [] = ap (drop (length seen)) added ∙ drop-append_seam seen (x ∷ []) in
+      ap (by author number) added ∙ (by_same number seen x here ∙ (ap (λ (ys : List N). ys ++ x ∷ []) told ∙ ap (λ (ys : List N). mine ++ ys) (sym last)))

@@ -1,0 +1,11 @@
+use Rattle.std.proofs.Common.{◌≡◌}
+use Rattle.ra_turn.specs.Holds.{OnlyHolds}
+use Rattle.ra_turn.specs.Seats.{IsSameSeat}
+use Rattle.ra_turn.proofs.guards.hold_guard.Given as goal
+
+abbrev pub invariant-loop : goal.invariant-loop
+invariant-loop g l = record {
+  seat : IsSameSeat l.initial.seat l.seat;
+  only : OnlyHolds l.initial.seat.me l.seat.me;
+  held : l.seat.me.0.held ≡ l.initial.seat.me.0.held;
+}

@@ -1,0 +1,15 @@
+use Rattle.std.proofs.Common.{◌≡◌, ◌+◌, ◌<◌, ◌==◌, not, All, ap, sym, subst}
+use Rattle.std.proofs.lemmas.List.Elements.{All-filter}
+use Rattle.atomic_table.specs.Seated.{TableId}
+use Rattle.ra_turn.specs.declared.sight.Grip.{Grip}
+use Rattle.ra_turn.specs.Notes.{without}
+use Rattle.ra_turn.proofs.turn.Turn.release.Goals as goal
+
+-- the guards that are still held are words of the table
+pub invariant_of-pass-clause-within : goal.invariant_of-pass-clause-within
+invariant_of-pass-clause-within g c = let old = c.args.pass.now.seat in let new = c.release_guard.new.seat in
+    let held : new.me.0.held ≡ without c.args.guard old.me.0.held = ap (λ m. m.0.held) c.release_guard.ensures.told in
+    let table : new.table_id ≡ old.table_id = c.release_guard.ensures.same.0 in
+    subst (λ ks. All (λ (k : Grip). 3 + k.guard < new.table_id.words) ks) (sym held)
+    (subst (λ (z : TableId). All (λ (k : Grip). 3 + k.guard < z.words) (without c.args.guard old.me.0.held)) (sym table)
+    (All-filter (λ (k : Grip). not (k.guard == c.args.guard)) (λ (k : Grip). 3 + k.guard < old.table_id.words) old.me.0.held c.args.pass.now.within))

@@ -1,0 +1,132 @@
+-- The rule of the table, over its words, its slot and what its seats know.
+use Rattle.std.specs.Prelude.{◌≡◌, ◌⊎◌, ℕ, ◌+◌, ◌*◌, ◌<◌, ◌≤◌, Bool, List, [], ◌∷◌, length, All, Contains, sum_by, Option, Some}
+use mathlib.Core.Option.{none, some}
+use mathlib.Core.Option as maybe
+use mathlib.Core.List.{IsPrefix}
+use lib.ListN.{get_elem?}
+use Rattle.atomic_table.specs.Table.{State}
+use Rattle.ra_turn.specs.declared.sight.Part.{Part}
+use Rattle.ra_turn.specs.declared.sight.Sight.{Sight}
+use Rattle.ra_turn.specs.declared.sight.Stage.{Stage}
+use Rattle.ra_turn.specs.declared.sight.Stage.TheVariants.{Maker, Spent, Drawn, Called, Holding, Noted}
+use Rattle.ra_turn.specs.Notes.{by}
+use Rattle.ra_turn.specs.Locks.{Locks}
+
+-- What all seats are measured by: the words, the history, and two maps, from a ticket and from a pass's number to the seat that has it
+pub record Scene (N : Type 0) : Type 0 where
+  pub ticket : ℕ
+  pub serving : ℕ
+  pub history : List N
+  pub given : ℕ
+  pub queue : ℕ → ℕ
+  pub owner : ℕ → ℕ
+
+-- the seat wasn't joined to another one
+abbrev pub IsLive : Stage → Type 0
+IsLive Spent = ⊥
+IsLive _ = Unit {0}
+
+-- the seat is that of a pass
+abbrev pub IsPass : Stage → Type 0
+IsPass (Maker turns) = ⊥
+IsPass Spent = ⊥
+IsPass _ = Unit {0}
+
+-- the pass has a ticket
+abbrev pub HasTicket : Stage → Type 0
+HasTicket Drawn = Unit {0}
+HasTicket Called = Unit {0}
+HasTicket Holding = Unit {0}
+HasTicket Noted = Unit {0}
+HasTicket _ = ⊥
+
+-- the pass's ticket is served
+abbrev pub IsServed : Stage → Type 0
+IsServed Called = Unit {0}
+IsServed Holding = Unit {0}
+IsServed Noted = Unit {0}
+IsServed _ = ⊥
+
+-- the pass has the slot
+abbrev pub HasSlot : Stage → Type 0
+HasSlot Holding = Unit {0}
+HasSlot Noted = Unit {0}
+HasSlot _ = ⊥
+
+-- how many notes a seat has counted in this turn
+abbrev pub counted_by : Stage → ℕ
+counted_by Noted = 1
+counted_by _ = 0
+
+abbrev pub left_of : {N O : Type 0} → Sight N O → ℕ
+left_of v = v.left
+
+-- What the seat i knows of a number: its `seen` begins the history, and its notes are those of the history by the number
+pub record Fits {N : Type 0} (author : N → ℕ) (history : List N) (given : ℕ) (owner : ℕ → ℕ) (i : ℕ) (p : Part N) : Type 0 where
+  pub below : p.number < given
+  pub owned : owner p.number ≡ i
+  pub seen : IsPrefix p.seen history
+  pub mine : by author p.number history ≡ p.mine
+  pub told : by author p.number p.seen ≡ p.mine
+
+-- a view of a pass that has the number
+abbrev pub HasNumber : {N O : Type 0} → ℕ → Sight N O → Type 0
+HasNumber {N} n v = IsPass v.stage × ((p : Part N) × Contains (v.own ∷ v.joined) p × (p.number ≡ n))
+
+-- What the seat i knows, where its view is v
+pub record Knows {V N O : Type 0} (author : N → ℕ) (passes turns : ℕ) (o : O) (c : Scene N) (homes : List (maybe.Option (Option V))) (i : ℕ) (v : Sight N O) : Type 0 where
+  -- the maker's seat is the first one. It has the turns of the numbers that it hasn't given
+  pub maker : (t : ℕ) → v.stage ≡ Maker t → (i ≡ 0) × (t ≡ turns) × (v.at ≡ c.given) × (v.left + c.given * t ≡ passes * t)
+  pub opened : IsLive v.stage → v.opened ≡ Some o
+  pub parts : IsPass v.stage → All (Fits author c.history c.given c.owner i) (v.own ∷ v.joined)
+  -- a ticket of its own, from serving to ticket less one
+  pub ticket : HasTicket v.stage → (c.serving ≤ v.at) × (v.at < c.ticket) × (c.queue v.at ≡ i)
+  pub served : IsServed v.stage → v.at ≡ c.serving
+  pub whole : HasSlot v.stage → v.own.seen ≡ c.history
+  pub away : HasSlot v.stage → homes ≡ none ∷ []
+
+-- the slot has a value that stands for the history, and there are at most as many notes as turns that have ended
+pub record AtHome {V N O : Type 0} (opening : V → O) (notes : V → List N) (o : O) (history : List N) (serving : ℕ) (homes : List (maybe.Option (Option V))) (x : V) : Type 0 where
+  pub here : homes ≡ some (Some x) ∷ []
+  pub same : notes x ≡ history
+  pub opened : opening x ≡ o
+  pub few : length history ≤ serving
+
+-- the slot is out with the seat j, whose ticket is served. It may have counted one note more
+pub record OutWith {V N O : Type 0} (history : List N) (serving : ℕ) (homes : List (maybe.Option (Option V))) (views : List (Sight N O)) (j : ℕ) (v : Sight N O) : Type 0 where
+  pub out : homes ≡ none ∷ []
+  pub seat : get_elem? views j ≡ some v
+  pub has : HasSlot v.stage
+  pub few : length history ≤ serving + counted_by v.stage
+
+module _ {V N O : Type 0} (opening : V → O) (notes : V → List N) (author : N → ℕ) (passes turns : ℕ) (o : O) where
+  abbrev pub Slot : List N → ℕ → List (maybe.Option (Option V)) → List (Sight N O) → Type 0
+  Slot history serving homes views = ((x : V) × AtHome opening notes o history serving homes x) ⊎ ((j : ℕ) × (v : Sight N O) × OutWith history serving homes views j v)
+
+  -- The words stand for the scene, and behind them stand the guards' words
+  pub record Kept (c : Scene N) (guard_words : List ℕ) (s : State (Option V) (Sight N O)) : Type 0 where
+    pub words : s.words ≡ c.ticket ∷ c.serving ∷ length c.history ∷ guard_words
+    pub order : c.serving ≤ c.ticket
+    pub turns_left : c.ticket + sum_by left_of s.views ≤ passes * turns
+    pub numbers : c.given ≤ passes
+    -- each number that was given stands in the view of its seat
+    pub given_out : (n : ℕ) → n < c.given → (v : Sight N O) × HasNumber n v × (get_elem? s.views (c.owner n) ≡ some v)
+    -- no note by a number that wasn't given
+    pub unheard : (n : ℕ) → c.given ≤ n → by author n c.history ≡ []
+    pub slot : Slot c.history c.serving s.homes s.views
+    pub each : (i : ℕ) (v : Sight N O) → get_elem? s.views i ≡ some v → Knows author passes turns o c s.homes i v
+
+module _ {V N O : Type 0} (opening : V → O) (notes : V → List N) (author : N → ℕ) (touches : O → N → ℕ → Bool) (passes turns guards : ℕ) (o : O) where
+  -- The rule: there is one history, and the guards' words stand for it
+  pub record Ruled (s : State (Option V) (Sight N O)) : Type 0 where
+    pub scene : Scene N
+    pub guard_words : List ℕ
+    pub kept : Kept opening notes author passes turns o scene guard_words s
+    pub locks : Locks author touches o guards scene.history guard_words s.views
+
+abbrev pub nothing : {N : Type 0} → ℕ → Part N
+nothing n = record { number = n; seen = []; mine = [] }
+
+-- the view of the maker's seat at the start
+abbrev pub maker : {N O : Type 0} → ℕ → ℕ → O → Sight N O
+maker passes turns o = record { opened = Some o; stage = Maker turns; at = 0; left = passes * turns; own = nothing 0; joined = []; held = []; news = [] }

@@ -1,0 +1,7 @@
+pub mod Notes
+pub mod Law
+pub mod Steps
+pub mod Seats
+pub mod Passes
+pub mod Locks
+pub mod Holds

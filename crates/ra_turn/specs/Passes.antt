@@ -1,0 +1,131 @@
+-- What a clause says of a pass and of its lock.
+use Rattle.std.specs.Prelude.{◌≡◌, ◌⊎◌, ℕ, ◌<◌, ◌≤◌, List, [], ◌∷◌, ◌++◌, length, slice_index_or, All, Contains, Option, Some, None}
+use mathlib.Core.List.{IsPrefix}
+use Rattle.ra_turn.specs.declared.story.Story.{Ghosts}
+use Rattle.ra_turn.specs.declared.guards.Hold.{Hold}
+use Rattle.ra_turn.specs.declared.guards.Hold.TheVariants.{Held, Newer}
+use Rattle.ra_turn.specs.declared.pass.Pass.{Pass}
+use Rattle.ra_turn.specs.declared.turn.Turn.{Turn}
+use Rattle.ra_turn.specs.declared.sight.Stage.TheVariants.{Maker, Idle, Holding}
+use Rattle.ra_turn.specs.declared.sight.Sight.{Sight}
+use Rattle.atomic_table.specs.declared.shared.Seat.{Seat}
+use Rattle.ra_turn.specs.declared.sight.Grip.{Grip}
+use Rattle.ra_turn.specs.Notes.{by, grip, touching, IsVersion, IsNews, HoldsAll, ShutBy}
+
+-- P holds of each element, with its place
+abbrev pub EachAt : {X : Type 0} → (ℕ → X → Type 0) → List X → Type 0
+EachAt {X} P xs = (n : ℕ) (d : X) → n < length xs → P n (slice_index_or xs n d)
+
+-- the opening of the value behind the lock
+abbrev pub opening_of : {V N O : Type 0} → (V → O) → Turn V N O → O
+opening_of opening t = opening t.table.shared.key.start.value
+
+-- how many passes the lock has
+abbrev pub passes_of : {V N O : Type 0} → Turn V N O → ℕ
+passes_of t = t.table.shared.key.passes
+
+-- how many turns each of them gets
+abbrev pub turns_of_each : {V N O : Type 0} → Turn V N O → ℕ
+turns_of_each t = t.table.shared.key.turns
+
+-- how many guards it has
+abbrev pub guards_of : {V N O : Type 0} → Turn V N O → ℕ
+guards_of t = t.table.shared.key.guards
+
+-- the seat from which n passes were cut
+abbrev pub IsMaker : {V N O : Type 0} → (V → O) → Turn V N O → ℕ → ℕ → Seat (Option V) (Sight N O) → Type 0
+IsMaker opening t turns n s = (s.table_id ≡ t.table.shared.table_id) × (s.me.0.stage ≡ Maker turns) × (s.me.0.at ≡ n) × (s.me.0.opened ≡ Some (opening_of opening t))
+
+module _ {V N O : Type 0} {g : Ghosts V N O} where
+  -- the notes that the pass has seen
+  abbrev pub seen_by : Pass V N O g → List N
+  seen_by p = p.seat.me.0.own.seen
+
+  -- the notes that it made
+  abbrev pub made_by : Pass V N O g → List N
+  made_by p = p.seat.me.0.own.mine
+
+  -- the guards that it holds, each with the version at which it was taken, in ascending order
+  abbrev pub held_by : Pass V N O g → List Grip
+  held_by p = p.seat.me.0.held
+
+  -- the guards of whose versions it was told: at its next take it sees the note before each
+  abbrev pub news_of : Pass V N O g → List Grip
+  news_of p = p.seat.me.0.news
+
+  -- the pass is one of this lock
+  abbrev pub IsPassOf : Turn V N O → Pass V N O g → Type 0
+  IsPassOf t p = (p.seat.table_id ≡ t.table.shared.table_id) × (p.seat.me.0.opened ≡ Some (opening_of g.opening t))
+
+  -- the pass has no turn
+  abbrev pub IsIdle : Pass V N O g → Type 0
+  IsIdle p = (p.seat.me.0.stage ≡ Idle) × (p.seat.me.1 ≡ [])
+
+  -- the pass has taken the value
+  abbrev pub IsInTurn : Pass V N O g → Type 0
+  IsInTurn p = (p.seat.me.0.stage ≡ Holding) × (p.seat.me.1 ≡ (0, None) ∷ [])
+
+  -- the pass is one of this lock, and has no turn
+  abbrev pub IsReady : Turn V N O → Pass V N O g → Type 0
+  IsReady t p = IsPassOf t p × IsIdle p
+
+  -- as `Turn::make` gives the pass n
+  pub record IsFresh (t : Turn V N O) (turns n : ℕ) (p : Pass V N O g) : Type 0 where
+    pub of : IsPassOf t p
+    pub idle : IsIdle p
+    pub number : p.number ≡ n
+    pub left : p.left ≡ turns
+    pub seen : seen_by p ≡ []
+    pub made : made_by p ≡ []
+    pub held : held_by p ≡ []
+
+  -- The notes xs are those that the pass has seen, or these and one more by its number, of which it holds each guard that it touches
+  abbrev pub MayFollow : O → Pass V N O g → List N → Type 0
+  MayFollow o p xs = (xs ≡ seen_by p) ⊎ ((n : N) × (xs ≡ seen_by p ++ n ∷ []) × (g.author n ≡ p.number) × HoldsAll g.touches o (held_by p) n)
+
+  -- Of the guards that the pass holds, no note of another pass that it has seen touches one, from the version on at which it was taken
+  abbrev pub Shut : Turn V N O → Pass V N O g → Type 0
+  Shut t p = ShutBy g.touches (opening_of g.opening t) g.author p.number (seen_by p) (held_by p)
+
+  -- what the pass was told of stands in what it has seen
+  abbrev pub Told : Turn V N O → Pass V N O g → Type 0
+  Told t p = All (IsNews g.touches (opening_of g.opening t) (seen_by p)) (news_of p)
+
+  -- the guard has this version in what the pass has seen
+  abbrev pub HasVersion : Turn V N O → Pass V N O g → ℕ → ℕ → Type 0
+  HasVersion t p guard version = IsVersion (touching g.touches (opening_of g.opening t) guard) (seen_by p) version
+
+  -- it holds the same guards, and was told the same
+  abbrev pub HoldsSame : Pass V N O g → Pass V N O g → Type 0
+  HoldsSame p q = (held_by q ≡ held_by p) × (news_of q ≡ news_of p)
+
+  -- it has seen and made the same notes, and has as many turns left
+  abbrev pub KnowsSame : Pass V N O g → Pass V N O g → Type 0
+  KnowsSame p q = (seen_by q ≡ seen_by p) × (made_by q ≡ made_by p) × (q.left ≡ p.left)
+
+  -- the same pass of the same lock
+  abbrev pub IsSamePass : Pass V N O g → Pass V N O g → Type 0
+  IsSamePass p q = (q.seat.table_id ≡ p.seat.table_id) × (q.seat.id ≡ p.seat.id) × (q.number ≡ p.number) × (q.seat.me.0.opened ≡ p.seat.me.0.opened)
+
+  -- as `Turn::close` wants the pass n
+  pub record IsDone (t : Turn V N O) (n : ℕ) (p : Pass V N O g) : Type 0 where
+    pub of : IsPassOf t p
+    pub idle : IsIdle p
+    pub number : p.number ≡ n
+    pub held : held_by p ≡ []
+
+  -- what the pass has seen begins the notes xs, which have of its own just those that it made
+  abbrev pub IsPartOf : List N → Pass V N O g → Type 0
+  IsPartOf xs p = IsPrefix (seen_by p) xs × (by g.author p.number xs ≡ made_by p)
+
+  -- the seat of a pass, to which the passes ps were joined
+  pub record IsJoined (t : Turn V N O) (ps : List (Pass V N O g)) (s : Seat (Option V) (Sight N O)) : Type 0 where
+    pub table : s.table_id ≡ t.table.shared.table_id
+    pub idle : s.me.0.stage ≡ Idle
+    pub parts : All (λ p. Contains (s.me.0.own ∷ s.me.0.joined) p.seat.me.0.own) ps
+
+  -- What `Turn::hold` tells. Held: the pass holds the guard besides, at a version of at most the one asked for. It is the guard's version
+  -- in the history: in what the pass has seen, where it reaches so far, and the pass is told of it. Newer: the guard had a version above, and the pass is told of it
+  abbrev pub IsAnswer : Turn V N O → Pass V N O g → Pass V N O g → ℕ → ℕ → Hold → Type 0
+  IsAnswer t p q guard asked (Held at) = (at ≤ asked) × (held_by q ≡ held_by p ++ grip guard at ∷ []) × Shut t q × (at ≤ length (seen_by q) → HasVersion t q guard at) × (0 < at → Contains (news_of q) (grip guard at))
+  IsAnswer t p q guard asked (Newer at) = (asked < at) × (held_by q ≡ held_by p) × Contains (news_of q) (grip guard at)

@@ -1,0 +1,116 @@
+-- What each step tells its seat.
+use Rattle.std.specs.Prelude.{◌≡◌, ℕ, zero, suc, ◌+◌, ◌-◌, ◌*◌, ◌/◌, ◌%◌, ◌<◌, ◌≤◌, ◌^◌, ◌==◌, Bool, cond, All, List, [], ◌∷◌, ◌++◌, length, MatchBool, Option, Some, None}
+use mathlib.Core.Option.{some}
+use mathlib.Core.List.{IsPrefix}
+use Rattle.atomic_table.specs.Table.{Me, Step}
+use Rattle.ra_turn.specs.declared.sight.Sight.{Sight}
+use Rattle.ra_turn.specs.declared.sight.Stage.{Stage}
+use Rattle.ra_turn.specs.declared.sight.Stage.TheVariants.{Maker, Spent, Idle, Drawn, Called, Holding, Noted}
+use Rattle.ra_turn.specs.declared.sight.Grip.{Grip}
+use Rattle.ra_turn.specs.Notes.{by, grip, without, touching, IsVersion, IsNews, ShutBy}
+use Rattle.ra_turn.specs.Law.{nothing}
+
+-- how many turns the maker's seat gives to each pass
+abbrev pub turns_of : Stage → ℕ
+turns_of (Maker turns) = turns
+turns_of _ = 0
+
+-- the versions that a pass was told of, after a look at the guard's word: 0 tells of no note, and an odd word of no version
+abbrev pub at_version : ℕ → ℕ → List Grip → List Grip
+at_version guard zero ks = ks
+at_version guard (suc v) ks = grip guard (suc v) ∷ ks
+
+abbrev pub heard : ℕ → ℕ → List Grip → List Grip
+heard guard word ks = cond (word % 2 == 0) (at_version guard (word / 2) ks) ks
+
+module _ {N O : Type 0} where
+  abbrev pub with_stage : Sight N O → Stage → Sight N O
+  with_stage v stage = record v { stage = stage }
+
+  -- the pass has seen these notes
+  abbrev pub with_seen : (N → ℕ) → Sight N O → Stage → List N → Sight N O
+  with_seen author v stage xs = record v { stage = stage; own = record { number = v.own.number; seen = xs; mine = by author v.own.number xs } }
+
+  -- a ticket of its own, and a turn less
+  abbrev pub with_ticket : Sight N O → ℕ → Sight N O
+  with_ticket v n = record v { stage = Drawn; at = n; left = v.left - 1 }
+
+  abbrev pub with_held : Sight N O → List Grip → Sight N O
+  with_held v ks = record v { held = ks }
+
+  abbrev pub with_news : Sight N O → List Grip → Sight N O
+  with_news v ks = record v { news = ks }
+
+  -- of the guards that the view holds, no other's note that it has seen touches one
+  abbrev pub IsShut : (N → ℕ) → (O → N → ℕ → Bool) → Sight N O → Type 0
+  IsShut author touches v = (o : O) → v.opened ≡ Some o → ShutBy touches o author v.own.number v.own.seen v.held
+
+  -- a version within what the view has seen is the guard's version there
+  abbrev pub IsCurrent : (O → N → ℕ → Bool) → Sight N O → ℕ → ℕ → Type 0
+  IsCurrent touches v guard version = (o : O) → v.opened ≡ Some o → version ≤ length v.own.seen → IsVersion (touching touches o guard) v.own.seen version
+
+  -- what the view was told of stands in what it has seen
+  abbrev pub IsTold : (O → N → ℕ → Bool) → Sight N O → Type 0
+  IsTold touches v = (o : O) → v.opened ≡ Some o → All (IsNews touches o v.own.seen) v.news
+
+  -- the maker's view less one number, and the new pass's view
+  abbrev pub cut_left : Sight N O → Sight N O
+  cut_left v = record v { at = v.at + 1; left = v.left - turns_of v.stage }
+
+  abbrev pub cut_right : Sight N O → Sight N O
+  cut_right v = record { opened = v.opened; stage = Idle; at = 0; left = turns_of v.stage; own = nothing v.at; joined = []; held = []; news = [] }
+
+  -- two passes as one, and what the second is left with
+  abbrev pub joined : Sight N O → Sight N O → Sight N O
+  joined v w = record v { left = v.left + w.left; joined = v.joined ++ w.own ∷ w.joined }
+
+  abbrev pub spent : Sight N O
+  spent = record { opened = None; stage = Spent; at = 0; left = 0; own = nothing 0; joined = []; held = []; news = [] }
+
+module _ {V N O : Type 0} where
+  -- its ticket is the word that it found
+  abbrev pub drawn : Step (Option V) → Me (Option V) (Sight N O) → ℕ → Me (Option V) (Sight N O) → Type 0
+  drawn s m n m' = m' ≡ (with_ticket m.0 n, m.1)
+
+  -- it is its turn exactly where the word is its ticket
+  abbrev pub looked : Step (Option V) → Me (Option V) (Sight N O) → ℕ → Me (Option V) (Sight N O) → Type 0
+  looked s m n m' = MatchBool (n == m.0.at) (m' ≡ (with_stage m.0 Called, m.1)) (m' ≡ m)
+
+  abbrev pub served : (N → ℕ) → (O → N → ℕ → Bool) → Step (Option V) → Me (Option V) (Sight N O) → ℕ → Me (Option V) (Sight N O) → Type 0
+  served author touches s m n m' = (m' ≡ (with_stage m.0 Idle, [])) × IsShut author touches m.0
+
+  -- an even word is twice the version of a free guard
+  abbrev pub glanced : Step (Option V) → Me (Option V) (Sight N O) → ℕ → Me (Option V) (Sight N O) → Type 0
+  glanced s m n m' = (guard : ℕ) → s.word ≡ 3 + guard → m' ≡ (with_news m.0 (heard guard n m.0.news), m.1)
+
+  -- the seat holds the guard at the version besides
+  abbrev pub Took : (N → ℕ) → (O → N → ℕ → Bool) → Me (Option V) (Sight N O) → Me (Option V) (Sight N O) → ℕ → ℕ → Type 0
+  Took author touches m m' guard v = (m' ≡ (with_held m.0 (m.0.held ++ grip guard v ∷ []), m.1)) × IsShut author touches m'.0 × IsCurrent touches m'.0 guard v
+
+  -- the guard is taken exactly where the word was as expected, which is twice its version
+  abbrev pub gripped : (N → ℕ) → (O → N → ℕ → Bool) → Step (Option V) → Me (Option V) (Sight N O) → ℕ → Me (Option V) (Sight N O) → Type 0
+  gripped author touches s m n m' = MatchBool (n == s.first)
+      ((guard v : ℕ) → s.word ≡ 3 + guard → s.first ≡ 2 * v → Took author touches m m' guard v)
+      (m' ≡ m)
+
+  abbrev pub released : Step (Option V) → Me (Option V) (Sight N O) → ℕ → Me (Option V) (Sight N O) → Type 0
+  released s m n m' = (guard : ℕ) → s.word ≡ 3 + guard → m' ≡ (with_held m.0 (without guard m.0.held), m.1)
+
+module _ {V N O : Type 0} (opening : V → O) (notes : V → List N) (author : N → ℕ) where
+  -- the value in the slot: its opening, and its notes, which begin with those seen and have of the pass's own just those that it made
+  pub record Shows (m : Sight N O) (n : ℕ) (x : V) : Type 0 where
+    pub opened : m.opened ≡ Some (opening x)
+    pub seen : IsPrefix m.own.seen (notes x)
+    pub mine : by author m.own.number (notes x) ≡ m.own.mine
+    pub count : n ≡ length (notes x)
+    pub small : n < 2 ^ 62
+
+module _ {V N O : Type 0} (opening : V → O) (notes : V → List N) (author : N → ℕ) (touches : O → N → ℕ → Bool) where
+  -- the history is that of the value in the slot, which the pass has then
+  abbrev pub saw : Step (Option V) → Me (Option V) (Sight N O) → ℕ → Me (Option V) (Sight N O) → Type 0
+  saw s m n m' = (x : V) × Shows opening notes author m.0 n x × (m' ≡ (with_seen author m.0 Holding (notes x), (0, Some x) ∷ m.1)) × IsShut author touches m'.0 × IsTold touches m'.0
+
+module _ {V N O : Type 0} (notes : V → List N) (author : N → ℕ) where
+  -- the announced value's notes are the history, and all notes that the pass had made were among those that it had seen
+  abbrev pub noted : Step (Option V) → Me (Option V) (Sight N O) → ℕ → Me (Option V) (Sight N O) → Type 0
+  noted s m n m' = (by author m.0.own.number m.0.own.seen ≡ m.0.own.mine) × ((x : V) → s.said ≡ some (Some x) → (m' ≡ (with_seen author m.0 Noted (notes x), m.1)) × (length (notes x) < 2 ^ 62))

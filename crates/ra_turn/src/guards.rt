@@ -1,0 +1,109 @@
+//! The steps on the guards' words.
+ghost use Rattle.std.specs.Prelude.{◌≡◌, ℕ, ◌+◌, ◌*◌, ◌/◌, ◌%◌, ◌<◌, ◌≤◌, ◌^◌, [], length, Contains, MatchBool, IfSome, IfNone};
+ghost use Rattle.ra_turn.specs.declared.sight.Stage.TheVariants.{Idle};
+ghost use Rattle.ra_turn.specs.Notes.{grip, touching, without, IsVersion};
+ghost use Rattle.ra_turn.specs.Seats.{IsSized, IsSameSeat};
+ghost use Rattle.ra_turn.specs.Steps.{with_held, with_news, heard, Took};
+ghost use Rattle.ra_turn.specs.Holds.{OnlyHolds, IsAnswerAt};
+
+use crate::law::{Desk, Place};
+use crate::plays::{Glance, Grasp, Release};
+use crate::story::Story;
+use std::sync::Wait;
+use std::thread;
+
+const FIRST_GUARD: usize = 3;
+
+/// What `Turn::hold` answers.
+#[derive(Clone, Copy, Debug, PartialEq, Eq)]
+pub enum Hold {
+    /// The pass holds the guard.
+    Held {
+        /// The guard's version, as it was taken.
+        version: u64,
+    },
+    /// The pass doesn't hold the guard.
+    Newer {
+        /// The guard's version, which is above the one that was asked for.
+        version: u64,
+    },
+}
+
+/// Looks at a guard's word.
+fn look<V: Story>(desk: &Desk<V>, seat: &mut Place<V>, guard: u32) -> u64
+    requires table { (seat.old.table_id ≡ desk.now.table_id) × IsSized desk.now.table_id desk.now.key }
+    requires guard { (seat.old.me.0.stage ≡ Idle) × (guard < desk.now.key.guards) }
+    ensures same { IsSameSeat seat.old seat.new }
+    ensures told { seat.new.me ≡ (with_news seat.old.me.0 (heard guard result seat.old.me.0.news), seat.old.me.1) }
+{
+    desk.load::<Glance>(seat, FIRST_GUARD + guard as usize)
+}
+
+/// Takes the guard where its word is still that of a free one, and says whether it did.
+fn grasp<V: Story>(desk: &Desk<V>, seat: &mut Place<V>, guard: u32, word: u64) -> bool
+    requires table { (seat.old.table_id ≡ desk.now.table_id) × IsSized desk.now.table_id desk.now.key }
+    requires guard { (seat.old.me.0.stage ≡ Idle) × (guard < desk.now.key.guards) }
+    requires even { word % 2 ≡ 0 }
+    ensures same { IsSameSeat seat.old seat.new }
+    ensures told { MatchBool result (Took V.author V.touches seat.old.me seat.new.me guard (word / 2)) (seat.new.me ≡ seat.old.me) }
+{
+    let free = word;
+    let place = FIRST_GUARD + guard as usize;
+    desk.compare_exchange::<Grasp>(seat, place, free, free + 1) == free
+}
+
+/// Looks once, and takes the guard where it is free and has at most the version. `None` where another pass has it.
+fn try_hold<V: Story>(desk: &Desk<V>, seat: &mut Place<V>, guard: u32, version: u64) -> Option<Hold>
+    requires table { (seat.old.table_id ≡ desk.now.table_id) × IsSized desk.now.table_id desk.now.key }
+    requires guard { (seat.old.me.0.stage ≡ Idle) × (guard < desk.now.key.guards) }
+    ensures same { IsSameSeat seat.old seat.new × OnlyHolds seat.old.me seat.new.me }
+    ensures some { IfSome result (IsAnswerAt V.author V.touches guard version seat.old.me.0.held seat.new.me.0) }
+    ensures none { IfNone result (seat.new.me.0.held ≡ seat.old.me.0.held) }
+{
+    let word = look(desk, seat, guard);
+    if word % 2 != 0 {
+        return None;
+    }
+    let found = word / 2;
+    if found > version {
+        return Some(Hold::Newer { version: found });
+    }
+    if grasp(desk, seat, guard, word) {
+        Some(Hold::Held { version: found })
+    } else {
+        None
+    }
+}
+
+/// Tries until there is an answer.
+pub(crate) fn hold_guard<V: Story, R: Wait>(
+    rt: &R,
+    desk: &Desk<V>,
+    seat: &mut Place<V>,
+    guard: u32,
+    version: u64,
+) -> Hold
+    requires table { (seat.old.table_id ≡ desk.now.table_id) × IsSized desk.now.table_id desk.now.key }
+    requires guard { (seat.old.me.0.stage ≡ Idle) × (guard < desk.now.key.guards) }
+    ensures same { IsSameSeat seat.old seat.new × OnlyHolds seat.old.me seat.new.me }
+    ensures answer { IsAnswerAt V.author V.touches guard version seat.old.me.0.held seat.new.me.0 result }
+{
+    for _ in rt.forever() {
+        if let Some(answer) = try_hold(desk, seat, guard, version) {
+            return answer;
+        }
+        thread::yield_now();
+    }
+    unreachable!()
+}
+
+/// Gives a guard back at its version.
+pub(crate) fn release_guard<V: Story>(desk: &Desk<V>, seat: &mut Place<V>, guard: u32, version: u64)
+    requires table { (seat.old.table_id ≡ desk.now.table_id) × (3 + guard < desk.now.table_id.words) × (seat.old.me.0.stage ≡ Idle) }
+    requires held { (v : ℕ) × Contains seat.old.me.0.held (grip guard v) × (v ≤ length seat.old.me.0.own.seen) }
+    requires version { (version < 2 ^ 63) × ((o : V.Opening) → seat.old.me.0.opened ≡ Some o → IsVersion (touching V.touches o guard) seat.old.me.0.own.seen version) }
+    ensures same { IsSameSeat seat.old seat.new }
+    ensures told { seat.new.me ≡ (with_held seat.old.me.0 (without guard seat.old.me.0.held), seat.old.me.1) }
+{
+    desk.swap::<Release>(seat, FIRST_GUARD + guard as usize, 2 * version);
+}

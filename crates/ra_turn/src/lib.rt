@@ -1,0 +1,22 @@
+//! A ticket lock whose holder knows the history of the value behind it.
+#![tactic(auto)]
+
+mod close;
+mod guards;
+mod law;
+mod make;
+mod pass;
+mod plays;
+mod sight;
+mod steps;
+mod story;
+#[cfg(test)]
+mod tests;
+mod turn;
+
+pub use guards::Hold;
+pub use make::NoMemory;
+pub use pass::{Held, Pass};
+pub use sight::Grip;
+pub use story::Story;
+pub use turn::Turn;

@@ -1,0 +1,75 @@
+//! A pass, with which one thread takes turns.
+ghost use Rattle.std.specs.Prelude.{◌≡◌, ◌+◌, ◌<◌, ◌^◌, length, All};
+
+use crate::law::Place;
+use crate::story::Story;
+
+/// The right to take turns at one lock. It knows which notes it has seen and made.
+pub struct Pass<V: Story> {
+    pub(crate) seat: Place<V>,
+    pub(crate) number: u32,
+    pub(crate) left: u64,
+    pub(crate) seen: u64,
+    pub ghost numbered: { seat.me.0.own.number ≡ number },
+    pub ghost lefts: { seat.me.0.left ≡ left },
+    pub ghost seens: { length seat.me.0.own.seen ≡ seen },
+    pub ghost alone: { length seat.me.0.joined ≡ 0 },
+    pub ghost small: { seen < 2 ^ 62 },
+    pub ghost within: { All (λ k. 3 + k.guard < seat.table_id.words) seat.me.0.held },
+}
+
+impl<V: Story> Pass<V> {
+    ghost use Rattle.ra_turn.specs.Passes.{seen_by};
+
+    /// The number of the pass, from 0.
+    pub fn number(&self) -> u32
+        ensures { result ≡ self.now.number }
+    {
+        self.number
+    }
+
+    /// How many turns it has left.
+    pub fn turns_left(&self) -> u64
+        ensures { result ≡ self.now.left }
+    {
+        self.left
+    }
+
+    /// How many notes it has seen.
+    pub fn seen(&self) -> u64
+        ensures { result ≡ length (seen_by self.now) }
+    {
+        self.seen
+    }
+
+    /// The seat, when the lock is closed.
+    pub(crate) fn into_seat(self) -> Place<V>
+        ensures { result ≡ self.seat }
+    {
+        let Self {
+            seat,
+            number: _,
+            left: _,
+            seen: _,
+        } = self;
+        seat
+    }
+}
+
+impl<V: Story> Drop for Pass<V> {
+    fn drop(self) {
+        let Self {
+            seat: _,
+            number: _,
+            left: _,
+            seen: _,
+        } = self;
+    }
+}
+
+/// The value, while a pass is in its turn. It has no `Drop` and a field of its own, so it can't be let go: only `Turn::give` takes it.
+pub struct Held<V> {
+    /// The value behind the lock.
+    pub value: V,
+    pub(crate) taken: (),
+}

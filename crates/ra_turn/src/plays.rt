@@ -1,0 +1,80 @@
+//! What each step on the table tells its seat.
+ghost use Rattle.ra_turn.specs.Steps.{drawn, looked, saw, noted, served, glanced, gripped, released, cut_left, cut_right, joined, spent};
+
+use crate::sight::Sight;
+use crate::story::Story;
+use atomic_table::{Join, Play, Split};
+
+/// A ticket is drawn.
+pub(crate) struct Draw;
+
+impl<V: Story> Play<Option<V>, Sight<V::Note, V::Opening>> for Draw {
+    ghost then = { drawn };
+}
+
+/// A look at whose turn it is.
+pub(crate) struct Look;
+
+impl<V: Story> Play<Option<V>, Sight<V::Note, V::Opening>> for Look {
+    ghost then = { looked };
+}
+
+/// The history is seen, and the slot taken.
+pub(crate) struct See;
+
+impl<V: Story> Play<Option<V>, Sight<V::Note, V::Opening>> for See {
+    ghost then = { saw V.opening V.notes V.author V.touches };
+}
+
+/// A note is counted.
+pub(crate) struct Note;
+
+impl<V: Story> Play<Option<V>, Sight<V::Note, V::Opening>> for Note {
+    ghost then = { noted V.notes V.author };
+}
+
+/// The slot is given back, and the next ticket served.
+pub(crate) struct Serve;
+
+impl<V: Story> Play<Option<V>, Sight<V::Note, V::Opening>> for Serve {
+    ghost then = { served V.author V.touches };
+}
+
+/// A look at a guard.
+pub(crate) struct Glance;
+
+impl<V: Story> Play<Option<V>, Sight<V::Note, V::Opening>> for Glance {
+    ghost then = { glanced };
+}
+
+/// A guard is taken.
+pub(crate) struct Grasp;
+
+impl<V: Story> Play<Option<V>, Sight<V::Note, V::Opening>> for Grasp {
+    ghost then = { gripped V.author V.touches };
+}
+
+/// A guard is given back.
+pub(crate) struct Release;
+
+impl<V: Story> Play<Option<V>, Sight<V::Note, V::Opening>> for Release {
+    ghost then = { released };
+}
+
+/// A pass is cut from the maker's seat.
+pub(crate) struct Cut;
+
+impl<N, O> Split<Sight<N, O>> for Cut {
+    ghost left = { cut_left };
+
+    ghost right = { cut_right };
+}
+
+/// One pass is joined to another.
+pub(crate) struct Glue;
+
+impl<N, O> Join<Sight<N, O>> for Glue {
+    ghost both = { joined };
+
+    ghost spent = { spent };
+}

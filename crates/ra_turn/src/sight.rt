@@ -1,0 +1,58 @@
+//! What a seat at the table knows. No value of these types is made: they stand in proofs alone.
+use std::collections::LinkedList;
+
+/// What is known of one pass's number.
+pub struct Part<N> {
+    /// The number of the pass.
+    pub number: u32,
+    /// The beginning of the history that it has seen.
+    pub seen: LinkedList<N>,
+    /// The notes that it made.
+    pub mine: LinkedList<N>,
+}
+
+/// A guard at a version.
+pub struct Grip {
+    /// The guard's number.
+    pub guard: u32,
+    /// One more than the place of the last note that touches the guard, or 0.
+    pub version: u64,
+}
+
+/// Where a seat stands.
+pub enum Stage {
+    /// The first seat, from which the passes are cut, and how many turns each of them gets.
+    Maker(u64),
+    /// A seat that was joined to another one.
+    Spent,
+    /// A pass without a ticket.
+    Idle,
+    /// A pass with a ticket.
+    Drawn,
+    /// A pass whose ticket is served.
+    Called,
+    /// A pass that has the slot, and has seen the whole history.
+    Holding,
+    /// The same, and it has counted a note in this turn.
+    Noted,
+}
+
+/// The view of a seat.
+pub struct Sight<N, O> {
+    /// The opening of the value.
+    pub opened: Option<O>,
+    /// Where it stands.
+    pub stage: Stage,
+    /// Its ticket, or of the maker's seat how many numbers were given.
+    pub at: u64,
+    /// How many turns it has left.
+    pub left: u64,
+    /// Its own number.
+    pub own: Part<N>,
+    /// The numbers of the seats that were joined to it.
+    pub joined: LinkedList<Part<N>>,
+    /// The guards that it holds.
+    pub held: LinkedList<Grip>,
+    /// The versions that it was told of.
+    pub news: LinkedList<Grip>,
+}
