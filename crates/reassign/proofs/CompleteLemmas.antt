@@ -1,0 +1,63 @@
+-- A check over valid files without a fault is done, or memory was refused.
+use Rattle.std.proofs.Common.{◌≡◌, ◌≢◌, ◌⊎◌, ℕ, List, Option, Some, None, IfSome, inl, inr, ⊎_elim, refl, sym, ◌∙◌}
+use Rattle.ra_base.specs.declared.causes.Cause.{Cause}
+use Rattle.ra_model.proofs.BrokenLemmas.{unbroken_from_feasible}
+use Rattle.ra_model.specs.Broken.{first_broken}
+use Rattle.ra_model_read.specs.declared.faults.ModelFault.{ModelFault}
+use Rattle.ra_model_read.specs.ModelText.{model_refusal}
+use Rattle.ra_assign.specs.declared.faults.AssignFault.{AssignFault}
+use Rattle.ra_assign.specs.declared.faults.ClosedFault.{ClosedFault}
+use Rattle.ra_assign.specs.Lists.{assign_refusal}
+use Rattle.ra_assign.specs.ClosedLists.{closed_refusal}
+use Rattle.reassign.specs.declared.refusals.Refusal.{Refusal}
+use Rattle.reassign.specs.declared.refusals.Refusal.TheVariants.{Read, Model, Closed, Initial, Changed, InitialBroken, ChangedBroken, Write, Memory}
+use Rattle.reassign.specs.declared.status.Status.{Status}
+use Rattle.reassign.specs.declared.status.Status.TheVariants.{Done, Usage, ReadFault, BadModel, BadAssignment, Infeasible, WriteFault, NoMemory, BadClosed}
+use Rattle.reassign.specs.Checks.{Held, Faults, Names, Says, InstanceIs, ModelIs}
+use Rattle.reassign.specs.Complete.{AreValid, NoFault, ListAccepted}
+use Rattle.reassign.specs.Ends.{Refused, Ends}
+use Rattle.reassign.specs.Statuses.{status_of}
+
+-- what is told is refused and accepted at once
+contradiction : {X : Type 0} (told : Option (List ℕ)) (bytes : List ℕ) (refusal : List ℕ → Option X) (fault : X) → told ≡ Some bytes → refusal bytes ≡ None → IfSome told (λ b. refusal b ≡ Some fault) → ⊥
+contradiction None bytes refusal fault is accepted refused = cc
+contradiction (Some other) bytes refusal fault is accepted refused = let same : other ≡ bytes = cc in let none : refusal other ≡ None = rw same accepted in let both : None ≡ Some fault = sym none ∙ refused in cc
+
+only_memory : (held : Held) (names : Names) (before now : Faults) (breaks : List ℕ → Type 0) → AreValid held names → NoFault names before now → ((text : List ℕ) → breaks text → ⊥) → (refusal : Refusal) → Says held names before now breaks refusal → status_of refusal ≡ NoMemory
+unfolding status_of
+only_memory held names before now breaks valid sound whole (Read f) says = absurd (sound f says.named says.rose)
+only_memory held names before now breaks valid sound whole (Model fault) says = absurd (contradiction (held names.model) valid.model.0 model_refusal fault valid.model.1 valid.model.2 says)
+only_memory held names before now breaks valid sound whole (Closed fault) says =
+    let accepted = valid.closed says.name says.named says.model says.read in
+    absurd (contradiction (held says.name) accepted.0 (λ bytes. closed_refusal bytes says.model) fault accepted.1 accepted.2 says.refused)
+only_memory held names before now breaks valid sound whole (Initial fault) says =
+    let accepted = valid.initial says.tables says.instance in
+    absurd (contradiction (held names.initial) accepted.0 (λ bytes. assign_refusal bytes says.tables) fault accepted.1 accepted.2 says.refused)
+only_memory held names before now breaks valid sound whole (Changed fault) says =
+    let accepted = valid.changed says.tables says.instance in
+    absurd (contradiction (held names.changed) accepted.0 (λ bytes. assign_refusal bytes says.tables) fault accepted.1 accepted.2 says.refused)
+only_memory held names before now breaks valid sound whole (InitialBroken cause) says =
+    let none = unbroken_from_feasible says.tables says.a0 says.a0 (valid.initial_feasible says.tables says.a0 says.a says.accepts) in
+    absurd (let both : None ≡ Some cause = sym none ∙ says.broken in cc)
+only_memory held names before now breaks valid sound whole (ChangedBroken cause) says =
+    let none = unbroken_from_feasible says.tables says.a0 says.a (valid.changed_feasible says.tables says.a0 says.a says.accepts) in
+    absurd (let both : None ≡ Some cause = sym none ∙ says.broken in cc)
+only_memory held names before now breaks valid sound whole Write says = absurd (whole _ says.text)
+only_memory held names before now breaks valid sound whole Memory says = refl
+
+is_done : (status : Status) → (status ≡ Done) ⊎ (status ≢ Done)
+is_done Done = inl refl
+is_done Usage = inr (λ e. cc)
+is_done ReadFault = inr (λ e. cc)
+is_done BadModel = inr (λ e. cc)
+is_done BadAssignment = inr (λ e. cc)
+is_done Infeasible = inr (λ e. cc)
+is_done WriteFault = inr (λ e. cc)
+is_done NoMemory = inr (λ e. cc)
+is_done BadClosed = inr (λ e. cc)
+
+pub complete : (held : Held) (names : Names) (before now : Faults) (prints breaks tells : List ℕ → Type 0) (out_same err_same : Type 0) (status : Status) → Ends held names before now prints breaks tells out_same err_same status → AreValid held names → NoFault names before now → ((text : List ℕ) → breaks text → ⊥) → (status ≡ Done) ⊎ (status ≡ NoMemory)
+complete held names before now prints breaks tells out_same err_same status ends valid sound whole = ⊎_elim
+    (λ (done : status ≡ Done). inl done)
+    (λ (other : status ≢ Done). let refused = ends.refused other in inr (refused.is ∙ only_memory held names before now breaks valid sound whole refused.refusal refused.says))
+    (is_done status)

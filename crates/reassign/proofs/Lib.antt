@@ -1,0 +1,4 @@
+pub mod WordLemmas
+pub mod StageLemmas
+pub mod EndLemmas
+pub mod CompleteLemmas
