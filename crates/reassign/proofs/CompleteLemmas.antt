@@ -1,6 +1,8 @@
 -- A check over valid files without a fault is done, or memory was refused.
-use Rattle.std.proofs.Common.{◌≡◌, ◌≢◌, ◌⊎◌, ℕ, List, Option, Some, None, IfSome, inl, inr, ⊎_elim, refl, sym, ◌∙◌}
+use Rattle.std.proofs.Common.{◌≡◌, ◌≢◌, ◌⊎◌, ℕ, ◌<◌, ◌-◌, ◌^◌, List, Option, Some, None, IfSome, inl, inr, ⊎_elim, refl, sym, ◌∙◌}
+use Rattle.std.proofs.Math.Nat.{lt_irrefl}
 use Rattle.ra_base.specs.declared.causes.Cause.{Cause}
+use Rattle.ra_io.specs.Faults.{Rose}
 use Rattle.ra_model.proofs.BrokenLemmas.{unbroken_from_feasible}
 use Rattle.ra_model.specs.Broken.{first_broken}
 use Rattle.ra_model_read.specs.declared.faults.ModelFault.{ModelFault}
@@ -61,3 +63,43 @@ complete held names before now prints breaks tells out_same err_same status ends
     (λ (done : status ≡ Done). inl done)
     (λ (other : status ≢ Done). let refused = ends.refused other in inr (refused.is ∙ only_memory held names before now breaks valid sound whole refused.refusal refused.says))
     (is_done status)
+
+-- a count that is always 0 never rose
+pub never_rose : Rose 0 0 → ⊥
+never_rose = ⊎_elim (λ (less : 0 < 0). lt_irrefl 0 less) (λ (e : 0 ≡ 2 ^ 64 - 1). cc)
+
+-- a fault of a file is told only where its count rose
+read_rose : (held : Held) (names : Names) (before now : Faults) (breaks : List ℕ → Type 0) (refusal : Refusal) → Says held names before now breaks refusal → ((name : List ℕ) → Rose (before name) (now name) → ⊥) → status_of refusal ≢ ReadFault
+unfolding status_of
+read_rose held names before now breaks (Read f) says sound e = sound _ says.rose
+read_rose held names before now breaks (Model fault) says sound e = cc
+read_rose held names before now breaks (Closed fault) says sound e = cc
+read_rose held names before now breaks (Initial fault) says sound e = cc
+read_rose held names before now breaks (Changed fault) says sound e = cc
+read_rose held names before now breaks (InitialBroken cause) says sound e = cc
+read_rose held names before now breaks (ChangedBroken cause) says sound e = cc
+read_rose held names before now breaks Write says sound e = cc
+read_rose held names before now breaks Memory says sound e = cc
+
+-- a fault of the output is told only where its count rose
+write_rose : (held : Held) (names : Names) (before now : Faults) (breaks : List ℕ → Type 0) (refusal : Refusal) → Says held names before now breaks refusal → ((text : List ℕ) → breaks text → ⊥) → status_of refusal ≢ WriteFault
+unfolding status_of
+write_rose held names before now breaks (Read f) says whole e = cc
+write_rose held names before now breaks (Model fault) says whole e = cc
+write_rose held names before now breaks (Closed fault) says whole e = cc
+write_rose held names before now breaks (Initial fault) says whole e = cc
+write_rose held names before now breaks (Changed fault) says whole e = cc
+write_rose held names before now breaks (InitialBroken cause) says whole e = cc
+write_rose held names before now breaks (ChangedBroken cause) says whole e = cc
+write_rose held names before now breaks Write says whole e = whole _ says.text
+write_rose held names before now breaks Memory says whole e = cc
+
+pub no_read_fault : (held : Held) (names : Names) (before now : Faults) (prints breaks tells : List ℕ → Type 0) (out_same err_same : Type 0) (status : Status) → Ends held names before now prints breaks tells out_same err_same status → ((name : List ℕ) → Rose (before name) (now name) → ⊥) → status ≢ ReadFault
+no_read_fault held names before now prints breaks tells out_same err_same status ends sound fault =
+    let refused = ends.refused (λ (done : status ≡ Done). let e : Done ≡ ReadFault = sym done ∙ fault in cc) in
+    read_rose held names before now breaks refused.refusal refused.says sound (sym refused.is ∙ fault)
+
+pub no_write_fault : (held : Held) (names : Names) (before now : Faults) (prints breaks tells : List ℕ → Type 0) (out_same err_same : Type 0) (status : Status) → Ends held names before now prints breaks tells out_same err_same status → ((text : List ℕ) → breaks text → ⊥) → status ≢ WriteFault
+no_write_fault held names before now prints breaks tells out_same err_same status ends whole fault =
+    let refused = ends.refused (λ (done : status ≡ Done). let e : Done ≡ WriteFault = sym done ∙ fault in cc) in
+    write_rose held names before now breaks refused.refusal refused.says whole (sym refused.is ∙ fault)

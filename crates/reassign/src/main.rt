@@ -10,6 +10,7 @@ mod refusals;
 mod run;
 mod stages;
 mod status;
+mod steady;
 mod words;
 
 use ra_io::{DiskFiles, ErrSink, NoGate, OutSink, Sink};
@@ -21,6 +22,7 @@ use std::io;
 use std::io::ErrorKind;
 use std::process::ExitCode;
 use std::rt::Env;
+pub use steady::check_steady;
 pub use words::{Job, WordsFault, read_words};
 
 #[cfg(test)]

@@ -2,6 +2,8 @@ mod boundaries;
 mod runs;
 
 use super::*;
+use ra_base::Name;
+use ra_io::{CountSink, SteadyFiles};
 use runs::{Case, Outside, SOUND, ends_so};
 use std::test::Fail;
 
@@ -650,5 +652,32 @@ fn the_cut_of_files_changes_nothing(rt: HostRuntime) -> Result<(), Fail> {
             assert!(rt; ends_so(&rt, rt.alloc(), outside, case)?);
         }
     }
+    Ok(())
+}
+
+#[test]
+fn a_check_of_files_in_memory_is_done(rt: HostRuntime) -> Result<(), Fail> {
+    let mut files = SteadyFiles::make(rt.alloc())?;
+    files.add(rt.alloc(), "m", SAMPLE.as_bytes())?;
+    files.add(rt.alloc(), "i", b"0 3 0")?;
+    files.add(rt.alloc(), "n", b"0 2 0")?;
+    let model = Name::make(rt.alloc(), "m")?;
+    let initial = Name::make(rt.alloc(), "i")?;
+    let new = Name::make(rt.alloc(), "n")?;
+    let mut out = CountSink::make();
+    let mut err = CountSink::make();
+    let status = check_steady(
+        rt.alloc(),
+        &model,
+        &initial,
+        &new,
+        None,
+        &mut files,
+        &mut out,
+        &mut err,
+    );
+    assert!(rt; status == Status::Done);
+    assert_eq!(rt; out.count(), 68);
+    assert_eq!(rt; err.count(), 0);
     Ok(())
 }
