@@ -1,14 +1,14 @@
 -- Formats that accept a text, whatever comes behind it.
-use Rattle.std.proofs.Common.{◌≡◌, ℕ, zero, suc, ◌+◌, ◌<◌, ◌≤◌, refl, ap, ap₂, ◌∙◌, sym, subst, List, [], ◌∷◌, ◌++◌, length, map, take, drop, Bool, true, false, Option, Some, None, arith, append_assoc}
-use Rattle.std.proofs.lemmas.List.{take-append-drop, take-map, map-append}
+use Rattle.std.proofs.Common.{◌≡◌, ℕ, zero, suc, ◌<◌, ◌≤◌, refl, ap, ◌∙◌, sym, List, [], ◌∷◌, ◌++◌, length, map, take, drop, Bool, true, false, None, arith, append_assoc}
+use Rattle.std.proofs.lemmas.List.{take-append-drop, take-map}
 use Rattle.std.proofs.Math.Seq.{take-append_seam, drop-append_seam}
 use Rattle.ra_base.specs.Sums.{one_if}
 use Rattle.ra_token.specs.declared.answers.Token.{Token}
-use Rattle.ra_token.specs.declared.answers.TokenFault.{TokenFault}
+use Rattle.ra_token.specs.Values.{value_of}
 use Rattle.ra_model_read.specs.declared.faults.Field.{Field}
 use Rattle.ra_model_read.specs.declared.faults.ModelFault.{ModelFault}
-use Rattle.ra_model_read.specs.Formats.{Left, Outcome, Read, Refused, Format, pure, ◌>>=◌, next_token, take_token, any, limited, field, flag_value, flag, along, ends, take_end}
-use Rattle.ra_model_read.specs.FieldOrder.{joined, value_of}
+use Rattle.ra_model_read.specs.Formats.{Left, Read, Format, pure, ◌>>=◌, next_token, take_token, any, field, flag_value, flag, along, ends, take_end}
+use Rattle.ra_model_read.specs.FieldOrder.{joined}
 use Rattle.ra_model_read.proofs.Outcomes.{bind_read}
 use Rattle.ra_model_read.proofs.Limited.{limited_fits}
 

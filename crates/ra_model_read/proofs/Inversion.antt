@@ -1,13 +1,14 @@
 -- Formats read backwards: from the value that was read to the tokens that were taken.
-use Rattle.std.proofs.Common.{◌≡◌, ℕ, zero, suc, ◌+◌, ◌<◌, ◌≤◌, refl, ap, ap₂, ◌∙◌, sym, subst, List, [], ◌∷◌, ◌++◌, length, map, Bool, true, false, cond, Option, Some, None, arith, append_assoc}
+use Rattle.std.proofs.Common.{◌≡◌, ℕ, zero, suc, ◌<◌, refl, ap, ap₂, ◌∙◌, sym, subst, List, [], ◌∷◌, ◌++◌, map, Bool, true, false, cond, Option, Some, None, arith, append_assoc}
 use Rattle.std.specs.Prelude.{◌&&◌, nat_le}
 use Rattle.ra_base.specs.Sums.{one_if}
 use Rattle.ra_token.specs.declared.answers.Token.{Token}
 use Rattle.ra_token.specs.declared.answers.TokenFault.{TokenFault}
+use Rattle.ra_token.specs.Values.{value_of}
 use Rattle.ra_model_read.specs.declared.faults.Field.{Field}
 use Rattle.ra_model_read.specs.declared.faults.ModelFault.{ModelFault}
 use Rattle.ra_model_read.specs.Formats.{Left, Outcome, Read, Refused, Format, pure, refuse, go_on, ◌>>=◌, next_token, take_token, any, limited, field, flag_value, flag, along, ends, take_end}
-use Rattle.ra_model_read.specs.FieldOrder.{joined, value_of}
+use Rattle.ra_model_read.specs.FieldOrder.{joined}
 
 -- tokens of these values were taken
 pub record Took (l m : Left) (text : List ℕ) : Type 0 where

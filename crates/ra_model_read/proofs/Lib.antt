@@ -2,6 +2,7 @@ pub mod Outcomes
 pub mod Steps
 pub mod Limited
 pub mod NextToken
+pub mod NextNumbers
 pub mod Rows
 pub mod WholeTables
 pub mod Acceptance

@@ -1,13 +1,11 @@
 -- Values within limits, and flags.
-use Rattle.std.proofs.Common.{◌≡◌, ◌≢◌, ℕ, zero, suc, ◌<◌, ◌≤◌, ◌⊎◌, inl, inr, ⊎_elim, refl, ap, ◌&&◌, true, false, Option, Some, None, arith}
-use Rattle.std.specs.Prelude.{option_map, nat_le, if◌then◌else◌}
-use Rattle.std.proofs.lemmas.Bool.{and_from, and_left, and_right}
+use Rattle.std.proofs.Common.{◌≡◌, ◌≢◌, ℕ, zero, suc, ◌<◌, ◌≤◌, ◌⊎◌, refl, true, false, arith}
 use Rattle.ra_token.specs.declared.answers.Token.{Token}
 use Rattle.ra_model_read.specs.declared.faults.Field.{Field}
 use Rattle.ra_model_read.specs.declared.faults.ModelFault.{ModelFault}
 use Rattle.ra_model_read.specs.declared.faults.ModelFault.TheVariants.{Range, Flag}
-use Rattle.ra_model_read.specs.Formats.{Left, Outcome, Read, Refused, Format, pure, refuse, limited, flag_value}
-use Rattle.ra_model_read.specs.Reading.{Here, Stands, left_of, Refuses}
+use Rattle.ra_model_read.specs.Formats.{pure, refuse, limited, flag_value}
+use Rattle.ra_model_read.specs.Reading.{Here, Stands, Refuses}
 use Rattle.ra_model_read.proofs.Steps.{refuses_here}
 
 pub limited_fits : (what : Field) (least most : ℕ) (t : Token) → least ≤ t.value → t.value ≤ most → limited what least most t ≡ pure t.value

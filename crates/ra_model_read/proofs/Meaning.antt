@@ -1,5 +1,5 @@
 -- What a format gives at the start of a file is what the bytes mean.
-use Rattle.std.proofs.Common.{◌≡◌, ℕ, refl, sym, subst, true, List, Option, Some, None, Result, Ok, Err, IfSome}
+use Rattle.std.proofs.Common.{◌≡◌, ℕ, refl, sym, subst, true, List, Option, Some, None, Ok, IfSome}
 use Rattle.std.specs.Prelude.{option_map}
 use Rattle.ra_model.specs.declared.raw.RawInstance.{RawInstance}
 use Rattle.ra_model.specs.declared.raw.Tables.{Tables}
@@ -8,7 +8,7 @@ use Rattle.ra_model.specs.Numbers.{all_open}
 use Rattle.ra_token.specs.TokenList.{tokens_before}
 use Rattle.ra_model_read.specs.declared.faults.ModelFault.TheVariants.{NoMemory}
 use Rattle.ra_model_read.specs.declared.faults.ModelFault.{ModelFault}
-use Rattle.ra_model_read.specs.Formats.{Left, Outcome, Read, Refused, Format}
+use Rattle.ra_model_read.specs.Formats.{Left, Read, Refused}
 use Rattle.ra_model_read.specs.Lists.{Lists, lists_of}
 use Rattle.ra_model_read.specs.ModelText.{model, all_of, answer_of, model_of, model_refusal, IsModel}
 use Rattle.ra_model_read.specs.FieldOrder.{IsTextOf}

@@ -1,5 +1,5 @@
 -- What the next token makes of what is left.
-use Rattle.std.proofs.Common.{◌≡◌, ℕ, suc, ◌+◌, refl, ap, ◌∙◌, ⊎_elim, true, List, [], ◌∷◌, drop, Option, Some, None, Result, Ok, Err, IfSome, add-one, drop-cons, arith}
+use Rattle.std.proofs.Common.{◌≡◌, ℕ, suc, ◌+◌, refl, ap, ◌∙◌, ⊎_elim, true, List, [], ◌∷◌, drop, Option, Some, None, Ok, Err, IfSome, add-one, drop-cons, arith}
 use Rattle.std.specs.Prelude.{option_map, slice_get}
 use Rattle.std.proofs.lemmas.List.{drop_all}
 use Rattle.std.proofs.lemmas.Option.{slice_get_within, get_or_from_slice_get}
@@ -12,7 +12,7 @@ use Rattle.ra_token.specs.TokenList.{tokens, tokens_before, GaveAll, IsAnswer}
 use Rattle.ra_model_read.specs.declared.faults.Field.{Field}
 use Rattle.ra_model_read.specs.declared.faults.ModelFault.{ModelFault}
 use Rattle.ra_model_read.specs.declared.faults.ModelFault.TheVariants.{Missing, Extra, ReadFault}
-use Rattle.ra_model_read.specs.Formats.{Left, Outcome, Read, Refused, Format, next_token, take_token, fault_or, token_fault, take_end, ends}
+use Rattle.ra_model_read.specs.Formats.{Read, Refused, Format, next_token, take_token, fault_or, token_fault, take_end, ends}
 use Rattle.ra_model_read.specs.Reading.{Here, left_from, left_of, Goes, Gives, Refuses, is_by_content}
 
 -- a token is the first of those left, and the others come after it
@@ -26,7 +26,7 @@ token_read what item place after t bytes next more = rw (drop_from (tokens bytes
 none_left : (bytes : List ℕ) (place : ℕ) → GaveAll bytes (tokens_before bytes place) → drop (tokens_before bytes place) (tokens bytes) ≡ []
 none_left bytes place all = drop_all (tokens_before bytes place) (tokens bytes) (omega (arith, all))
 
-token_missing : (what : Field) (item place : ℕ) (bytes : List ℕ) → GaveAll bytes (tokens_before bytes place) → next_token what item (left_from place bytes) ≡ Refused (fault_or (first_fault bytes) (Missing what item))
+pub token_missing : (what : Field) (item place : ℕ) (bytes : List ℕ) → GaveAll bytes (tokens_before bytes place) → next_token what item (left_from place bytes) ≡ Refused (fault_or (first_fault bytes) (Missing what item))
 unfolding next_token take_token left_from
 token_missing what item place bytes all = rw (none_left bytes place all) refl
 
@@ -49,25 +49,25 @@ end_extra place bytes t next = rw (drop_from (tokens bytes) (tokens_before bytes
 
 -- where the bytes are told
 
-told_read : {X : Type 0} → (f : Format X) (x : X) (before now : Option (List ℕ)) (place after : ℕ) → now ≡ before → IfSome before (λ bytes. f (left_from place bytes) ≡ Read x (left_from after bytes)) → option_map f (option_map (left_from place) before) ≡ option_map (Read x) (option_map (left_from after) now)
+pub told_read : {X : Type 0} → (f : Format X) (x : X) (before now : Option (List ℕ)) (place after : ℕ) → now ≡ before → IfSome before (λ bytes. f (left_from place bytes) ≡ Read x (left_from after bytes)) → option_map f (option_map (left_from place) before) ≡ option_map (Read x) (option_map (left_from after) now)
 told_read f x None None place after same here = refl
 told_read f x None (Some bytes) place after same here = cc
 told_read f x (Some bytes) None place after same here = cc
 told_read f x (Some bytes) (Some other) place after same here = let e : other ≡ bytes = cc in rw e (ap Some here)
 
-told_refused : {X : Type 0} → (f : Format X) (fault : ModelFault) (before : Option (List ℕ)) (place : ℕ) → IfSome before (λ bytes. f (left_from place bytes) ≡ Refused fault) → option_map f (option_map (left_from place) before) ≡ option_map (λ _. Refused fault) (option_map (left_from place) before)
+pub told_refused : {X : Type 0} → (f : Format X) (fault : ModelFault) (before : Option (List ℕ)) (place : ℕ) → IfSome before (λ bytes. f (left_from place bytes) ≡ Refused fault) → option_map f (option_map (left_from place) before) ≡ option_map (λ _. Refused fault) (option_map (left_from place) before)
 told_refused f fault None place here = refl
 told_refused f fault (Some bytes) place here = ap Some here
 
-if_both : {P Q R : List ℕ → Type 0} → (told : Option (List ℕ)) → ((bytes : List ℕ) → P bytes → Q bytes → R bytes) → IfSome told P → IfSome told Q → IfSome told R
+pub if_both : {P Q R : List ℕ → Type 0} → (told : Option (List ℕ)) → ((bytes : List ℕ) → P bytes → Q bytes → R bytes) → IfSome told P → IfSome told Q → IfSome told R
 if_both None made p q = tt
 if_both (Some bytes) made p q = made bytes p q
 
-if_one : {P R : List ℕ → Type 0} → (told : Option (List ℕ)) → ((bytes : List ℕ) → P bytes → R bytes) → IfSome told P → IfSome told R
+pub if_one : {P R : List ℕ → Type 0} → (told : Option (List ℕ)) → ((bytes : List ℕ) → P bytes → R bytes) → IfSome told P → IfSome told R
 if_one None made p = tt
 if_one (Some bytes) made p = made bytes p
 
-same_file : (a b : Here) → Goes a b → b.held b.tokens.name ≡ a.held a.tokens.name
+pub same_file : (a b : Here) → Goes a b → b.held b.tokens.name ≡ a.held a.tokens.name
 same_file a b goes = ap b.held goes.name ∙ goes.kept a.tokens.name
 
 pub gives_token : (what : Field) (item : ℕ) (a b : Here) (t : Token) → Goes a b → IfSome (a.held a.tokens.name) (λ bytes. IsAnswer bytes (tokens_before bytes a.tokens.place) (Ok (Some t))) → IfSome (a.held a.tokens.name) (λ bytes. tokens_before bytes b.tokens.place ≡ tokens_before bytes a.tokens.place + 1) → Gives (next_token what item) a b t
@@ -78,7 +78,7 @@ gives_token what item a b t goes answer more = record {
       (if_both (a.held a.tokens.name) (λ bytes next one_more. token_read what item a.tokens.place b.tokens.place t bytes next (one_more ∙ add-one _)) answer more);
 }
 
-no_fault : (fault : Option TokenFault) (otherwise : ModelFault) → fault ≡ None → fault_or fault otherwise ≡ otherwise
+pub no_fault : (fault : Option TokenFault) (otherwise : ModelFault) → fault ≡ None → fault_or fault otherwise ≡ otherwise
 unfolding fault_or
 no_fault fault otherwise e = rw e refl
 
@@ -93,7 +93,7 @@ refuses_missing what item a b goes answer = record {
 }
 
 -- the fault of a token that is not a failed fetch
-by_content_read : (fault : TokenFault) → token_fault fault ≡ ReadFault → fault ≡ told.ReadFault
+pub by_content_read : (fault : TokenFault) → token_fault fault ≡ ReadFault → fault ≡ told.ReadFault
 unfolding token_fault
 by_content_read told.ReadFault e = refl
 by_content_read (told.BadByte at byte) e = cc
@@ -101,7 +101,7 @@ by_content_read (told.TooLarge at) e = cc
 by_content_read told.TooLong e = cc
 by_content_read told.NoMemory e = cc
 
-content_not_read : (fault : TokenFault) → is_by_content (token_fault fault) ≡ true → fault ≡ told.ReadFault → ⊥
+pub content_not_read : (fault : TokenFault) → is_by_content (token_fault fault) ≡ true → fault ≡ told.ReadFault → ⊥
 unfolding token_fault is_by_content
 content_not_read told.ReadFault by_content e = cc
 content_not_read (told.BadByte at byte) by_content e = cc
@@ -109,7 +109,7 @@ content_not_read (told.TooLarge at) by_content e = cc
 content_not_read told.TooLong by_content e = cc
 content_not_read told.NoMemory by_content e = cc
 
-shown_fault : (fault : TokenFault) (shown : Option TokenFault) (otherwise : ModelFault) → shown ≡ Some fault → fault_or shown otherwise ≡ token_fault fault
+pub shown_fault : (fault : TokenFault) (shown : Option TokenFault) (otherwise : ModelFault) → shown ≡ Some fault → fault_or shown otherwise ≡ token_fault fault
 unfolding fault_or
 shown_fault fault shown otherwise e = rw e refl
 

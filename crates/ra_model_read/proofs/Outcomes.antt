@@ -1,8 +1,8 @@
 -- What formats make of what is left, one after another.
-use Rattle.std.proofs.Common.{◌≡◌, ℕ, refl, ap, ◌∙◌, Option, Some, None}
+use Rattle.std.proofs.Common.{◌≡◌, refl, ap, ◌∙◌, Option, Some, None}
 use Rattle.std.specs.Prelude.{option_map}
 use Rattle.ra_model_read.specs.declared.faults.ModelFault.{ModelFault}
-use Rattle.ra_model_read.specs.Formats.{Left, Outcome, Read, Refused, Format, go_on, ◌>>=◌}
+use Rattle.ra_model_read.specs.Formats.{Left, Read, Refused, Format, go_on, ◌>>=◌}
 
 pub bind_read : {X Y : Type 0} → (f : Format X) (next : X → Format Y) (l m : Left) (x : X) → f l ≡ Read x m → (f >>= next) l ≡ next x m
 unfolding ◌>>=◌ go_on

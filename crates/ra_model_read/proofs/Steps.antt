@@ -1,11 +1,11 @@
 -- Formats that are read from a file one after another.
-use Rattle.std.proofs.Common.{◌≡◌, ◌≢◌, ℕ, zero, suc, ◌+◌, ◌-◌, ◌^◌, ◌<◌, ◌≤◌, ◌⊎◌, inl, inr, ⊎_elim, refl, ap, ◌∙◌, sym, subst, List, Option, Some, None, Bool, true, false, Result, Ok, Err, IfErr, IsErr, IsErrAnd, arith, add-one}
-use Rattle.std.specs.Prelude.{option_map, IsTrue}
+use Rattle.std.proofs.Common.{◌≡◌, ℕ, zero, suc, ◌+◌, ◌-◌, ◌^◌, ◌<◌, ◌≤◌, inl, inr, ⊎_elim, refl, ◌∙◌, sym, subst, Option, Some, None, Result, Ok, Err, IfErr, IsErr, IsErrAnd, arith, add-one}
+use Rattle.std.specs.Prelude.{option_map}
 use Rattle.std.proofs.lemmas.Bool.{cases_lt}
 use Rattle.ra_io.specs.Faults.{Rose}
 use Rattle.ra_model_read.specs.declared.faults.ModelFault.{ModelFault}
 use Rattle.ra_model_read.specs.declared.faults.ModelFault.TheVariants.{NoMemory, ReadFault}
-use Rattle.ra_model_read.specs.Formats.{Left, Outcome, Read, Refused, Format, pure, refuse, ◌>>=◌, along}
+use Rattle.ra_model_read.specs.Formats.{Left, Read, Refused, Format, pure, refuse, ◌>>=◌, along}
 use Rattle.ra_model_read.specs.Reading.{Here, Stands, left_of, Goes, Gives, Refuses, is_by_content}
 use Rattle.ra_model_read.proofs.Outcomes.{told_bind, told_refused_first, told_refused_next}
 

@@ -1,21 +1,18 @@
 -- The numbers of a well-formed instance, in field order, are accepted as that instance.
-use Rattle.std.proofs.Common.{◌≡◌, ℕ, zero, suc, ◌+◌, ◌-◌, ◌*◌, ◌<◌, ◌≤◌, refl, ap, ap₂, ◌∙◌, sym, subst, List, [], ◌∷◌, ◌++◌, length, map, take, drop, get_or, Option, Some, None, Result, Ok, Err, arith, add-zero, add-one, length-take}
+use Rattle.std.proofs.Common.{◌≡◌, ℕ, suc, ◌+◌, ◌-◌, ◌*◌, ◌<◌, ◌≤◌, refl, ap, ap₂, ◌∙◌, sym, subst, List, [], ◌∷◌, ◌++◌, length, map, take, get_or, Ok, arith, add-zero, add-one, length-take}
 use Rattle.std.proofs.lemmas.List.{take_more, map-append, length-map, take_all}
-use Rattle.ra_base.specs.declared.ids.Service.{Service}
 use Rattle.ra_base.specs.Tables.{cell}
 use Rattle.ra_model.specs.declared.raw.RawInstance.{RawInstance}
-use Rattle.ra_model.specs.declared.raw.Tables.{Tables}
 use Rattle.ra_model.specs.Limits.{WellFormed}
 use Rattle.ra_model.specs.Numbers.{all_open, resource_row, machine_row, service_row, process_row, balance_row, resource_count, machine_count, service_count, process_count, balance_count, transient_at, load_weight_of, neighbourhood_of, location_of, capacity_of, safety_of, way_cost_of, spread_of, dependency_start, dependency_end, dependency_count, need_at, need_of, service_of, requirement_of, process_cost_of, first_of, second_of, target_of, balance_weight_of, process_weight_of, service_weight_of, machine_weight_of}
-use Rattle.ra_token.specs.Faults.{first_fault}
 use Rattle.ra_token.specs.TokenList.{tokens}
 use Rattle.ra_model_read.specs.declared.faults.Field.{Field}
 use Rattle.ra_model_read.specs.declared.faults.Field.TheVariants.{ResourceCount, LoadWeight, MachineCount, Neighbourhood, Location, Capacity, Safety, MoveCost, ServiceCount, SpreadMin, DependencyCount, Dependency, ProcessCount, ProcessService, Requirement, ProcessCost, BalanceCount, BalanceFirst, BalanceSecond, BalanceTarget, BalanceWeight, ProcessWeight, ServiceWeight, MachineWeight}
-use Rattle.ra_model_read.specs.Formats.{Left, Outcome, Read, Format, pure, ◌>>=◌, any, field, flag, along, number_more, numbers, ends}
-use Rattle.ra_model_read.specs.Lists.{MachineLists, ServiceLists, ProcessLists, Lists, of_resource, of_machine, of_service, of_process, of_balance, lists_of}
+use Rattle.ra_model_read.specs.Formats.{Format, pure, along, number_more, numbers, ends}
+use Rattle.ra_model_read.specs.Lists.{MachineLists, ServiceLists, ProcessLists, of_resource, of_machine, of_service, of_process, of_balance, lists_of}
 use Rattle.ra_model_read.specs.ModelText.{resource, resources, machine, machines, dependency, service, services, process, processes, balance, balances, weights, model, all_of, answer_of, model_of}
-use Rattle.ra_model_read.specs.FieldOrder.{joined, row_of, resource_numbers, machine_numbers, service_numbers, process_numbers, balance_numbers, numbers_of, value_of, IsTextOf}
-use Rattle.ra_model_read.proofs.Acceptance.{Accepts, accepts_pure, accepts_bind, accepts_then, accepts_any, accepts_field, accepts_flag, accepts_along, AcceptsAll, all_bind, all_ends}
+use Rattle.ra_model_read.specs.FieldOrder.{joined, row_of, resource_numbers, machine_numbers, service_numbers, process_numbers, balance_numbers, numbers_of, IsTextOf}
+use Rattle.ra_model_read.proofs.Acceptance.{Accepts, accepts_bind, accepts_then, accepts_any, accepts_field, accepts_flag, accepts_along, AcceptsAll, all_bind, all_ends}
 
 accepts_steps : {X : Type 0} (step : ℕ → X → Format X) (made : ℕ → X) (text : ℕ → List ℕ) (n : ℕ) (x y : X) → made 0 ≡ x → made n ≡ y → ((k : ℕ) → k < n → Accepts (step k (made k)) (text k) (made (suc k))) → Accepts (along n step x) (joined n text) y
 accepts_steps step made text n x y from to each = subst (λ z. Accepts (along n step z) (joined n text) y) from (subst (Accepts (along n step (made 0)) (joined n text)) to (accepts_along step made text n each))

@@ -1,25 +1,17 @@
 -- The tokens that were taken for an instance are its numbers, in field order.
-use Rattle.std.proofs.Common.{◌≡◌, ℕ, zero, suc, ◌+◌, ◌-◌, ◌*◌, ◌<◌, ◌≤◌, refl, ap, ap₂, ◌∙◌, sym, subst, List, [], ◌∷◌, ◌++◌, length, map, take, drop, get_or, Bool, Option, Some, None, Result, Ok, Err, arith, add-zero, add-one}
-use Rattle.std.proofs.lemmas.List.{take_more, map-append, length-map, length_push, take_all}
+use Rattle.std.proofs.Common.{◌≡◌, ℕ, suc, ◌+◌, ◌<◌, ◌≤◌, refl, ap, ◌∙◌, sym, subst, List, [], ◌∷◌, ◌++◌, length, map, take, get_or, arith, add-zero, add-one}
+use Rattle.std.proofs.lemmas.List.{length-map, length_push}
 use Rattle.ra_base.specs.Sums.{one_if}
-use Rattle.ra_base.specs.declared.ids.Resource.{Resource}
-use Rattle.ra_base.specs.declared.ids.Service.{Service}
-use Rattle.ra_base.specs.Tables.{cell}
 use Rattle.ra_model.specs.declared.raw.RawInstance.{RawInstance}
-use Rattle.ra_model.specs.declared.raw.ServiceRow.{ServiceRow}
-use Rattle.ra_model.specs.declared.raw.Tables.{Tables}
-use Rattle.ra_model.specs.Limits.{WellFormed}
-use Rattle.ra_model.specs.Numbers.{all_open, resource_row, machine_row, service_row, process_row, balance_row, resource_count, machine_count, service_count, process_count, balance_count, transient_at, load_weight_of, neighbourhood_of, location_of, capacity_of, safety_of, way_cost_of, spread_of, dependency_start, dependency_end, dependency_count, need_at, need_of, service_of, requirement_of, process_cost_of, first_of, second_of, target_of, balance_weight_of, process_weight_of, service_weight_of, machine_weight_of}
-use Rattle.ra_token.specs.Faults.{first_fault}
-use Rattle.ra_token.specs.TokenList.{tokens}
+use Rattle.ra_model.specs.Numbers.{all_open, resource_row, resource_count, transient_at, load_weight_of}
 use Rattle.ra_model_read.specs.declared.faults.Field.{Field}
-use Rattle.ra_model_read.specs.declared.faults.Field.TheVariants.{ResourceCount, LoadWeight, MachineCount, Neighbourhood, Location, Capacity, Safety, MoveCost, ServiceCount, SpreadMin, DependencyCount, Dependency, ProcessCount, ProcessService, Requirement, ProcessCost, BalanceCount, BalanceFirst, BalanceSecond, BalanceTarget, BalanceWeight, ProcessWeight, ServiceWeight, MachineWeight}
-use Rattle.ra_model_read.specs.Formats.{Left, Outcome, Read, Refused, Format, pure, ◌>>=◌, any, field, flag, along, number_more, numbers, ends}
-use Rattle.ra_model_read.specs.Lists.{ResourceNumbers, MachineNumbers, ServiceNumbers, ProcessNumbers, BalanceNumbers, MachineLists, ServiceLists, ProcessLists, Weights, Lists, of_resource, of_machine, of_service, of_process, of_balance, lists_of}
-use Rattle.ra_model_read.specs.ModelText.{resource, resources, machine, machines, dependency, service, services, process, processes, balance, balances, weights, model, all_of, answer_of, model_of}
-use Rattle.ra_model_read.specs.FieldOrder.{joined, row_of, resource_numbers, machine_numbers, service_numbers, process_numbers, balance_numbers, numbers_of, value_of, IsTextOf}
-use Rattle.ra_model_read.proofs.Inversion.{Took, took_none, took_then, Through, bind_back, pure_back, any_back, field_back, flag_back, ends_back, along_known, along_back, snoc_same}
-use Rattle.ra_model_read.proofs.TextAccepted.{front_more, row_more, machines_to, services_to, processes_to, all_rows, all_machines, all_services, all_processes}
+use Rattle.ra_model_read.specs.declared.faults.Field.TheVariants.{ResourceCount, LoadWeight}
+use Rattle.ra_model_read.specs.Formats.{Left, Read, Format, ◌>>=◌, any, field, flag, along, number_more, numbers, ends}
+use Rattle.ra_model_read.specs.Lists.{ResourceNumbers, of_resource}
+use Rattle.ra_model_read.specs.ModelText.{resource, resources}
+use Rattle.ra_model_read.specs.FieldOrder.{joined, row_of, resource_numbers}
+use Rattle.ra_model_read.proofs.Inversion.{Took, took_then, bind_back, pure_back, any_back, field_back, flag_back, along_known, along_back, snoc_same}
+use Rattle.ra_model_read.proofs.TextAccepted.{front_more, row_more, all_rows}
 
 -- one field, and its value by another name
 pub took_value : (l m : Left) (v w : ℕ) → v ≡ w → Took l m (v ∷ []) → Took l m (w ∷ [])

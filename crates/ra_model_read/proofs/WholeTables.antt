@@ -1,10 +1,9 @@
 -- Tables that were read whole are those of an instance.
-use Rattle.std.proofs.Common.{◌≡◌, ℕ, zero, suc, ◌*◌, ◌<◌, ◌≤◌, refl, ap, ◌∙◌, sym, subst, List, length, arith}
-use Rattle.ra_base.specs.declared.ids.Service.{Service}
+use Rattle.std.proofs.Common.{◌≡◌, ℕ, zero, suc, ◌≤◌, refl, ◌∙◌, length, arith}
 use Rattle.ra_model.specs.declared.raw.RawInstance.{RawInstance}
 use Rattle.ra_model.specs.Limits.{WellFormed}
 use Rattle.ra_model.specs.Numbers.{all_open, resource_count, machine_count, service_count, process_count, balance_count, service_row, process_row, balance_row, dependency_end, dependency_start, need_at, service_of, first_of, second_of}
-use Rattle.ra_model_read.specs.TableShapes.{end_in, start_in, needed_in, service_in, first_in, second_in, AreServices, AreBalances, IsMachines, IsServices, IsProcesses}
+use Rattle.ra_model_read.specs.TableShapes.{end_in, start_in, needed_in, service_in, first_in, second_in, AreBalances, IsMachines, IsServices, IsProcesses}
 
 start_is : (raw : RawInstance) (s : ℕ) → dependency_start (all_open raw) s ≡ start_in raw.services.items s
 unfolding dependency_start dependency_end service_row start_in end_in

@@ -1,11 +1,11 @@
 -- The numbers of an instance in the order in which a model file has them.
-use Rattle.std.specs.Prelude.{◌≡◌, ℕ, zero, suc, List, [], ◌∷◌, ◌++◌, map, Option, None}
+use Rattle.std.specs.Prelude.{◌≡◌, ℕ, zero, suc, List, [], ◌∷◌, ◌++◌, map, None}
 use Rattle.ra_base.specs.Sums.{one_if}
 use Rattle.ra_model.specs.declared.raw.Tables.{Tables}
 use Rattle.ra_model.specs.Numbers.{resource_count, machine_count, service_count, process_count, balance_count, transient_at, load_weight_of, neighbourhood_of, location_of, capacity_of, safety_of, way_cost_of, spread_of, dependency_count, need_of, service_of, requirement_of, process_cost_of, first_of, second_of, target_of, balance_weight_of, process_weight_of, service_weight_of, machine_weight_of}
-use Rattle.ra_token.specs.declared.answers.Token.{Token}
 use Rattle.ra_token.specs.Faults.{first_fault}
 use Rattle.ra_token.specs.TokenList.{tokens}
+use Rattle.ra_token.specs.Values.{value_of}
 
 -- f 0, f 1 .. f (n - 1) end to end
 unfoldable pub joined : ℕ → (ℕ → List ℕ) → List ℕ
@@ -47,9 +47,6 @@ numbers_of i =
     ++ (counted (process_count i) (process_numbers i)
     ++ (counted (balance_count i) (balance_numbers i)
     ++ (process_weight_of i ∷ service_weight_of i ∷ machine_weight_of i ∷ [])))))
-
-abbrev pub value_of : Token → ℕ
-value_of t = t.value
 
 -- the bytes are the text of an instance: no fault, and its numbers, no more and no fewer
 pub record IsTextOf (bytes : List ℕ) (i : Tables) : Type 0 where

@@ -1,5 +1,5 @@
 -- The numbers of a model file as lists, each under the name that the instance gives it.
-use Rattle.std.specs.Prelude.{ℕ, Bool, List, [], map}
+use Rattle.std.specs.Prelude.{ℕ, Bool, List, map}
 use Rattle.ra_base.specs.declared.ids.Resource.{Resource}
 use Rattle.ra_base.specs.declared.ids.Service.{Service}
 use Rattle.ra_model.specs.declared.raw.BalanceRow.{BalanceRow}

@@ -1,16 +1,14 @@
 -- What a model file means: its fields in their order, with their numbering and their limits.
-use Rattle.std.specs.Prelude.{◌≡◌, ℕ, ◌+◌, ◌-◌, ◌*◌, List, [], ◌∷◌, ◌++◌, length, Option, Some, None, Result, Ok, Err}
+use Rattle.std.specs.Prelude.{◌≡◌, ℕ, ◌+◌, ◌-◌, ◌*◌, List, [], ◌∷◌, ◌++◌, length, Option, None, Result, Ok, Err}
 use Rattle.std.specs.Result.{result_err}
-use Rattle.ra_base.specs.declared.ids.Resource.{Resource}
 use Rattle.ra_base.specs.declared.ids.Service.{Service}
 use Rattle.ra_model.specs.declared.raw.Tables.{Tables}
 use Rattle.ra_token.specs.Faults.{first_fault}
 use Rattle.ra_token.specs.TokenList.{tokens}
-use Rattle.ra_model_read.specs.declared.faults.Field.{Field}
 use Rattle.ra_model_read.specs.declared.faults.Field.TheVariants.{ResourceCount, LoadWeight, MachineCount, Neighbourhood, Location, Capacity, Safety, MoveCost, ServiceCount, SpreadMin, DependencyCount, Dependency, ProcessCount, ProcessService, Requirement, ProcessCost, BalanceCount, BalanceFirst, BalanceSecond, BalanceTarget, BalanceWeight, ProcessWeight, ServiceWeight, MachineWeight}
 use Rattle.ra_model_read.specs.declared.faults.ModelFault.{ModelFault}
 use Rattle.ra_model_read.specs.Formats.{Left, Outcome, Read, Refused, Format, pure, ◌>>=◌, any, field, flag, along, numbers, ends}
-use Rattle.ra_model_read.specs.Lists.{ResourceNumbers, MachineNumbers, ServiceNumbers, ProcessNumbers, BalanceNumbers, MachineLists, ServiceLists, ProcessLists, Weights, Lists, lists_of}
+use Rattle.ra_model_read.specs.Lists.{ResourceNumbers, BalanceNumbers, MachineLists, ServiceLists, ProcessLists, Weights, Lists, lists_of}
 
 -- resource r
 unfoldable pub resource : ℕ → List ResourceNumbers → Format (List ResourceNumbers)

@@ -7,7 +7,7 @@ use Rattle.ra_token.specs.Standing.{Standing}
 use Rattle.ra_token.specs.TokenList.{tokens, tokens_before}
 use Rattle.ra_model_read.specs.declared.faults.ModelFault.{ModelFault}
 use Rattle.ra_model_read.specs.declared.faults.ModelFault.TheVariants.{ReadFault, BadByte, TooLarge, TooLong, Missing, Range, Flag, Extra, NoMemory}
-use Rattle.ra_model_read.specs.Formats.{Left, Outcome, Read, Refused, Format}
+use Rattle.ra_model_read.specs.Formats.{Left, Read, Refused, Format}
 
 -- the files and a reader at one moment
 pub record Here : Type 0 where

@@ -122,11 +122,14 @@ pub(crate) fn read_numbers<F: Files>(
     ensures room { table.new.room ≡ table.old.room }
     ensures refuses { IfErr result (Refuses (numbers what first count table.old.items) (here (F.held files.old) (F.faults files.old) tokens.old) (here (F.held files.new) (F.faults files.new) tokens.new)) }
 {
-    for k in 0..count {
-        let number = read_any(files, tokens, what, first + k as u64)?;
-        table.push(number);
+    match tokens.next_values(files, count, table) {
+        Ok(taken) if taken < count => Err(ModelFault::Missing {
+            what,
+            item: first + taken as u64,
+        }),
+        Ok(_) => Ok(()),
+        Err(fault) => Err(model_fault(fault)),
     }
-    Ok(())
 }
 
 /// The end of the file.

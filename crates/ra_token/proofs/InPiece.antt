@@ -1,9 +1,11 @@
 -- From one byte to the next of a piece.
-use Rattle.std.proofs.Common.{◌≡◌, ℕ, zero, suc, ◌+◌, ◌*◌, ◌-◌, ◌<◌, ◌≤◌, true, List, length, get_or, sym, ap, ◌∙◌, subst, ⊎_elim, arith}
+use Rattle.std.proofs.Common.{◌≡◌, ℕ, zero, suc, ◌+◌, ◌*◌, ◌-◌, ◌^◌, ◌<◌, ◌≤◌, true, List, length, get_or, sym, ap, ◌∙◌, subst, ⊎_elim, add-one, arith}
 use Rattle.std.proofs.lemmas.Bool.{cases_lt}
+use Rattle.std.proofs.Math.Nat.{pow-suc, pow-le-pow_right}
 use Rattle.std.specs.Char.{is_ascii_digit}
 use Rattle.ra_token.specs.declared.answers.TheConstants.{LARGEST, PLACE_LIMIT}
 use Rattle.ra_token.specs.declared.answers.TokenFault.TheVariants.{TooLarge}
+use Rattle.ra_token.specs.declared.scan.TheConstants.{NEAR}
 use Rattle.ra_token.specs.Runs.{digit_at, is_blank}
 use Rattle.ra_token.specs.Reads.{IsPiece}
 use Rattle.ra_token.specs.Scan.{IsReached, InRun, FaultsAt}
@@ -46,3 +48,21 @@ digit_first piece from i low before here within = ⊎_elim
     (λ (earlier : from < i). before earlier)
     (λ (same : i ≤ from). let is : from ≡ i = omega arith in ap (digit_at piece) is ∙ here)
     (cases_lt from i)
+
+-- a run with few digits is worth little
+pub digit_below : (byte : ℕ) → is_ascii_digit byte ≡ true → byte - 48 ≤ 9
+digit_below byte digit = grind arith
+
+pub near_more : (value digit k : ℕ) → value < 10 ^ k → digit ≤ 9 → value * 10 + digit < 10 ^ (k + 1)
+near_more value digit k below small = rw (add-one k) (omega (arith, pow-suc 10 k))
+
+pub near_small : (value k : ℕ) → value < 10 ^ k → k ≤ NEAR → value ≤ LARGEST
+near_small value k below few =
+    let most : 10 ^ k ≤ 100000000 = pow-le-pow_right (omega arith) few in
+    omega arith
+
+-- one blank alone
+pub one_blank : (piece : List ℕ) (from : ℕ) → is_blank (get_or piece from 0) ≡ true → (k : ℕ) → from ≤ k → k < from + 1 → is_blank (get_or piece k 0) ≡ true
+one_blank piece from blank k low below =
+    let same : k ≡ from = omega arith in
+    ap (λ j. is_blank (get_or piece j 0)) same ∙ blank

@@ -7,3 +7,4 @@ pub mod InPiece
 pub mod Told
 pub mod Scanning
 pub mod ToldByte
+pub mod ValueLaws

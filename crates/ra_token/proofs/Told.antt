@@ -61,11 +61,27 @@ next_here bytes piece start place i j value shows some within digit other goes_o
     let taken = run_ends bytes (start + i) (start + j) value (omega arith) other_here (goes_on (run_begins bytes (start + i) reached.between digit_here)) in
     next_of bytes place (start + i) (start + j) value reached taken
 
-pub told_next : (told : Option (List ℕ)) (piece : List ℕ) (start place i j value : ℕ) → IfSome told (λ bytes. IsPiece bytes start piece) → start + length piece ≤ PLACE_LIMIT → start ≤ place → place - start ≤ i → i < j → j < length piece
-    → ((k : ℕ) → place - start ≤ k → k < i → is_blank (get_or piece k 0) ≡ true) → is_ascii_digit (get_or piece i 0) ≡ true → is_ascii_digit (get_or piece j 0) ≡ false
+pub next_in : (bytes piece : List ℕ) (start from i j value : ℕ) → IsPiece bytes start piece → start + length piece ≤ PLACE_LIMIT → from ≤ i → i < j → j < length piece
+    → ((k : ℕ) → from ≤ k → k < i → is_blank (get_or piece k 0) ≡ true) → is_ascii_digit (get_or piece i 0) ≡ true → is_ascii_digit (get_or piece j 0) ≡ false
     → ((all : List ℕ) (at first : ℕ) → at + length piece ≤ PLACE_LIMIT → IsPiece all at piece → InRun all first (at + i) 0 → value ≤ LARGEST → InRun all first (at + j) value) → value ≤ LARGEST
-    → IfSome told (λ bytes. IsBetween bytes place → IsNext bytes place (start + i) (start + j) value)
-told_next None piece start place i j value shows low after from some within blanks digit other goes_on small = tt
-told_next (Some bytes) piece start place i j value shows low after from some within blanks digit other goes_on small = λ between.
-    next_here bytes piece start place i j value shows some within digit other (λ run. goes_on bytes start (start + i) low shows run small)
-    (told_reached (Some bytes) piece start place i shows low after from (omega arith) blanks between)
+    → IsBetween bytes (start + from) → IsNext bytes (start + from) (start + i) (start + j) value
+next_in bytes piece start from i j value shows low after some within blanks digit other goes_on small between =
+    let there : from + (i - from) ≡ i = omega arith in
+    next_here bytes piece start (start + from) i j value shows some within digit other (λ run. goes_on bytes start (start + i) low shows run small)
+    (subst (λ n. IsReached bytes (start + from) (start + n)) there
+    (piece_blanks bytes piece start (start + from) from (i - from) low shows (omega arith) (λ k low_k below. blanks k low_k (omega arith))
+    (reached_here bytes (start + from) between)))
+
+-- what holds of whatever bytes have this piece, from a place in the piece on
+pub told_in : (P : List ℕ → ℕ → ℕ → Type 0) (told : Option (List ℕ)) (piece : List ℕ) (start place : ℕ) → IfSome told (λ bytes. IsPiece bytes start piece) → start + length piece ≤ PLACE_LIMIT → start ≤ place
+    → ((all : List ℕ) (at : ℕ) → at + length piece ≤ PLACE_LIMIT → IsPiece all at piece → IsBetween all (at + (place - start)) → P all at (at + (place - start)))
+    → IfSome told (λ bytes. IsBetween bytes place → P bytes start place)
+told_in P None piece start place shows low after holds = tt
+told_in P (Some bytes) piece start place shows low after holds = λ between.
+    let here : place ≡ start + (place - start) = omega arith in
+    subst (P bytes start) (sym here) (holds bytes start low shows (subst (IsBetween bytes) here between))
+
+-- what holds where nothing was passed
+pub told_still : (P : List ℕ → Type 0) (told : Option (List ℕ)) (place : ℕ) → ((bytes : List ℕ) → IsBetween bytes place → P bytes) → IfSome told (λ bytes. IsBetween bytes place → P bytes)
+told_still P None place holds = tt
+told_still P (Some bytes) place holds = holds bytes

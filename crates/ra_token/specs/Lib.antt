@@ -3,4 +3,5 @@ pub mod Faults
 pub mod TokenList
 pub mod Standing
 pub mod Reads
+pub mod Values
 pub mod Scan

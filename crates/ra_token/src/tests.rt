@@ -116,3 +116,50 @@ fn a_number_may_be_cut_by_the_buffer(rt: HostRuntime) -> Result<(), Fail> {
     cut_by_the_buffer(&rt, 65_535)?;
     cut_by_the_buffer(&rt, 65_536)
 }
+
+/// What `next_values` answers for a text with two numbers and a fault behind them, however it is fetched.
+fn values_until_a_fault<R: Abort + AllocGlobal>(rt: &R, each: usize) -> Result<(), Fail>
+    requires { 0 < each }
+{
+    let (mut files, mut tokens) = open(
+        rt.alloc(),
+        each,
+        &[],
+        b"7 40\r\n 123456789 0 99999999  4294967295 00000000001 x ",
+    )?;
+    let mut values = Fixed::make(rt.alloc(), 12)?;
+    values.push(5);
+    assert_eq!(rt; tokens.next_values(&mut files, 3, &mut values), Ok(3));
+    assert_eq!(rt; values.as_slice(), [5, 7, 40, 123_456_789].as_slice());
+    assert_eq!(rt; tokens.next(&mut files), token(0, 17));
+    assert_eq!(rt; tokens.next_values(&mut files, 0, &mut values), Ok(0));
+    let fault = TokenFault::BadByte { at: 52, byte: b'x' };
+    assert_eq!(rt; tokens.next_values(&mut files, 8, &mut values), Err(fault));
+    assert_eq!(rt;
+        values.as_slice(),
+        [5, 7, 40, 123_456_789, 99_999_999, 4_294_967_295, 1].as_slice()
+    );
+    assert_eq!(rt; tokens.next_values(&mut files, 5, &mut values), Err(fault));
+    Ok(())
+}
+
+#[test]
+fn values_come_up_to_a_fault(rt: HostRuntime) -> Result<(), Fail> {
+    values_until_a_fault(&rt, 1)?;
+    values_until_a_fault(&rt, 9)?;
+    values_until_a_fault(&rt, 100)
+}
+
+#[test]
+fn values_end_where_the_file_ends(rt: HostRuntime) -> Result<(), Fail> {
+    let (mut files, mut tokens) = open(rt.alloc(), 100, &[1], b"1 2 3")?;
+    let mut values = Fixed::make(rt.alloc(), 4)?;
+    assert_eq!(rt;
+        tokens.next_values(&mut files, 4, &mut values),
+        Err(TokenFault::ReadFault)
+    );
+    assert_eq!(rt; values.as_slice(), [1, 2].as_slice());
+    assert_eq!(rt; tokens.next_values(&mut files, 2, &mut values), Ok(1));
+    assert_eq!(rt; values.as_slice(), [1, 2, 3].as_slice());
+    Ok(())
+}

@@ -1,10 +1,11 @@
-ghost use Rattle.std.specs.Prelude.{◌≡◌, ℕ, ◌+◌, ◌<◌, ◌≤◌, true, List, length, Option, None, Some, Ok, Err, IfSome, IfNone, IfOk, IfErr, OnErr, slice_get, vec_len};
+ghost use Rattle.std.specs.Prelude.{◌≡◌, ℕ, ◌+◌, ◌-◌, ◌<◌, ◌≤◌, true, List, length, Option, None, Some, Ok, Err, IfSome, IfNone, IfOk, IfErr, OnErr, slice_get, vec_len};
 ghost use Rattle.ra_io.specs.Faults.{Rose};
 ghost use Rattle.ra_token.specs.declared.answers.TheConstants.{PLACE_LIMIT};
 ghost use Rattle.ra_token.specs.declared.window.TheConstants.{BUFFER_BYTES};
 
 use crate::answers::{LARGEST, PLACE_LIMIT, TokenFault};
-use crate::scan::{gather, is_blank, skip_blanks};
+use crate::scan::{gather, is_blank, skip_blanks, take_runs, whole_run};
+use ra_base::Fixed;
 use ra_io::Files;
 use std::alloc::{AllocError, Global};
 
@@ -41,6 +42,7 @@ impl Window {
     ghost use Rattle.ra_token.specs.Runs.{is_blank};
     ghost use Rattle.ra_token.specs.TokenList.{IsAnswer, tokens_before};
     ghost use Rattle.ra_token.specs.Reads.{IsBetween};
+    ghost use Rattle.ra_token.specs.Values.{AddsValues};
     ghost use Rattle.ra_token.specs.Scan.{Shows, Covers, ready_byte, Begins, IsTaken, IsNext, FaultsAt, IsReached, InRun};
 
     /// A window with nothing ready.
@@ -93,16 +95,34 @@ impl Window {
             return None;
         }
         let ready = &self.buffer[..self.filled];
-        let first = skip_blanks(ready, (place - self.start) as usize);
-        let stretch = gather(ready, first, 0);
-        if stretch.end == first || stretch.end == ready.len() || stretch.value > LARGEST {
+        let Some((first, stretch)) = whole_run(ready, (place - self.start) as usize) else {
             return None;
-        }
+        };
         let run = Run {
             end: self.start + stretch.end as u64,
             value: stretch.value,
         };
         Some((self.start + first as u64, run))
+    }
+
+    /// Adds the values of the next runs from `place` on to a list, at most `most` of them, as far as `ready_run` would
+    /// give them. The place behind the last.
+    pub fn ready_values(&self, place: u64, most: usize, values: &mut Fixed<u32>) -> u64
+        requires place { place ≤ PLACE_LIMIT }
+        requires room { length values.old.items + most ≤ values.old.room }
+        ensures adds { (told : Option (List ℕ)) → Shows told self.now → IfSome told (λ bytes. IsBetween bytes place
+            → AddsValues bytes place result (length values.new.items - length values.old.items) values.old.items values.new.items) }
+        ensures place { result ≤ PLACE_LIMIT }
+        ensures grows { length values.old.items ≤ length values.new.items }
+        ensures most { length values.new.items ≤ length values.old.items + most }
+        ensures room { values.new.room ≡ values.old.room }
+    {
+        if place < self.start || place - self.start >= self.filled as u64 {
+            return place;
+        }
+        let ready = &self.buffer[..self.filled];
+        let end = take_runs(ready, (place - self.start) as usize, most, values);
+        self.start + end as u64
     }
 
     /// The next run, byte by byte where the bytes have to be fetched.

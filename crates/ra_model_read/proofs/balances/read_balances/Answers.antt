@@ -1,6 +1,6 @@
-use Rattle.std.proofs.Common.{refl, sym, ap, subst, arith}
+use Rattle.std.proofs.Common.{refl, arith}
 use Rattle.ra_model_read.specs.ModelText.{balances}
-use Rattle.ra_model_read.proofs.Steps.{gives_bind, gives_none, gives_more, gives_start, gives_all, refuses_first, refuses_next, refuses_memory, refuses_step, refused_at_exit}
+use Rattle.ra_model_read.proofs.Steps.{gives_bind, gives_none, gives_more, gives_all, refuses_first, refuses_next, refuses_memory, refuses_step, refused_at_exit}
 use Rattle.ra_model_read.proofs.Rows.{no_balance}
 use Rattle.ra_model_read.proofs.balances.read_balances.Goals as goal
 

@@ -1,20 +1,27 @@
-use Rattle.std.proofs.Common.{refl, ap, sym, ◌∙◌, arith, length-append}
-use Rattle.ra_model_read.specs.Formats.{pure, numbers, number_more}
-use Rattle.ra_model_read.proofs.Steps.{gives_none, gives_more, gives_then, refuses_first, refuses_step, refused_at_exit}
+use Rattle.std.proofs.Common.{◌-◌, ap, Err, IfSome, length, subst, arith}
+use Rattle.ra_token.specs.Values.{AddsValues}
+use Rattle.ra_model_read.proofs.NextToken.{if_one}
+use Rattle.ra_model_read.proofs.NextNumbers.{gives_numbers, refuses_few, refuses_fault}
 use Rattle.ra_model_read.proofs.fields.read_numbers.Goals as goal
 
-pub loop-k-init : goal.loop-k-init
-unfolding numbers
-loop-k-init g c = (gives_none _ _ _ c.requires.stands, omega arith, refl)
+pub returns-in-Ok-clause-refuses : goal.returns-in-Ok-clause-refuses
+returns-in-Ok-clause-refuses g c =
+    let told = g.F.Files.held c.args.files.now c.args.tokens.now.name in
+    refuses_few _ _ c.in-Ok.taken _ _ c.next_values.new.values.items _ _ (record { name = c.next_values.ensures.name; stands = c.next_values.ensures.reads; kept = c.next_values.ensures.kept; never_fall = c.next_values.ensures.never_fall })
+    (omega arith) c.in-Ok.ensures.number
+    (subst (λ n. IfSome told (λ bytes. AddsValues bytes c.args.tokens.now.place c.next_values.new.self.place n c.args.table.now.items c.next_values.new.values.items)) (omega (arith, c.in-Ok.ensures.number)) c.next_values.ensures.adds)
+    (if_one told (λ bytes ended. ended c.if-taken-count.true) c.in-Ok.ensures.ended)
 
-pub returns-in_err-number-clause-refuses : goal.returns-in_err-number-clause-refuses
-unfolding numbers number_more
-returns-in_err-number-clause-refuses g c = refused_at_exit _ c.from_residual.ensures (refuses_step _ _ _ _ (omega arith) c.loop-k.invariant.0 (refuses_first _ c.in_err-number.ensures.refuses))
+pub returns-in-Ok-2-clause-gives : goal.returns-in-Ok-2-clause-gives
+returns-in-Ok-2-clause-gives g c =
+    let told = g.F.Files.held c.args.files.now c.args.tokens.now.name in
+    gives_numbers _ _ c.args.count _ c.next_values.new.values.items _ _ (record { name = c.next_values.ensures.name; stands = c.next_values.ensures.reads; kept = c.next_values.ensures.kept; never_fall = c.next_values.ensures.never_fall })
+    (omega (arith, c.in-Ok.ensures.number, c.next_values.ensures.most))
+    (subst (λ n. IfSome told (λ bytes. AddsValues bytes c.args.tokens.now.place c.next_values.new.self.place n c.args.table.now.items c.next_values.new.values.items)) (omega (arith, c.in-Ok.ensures.number, c.next_values.ensures.most)) c.next_values.ensures.adds)
 
-pub loop-k-preserved : goal.loop-k-preserved
-unfolding numbers number_more
-loop-k-preserved g c = (
-  gives_more _ _ _ c.loop-k.invariant.0 (gives_then _ c.in_ok-number.ensures.gives (ap pure (sym c.push.ensures.items))),
-  grind (arith, length-append),
-  c.push.ensures.room ∙ c.loop-k.invariant.2,
-)
+pub returns-in-Err-clause-refuses : goal.returns-in-Err-clause-refuses
+returns-in-Err-clause-refuses g c =
+    refuses_fault _ _ (length c.next_values.new.values.items - length c.args.table.now.items) _ _ c.next_values.new.values.items _ _ c.in-Err.fault _ c.model_fault.ensures
+    (record { name = c.next_values.ensures.name; stands = c.next_values.ensures.reads; kept = c.next_values.ensures.kept; never_fall = c.next_values.ensures.never_fall })
+    (omega (arith, c.in-Err.ensures.short)) (omega (arith, c.next_values.ensures.grows))
+    c.next_values.ensures.adds c.in-Err.ensures.refused (λ e. c.in-Err.ensures.fault (ap Err e))

@@ -1,5 +1,4 @@
-use Rattle.std.proofs.Common.{refl, sym, ap, arith}
-use Rattle.ra_model_read.specs.Formats.{pure}
+use Rattle.std.proofs.Common.{refl}
 use Rattle.ra_model_read.specs.ModelText.{machine}
 use Rattle.ra_model_read.proofs.Steps.{gives_bind, gives_then, refuses_first, refuses_next, refused_at_exit}
 use Rattle.ra_model_read.proofs.Rows.{machine_pushed}

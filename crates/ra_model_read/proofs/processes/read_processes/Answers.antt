@@ -1,6 +1,6 @@
-use Rattle.std.proofs.Common.{refl, sym, ap, subst, arith}
+use Rattle.std.proofs.Common.{sym, subst, arith}
 use Rattle.ra_model_read.specs.ModelText.{processes}
-use Rattle.ra_model_read.proofs.Steps.{gives_bind, gives_none, gives_more, gives_start, gives_all, refuses_first, refuses_next, refuses_memory, refuses_step, refused_at_exit}
+use Rattle.ra_model_read.proofs.Steps.{gives_bind, gives_more, gives_start, gives_all, refuses_first, refuses_next, refuses_memory, refuses_step, refused_at_exit}
 use Rattle.ra_model_read.specs.Reading.{Refuses}
 use Rattle.ra_model_read.proofs.Rows.{no_processes, all_processes}
 use Rattle.ra_model_read.proofs.processes.read_processes.Goals as goal
