@@ -1,0 +1,4 @@
+pub mod TotalLemmas
+pub mod SignLemmas
+pub mod ReadLemmas
+pub mod CostLemmas

@@ -1,0 +1,19 @@
+-- What holds of the bound for every instance and every feasible assignment.
+use Rattle.std.specs.Prelude.{◌≤◌, List}
+use Rattle.ra_base.specs.declared.ids.Machine.{Machine}
+use Rattle.ra_model.specs.declared.raw.Tables.{Tables}
+use Rattle.ra_model.specs.Limits.{WellFormed}
+use Rattle.ra_model.specs.Assignments.{IsAssignment}
+use Rattle.ra_model.specs.Feasible.{Feasible}
+use Rattle.ra_model.specs.Costs.{load_cost, balance_cost, objective}
+use Rattle.ra_bounds.specs.Bounds.{load_bound, balance_bound, bound_of}
+
+-- the bound is at most the cost of an assignment, and so is each of its parts
+pub record IsBelow (i : Tables) (a0 a : List Machine) : Type 0 where
+  pub load : load_bound i ≤ load_cost i a
+  pub balance : balance_bound i ≤ balance_cost i a
+  pub total : (bound_of i).total ≤ objective i a0 a
+
+-- no feasible assignment costs less than the bound
+abbrev pub NoneCostsLess : Type 0
+NoneCostsLess = (i : Tables) (a0 a : List Machine) → WellFormed i → IsAssignment i a → Feasible i a0 a → IsBelow i a0 a

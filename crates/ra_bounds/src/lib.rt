@@ -1,0 +1,15 @@
+//! The lower bound: a cost that no feasible assignment of an instance is below.
+#![tactic(auto)]
+
+mod balance;
+mod costs;
+pub mod laws;
+mod load;
+mod lower;
+mod sums;
+
+pub use costs::Bound;
+pub use lower::bound;
+
+#[cfg(test)]
+mod tests;
