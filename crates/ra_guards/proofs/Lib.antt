@@ -1,0 +1,3 @@
+pub mod GuardLemmas
+pub mod SampleLaws
+pub mod TouchLemmas

@@ -1,0 +1,59 @@
+-- The guards of a move: the machines and services on which its verdict stands (this project's).
+use Rattle.std.specs.Prelude.{ℕ, ◌<◌, List, length, Bool, false, ◌||◌, nat_lt}
+use Rattle.ra_base.specs.Sums.{count, is_named}
+use Rattle.ra_base.specs.declared.ids.Guard.{Guard}
+use Rattle.ra_base.specs.declared.ids.Guard.TheVariants as guard
+use Rattle.ra_model.specs.declared.raw.Tables.{Tables}
+use Rattle.ra_model.specs.Numbers.{process_count, service_of, dependency_count, need_of}
+use Rattle.ra_moves.specs.declared.steps.Step.{Step}
+use Rattle.ra_moves.specs.Steps.{process_in, from_in, to_in}
+
+-- a step leaves or enters machine m
+unfoldable pub ends_at : List Step → ℕ → Bool
+ends_at steps m = is_named (length steps) (from_in steps) m || is_named (length steps) (to_in steps) m
+
+-- the service of the process of step j
+unfoldable pub service_in : Tables → List Step → ℕ → ℕ
+service_in i steps j = service_of i (process_in steps j)
+
+-- a process of service s moves
+unfoldable pub moves_service : Tables → List Step → ℕ → Bool
+moves_service i steps s = is_named (length steps) (service_in i steps) s
+
+-- service s depends on service u
+unfoldable pub depends : Tables → ℕ → ℕ → Bool
+depends i s u = is_named (dependency_count i s) (need_of i s) u
+
+-- one of two services depends on the other
+unfoldable pub are_joined : Tables → ℕ → ℕ → Bool
+are_joined i s u = depends i s u || depends i u s
+
+-- a service that moves depends on service u, or service u on one that moves
+unfoldable pub reads_service : Tables → List Step → ℕ → Bool
+reads_service i steps u = nat_lt 0 (count (length steps) (λ j. are_joined i (service_in i steps j) u))
+
+-- service u moves, or is joined with one that moves
+unfoldable pub guards_service : Tables → List Step → ℕ → Bool
+guards_service i steps u = moves_service i steps u || reads_service i steps u
+
+-- the write guards of a move: the machines that its steps leave and enter, and the services of its processes
+unfoldable pub writes : Tables → List Step → Guard → Bool
+writes i steps (guard.Machine m) = ends_at steps m.0
+writes i steps (guard.Service s) = moves_service i steps s.0
+
+-- its read guards: the services on which one of those services depends, and those that depend on one of them
+unfoldable pub reads : Tables → List Step → Guard → Bool
+reads i steps (guard.Machine m) = false
+reads i steps (guard.Service s) = reads_service i steps s.0
+
+-- its guards
+unfoldable pub is_guard : Tables → List Step → Guard → Bool
+is_guard i steps g = writes i steps g || reads i steps g
+
+-- each step moves a process of the instance
+pub record AreKnown (i : Tables) (steps : List Step) : Type 0 where
+  pub each : (j : ℕ) → j < length steps → process_in steps j < process_count i
+
+-- a step of another move leaves or enters a machine that is a guard, or moves a process of a service that is one
+unfoldable pub meets_step : Tables → List Step → Step → Bool
+meets_step i steps other = ends_at steps other.from.0 || ends_at steps other.to.0 || guards_service i steps (service_of i other.process.0)

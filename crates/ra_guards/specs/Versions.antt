@@ -1,0 +1,38 @@
+-- Versions of guards in a history. A history is given as the list of the steps that its entries make: those of the move
+-- of an entry that is done, and none for one that was refused.
+use Rattle.std.specs.Prelude.{◌≡◌, ℕ, suc, ◌<◌, ◌≤◌, List, Option, Some, None, Bool, true, false, if◌then◌else◌, slice_index_or}
+use Rattle.ra_base.specs.Sums.{greatest}
+use Rattle.ra_base.specs.declared.ids.Guard.{Guard}
+use Rattle.ra_model.specs.declared.raw.Tables.{Tables}
+use Rattle.ra_moves.specs.declared.steps.Step.{Step}
+use Rattle.ra_guards.specs.Guards.{writes, is_guard}
+
+-- what the entry at place j makes; past the end nothing
+unfoldable pub made_at : List (Option (List Step)) → ℕ → Option (List Step)
+made_at made j = slice_index_or made j None
+
+-- an entry that is done touches the write guards of its move, and a refused one touches nothing
+unfoldable pub touches : Tables → Option (List Step) → Guard → Bool
+touches i None g = false
+touches i (Some steps) g = writes i steps g
+
+-- one more than place j, where the entry there touches a guard
+unfoldable pub stamp : Tables → List (Option (List Step)) → Guard → ℕ → ℕ
+stamp i made g j = if touches i (made_at made j) g then suc j else 0
+
+-- the version of a guard after the first n entries: one more than the place of the last that touches it, and 0 where
+-- none does
+unfoldable pub version : Tables → List (Option (List Step)) → ℕ → Guard → ℕ
+version i made n g = greatest n (stamp i made g)
+
+-- no guard of a move has been touched from place q on, among the first n entries
+pub record Untouched (i : Tables) (made : List (Option (List Step))) (q n : ℕ) (steps : List Step) : Type 0 where
+  pub each : (g : Guard) → is_guard i steps g ≡ true → version i made n g ≤ q
+
+-- no guard of the first steps is written by the others
+pub record Apart (i : Tables) (steps others : List Step) : Type 0 where
+  pub each : (g : Guard) → is_guard i steps g ≡ true → writes i others g ≡ false
+
+-- no guard of a move is written by the entries at the places from q on, among the first n
+pub record ApartSince (i : Tables) (made : List (Option (List Step))) (q n : ℕ) (steps : List Step) : Type 0 where
+  pub each : (j : ℕ) (others : List Step) → q ≤ j → j < n → made_at made j ≡ Some others → Apart i steps others

@@ -1,0 +1,4 @@
+pub mod Places
+pub mod NextLemmas
+pub mod SoundLemmas
+pub mod SoloLemmas

@@ -1,0 +1,40 @@
+-- What holds of every journal, each proved by a function of `laws`.
+use Rattle.std.specs.Prelude.{◌≡◌, ℕ, ◌≤◌, List, [], ◌∷◌, ◌++◌, length}
+use Rattle.ra_base.specs.declared.ids.Machine.{Machine}
+use Rattle.ra_draws.specs.declared.budgets.Lots.{Lots}
+use Rattle.ra_model.specs.declared.raw.Tables.{Tables}
+use Rattle.ra_model.specs.Limits.{WellFormed}
+use Rattle.ra_model.specs.Assignments.{IsAssignment}
+use Rattle.ra_model.specs.Feasible.{Feasible}
+use Rattle.ra_journal.specs.declared.entries.Entry.{Entry}
+use Rattle.ra_journal.specs.Entries.{worker_count}
+use Rattle.ra_journal.specs.States.{state, kept_cost, cost_at}
+use Rattle.ra_journal.specs.Legal.{IsLegalAt, Legal, Whole}
+use Rattle.ra_journal.specs.Solo.{solo}
+
+-- what is known of the state at place j
+pub record IsSound (i : Tables) (a0 : List Machine) (h : List Entry) (j : ℕ) : Type 0 where
+  pub assignment : IsAssignment i (state a0 h j)
+  pub feasible : Feasible i a0 (state a0 h j)
+  pub kept : kept_cost i a0 h j ≡ cost_at i a0 h j
+
+-- where the start is feasible and the journal legal, every state is feasible, and the kept cost is its objective
+abbrev pub LegalIsSound : Type 0
+LegalIsSound = (i : Tables) (a0 : List Machine) (l : Lots) (h : List Entry) → WellFormed i → IsAssignment i a0 → Feasible i a0 a0 → Legal i a0 l h → (j : ℕ) → j ≤ length h → IsSound i a0 h j
+
+-- a legal next entry keeps a journal legal
+abbrev pub NextKeepsLegal : Type 0
+NextKeepsLegal = (i : Tables) (a0 : List Machine) (l : Lots) (h : List Entry) (e : Entry) → Legal i a0 l h → IsLegalAt i a0 l h (length h) e → Legal i a0 l (h ++ e ∷ [])
+
+-- a legal whole journal of one lot
+pub record IsSoloRun (i : Tables) (a0 : List Machine) (l : Lots) (h : List Entry) : Type 0 where
+  pub legal : Legal i a0 l h
+  pub whole : Whole l h
+
+-- with one lot, the run of one worker is legal and whole, and no other journal is
+pub record OneLotIsSolo (i : Tables) (a0 : List Machine) (l : Lots) : Type 0 where
+  pub stands : IsSoloRun i a0 l (solo i a0 l)
+  pub no_other : (h : List Entry) → IsSoloRun i a0 l h → h ≡ solo i a0 l
+
+abbrev pub OneLotsJournal : Type 0
+OneLotsJournal = (i : Tables) (a0 : List Machine) (l : Lots) → worker_count l ≡ 1 → OneLotIsSolo i a0 l

@@ -1,0 +1,49 @@
+-- Which journals are legal: each entry is the proposal of its worker, planned at a stated earlier place, with no guard
+-- touched since, and judged at its own place (this project's).
+use Rattle.std.specs.Prelude.{◌≡◌, ℕ, ◌<◌, ◌≤◌, List, length}
+use Rattle.ra_base.specs.declared.ids.Machine.{Machine}
+use Rattle.ra_draws.specs.declared.budgets.Lots.{Lots}
+use Rattle.ra_model.specs.declared.raw.Tables.{Tables}
+use Rattle.ra_moves.specs.Judging.{judge}
+use Rattle.ra_moves.specs.Options.{plan_of}
+use Rattle.ra_guards.specs.Versions.{Untouched}
+use Rattle.ra_journal.specs.declared.entries.Entry.{Entry}
+use Rattle.ra_journal.specs.Entries.{entry_at, made_in, entries_of, worker_count, budget, words, allowed}
+use Rattle.ra_journal.specs.States.{state}
+
+-- the worker exists, and k is the number of its earlier entries, below its budget
+pub record IsNumbered (l : Lots) (h : List Entry) (j : ℕ) (e : Entry) : Type 0 where
+  pub worker : e.worker < worker_count l
+  pub number : e.k ≡ entries_of h j e.worker
+  pub budget : e.k < budget l e.worker
+
+-- the proposal was planned at place q, not after its own, and all earlier entries of its worker stand before q
+pub record IsPlaced (h : List Entry) (j : ℕ) (e : Entry) : Type 0 where
+  pub place : e.q ≤ j
+  pub seen : (n : ℕ) → n < j → (entry_at h n).worker ≡ e.worker → n < e.q
+
+-- entry e may stand at place j of journal h, after the entries before that place
+pub record IsLegalAt (i : Tables) (a0 : List Machine) (l : Lots) (h : List Entry) (j : ℕ) (e : Entry) : Type 0 where
+  -- k is the number of earlier entries of its worker
+  pub numbered : IsNumbered l h j e
+  -- it was planned at place q, behind all earlier entries of its worker
+  pub placed : IsPlaced h j e
+  -- its move is the plan at the state of place q, for its words and its allowance
+  pub planned : e.mv ≡ plan_of i a0 (state a0 h e.q) (words l e.worker e.k) l.drawing (allowed l e.worker e.k)
+  -- no guard of its move was touched from place q on
+  pub untouched : Untouched i (made_in h) e.q j e.mv.steps
+  -- its verdict is the judge's at the state of its own place
+  pub judged : e.verdict ≡ judge i a0 (state a0 h j) e.mv.steps (allowed l e.worker e.k)
+
+-- the first n entries are legal
+pub record IsLegal (i : Tables) (a0 : List Machine) (l : Lots) (h : List Entry) (n : ℕ) : Type 0 where
+  pub each : (j : ℕ) → j < n → IsLegalAt i a0 l h j (entry_at h j)
+
+-- a legal journal: all its entries are
+abbrev pub Legal : Tables → List Machine → Lots → List Entry → Type 0
+Legal i a0 l h = IsLegal i a0 l h (length h)
+
+-- a whole journal: each worker has exactly as many entries as its budget, and no other worker has any
+pub record Whole (l : Lots) (h : List Entry) : Type 0 where
+  pub each : (w : ℕ) → w < worker_count l → entries_of h (length h) w ≡ budget l w
+  pub no_other : (j : ℕ) → j < length h → (entry_at h j).worker < worker_count l

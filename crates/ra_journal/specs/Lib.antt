@@ -1,0 +1,6 @@
+pub mod Best
+pub mod Entries
+pub mod Laws
+pub mod Legal
+pub mod Solo
+pub mod States

@@ -1,0 +1,35 @@
+-- The states of a journal, and the cost that its entries keep.
+use Rattle.std.specs.Prelude.{ℕ, zero, suc, List, Option, Some, None}
+use Rattle.ra_base.specs.declared.ids.Machine.{Machine}
+use Rattle.ra_model.specs.declared.raw.Tables.{Tables}
+use Rattle.ra_model.specs.Costs.{objective}
+use Rattle.ra_moves.specs.declared.steps.Step.{Step}
+use Rattle.ra_moves.specs.declared.verdicts.Verdict.{Verdict}
+use Rattle.ra_moves.specs.declared.verdicts.Verdict.TheVariants.{Done, Refused}
+use Rattle.ra_moves.specs.Replacing.{applied}
+use Rattle.ra_journal.specs.declared.entries.Entry.{Entry}
+use Rattle.ra_journal.specs.Entries.{entry_at, made_by}
+
+-- an assignment after the steps that are made, if there are any
+unfoldable pub after_made : List Machine → Option (List Step) → List Machine
+after_made a None = a
+after_made a (Some steps) = applied a steps
+
+-- the state at place j: a0 with the moves of the entries that are done, among the first j, applied in order
+unfoldable pub state : List Machine → List Entry → ℕ → List Machine
+state a0 h zero = a0
+state a0 h (suc j) = after_made (state a0 h j) (made_by (entry_at h j))
+
+-- the cost that a verdict keeps, after a cost
+unfoldable pub cost_then : ℕ → Verdict → ℕ
+cost_then cost (Done after) = after
+cost_then cost (Refused cause) = cost
+
+-- the kept cost at place j: that of the last entry that is done, among the first j, and the objective of a0 where none is
+unfoldable pub kept_cost : Tables → List Machine → List Entry → ℕ → ℕ
+kept_cost i a0 h zero = objective i a0 a0
+kept_cost i a0 h (suc j) = cost_then (kept_cost i a0 h j) (entry_at h j).verdict
+
+-- the challenge's objective of the state at place j, computed afresh
+unfoldable pub cost_at : Tables → List Machine → List Entry → ℕ → ℕ
+cost_at i a0 h j = objective i a0 (state a0 h j)
