@@ -1,0 +1,4 @@
+pub mod Judged
+pub mod Fitting
+pub mod Cheapest
+pub mod SampleLaws

@@ -1,0 +1,13 @@
+//! The plain planner: judges a move by the checker, on an assignment that it changes and gives back, and plans by judging
+//! each option so. Slow and short, it stands beside the definitions.
+#![tactic(auto)]
+
+mod judging;
+mod planning;
+mod refusals;
+
+pub use judging::judge_plainly;
+pub use planning::{Planned, plan_plainly};
+
+#[cfg(test)]
+mod tests;

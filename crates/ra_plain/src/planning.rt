@@ -1,0 +1,87 @@
+ghost use Rattle.std.specs.Prelude.{◌≡◌, ℕ, ◌<◌, None, if◌then◌else◌, length};
+ghost use Rattle.ra_base.specs.Searches.{is_better};
+ghost use Rattle.ra_model.specs.Numbers.{machine_count};
+ghost use Rattle.ra_model.specs.Assignments.{IsAssignment};
+ghost use Rattle.ra_model.specs.Costs.{objective};
+ghost use Rattle.ra_check.specs.Made.{IsMadeFor};
+ghost use Rattle.ra_moves.specs.Steps.{StandsAt, Distinct, from_in, to_in};
+ghost use Rattle.ra_moves.specs.Judging.{judge, repeat_of};
+ghost use Rattle.ra_moves.specs.Options.{plan_of, done_cost};
+
+use crate::judging::judge_plainly;
+use ra_base::{Assignment, Drawing};
+use ra_check::Scratch;
+use ra_model::Instance;
+use ra_moves::{Move, Verdict, options, resolve};
+
+/// A move with the verdict on it.
+#[derive(Clone, Copy, Debug, PartialEq, Eq)]
+pub struct Planned {
+    /// The move.
+    pub mv: Move,
+    /// What is said of it.
+    pub verdict: Verdict,
+}
+
+/// What the eight words of a proposal make of assignment `a`, whose cost is `before`: the first option of least cost
+/// among those that are judged Done, and option 0 where there is none. Each option is judged from scratch on `other`, a
+/// second assignment that equals `a`. No memory is taken.
+pub fn plan_plainly(
+    inst: &Instance,
+    a0: &Assignment,
+    a: &Assignment,
+    other: &mut Assignment,
+    scratch: &mut Scratch,
+    before: u128,
+    words: &[u64; 8],
+    drawing: Drawing,
+    allowed: u64,
+) -> Planned
+    requires start_fits { IsAssignment inst.now.tables a0.now.items }
+    requires fits { IsAssignment inst.now.tables a.now.items }
+    requires same { other.old.items ≡ a.now.items }
+    requires made { IsMadeFor scratch.old inst.now.tables }
+    requires before { before ≡ objective inst.now.tables a0.now.items a.now.items }
+    ensures planned { result.mv ≡ plan_of inst.now.tables a0.now.items a.now.items words.now drawing allowed }
+    ensures judged { result.verdict ≡ judge inst.now.tables a0.now.items a.now.items result.mv.steps allowed }
+    ensures stands { StandsAt from_in result.mv.steps a.now.items }
+    ensures reaches { (j : ℕ) → j < length result.mv.steps → to_in result.mv.steps j < machine_count inst.now.tables }
+    ensures distinct { repeat_of result.mv.steps ≡ None → Distinct result.mv.steps }
+    ensures unchanged { other.new ≡ other.old }
+    ensures kept { IsMadeFor scratch.new inst.now.tables }
+{
+    let machines = inst.machines();
+    let count = options(words, machines, drawing);
+    let mv = resolve(a, words, machines, drawing, 0);
+    let verdict = judge_plainly(inst, a0, other, scratch, before, &mv, allowed);
+    let mut best = Planned { mv, verdict };
+    for option in 1..count {
+        let mv = resolve(a, words, machines, drawing, option);
+        let verdict = judge_plainly(inst, a0, other, scratch, before, &mv, allowed);
+        best = cheaper(best, Planned { mv, verdict });
+    }
+    best
+}
+
+/// The second of two moves where it is done at a lower cost than the first, else the first.
+fn cheaper(first: Planned, second: Planned) -> Planned
+    ensures { result ≡ (if is_better (done_cost second.verdict) (done_cost first.verdict) then second else first) }
+{
+    if is_cheaper(&second.verdict, &first.verdict) {
+        second
+    } else {
+        first
+    }
+}
+
+/// Whether a verdict is Done, and at a lower cost than another.
+#[tactic(auto, unfolding(ra_base::specs::Searches::is_better, ra_moves::specs::Options::done_cost))]
+fn is_cheaper(verdict: &Verdict, than: &Verdict) -> bool
+    ensures { result ≡ is_better (done_cost verdict.now) (done_cost than.now) }
+{
+    match (verdict, than) {
+        (Verdict::Refused { .. }, _) => false,
+        (Verdict::Done { .. }, Verdict::Refused { .. }) => true,
+        (Verdict::Done { cost }, Verdict::Done { cost: least }) => cost < least,
+    }
+}

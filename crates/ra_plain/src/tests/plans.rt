@@ -1,0 +1,185 @@
+//! What proposals name, judge and choose.
+use super::fits::is_assignment;
+use super::samples::{assignment, crossed_pair, list, sample, single, tight_pair};
+use crate::{Planned, plan_plainly};
+use ra_base::{Cause, Drawing, Machine, Process, Resource, Service};
+use ra_check::{Scratch, parts};
+use ra_model::Instance;
+use ra_moves::{Move, Step, Verdict};
+use std::alloc::Global;
+use std::process::Abort;
+
+/// The words of a proposal with the drawing, and by how much the cost may rise.
+#[derive(Clone, Copy)]
+struct Proposal {
+    words: [u64; 8],
+    drawing: Drawing,
+    allowed: u64,
+}
+
+fn ask(words: [u64; 8], drawing: Drawing, allowed: u64) -> Proposal {
+    Proposal {
+        words,
+        drawing,
+        allowed,
+    }
+}
+
+/// The plan of a proposal at an assignment that is reached from a start.
+fn planned(
+    rt: &impl Abort,
+    alloc: Global,
+    inst: &Instance,
+    start: &[u32],
+    now: &[u32],
+    asked: &Proposal,
+) -> Planned {
+    let a0 = assignment(rt, alloc, start);
+    let a = assignment(rt, alloc, now);
+    let mut other = list(rt, alloc, a.as_slice());
+    assert!(rt; is_assignment(inst, &a0));
+    assert!(rt; is_assignment(inst, &a));
+    let mut scratch = Scratch::make(alloc, inst).expect(rt, "no memory");
+    let before = parts(inst, &a0, &a, &mut scratch).total;
+    let planned = plan_plainly(
+        inst,
+        &a0,
+        &a,
+        &mut other,
+        &mut scratch,
+        before,
+        &asked.words,
+        asked.drawing,
+        asked.allowed,
+    );
+    assert_eq!(rt; other.as_slice(), a.as_slice());
+    planned
+}
+
+fn step(process: u32, from: u32, to: u32) -> Step {
+    Step {
+        process: Process(process),
+        from: Machine(from),
+        to: Machine(to),
+    }
+}
+
+/// A shift of a process, with the verdict on it.
+fn shift(process: u32, from: u32, to: u32, verdict: Verdict) -> Planned {
+    Planned {
+        mv: Move::shift(step(process, from, to)),
+        verdict,
+    }
+}
+
+fn done(cost: u128) -> Verdict {
+    Verdict::Done { cost }
+}
+
+fn refused(cause: Cause) -> Verdict {
+    Verdict::Refused { cause }
+}
+
+#[test]
+fn the_only_option_that_is_done_is_planned(rt: HostRuntime) {
+    let inst = sample(&rt, rt.alloc());
+    let better = shift(1, 3, 2, done(3510));
+    // The machines 2, 1, 0 and 3; then 0, 3, 1 and 2; then a window from machine 3 that goes on from machine 0. Machine 2 is
+    // done, 1 breaks the spread, 0 the conflict, and 3 is where the process is.
+    let proposals = [
+        ask([0, 1, 2, 1, 0, 3, 0, 0], Drawing::One, 0),
+        ask([4, 4, 0, 3, 1, 2, 0, 0], Drawing::One, 0),
+        ask([0, 1, 3, 0, 0, 0, 0, 0], Drawing::Two, 0),
+    ];
+    for asked in proposals {
+        let found = planned(&rt, rt.alloc(), &inst, &[0, 3, 0], &[0, 3, 0], &asked);
+        assert_eq!(rt; found, better);
+    }
+}
+
+#[test]
+fn option_0_is_planned_where_none_is_done(rt: HostRuntime) {
+    let inst = sample(&rt, rt.alloc());
+    let spread = Cause::Spread {
+        service: Service(0),
+        has: 1,
+        wants: 2,
+    };
+    let asked = ask([0, 1, 1, 0, 3, 1, 0, 0], Drawing::One, 0);
+    let found = planned(&rt, rt.alloc(), &inst, &[0, 3, 0], &[0, 3, 0], &asked);
+    assert_eq!(rt; found, shift(1, 3, 1, refused(spread)));
+    let same = Cause::Same {
+        process: Process(1),
+    };
+    let asked = ask([0, 1, 3, 0, 0, 0, 0, 0], Drawing::One, 0);
+    let found = planned(&rt, rt.alloc(), &inst, &[0, 3, 0], &[0, 3, 0], &asked);
+    assert_eq!(rt; found, shift(1, 3, 3, refused(same)));
+}
+
+#[test]
+fn the_first_option_of_least_cost_is_planned(rt: HostRuntime) {
+    // To be moved costs 1, and 1 for the service. With the way it is 4 at machines 1 and 2, and 7 at machine 3.
+    let inst = single(&rt, rt.alloc());
+    let rise = Cause::Rise {
+        before: 0,
+        after: 7,
+        allowed: 3,
+    };
+    let table = [
+        (
+            ask([0, 0, 3, 2, 1, 0, 0, 0], Drawing::One, 7),
+            shift(0, 0, 2, done(4)),
+        ),
+        (
+            ask([0, 0, 3, 1, 2, 0, 0, 0], Drawing::One, 4),
+            shift(0, 0, 1, done(4)),
+        ),
+        (
+            ask([0, 0, 7, 0, 0, 0, 0, 0], Drawing::Two, 7),
+            shift(0, 0, 1, done(4)),
+        ),
+        (
+            ask([0, 0, 3, 2, 1, 0, 0, 0], Drawing::One, 3),
+            shift(0, 0, 3, refused(rise)),
+        ),
+    ];
+    for (asked, want) in table {
+        let found = planned(&rt, rt.alloc(), &inst, &[0], &[0], &asked);
+        assert_eq!(rt; found, want);
+    }
+    // From machine 1, whose cost is 4, back to the start.
+    let asked = ask([0, 0, 2, 0, 3, 1, 0, 0], Drawing::One, 3);
+    let found = planned(&rt, rt.alloc(), &inst, &[0], &[1], &asked);
+    assert_eq!(rt; found, shift(0, 1, 0, done(0)));
+}
+
+#[test]
+fn a_swap_is_planned(rt: HostRuntime) {
+    let asked = ask([5, 0, 1, 1, 1, 1, 0, 0], Drawing::Two, 0);
+    let mv = Move::swap(step(0, 0, 1), step(1, 1, 0));
+    let inst = crossed_pair(&rt, rt.alloc());
+    let found = planned(&rt, rt.alloc(), &inst, &[0, 1], &[0, 1], &asked);
+    let verdict = done(5);
+    assert_eq!(rt; found, Planned { mv, verdict });
+    let inst = tight_pair(&rt, rt.alloc());
+    let found = planned(&rt, rt.alloc(), &inst, &[0, 1], &[0, 1], &asked);
+    let verdict = refused(Cause::Transient {
+        machine: Machine(0),
+        resource: Resource(0),
+        used: 12,
+        cap: 10,
+    });
+    assert_eq!(rt; found, Planned { mv, verdict });
+}
+
+#[test]
+fn a_chain_is_planned(rt: HostRuntime) {
+    let inst = sample(&rt, rt.alloc());
+    let asked = ask([7, 0, 0, 2, 1, 0, 0, 0], Drawing::One, 0);
+    let found = planned(&rt, rt.alloc(), &inst, &[0, 3, 0], &[0, 3, 0], &asked);
+    let mv = Move::chain(step(0, 0, 0), step(0, 0, 0), step(2, 0, 1));
+    let verdict = refused(Cause::Repeat {
+        process: Process(0),
+    });
+    assert_eq!(rt; found, Planned { mv, verdict });
+}

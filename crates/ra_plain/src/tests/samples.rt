@@ -1,0 +1,179 @@
+//! Instances and assignments that are built by hand.
+ghost use Rattle.std.specs.Prelude.{◌≡◌};
+
+use super::fits::is_instance;
+use ra_base::{Assignment, Fixed, Machine, Resource, Service};
+use ra_model::{
+    BalanceRow, Instance, MachineRow, ProcessRow, RawInstance, ResourceRow, ServiceRow,
+};
+use std::alloc::Global;
+use std::process::Abort;
+
+/// A list of these items.
+pub(super) fn list<T: Copy>(rt: &impl Abort, alloc: Global, items: &[T]) -> Fixed<T>
+    ensures { result.items ≡ items.now }
+{
+    let mut list = Fixed::make(alloc, items.len()).expect(rt, "no memory");
+    list.extend_from_slice(items);
+    list
+}
+
+/// The assignment to these machines.
+pub(super) fn assignment(rt: &impl Abort, alloc: Global, machines: &[u32]) -> Assignment {
+    let mut list = Fixed::make(alloc, machines.len()).expect(rt, "no memory");
+    for m in machines {
+        list.push(Machine(*m));
+    }
+    list
+}
+
+fn resource(transient: bool, load_weight: u32) -> ResourceRow {
+    ResourceRow {
+        transient,
+        load_weight,
+    }
+}
+
+fn machine(neighbourhood: u32, location: u32) -> MachineRow {
+    MachineRow {
+        neighbourhood,
+        location,
+    }
+}
+
+fn service(spread_min: u32, dependency_end: u32) -> ServiceRow {
+    ServiceRow {
+        spread_min,
+        dependency_end,
+    }
+}
+
+fn process(service: u32, move_cost: u32) -> ProcessRow {
+    ProcessRow {
+        service: Service(service),
+        move_cost,
+    }
+}
+
+/// The lists of an instance.
+#[derive(Clone, Copy)]
+struct Lists<'a> {
+    resources: &'a [ResourceRow],
+    machines: &'a [MachineRow],
+    capacities: &'a [u32],
+    safeties: &'a [u32],
+    move_costs: &'a [u32],
+    services: &'a [ServiceRow],
+    dependencies: &'a [Service],
+    processes: &'a [ProcessRow],
+    requirements: &'a [u32],
+    balances: &'a [BalanceRow],
+    weights: [u32; 3],
+}
+
+/// The instance of these lists.
+fn instance(rt: &impl Abort, alloc: Global, lists: &Lists<'_>) -> Instance {
+    let raw = RawInstance {
+        resources: list(rt, alloc, lists.resources),
+        machines: list(rt, alloc, lists.machines),
+        capacities: list(rt, alloc, lists.capacities),
+        safeties: list(rt, alloc, lists.safeties),
+        move_costs: list(rt, alloc, lists.move_costs),
+        services: list(rt, alloc, lists.services),
+        dependencies: list(rt, alloc, lists.dependencies),
+        processes: list(rt, alloc, lists.processes),
+        requirements: list(rt, alloc, lists.requirements),
+        balances: list(rt, alloc, lists.balances),
+        process_weight: lists.weights[0],
+        service_weight: lists.weights[1],
+        machine_weight: lists.weights[2],
+    };
+    assert!(rt; is_instance(&raw));
+    Instance::of(raw)
+}
+
+/// Four machines, two services and three processes; the first resource is transient. The start is `0 3 0`.
+pub(super) fn sample(rt: &impl Abort, alloc: Global) -> Instance {
+    instance(
+        rt,
+        alloc,
+        &Lists {
+            resources: &[resource(true, 100), resource(false, 10)],
+            machines: &[machine(0, 0), machine(0, 0), machine(1, 1), machine(1, 2)],
+            capacities: &[30, 400, 10, 240, 15, 100, 10, 100],
+            safeties: &[16, 80, 8, 160, 12, 80, 8, 80],
+            move_costs: &[0, 1, 4, 5, 1, 0, 3, 4, 4, 3, 0, 2, 5, 4, 2, 0],
+            services: &[service(2, 0), service(1, 1)],
+            dependencies: &[Service(0)],
+            processes: &[process(0, 1000), process(0, 100), process(1, 1)],
+            requirements: &[12, 10, 10, 20, 6, 200],
+            balances: &[BalanceRow {
+                first: Resource(0),
+                second: Resource(1),
+                target: 20,
+                weight: 10,
+            }],
+            weights: [1, 10, 100],
+        },
+    )
+}
+
+/// Two machines of capacity 10 and two processes of other services, without safety and ways that cost. Only the resource,
+/// what each machine can safely take, what each way costs and what the processes require differ.
+fn pair(
+    rt: &impl Abort,
+    alloc: Global,
+    resource: ResourceRow,
+    safeties: [u32; 2],
+    way: u32,
+    required: [u32; 2],
+) -> Instance {
+    instance(
+        rt,
+        alloc,
+        &Lists {
+            resources: &[resource],
+            machines: &[machine(0, 0), machine(1, 1)],
+            capacities: &[10, 10],
+            safeties: &safeties,
+            move_costs: &[0, way, way, 0],
+            services: &[service(1, 0), service(1, 0)],
+            dependencies: &[],
+            processes: &[process(0, 1), process(1, 1)],
+            requirements: &required,
+            balances: &[],
+            weights: [1, 1, 1],
+        },
+    )
+}
+
+/// Two processes of 6 on two machines of 10, whose resource is transient. The start is `0 1`.
+pub(super) fn tight_pair(rt: &impl Abort, alloc: Global) -> Instance {
+    pair(rt, alloc, resource(true, 1), [10, 10], 0, [6, 6])
+}
+
+/// A process of 8 and one of 4, each on the machine whose safety capacity fits the other. The start is `0 1`.
+pub(super) fn crossed_pair(rt: &impl Abort, alloc: Global) -> Instance {
+    pair(rt, alloc, resource(false, 10), [4, 8], 1, [8, 4])
+}
+
+/// One process and four machines; from machine 0 the way to 1 and to 2 costs 2, and to 3 it costs 5. The start is `0`.
+pub(super) fn single(rt: &impl Abort, alloc: Global) -> Instance {
+    instance(
+        rt,
+        alloc,
+        &Lists {
+            resources: &[resource(false, 1)],
+            machines: &[machine(0, 0), machine(0, 0), machine(0, 0), machine(0, 0)],
+            capacities: &[1, 1, 1, 1],
+            safeties: &[1, 1, 1, 1],
+            move_costs: &[0, 2, 2, 5, 2, 0, 0, 0, 2, 0, 0, 0, 5, 0, 0, 0],
+            services: &[service(1, 0)],
+            dependencies: &[],
+            processes: &[process(0, 1)],
+            requirements: &[1],
+            balances: &[],
+            weights: [1, 1, 1],
+        },
+    )
+}
