@@ -1,0 +1,5 @@
+pub mod Standing
+pub mod Clauses
+pub mod SameMoves
+pub mod SampleLaws
+pub mod LotLaws

@@ -1,0 +1,3 @@
+pub mod Benches
+pub mod Illegal
+pub mod Touching
