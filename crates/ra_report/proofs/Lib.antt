@@ -1,1 +1,5 @@
 pub mod PieceLemmas
+pub mod NumberTexts
+pub mod EntryTexts
+pub mod JournalTexts
+pub mod HeadLines

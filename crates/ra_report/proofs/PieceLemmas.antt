@@ -1,7 +1,9 @@
 -- What a sink has taken after one text and then another.
-use Rattle.std.proofs.Common.{◌≡◌, ℕ, ◌+◌, ◌-◌, ◌^◌, ◌<◌, ◌≤◌, ◌⊎◌, List, [], ◌∷◌, ◌++◌, length, take, drop, get_or, Option, Some, None, refl, sym, ◌∙◌, ap, inl, inr, ⊎_elim, append_assoc, arith, length-append, le_trans}
+use Rattle.std.proofs.Common.{◌≡◌, ℕ, ◌+◌, ◌-◌, ◌^◌, ◌<◌, ◌≤◌, List, [], ◌∷◌, ◌++◌, length, take, drop, get_or, Option, Some, None, refl, sym, ◌∙◌, ap, inl, inr, ⊎_elim, append_assoc, arith, length-append}
 use Rattle.std.proofs.lemmas.List.{append-nil, take-append-le, take-append-drop, take_more}
-use Rattle.std.proofs.Math.Seq.{take-append-add, take-suc}
+use Rattle.std.proofs.Math.Seq.{take-append-add}
+use Rattle.std.proofs.lemmas.Grind.{flat_map-append}
+use Rattle.std.specs.List.{flat_map}
 use Rattle.std.specs.Io.KnownBytes.{Appends}
 use Rattle.ra_io.specs.Faults.{Rose}
 use Rattle.ra_io.specs.Pieces.{AppendsPart}
@@ -66,3 +68,20 @@ breaks_at xs i d a b c f g h within first never_fell breaks =
 
 pub appends_at : (xs : List Piece) (i : ℕ) (d : Piece) (a b c : Option (List ℕ)) → i < length xs → Appends a b (bytes_of (take i xs)) → Appends b c (piece_bytes (get_or xs i d)) → Appends a c (bytes_of (take (i + 1) xs))
 appends_at xs i d a b c within first next = rw (bytes_take xs i d within) (appends_more a b c (bytes_of (take i xs)) (piece_bytes (get_or xs i d)) first next)
+
+-- the words of one more item
+pub words_take : {X : Type 0} (word : X → List ℕ) (xs : List X) (i : ℕ) (d : X) → i < length xs → flat_map word (take (i + 1) xs) ≡ flat_map word (take i xs) ++ word (get_or xs i d)
+words_take word xs i d within =
+    ap (flat_map word) (take_more xs i d within) ∙ (flat_map-append word (take i xs) (get_or xs i d ∷ []) ∙ ap (λ (t : List ℕ). flat_map word (take i xs) ++ t) (append-nil (word (get_or xs i d))))
+
+-- the words before, those of one item and the words behind it
+pub words_split : {X : Type 0} (word : X → List ℕ) (xs : List X) (i : ℕ) (d : X) → i < length xs → flat_map word xs ≡ (flat_map word (take i xs) ++ word (get_or xs i d)) ++ flat_map word (drop (i + 1) xs)
+words_split word xs i d within =
+    ap (flat_map word) (sym (take-append-drop (i + 1) xs)) ∙ (flat_map-append word (take (i + 1) xs) (drop (i + 1) xs) ∙ ap (λ (t : List ℕ). t ++ flat_map word (drop (i + 1) xs)) (words_take word xs i d within))
+
+pub words_break : {X : Type 0} (word : X → List ℕ) (xs : List X) (i : ℕ) (d : X) (a b c : Option (List ℕ)) (f g h : ℕ) → i < length xs → Appends a b (flat_map word (take i xs)) → f ≤ g → Breaks b c g h (word (get_or xs i d)) → Breaks a c f h (flat_map word xs)
+words_break word xs i d a b c f g h within first never_fell breaks =
+    rw (words_split word xs i d within) (breaks_before a c (flat_map word (take i xs) ++ word (get_or xs i d)) (flat_map word (drop (i + 1) xs)) f h (breaks_after a b c (flat_map word (take i xs)) (word (get_or xs i d)) f g h first never_fell breaks))
+
+pub words_append : {X : Type 0} (word : X → List ℕ) (xs : List X) (i : ℕ) (d : X) (a b c : Option (List ℕ)) → i < length xs → Appends a b (flat_map word (take i xs)) → Appends b c (word (get_or xs i d)) → Appends a c (flat_map word (take (i + 1) xs))
+words_append word xs i d a b c within first next = rw (words_take word xs i d within) (appends_more a b c (flat_map word (take i xs)) (word (get_or xs i d)) first next)

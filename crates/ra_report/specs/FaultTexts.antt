@@ -1,6 +1,5 @@
 -- The lines on the error sink.
 use Rattle.std.specs.Prelude.{ℕ, List, [], ◌∷◌, ◌++◌, codes}
-use Rattle.std.specs.Fmt.{decimal}
 use Rattle.ra_assign.specs.declared.faults.AssignFault.{AssignFault}
 use Rattle.ra_assign.specs.declared.faults.AssignFault.TheVariants as assign
 use Rattle.ra_assign.specs.declared.faults.ClosedFault.{ClosedFault}
@@ -12,7 +11,7 @@ use Rattle.ra_model_read.specs.declared.faults.ModelFault.TheVariants as model
 use Rattle.ra_report.specs.declared.faults.Fault.{Fault}
 use Rattle.ra_report.specs.declared.faults.Fault.TheVariants.{Usage, Read, Model, Closed, Assign, Infeasible, Write, Memory}
 use Rattle.ra_report.specs.Pieces.{joined}
-use Rattle.ra_report.specs.Texts.{space, line_end, cause_text}
+use Rattle.ra_report.specs.Texts.{space, line_end, number_text, cause_text}
 
 -- the printed name of a field of a model file
 unfoldable pub field_text : Field → List ℕ
@@ -44,13 +43,13 @@ field_text field.MachineWeight = codes "machine move weight"
 
 -- a byte that is neither a digit nor a blank; a number that is too large; a number too many
 abbrev pub bad_byte : ℕ → ℕ → List ℕ
-bad_byte at byte = joined (codes "bad byte " ∷ decimal byte ∷ codes " at " ∷ decimal at ∷ [])
+bad_byte at byte = joined (codes "bad byte " ∷ number_text byte ∷ codes " at " ∷ number_text at ∷ [])
 
 abbrev pub too_large : ℕ → List ℕ
-too_large at = joined (codes "number too large at " ∷ decimal at ∷ [])
+too_large at = joined (codes "number too large at " ∷ number_text at ∷ [])
 
 abbrev pub extra : ℕ → List ℕ
-extra at = joined (codes "extra at " ∷ decimal at ∷ [])
+extra at = joined (codes "extra at " ∷ number_text at ∷ [])
 
 -- what is wrong with a model file; a failed fetch and want of memory have lines of their own
 unfoldable pub model_detail : ModelFault → List ℕ
@@ -58,10 +57,10 @@ model_detail model.ReadFault = []
 model_detail (model.BadByte at byte) = bad_byte at byte
 model_detail (model.TooLarge at) = too_large at
 model_detail model.TooLong = joined (codes "file too long" ∷ [])
-model_detail (model.Missing what item) = joined (codes "missing " ∷ field_text what ∷ space ∷ decimal item ∷ [])
+model_detail (model.Missing what item) = joined (codes "missing " ∷ field_text what ∷ space ∷ number_text item ∷ [])
 model_detail (model.Range what at value least most) =
-    joined (codes "range " ∷ field_text what ∷ codes " at " ∷ decimal at ∷ codes ": " ∷ decimal value ∷ codes " not in " ∷ decimal least ∷ codes " to " ∷ decimal most ∷ [])
-model_detail (model.Flag at value) = joined (codes "flag at " ∷ decimal at ∷ codes ": " ∷ decimal value ∷ [])
+    joined (codes "range " ∷ field_text what ∷ codes " at " ∷ number_text at ∷ codes ": " ∷ number_text value ∷ codes " not in " ∷ number_text least ∷ codes " to " ∷ number_text most ∷ [])
+model_detail (model.Flag at value) = joined (codes "flag at " ∷ number_text at ∷ codes ": " ∷ number_text value ∷ [])
 model_detail (model.Extra at) = extra at
 model_detail model.NoMemory = []
 
@@ -71,8 +70,8 @@ assign_detail assign.ReadFault = []
 assign_detail (assign.BadByte at byte) = bad_byte at byte
 assign_detail (assign.TooLarge at) = too_large at
 assign_detail assign.TooLong = joined (codes "file too long" ∷ [])
-assign_detail (assign.Missing process) = joined (codes "missing process " ∷ decimal process.0 ∷ [])
-assign_detail (assign.NoMachine process value) = joined (codes "no machine for process " ∷ decimal process.0 ∷ codes ", value " ∷ decimal value ∷ [])
+assign_detail (assign.Missing process) = joined (codes "missing process " ∷ number_text process.0 ∷ [])
+assign_detail (assign.NoMachine process value) = joined (codes "no machine for process " ∷ number_text process.0 ∷ codes ", value " ∷ number_text value ∷ [])
 assign_detail (assign.Extra at) = extra at
 assign_detail assign.NoMemory = []
 
@@ -82,7 +81,7 @@ closed_detail closed.ReadFault = []
 closed_detail (closed.BadByte at byte) = bad_byte at byte
 closed_detail (closed.TooLarge at) = too_large at
 closed_detail closed.TooLong = joined (codes "file too long" ∷ [])
-closed_detail (closed.NoMachine at value) = joined (codes "no machine at " ∷ decimal at ∷ codes ", value " ∷ decimal value ∷ [])
+closed_detail (closed.NoMachine at value) = joined (codes "no machine at " ∷ number_text at ∷ codes ", value " ∷ number_text value ∷ [])
 closed_detail closed.NoMemory = []
 
 abbrev pub usage_line : List ℕ

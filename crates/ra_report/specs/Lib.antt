@@ -1,3 +1,5 @@
 pub mod FaultTexts
+pub mod JournalTexts
 pub mod Pieces
+pub mod ReportLaws
 pub mod Texts

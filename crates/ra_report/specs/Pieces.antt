@@ -1,11 +1,11 @@
 -- A text in pieces, and what a sink has taken of it.
 use Rattle.std.specs.Prelude.{ℕ, ◌⊎◌, List, [], ◌∷◌, ◌++◌, Option}
-use Rattle.std.specs.Fmt.{decimal}
 use Rattle.std.specs.Io.KnownBytes.{Appends}
 use Rattle.ra_io.specs.Faults.{Rose}
 use Rattle.ra_io.specs.Pieces.{AppendsPart}
 use Rattle.ra_report.specs.declared.pieces.Piece.{Piece}
 use Rattle.ra_report.specs.declared.pieces.Piece.TheVariants.{Text, Number}
+use Rattle.ra_report.specs.Texts.{number_text}
 
 -- texts one after another
 abbrev pub joined : List (List ℕ) → List ℕ
@@ -15,7 +15,7 @@ joined (text ∷ texts) = text ++ joined texts
 -- the bytes of a piece: a text as it is, a number in decimal
 abbrev pub piece_bytes : Piece → List ℕ
 piece_bytes (Text text) = text.now
-piece_bytes (Number n) = decimal n
+piece_bytes (Number n) = number_text n
 
 -- the bytes of pieces, one after another
 abbrev pub bytes_of : List Piece → List ℕ

@@ -1,6 +1,6 @@
 -- What the program prints. Each line ends with LF, and numbers are decimal.
-use Rattle.std.specs.Prelude.{ℕ, List, [], ◌∷◌, ◌++◌, codes}
-use Rattle.std.specs.Fmt.{decimal}
+use Rattle.std.specs.Prelude.{ℕ, ◌+◌, ◌/◌, ◌^◌, false, List, [], ◌∷◌, ◌++◌, codes}
+use Rattle.std.specs.Fmt.{digits_onto}
 use Rattle.ra_base.specs.declared.causes.Cause.{Cause}
 use Rattle.ra_base.specs.declared.causes.Cause.TheVariants.{Repeat, Same, Capacity, Transient, Conflict, Spread, Dependency, Rise, Closed}
 use Rattle.ra_base.specs.declared.costs.Parts.{Parts}
@@ -12,9 +12,13 @@ space = 32 ∷ []
 abbrev pub line_end : List ℕ
 line_end = 10 ∷ []
 
+-- a number in decimal, without leading zeros: all its digits, of which below 10 ^ 64 there are at most 64
+unfoldable pub number_text : ℕ → List ℕ
+number_text n = digits_onto (64 + n / 10 ^ 64) 10 false n []
+
 -- a line of a word and a number
 abbrev pub number_line : List ℕ → ℕ → List ℕ
-number_line word n = word ++ space ++ decimal n ++ line_end
+number_line word n = word ++ space ++ number_text n ++ line_end
 
 -- the six lines of the parts
 unfoldable pub parts_text : Parts → List ℕ
@@ -28,16 +32,16 @@ parts_text parts =
 
 -- a word and one, two, three or four numbers, one space between two
 abbrev pub with_one : List ℕ → ℕ → List ℕ
-with_one word a = word ++ space ++ decimal a
+with_one word a = word ++ space ++ number_text a
 
 abbrev pub with_two : List ℕ → ℕ → ℕ → List ℕ
-with_two word a b = with_one word a ++ space ++ decimal b
+with_two word a b = with_one word a ++ space ++ number_text b
 
 abbrev pub with_three : List ℕ → ℕ → ℕ → ℕ → List ℕ
-with_three word a b c = with_two word a b ++ space ++ decimal c
+with_three word a b c = with_two word a b ++ space ++ number_text c
 
 abbrev pub with_four : List ℕ → ℕ → ℕ → ℕ → ℕ → List ℕ
-with_four word a b c d = with_three word a b c ++ space ++ decimal d
+with_four word a b c d = with_three word a b c ++ space ++ number_text d
 
 -- a cause by its name and its numbers
 unfoldable pub cause_text : Cause → List ℕ

@@ -27,6 +27,7 @@ impl From<Failed> for WriteFault {
 }
 
 /// Puts one piece.
+#[tactic(auto, using(crate::proofs::NumberTexts::decimal_number))]
 fn put_piece<O: Sink>(sink: &mut O, piece: Piece<'_>) -> Result<(), WriteFault>
     ensures whole { OnOk result (Appends (O.taken sink.old) (O.taken sink.new) (piece_bytes piece.entry)) }
     ensures part { OnErr result (Breaks (O.taken sink.old) (O.taken sink.new) (O.faults sink.old) (O.faults sink.new) (piece_bytes piece.entry)) }

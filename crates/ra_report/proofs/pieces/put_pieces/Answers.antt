@@ -1,4 +1,4 @@
-use Rattle.std.proofs.Common.{◌≤◌, take, rules}
+use Rattle.std.proofs.Common.{rules}
 use Rattle.std.proofs.lemmas.Result.{err_from_is_err_and}
 use Rattle.ra_report.proofs.PieceLemmas.{breaks_at, appends_at}
 use Rattle.ra_report.proofs.pieces.put_pieces.Goals as goal

@@ -1,0 +1,110 @@
+-- The lines of a journal tell it, and a report tells the lines of its journal.
+use Rattle.std.proofs.Common.{◌≡◌, ℕ, zero, suc, ◌+◌, ◌<◌, ◌≤◌, ⊎_elim, List, [], ◌++◌, length, get_or, Option, refl, sym, ◌∙◌, ap, arith, append_assoc, length-append, subst, add-one, eq-or-lt_of_le, le_of_suc-le-suc}
+use Rattle.std.proofs.lemmas.List.{append-nil, ext_get_or, get_or_default}
+use Rattle.std.specs.Io.KnownBytes.{Appends}
+use Rattle.ra_journal.specs.declared.entries.Entry.{Entry}
+use Rattle.ra_journal.specs.Entries.{entry_at}
+use Rattle.ra_report.specs.JournalTexts.{entry_line, entries_text, IsJournalOf}
+use Rattle.ra_report.specs.Pieces.{Breaks}
+use Rattle.ra_report.proofs.PieceLemmas.{appends_more, breaks_after, breaks_before}
+use Rattle.ra_report.proofs.EntryTexts.{entry_then, line_some}
+
+-- the first n entries are the same
+pub record SameBelow (h k : List Entry) (n : ℕ) : Type 0 where
+  pub each : (j : ℕ) → j < n → entry_at h j ≡ entry_at k j
+
+-- and what follows is the same
+pub record AllSame (h k : List Entry) (n : ℕ) (x y : List ℕ) : Type 0 where
+  pub same : SameBelow h k n
+  pub rest : x ≡ y
+
+one_line_more : (h : List Entry) (n : ℕ) (x : List ℕ) → entries_text h (suc n) ++ x ≡ entries_text h n ++ (entry_line n (entry_at h n) ++ x)
+unfolding entries_text
+one_line_more h n x = append_assoc (entries_text h n) (entry_line n (entry_at h n)) x
+
+below_next : (h k : List Entry) (n : ℕ) → SameBelow h k n → entry_at h n ≡ entry_at k n → SameBelow h k (suc n)
+below_next h k n below here = record { each = λ j within. ⊎_elim (λ (last : j ≡ n). rw last here) (λ (less : j < n). below.each j less) (eq-or-lt_of_le (le_of_suc-le-suc within)) }
+
+lines_then : (h k : List Entry) (n : ℕ) (x y : List ℕ) → entries_text h n ++ x ≡ entries_text k n ++ y → AllSame h k n x y
+unfolding entries_text
+lines_then h k zero x y e = record { same = record { each = λ j within. absurd (omega arith) }; rest = e }
+lines_then h k (suc n) x y e =
+    let before = lines_then h k n (entry_line n (entry_at h n) ++ x) (entry_line n (entry_at k n) ++ y) (sym (one_line_more h n x) ∙ (e ∙ one_line_more k n y)) in
+    let here = entry_then n (entry_at h n) (entry_at k n) x y before.rest in
+    record { same = below_next h k n before.same here.same; rest = here.rest }
+
+-- the lines behind the first n, in a journal of more
+record Longer (h : List Entry) (n m : ℕ) : Type 0 where
+  pub more : List ℕ
+  pub some : 0 < length more
+  pub split : entries_text h m ≡ entries_text h n ++ more
+
+longer_by_one : (h : List Entry) (n m : ℕ) → n ≡ m → Longer h n (suc m)
+unfolding entries_text
+longer_by_one h n m same = record {
+  more = entry_line m (entry_at h m);
+  some = subst (λ t. 0 < length t) (append-nil _) (line_some m (entry_at h m) []);
+  split = rw same refl;
+}
+
+longer_by_more : (h : List Entry) (n m : ℕ) → Longer h n m → Longer h n (suc m)
+unfolding entries_text
+longer_by_more h n m l = record {
+  more = l.more ++ entry_line m (entry_at h m);
+  some = let some : 0 < length l.more = l.some in rw length-append (omega arith);
+  split = rw l.split (append_assoc (entries_text h n) l.more (entry_line m (entry_at h m)));
+}
+
+longer : (h : List Entry) (n m : ℕ) → n < m → Longer h n m
+longer h n zero less = absurd (omega arith)
+longer h n (suc m) less = ⊎_elim (longer_by_one h n m) (λ (within : n < m). longer_by_more h n m (longer h n m within)) (eq-or-lt_of_le (le_of_suc-le-suc less))
+
+-- no journal has the lines of a longer one
+not_longer : (h k : List Entry) (n m : ℕ) → n < m → entries_text h n ≡ entries_text k m → ⊥
+not_longer h k n m less e =
+    let l = longer k n m less in
+    let all = lines_then h k n [] l.more (append-nil _ ∙ (e ∙ l.split)) in
+    let none : 0 ≡ length l.more = ap length all.rest in
+    let some : 0 < length l.more = l.some in
+    omega arith
+
+same_long : (h k : List Entry) (n m : ℕ) → entries_text h n ≡ entries_text k m → n ≡ m
+same_long h k n m e =
+    let no_less : n < m → ⊥ = λ less. not_longer h k n m less e in
+    let no_more : m < n → ⊥ = λ more. not_longer k h m n more (sym e) in
+    omega arith
+
+all_same : (h k : List Entry) (n : ℕ) → SameBelow h k n → length h ≡ n → length k ≡ n → h ≡ k
+unfolding entry_at
+all_same h k n below one two = ext_get_or _ h k (one ∙ sym two) (λ j within. below.each j (rw (← one) within))
+
+pub same_lines_same_journal : (h k : List Entry) → entries_text h (length h) ≡ entries_text k (length k) → h ≡ k
+same_lines_same_journal h k e =
+    let long : length h ≡ length k = same_long h k (length h) (length k) e in
+    let all = lines_then h k (length h) [] [] (append-nil _ ∙ (e ∙ (ap (entries_text k) (sym long) ∙ sym (append-nil _)))) in
+    all_same h k (length h) all.same refl (sym long)
+
+pub one_journal_of_bytes : (bytes : List ℕ) (h k : List Entry) → IsJournalOf bytes h → IsJournalOf bytes k → h ≡ k
+one_journal_of_bytes bytes h k one two = same_lines_same_journal h k (let e = sym one ∙ two in (cc))
+
+-- a front of the first lines is a front of more lines
+pub lines_break : (h : List Entry) (n m : ℕ) (a c : Option (List ℕ)) (f g : ℕ) → n ≤ m → Breaks a c f g (entries_text h n) → Breaks a c f g (entries_text h m)
+unfolding entries_text
+lines_break h n zero a c f g within breaks = subst (λ k. Breaks a c f g (entries_text h k)) (let none : n ≡ 0 = omega arith in none) breaks
+lines_break h n (suc m) a c f g within breaks =
+    ⊎_elim (λ (same : n ≡ suc m). subst (λ k. Breaks a c f g (entries_text h k)) same breaks)
+    (λ (less : n < suc m). breaks_before a c (entries_text h m) (entry_line m (entry_at h m)) f g (lines_break h n m a c f g (le_of_suc-le-suc less) breaks)) (eq-or-lt_of_le within)
+
+-- one line more
+pub line_append : (h : List Entry) (n : ℕ) (a b c : Option (List ℕ)) → Appends a b (entries_text h n) → Appends b c (entry_line n (entry_at h n)) → Appends a c (entries_text h (n + 1))
+unfolding entries_text
+line_append h n a b c first next = rw add-one (appends_more a b c (entries_text h n) (entry_line n (entry_at h n)) first next)
+
+pub line_break : (h : List Entry) (n : ℕ) (a b c : Option (List ℕ)) (f g k : ℕ) → n < length h → Appends a b (entries_text h n) → f ≤ g → Breaks b c g k (entry_line n (entry_at h n)) → Breaks a c f k (entries_text h (length h))
+unfolding entries_text
+line_break h n a b c f g k within first never_fell breaks =
+    lines_break h (suc n) (length h) a c f k within (breaks_after a b c (entries_text h n) (entry_line n (entry_at h n)) f g k first never_fell breaks)
+
+pub entry_read : (h : List Entry) (n : ℕ) (e : Entry) → n < length h → e ≡ get_or h n e → entry_at h n ≡ e
+unfolding entry_at
+entry_read h n e within read = get_or_default h n _ e within ∙ sym read

@@ -1,0 +1,110 @@
+-- The report of a run, with a line for each entry of its journal, and the journal that a report tells.
+use Rattle.std.specs.Prelude.{◌≡◌, ℕ, zero, suc, ◌==◌, if◌then◌else◌, List, [], ◌∷◌, ◌++◌, length, codes, Option, Some, None}
+use Rattle.std.specs.List.{flat_map}
+use Rattle.ra_base.specs.declared.causes.Drawing.{Drawing}
+use Rattle.ra_base.specs.declared.causes.Drawing.TheVariants.{One, Two}
+use Rattle.ra_base.specs.declared.costs.Parts.{Parts}
+use Rattle.ra_base.specs.declared.ids.Machine.{Machine}
+use Rattle.ra_draws.specs.declared.budgets.Lots.{Lots}
+use Rattle.ra_model.specs.declared.raw.Tables.{Tables}
+use Rattle.ra_model.specs.Costs.{parts_of}
+use Rattle.ra_moves.specs.declared.steps.MoveKind.{MoveKind}
+use Rattle.ra_moves.specs.declared.steps.MoveKind.TheVariants.{Shift, Swap, Chain}
+use Rattle.ra_moves.specs.declared.steps.Step.{Step}
+use Rattle.ra_moves.specs.declared.verdicts.Verdict.{Verdict}
+use Rattle.ra_moves.specs.declared.verdicts.Verdict.TheVariants.{Done, Refused}
+use Rattle.ra_journal.specs.declared.entries.Entry.{Entry}
+use Rattle.ra_journal.specs.Entries.{entry_at}
+use Rattle.ra_journal.specs.States.{state}
+use Rattle.ra_journal.specs.Best.{best_of}
+use Rattle.ra_report.specs.Texts.{space, line_end, number_text, number_line, parts_text, with_one, cause_text}
+
+-- a verdict: `done` and the cost, or `refused` and the cause
+unfoldable pub verdict_text : Verdict → List ℕ
+verdict_text (Done cost) = with_one (codes "done") cost
+verdict_text (Refused cause) = codes "refused" ++ space ++ cause_text cause
+
+-- the printed name of a kind of moves
+unfoldable pub kind_text : MoveKind → List ℕ
+kind_text Shift = codes "shift"
+kind_text Swap = codes "swap"
+kind_text Chain = codes "chain"
+
+-- a step as `p:from>to`
+unfoldable pub step_text : Step → List ℕ
+step_text s = number_text s.process.0 ++ codes ":" ++ number_text s.from.0 ++ codes ">" ++ number_text s.to.0
+
+-- the words of steps, a space behind each
+abbrev pub step_word : Step → List ℕ
+step_word s = step_text s ++ space
+
+unfoldable pub steps_text : List Step → List ℕ
+steps_text steps = flat_map step_word steps
+
+-- the words of the entry at place j before its steps, a space behind each
+unfoldable pub entry_front : ℕ → Entry → List ℕ
+entry_front j e =
+    number_text j ++ space ++ number_text e.worker ++ space ++ number_text e.k ++ space ++ number_text e.q ++ space ++ kind_text e.mv.kind ++ space
+
+-- the line of the entry at place j, its LF included
+unfoldable pub entry_line : ℕ → Entry → List ℕ
+entry_line j e = entry_front j e ++ steps_text e.mv.steps ++ verdict_text e.verdict ++ line_end
+
+-- the lines of the first n entries, in order
+unfoldable pub entries_text : List Entry → ℕ → List ℕ
+entries_text h zero = []
+entries_text h (suc n) = entries_text h n ++ entry_line n (entry_at h n)
+
+-- the numbers of machines, a space before each
+abbrev pub machine_word : Machine → List ℕ
+machine_word m = space ++ number_text m.0
+
+unfoldable pub machines_text : List Machine → List ℕ
+machines_text ms = flat_map machine_word ms
+
+-- the line of an assignment: the machine of each process, in order
+unfoldable pub assignment_line : List Machine → List ℕ
+assignment_line a = codes "assignment" ++ machines_text a ++ line_end
+
+-- the printed number of a drawing, and its line
+unfoldable pub drawing_number : Drawing → ℕ
+drawing_number One = 1
+drawing_number Two = 2
+
+abbrev pub drawing_line : Drawing → List ℕ
+drawing_line drawing = number_line (codes "draws") (drawing_number drawing)
+
+-- the ten lines before the entries: the parts, the total of the bound, a place, the assignment there, the drawing
+unfoldable pub head_text : Parts → ℕ → ℕ → List Machine → Drawing → List ℕ
+head_text parts bound_total best_at a drawing =
+    parts_text parts ++ number_line (codes "bound") bound_total ++ number_line (codes "best_at") best_at ++ assignment_line a ++ drawing_line drawing
+
+-- a report of these ten lines and of all entries of a journal
+unfoldable pub report_lines : Parts → ℕ → ℕ → List Machine → Drawing → List Entry → List ℕ
+report_lines parts bound_total best_at a drawing h = head_text parts bound_total best_at a drawing ++ entries_text h (length h)
+
+-- the report of journal h from start a0, with the total of the instance's bound: it tells the best state
+unfoldable pub report_text : Tables → List Machine → Lots → List Entry → ℕ → List ℕ
+report_text i a0 l h bound_total =
+    let j = best_of i a0 h in
+    let best = state a0 h j in
+    report_lines (parts_of i a0 best) bound_total j best l.drawing h
+
+-- the three lines of a bound: its total, its load and its balance
+unfoldable pub bound_text : ℕ → ℕ → ℕ → List ℕ
+bound_text all load balance = number_line (codes "bound") all ++ number_line (codes "load") load ++ number_line (codes "balance") balance
+
+-- what comes behind the first line, where there is a line
+unfoldable pub after_line : List ℕ → Option (List ℕ)
+after_line [] = None
+after_line (byte ∷ bytes) = if byte == 10 then Some bytes else after_line bytes
+
+-- what comes behind the first n lines, where there are so many
+unfoldable pub lines_left : ℕ → Option (List ℕ) → Option (List ℕ)
+lines_left n None = None
+lines_left zero (Some bytes) = Some bytes
+lines_left (suc n) (Some bytes) = lines_left n (after_line bytes)
+
+-- h is the journal that a report tells: the lines of its entries are the lines behind the tenth
+abbrev pub IsJournalOf : List ℕ → List Entry → Type 0
+IsJournalOf bytes h = lines_left 10 (Some bytes) ≡ Some (entries_text h (length h))

@@ -1,0 +1,228 @@
+use super::*;
+use ra_base::{Assignment, Cause, Drawing, Fixed, Machine, Parts, Process, Resource, Service};
+use ra_io::MemorySink;
+use ra_journal::Entry;
+use ra_moves::{Move, Step, Verdict};
+use std::test::Fail;
+
+/// A sink that takes up to 1,000 bytes at once, and whose put with this number fails.
+fn sink(rt: &impl AllocGlobal, failing: u64) -> Result<MemorySink, Fail> {
+    let mut fails = Fixed::make(rt.alloc(), 1)?;
+    fails.push(failing);
+    Ok(MemorySink::make(rt.alloc(), 2000, 1000, fails)?)
+}
+
+/// A sink whose puts do not fail.
+fn sound(rt: &impl AllocGlobal) -> Result<MemorySink, Fail> {
+    sink(rt, 1_000_000)
+}
+
+/// The best assignment of the sample's run.
+fn best(rt: &impl AllocGlobal) -> Result<Assignment, Fail> {
+    let mut machines: Assignment = Fixed::make(rt.alloc(), 3)?;
+    machines.push(Machine(0));
+    machines.push(Machine(2));
+    machines.push(Machine(0));
+    Ok(machines)
+}
+
+/// Its parts.
+const PARTS: Parts = Parts {
+    load: 1500,
+    balance: 1700,
+    process: 100,
+    service: 10,
+    machine: 200,
+    total: 3510,
+};
+
+fn step(process: u32, from: u32, to: u32) -> Step {
+    Step {
+        process: Process(process),
+        from: Machine(from),
+        to: Machine(to),
+    }
+}
+
+/// Entry `k` of the only worker.
+fn entry(k: u64, mv: Move, verdict: Verdict) -> Entry {
+    Entry {
+        worker: 0,
+        k,
+        q: k,
+        mv,
+        verdict,
+    }
+}
+
+/// A shift that is refused.
+fn refused(k: u64, cause: Cause) -> Entry {
+    entry(k, Move::shift(step(1, 3, 2)), Verdict::Refused { cause })
+}
+
+#[test]
+fn the_report_of_the_sample(rt: HostRuntime) -> Result<(), Fail> {
+    let entries = [entry(0, Move::shift(step(1, 3, 2)), Verdict::Done { cost: 3510 })];
+    let mut out = sound(&rt)?;
+    let machines = best(&rt)?;
+    assert_eq!(rt;
+        write_report(&mut out, &machines, &PARTS, 1300, 1, Drawing::One, &entries),
+        Ok(())
+    );
+    assert_eq!(rt;
+        out.bytes(),
+        b"cost 3510\nload 1500\nbalance 1700\nprocess 100\nservice 10\nmachine 200\nbound 1300\nbest_at 1\nassignment 0 2 0\ndraws 1\n0 0 0 0 shift 1:3>2 done 3510\n".as_slice()
+    );
+    Ok(())
+}
+
+#[test]
+fn a_report_with_no_entry_has_ten_lines(rt: HostRuntime) -> Result<(), Fail> {
+    let entries: [Entry; 0] = [];
+    let mut out = sound(&rt)?;
+    let machines: Assignment = Fixed::make(rt.alloc(), 0)?;
+    assert_eq!(rt;
+        write_report(&mut out, &machines, &PARTS, 0, 0, Drawing::Two, &entries),
+        Ok(())
+    );
+    assert_eq!(rt;
+        out.bytes(),
+        b"cost 3510\nload 1500\nbalance 1700\nprocess 100\nservice 10\nmachine 200\nbound 0\nbest_at 0\nassignment\ndraws 2\n".as_slice()
+    );
+    Ok(())
+}
+
+#[test]
+fn lines_of_each_kind_of_move(rt: HostRuntime) -> Result<(), Fail> {
+    let entries = [
+        entry(
+            0,
+            Move::swap(step(0, 0, 3), step(1, 3, 0)),
+            Verdict::Done { cost: 4200 },
+        ),
+        Entry {
+            worker: 4_294_967_295,
+            k: 18_446_744_073_709_551_615,
+            q: 0,
+            mv: Move::chain(step(10, 1, 2), step(20, 2, 3), step(30, 3, 4)),
+            verdict: Verdict::Done {
+                cost: 340_282_366_920_938_463_463_374_607_431_768_211_455,
+            },
+        },
+    ];
+    let mut out = sound(&rt)?;
+    assert_eq!(rt; journal::write_entries(&mut out, &entries), Ok(()));
+    assert_eq!(rt;
+        out.bytes(),
+        b"0 0 0 0 swap 0:0>3 1:3>0 done 4200\n1 4294967295 18446744073709551615 0 chain 10:1>2 20:2>3 30:3>4 done 340282366920938463463374607431768211455\n".as_slice()
+    );
+    Ok(())
+}
+
+/// A refused entry for each cause.
+fn all_refused() -> [Entry; 9] {
+    let (process, machine) = (Process(1), Machine(2));
+    let (resource, service) = (Resource(3), Service(4));
+    [
+        refused(0, Cause::Repeat { process }),
+        refused(1, Cause::Same { process }),
+        refused(
+            2,
+            Cause::Capacity {
+                machine,
+                resource,
+                used: 12,
+                cap: 10,
+            },
+        ),
+        refused(
+            3,
+            Cause::Transient {
+                machine,
+                resource,
+                used: 12,
+                cap: 10,
+            },
+        ),
+        refused(4, Cause::Conflict { service, machine }),
+        refused(
+            5,
+            Cause::Spread {
+                service,
+                has: 1,
+                wants: 2,
+            },
+        ),
+        refused(
+            6,
+            Cause::Dependency {
+                service,
+                needs: Service(5),
+                neighbourhood: 7,
+            },
+        ),
+        refused(
+            7,
+            Cause::Rise {
+                before: 10,
+                after: 20,
+                allowed: 5,
+            },
+        ),
+        refused(8, Cause::Closed { process, machine }),
+    ]
+}
+
+#[test]
+fn lines_of_each_cause(rt: HostRuntime) -> Result<(), Fail> {
+    let mut out = sound(&rt)?;
+    assert_eq!(rt; journal::write_entries(&mut out, &all_refused()), Ok(()));
+    assert_eq!(rt;
+        out.bytes(),
+        b"0 0 0 0 shift 1:3>2 refused repeat 1\n1 0 1 1 shift 1:3>2 refused same 1\n2 0 2 2 shift 1:3>2 refused capacity 2 3 12 10\n3 0 3 3 shift 1:3>2 refused transient 2 3 12 10\n4 0 4 4 shift 1:3>2 refused conflict 4 2\n5 0 5 5 shift 1:3>2 refused spread 4 1 2\n6 0 6 6 shift 1:3>2 refused dependency 4 5 7\n7 0 7 7 shift 1:3>2 refused rise 10 20 5\n8 0 8 8 shift 1:3>2 refused closed 1 2\n".as_slice()
+    );
+    Ok(())
+}
+
+#[test]
+fn a_failed_put_ends_the_report(rt: HostRuntime) -> Result<(), Fail> {
+    let mut out = sink(&rt, 13)?;
+    let machines = best(&rt)?;
+    assert_eq!(rt;
+        write_report(
+            &mut out,
+            &machines,
+            &PARTS,
+            1300,
+            0,
+            Drawing::One,
+            &all_refused()
+        ),
+        Err(WriteFault::Put)
+    );
+    assert_eq!(rt;
+        out.bytes(),
+        b"cost 3510\nload 1500\nbalance 1700\nprocess 100\nservice 10\nmachine 200\n".as_slice()
+    );
+    Ok(())
+}
+
+#[test]
+fn the_lines_of_a_bound(rt: HostRuntime) -> Result<(), Fail> {
+    let mut out = sound(&rt)?;
+    assert_eq!(rt; write_bound(&mut out, 1310, 1300, 10), Ok(()));
+    assert_eq!(rt;
+        out.bytes(),
+        b"bound 1310\nload 1300\nbalance 10\n".as_slice()
+    );
+    Ok(())
+}
+
+#[test]
+fn the_laws_do_nothing(_rt: HostRuntime) -> Result<(), Fail> {
+    laws::numbers_are_decimal();
+    laws::same_lines_same_journal();
+    laws::one_journal_of_bytes();
+    laws::report_tells_its_journal();
+    Ok(())
+}
