@@ -1,0 +1,4 @@
+pub mod WordLaws
+pub mod NumberLaws
+pub mod PieceLaws
+pub mod LotLaws

@@ -1,0 +1,104 @@
+-- Which job a list of words is.
+use Rattle.std.specs.Prelude.{ℕ, List, map, length, drop, codes, Bool, true, ◌==◌, ◌&&◌, ◌||◌, if◌then◌else◌, Option, Some, None}
+use Rattle.std.specs.Str.{bytes_eq}
+use Rattle.ra_base.specs.declared.causes.Drawing.{Drawing}
+use Rattle.ra_base.specs.declared.causes.Drawing.TheVariants.{One, Two}
+use Rattle.ra_words.specs.Words.{word_at, is_name, value_at, behind}
+use Rattle.ra_words.specs.Numbers.{is_number, worth}
+use Rattle.ra_words.specs.LotTexts.{LotSays, lot_says, are_lots}
+
+-- what the words of a job say
+pub data JobSays : Type 0 where
+  Checks : (model initial changed : List ℕ) (closed : Option (List ℕ)) → JobSays
+  Bounds : (model : List ℕ) → JobSays
+  Solves : (model initial : List ℕ) (closed : Option (List ℕ)) (slack : ℕ) (drawing : Drawing) (lots : List LotSays) → JobSays
+
+-- the value of `--closed`, where it is given, is a file name
+abbrev pub is_closed : Option (List ℕ) → Bool
+is_closed None = true
+is_closed (Some text) = is_name text
+
+-- the word `check` and three file names, then `--closed` and a file name, or nothing
+unfoldable pub is_check : List (List ℕ) → Bool
+is_check words =
+    bytes_eq (word_at words 0) (codes "check") && is_name (word_at words 1) && is_name (word_at words 2) && is_name (word_at words 3)
+    && is_closed (value_at (codes "--closed") words 4) && length words == behind (codes "--closed") words 4
+
+-- what a check says: its files
+unfoldable pub check_says : List (List ℕ) → JobSays
+check_says words = Checks (word_at words 1) (word_at words 2) (word_at words 3) (value_at (codes "--closed") words 4)
+
+-- the word `bound` and a file name
+unfoldable pub is_bound : List (List ℕ) → Bool
+is_bound words = length words == 2 && bytes_eq (word_at words 0) (codes "bound") && is_name (word_at words 1)
+
+-- what a bound says: its file
+unfoldable pub bound_says : List (List ℕ) → JobSays
+bound_says words = Bounds (word_at words 1)
+
+-- the value of `--slack`, where it is given, is a number
+abbrev pub is_slack : Option (List ℕ) → Bool
+is_slack None = true
+is_slack (Some text) = is_number text
+
+-- the slack is what that number is worth, and 0 where it isn't given
+abbrev pub slack_says : Option (List ℕ) → ℕ
+slack_says None = 0
+slack_says (Some text) = worth text
+
+-- the value of `--draws`, where it is given, is `1` or `2`
+abbrev pub is_drawing : Option (List ℕ) → Bool
+is_drawing None = true
+is_drawing (Some text) = bytes_eq text (codes "1") || bytes_eq text (codes "2")
+
+-- the drawing is the first at `1`, and the second at `2` and where it isn't given
+abbrev pub drawing_says : Option (List ℕ) → Drawing
+drawing_says None = Two
+drawing_says (Some text) = if bytes_eq text (codes "1") then One else Two
+
+-- behind `solve` and two file names `--slack` may stand, and behind it `--closed`
+unfoldable pub closed_place : List (List ℕ) → ℕ
+closed_place words = behind (codes "--slack") words 3
+
+-- behind these `--draws` may stand
+unfoldable pub draws_place : List (List ℕ) → ℕ
+draws_place words = behind (codes "--closed") words (closed_place words)
+
+-- behind all options the lots begin
+unfoldable pub lots_place : List (List ℕ) → ℕ
+lots_place words = behind (codes "--draws") words (draws_place words)
+
+-- the value of `--slack`
+unfoldable pub slack_text : List (List ℕ) → Option (List ℕ)
+slack_text words = value_at (codes "--slack") words 3
+
+-- the value of `--closed`
+unfoldable pub closed_text : List (List ℕ) → Option (List ℕ)
+closed_text words = value_at (codes "--closed") words (closed_place words)
+
+-- the value of `--draws`
+unfoldable pub draws_text : List (List ℕ) → Option (List ℕ)
+draws_text words = value_at (codes "--draws") words (draws_place words)
+
+-- the words of the lots
+unfoldable pub lot_words : List (List ℕ) → List (List ℕ)
+lot_words words = drop (lots_place words) words
+
+-- the word `solve` and two file names, then the options in their order, then lots
+unfoldable pub is_solve : List (List ℕ) → Bool
+is_solve words =
+    bytes_eq (word_at words 0) (codes "solve") && is_name (word_at words 1) && is_name (word_at words 2)
+    && is_slack (slack_text words) && is_closed (closed_text words) && is_drawing (draws_text words) && are_lots (lot_words words)
+
+-- what a run of the solver says: its files, slack, drawing and lots
+unfoldable pub solve_says : List (List ℕ) → JobSays
+solve_says words =
+    Solves (word_at words 1) (word_at words 2) (closed_text words) (slack_says (slack_text words)) (drawing_says (draws_text words)) (map lot_says (lot_words words))
+
+-- what the words say, and nothing where they are no job
+unfoldable pub job_of : List (List ℕ) → Option JobSays
+job_of words =
+    if is_check words then Some (check_says words)
+    else if is_bound words then Some (bound_says words)
+    else if is_solve words then Some (solve_says words)
+    else None

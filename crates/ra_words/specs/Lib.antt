@@ -1,0 +1,5 @@
+pub mod Words
+pub mod Numbers
+pub mod LotTexts
+pub mod Jobs
+pub mod Said

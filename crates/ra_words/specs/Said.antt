@@ -1,0 +1,24 @@
+-- What a job says: the room of its lists is left out.
+use Rattle.std.specs.Prelude.{map}
+use Rattle.ra_draws.specs.declared.sources.Source.{Source}
+use Rattle.ra_draws.specs.declared.sources.Source.TheVariants.{Seed, Written}
+use Rattle.ra_draws.specs.declared.sources.Lot.{Lot}
+use Rattle.ra_words.specs.declared.jobs.Job.{Job}
+use Rattle.ra_words.specs.declared.jobs.Job.TheVariants.{Check, Bound, Solve}
+use Rattle.ra_words.specs.LotTexts.{SourceSays, FromSeed, FromWords, LotSays}
+use Rattle.ra_words.specs.Jobs.{JobSays, Checks, Bounds, Solves}
+
+-- what a source says: its seed, or its words
+abbrev pub said_source : Source → SourceSays
+said_source (Seed seed) = FromSeed seed
+said_source (Written words) = FromWords words.items
+
+-- what a lot says
+abbrev pub said_lot : Lot → LotSays
+said_lot lot = record { source = said_source lot.source; budget = lot.budget }
+
+-- what a job says
+abbrev pub said : Job → JobSays
+said (Check model initial changed closed) = Checks model initial changed closed
+said (Bound model) = Bounds model
+said (Solve model initial closed lots) = Solves model initial closed lots.slack lots.drawing (map said_lot lots.lots.items)

@@ -1,0 +1,15 @@
+//! The command words: which job a list of words is, with the names of its files and the lots of its workers.
+//!
+//! `read_words` refuses what is no job before it asks for memory.
+#![tactic(auto)]
+
+mod jobs;
+mod lots;
+mod numbers;
+mod pieces;
+mod words;
+
+pub use jobs::{Job, WordsFault, read_words};
+
+#[cfg(test)]
+mod tests;

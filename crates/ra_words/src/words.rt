@@ -1,0 +1,47 @@
+ghost use Rattle.std.specs.Prelude.{◌≡◌, ◌+◌, ◌≤◌, length, map, drop, codes};
+ghost use Rattle.std.specs.Str.{bytes_eq};
+ghost use Rattle.ra_words.specs.Words.{texts, word_at, is_name, has_option, behind};
+
+/// The word at a place, and the empty text behind the last.
+#[tactic(auto, using(crate::proofs::WordLaws::word_read, crate::proofs::WordLaws::word_past), unfolding(crate::specs::Words::word_at))]
+pub(crate) fn text_at(words: &[String], place: usize) -> &str
+    ensures { result.now ≡ word_at (texts words.now) place }
+{
+    if place < words.len() {
+        words[place].as_str()
+    } else {
+        ""
+    }
+}
+
+/// Whether an option stands at a place.
+#[tactic(auto, unfolding(crate::specs::Words::has_option))]
+pub(crate) fn has_option(words: &[String], place: usize, option: &str) -> bool
+    ensures { result ≡ has_option option.now (texts words.now) place }
+{
+    text_at(words, place) == option
+}
+
+/// The place behind an option that may stand at a place, and behind its value.
+#[tactic(auto, unfolding(crate::specs::Words::behind))]
+pub(crate) fn behind(words: &[String], place: usize, option: &str) -> usize
+    requires { place ≤ 16 }
+    ensures value { result ≡ behind option.now (texts words.now) place }
+    ensures near { result ≤ place + 2 }
+{
+    if has_option(words, place, option) {
+        place + 2
+    } else {
+        place
+    }
+}
+
+/// Whether a word is a file name: not empty, and no option.
+pub(crate) fn names_file(word: &str) -> bool
+    ensures { result ≡ is_name word.now }
+{
+    match word.as_bytes() {
+        [] => false,
+        [byte, ..] => *byte != b'-',
+    }
+}
