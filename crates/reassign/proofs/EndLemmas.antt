@@ -1,12 +1,12 @@
--- How a check ends, from how its stages end.
-use Rattle.std.proofs.Common.{◌≡◌, ◌≢◌, List, ℕ, Option, Some, None, IfSome, refl, sym, ◌∙◌}
+-- How a job ends, from how its stages end.
+use Rattle.std.proofs.Common.{◌≡◌, ◌≢◌, List, ℕ, Result, Ok, Err, OnOk, IfErr, refl, sym, ◌∙◌}
 use Rattle.reassign.specs.declared.refusals.Refusal.{Refusal}
 use Rattle.reassign.specs.declared.refusals.Refusal.TheVariants.{Read, Model, Closed, Initial, Changed, InitialBroken, ChangedBroken, Write, Memory}
 use Rattle.reassign.specs.declared.status.Status.{Status}
 use Rattle.reassign.specs.declared.status.Status.TheVariants.{Done, Usage, NoMemory}
-use Rattle.reassign.specs.Checks.{Held, Faults, Names, Printed, Says}
-use Rattle.reassign.specs.declared.words.Job.{Job}
-use Rattle.reassign.specs.Ends.{Refused, Ends, files_of}
+use Rattle.reassign.specs.Files.{Held, Faults, Names}
+use Rattle.reassign.specs.Refusals.{Says}
+use Rattle.reassign.specs.Ends.{Ends}
 use Rattle.reassign.specs.Lines.{refusal_line}
 use Rattle.reassign.specs.Statuses.{status_of}
 
@@ -35,28 +35,25 @@ never_usage (ChangedBroken cause) e = cc
 never_usage Write e = cc
 never_usage Memory e = cc
 
-pub ends_done : (held : Held) (names : Names) (before now : Faults) (prints breaks tells : List ℕ → Type 0) (out_same err_same : Type 0) → Printed held names prints → err_same → Ends held names before now prints breaks tells out_same err_same Done
-ends_done held names before now prints breaks tells out_same err_same printed quiet = record { printed = λ _. printed; quiet = λ _. quiet; refused = λ other. absurd (other refl) }
-
-pub ends_refused : (held : Held) (names : Names) (before now : Faults) (prints breaks tells : List ℕ → Type 0) (out_same err_same : Type 0) (refusal : Refusal) (status : Status) → Says held names before now breaks refusal → status ≡ status_of refusal → tells (refusal_line names refusal) → (refusal ≢ Write → out_same) → Ends held names before now prints breaks tells out_same err_same status
-ends_refused held names before now prints breaks tells out_same err_same refusal status says is line untouched = record {
+pub ends_refused : (held : Held) (names : Names) (before now : Faults) (printed written : Type 0) (tells : List ℕ → Type 0) (out_same err_same : Type 0) (refusal : Refusal) (status : Status) → Says held names before now written refusal → status ≡ status_of refusal → tells (refusal_line names refusal) → (refusal ≢ Write → out_same) → Ends held names before now printed written tells out_same err_same status
+ends_refused held names before now printed written tells out_same err_same refusal status says is line untouched = record {
   printed = λ done. absurd (never_done refusal (sym is ∙ done));
   quiet = λ done. absurd (never_done refusal (sym is ∙ done));
   refused = λ _. record { refusal = refusal; says = says; is = is; line = line; untouched = untouched };
 }
 
--- where memory was refused before a file was read
-pub ends_memory : (held : Held) (names : Names) (before now : Faults) (prints breaks tells : List ℕ → Type 0) (out_same err_same : Type 0) → tells (refusal_line names Memory) → out_same → Ends held names before now prints breaks tells out_same err_same NoMemory
-unfolding status_of
-ends_memory held names before now prints breaks tells out_same err_same line untouched = ends_refused held names before now prints breaks tells out_same err_same Memory NoMemory tt refl line (λ _. untouched)
+-- a job ends as its result was finished
+pub ends_so : (held : Held) (names : Names) (before now : Faults) (printed written : Type 0) (tells : List ℕ → Type 0) (out_same err_same : Type 0) (ended : Result (Unit {0}) Refusal) (status : Status) → OnOk ended printed → IfErr ended (Says held names before now written) → IfErr ended (λ refusal. refusal ≢ Write → out_same) → (ended ≡ Ok tt → status ≡ Done) → (ended ≡ Ok tt → err_same) → IfErr ended (λ refusal. status ≡ status_of refusal) → IfErr ended (λ refusal. tells (refusal_line names refusal)) → Ends held names before now printed written tells out_same err_same status
+ends_so held names before now printed written tells out_same err_same (Ok tt) status output says untouched done quiet is line = record { printed = λ _. output; quiet = λ _. quiet refl; refused = λ other. absurd (other (done refl)) }
+ends_so held names before now printed written tells out_same err_same (Err refusal) status output says untouched done quiet is line = ends_refused held names before now printed written tells out_same err_same refusal status says is line untouched
 
--- a check never ends with a usage fault
-pub ends_otherwise : (held : Held) (names : Names) (before now : Faults) (prints breaks tells : List ℕ → Type 0) (out_same err_same : Type 0) (status : Status) → Ends held names before now prints breaks tells out_same err_same status → status ≢ Usage
-ends_otherwise held names before now prints breaks tells out_same err_same status ends usage =
+-- where memory was refused before a file was read
+pub ends_memory : (held : Held) (names : Names) (before now : Faults) (printed written : Type 0) (tells : List ℕ → Type 0) (out_same err_same : Type 0) (status : Status) → status ≡ NoMemory → tells (refusal_line names Memory) → out_same → Ends held names before now printed written tells out_same err_same status
+unfolding status_of
+ends_memory held names before now printed written tells out_same err_same status is line untouched = ends_refused held names before now printed written tells out_same err_same Memory status tt is line (λ _. untouched)
+
+-- a job that is served never ends with a usage fault
+pub ends_otherwise : (held : Held) (names : Names) (before now : Faults) (printed written : Type 0) (tells : List ℕ → Type 0) (out_same err_same : Type 0) (status : Status) → Ends held names before now printed written tells out_same err_same status → status ≢ Usage
+ends_otherwise held names before now printed written tells out_same err_same status ends usage =
     let refused = ends.refused (λ (done : status ≡ Done). let e : Done ≡ Usage = sym done ∙ usage in cc) in
     never_usage refused.refusal (sym refused.is ∙ usage)
-
--- the same for whatever job the words are
-pub ends_memory_any : (job : Option Job) (held : Held) (before now : Faults) (prints breaks tells : List ℕ → Type 0) (out_same err_same : Type 0) → ((names : Names) → tells (refusal_line names Memory)) → out_same → (status : Status) → status ≡ NoMemory → IfSome job (λ j. Ends held (files_of j) before now prints breaks tells out_same err_same status)
-ends_memory_any None held before now prints breaks tells out_same err_same line untouched status is = tt
-ends_memory_any (Some j) held before now prints breaks tells out_same err_same line untouched status is = rw is (ends_memory held (files_of j) before now prints breaks tells out_same err_same (line (files_of j)) untouched)

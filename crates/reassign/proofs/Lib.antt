@@ -1,4 +1,5 @@
-pub mod WordLemmas
 pub mod StageLemmas
+pub mod SolveLemmas
 pub mod EndLemmas
 pub mod CompleteLemmas
+pub mod RunLemmas

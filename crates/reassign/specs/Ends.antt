@@ -1,30 +1,25 @@
--- How a check ends.
+-- How a job ends.
 use Rattle.std.specs.Prelude.{◌≡◌, ◌≢◌, List, ℕ}
 use Rattle.reassign.specs.declared.refusals.Refusal.{Refusal}
 use Rattle.reassign.specs.declared.refusals.Refusal.TheVariants.{Write}
 use Rattle.reassign.specs.declared.status.Status.{Status}
 use Rattle.reassign.specs.declared.status.Status.TheVariants.{Done}
-use Rattle.reassign.specs.declared.words.Job.{Job}
-use Rattle.reassign.specs.declared.words.Job.TheVariants.{Check}
-use Rattle.reassign.specs.Checks.{Held, Faults, Names, Printed, Says}
+use Rattle.reassign.specs.Files.{Held, Faults, Names}
+use Rattle.reassign.specs.Refusals.{Says}
 use Rattle.reassign.specs.Lines.{refusal_line}
 use Rattle.reassign.specs.Statuses.{status_of}
 
--- a check is refused: what its refusal says stands, its status is that of the refusal, its line is put to the error
--- sink, and the output took nothing, unless it was writing that failed
-pub record Refused (held : Held) (names : Names) (before now : Faults) (breaks tells : List ℕ → Type 0) (out_same : Type 0) (status : Status) : Type 0 where
+-- a job is refused: what its refusal says stands, its status is that of the refusal, its line is put to the error sink,
+-- and the output took nothing, unless it was writing that failed
+pub record Refused (held : Held) (names : Names) (before now : Faults) (written : Type 0) (tells : List ℕ → Type 0) (out_same : Type 0) (status : Status) : Type 0 where
   pub refusal : Refusal
-  pub says : Says held names before now breaks refusal
+  pub says : Says held names before now written refusal
   pub is : status ≡ status_of refusal
   pub line : tells (refusal_line names refusal)
   pub untouched : refusal ≢ Write → out_same
 
--- a check ends: it is done, all files passed, the six lines were printed and the error sink took nothing; or it is refused
-pub record Ends (held : Held) (names : Names) (before now : Faults) (prints breaks tells : List ℕ → Type 0) (out_same err_same : Type 0) (status : Status) : Type 0 where
-  pub printed : status ≡ Done → Printed held names prints
+-- a job ends: it is done, its output was printed and the error sink took nothing; or it is refused
+pub record Ends (held : Held) (names : Names) (before now : Faults) (output written : Type 0) (tells : List ℕ → Type 0) (out_same err_same : Type 0) (status : Status) : Type 0 where
+  pub printed : status ≡ Done → output
   pub quiet : status ≡ Done → err_same
-  pub refused : status ≢ Done → Refused held names before now breaks tells out_same status
-
--- the files of a job
-abbrev pub files_of : Job → Names
-files_of (Check model initial changed closed) = record { model = model; closed = closed; initial = initial; changed = changed }
+  pub refused : status ≢ Done → Refused held names before now written tells out_same status

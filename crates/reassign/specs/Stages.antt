@@ -1,5 +1,5 @@
--- What each stage of a check says where it refuses.
-use Rattle.std.specs.Prelude.{◌≡◌, ℕ, List, Bool, Some, IsSome, IfSome}
+-- What each stage of a job says where it refuses.
+use Rattle.std.specs.Prelude.{◌≡◌, ℕ, List, Bool, Option, Some, IfSome}
 use Rattle.ra_base.specs.Listed.{Listed}
 use Rattle.ra_base.specs.declared.costs.Parts.{Parts}
 use Rattle.ra_base.specs.declared.ids.Machine.{Machine}
@@ -13,12 +13,12 @@ use Rattle.ra_model.specs.Numbers.{with_closed}
 use Rattle.ra_model_read.specs.declared.faults.ModelFault.{ModelFault}
 use Rattle.ra_model_read.specs.declared.faults.ModelFault.TheVariants as reader
 use Rattle.ra_model_read.specs.ModelText.{model_refusal}
-use Rattle.ra_assign.specs.declared.faults.AssignFault.{AssignFault}
 use Rattle.ra_assign.specs.ClosedLists.{IsClosedOf, closed_refusal}
 use Rattle.reassign.specs.declared.refusals.File.TheVariants as file
 use Rattle.reassign.specs.declared.refusals.Refusal.{Refusal}
-use Rattle.reassign.specs.declared.refusals.Refusal.TheVariants.{Read, Model, Closed, Initial, Changed, InitialBroken, ChangedBroken, Write, Memory}
-use Rattle.reassign.specs.Checks.{Held, Faults, Names, ListIs, ListRefused, Passes, IsNamed}
+use Rattle.reassign.specs.declared.refusals.Refusal.TheVariants.{Read, Model, Closed, Initial, Changed, InitialBroken, ChangedBroken, Memory}
+use Rattle.reassign.specs.Files.{Held, Faults, Names, ListIs, Passes}
+use Rattle.reassign.specs.Refusals.{ListRefused, ClosedRefused}
 
 -- the instance with the machines of a told closed list closed
 abbrev pub IsClosing : Held → List ℕ → Tables → Tables → Type 0
@@ -28,7 +28,7 @@ IsClosing held name model i = (flags : Listed Bool) × (i ≡ with_closed model 
 abbrev pub IsList : Held → List ℕ → Tables → List Machine → Type 0
 IsList held name i a = ListIs held name i a × IsAssignment i a
 
--- a refusal of the model reader, as one of a check
+-- a refusal of the model reader, as one of a job
 abbrev pub model_as : ModelFault → Refusal
 model_as reader.ReadFault = Read file.Model
 model_as reader.NoMemory = Memory
@@ -45,6 +45,15 @@ ClosedSays held name i before now (Read file.Closed) = Rose (before name) (now n
 ClosedSays held name i before now (Closed fault) = IfSome (held name) (λ bytes. closed_refusal bytes i ≡ Some fault)
 ClosedSays held name i before now Memory = Unit {0}
 ClosedSays held name i before now refusal = ⊥
+
+-- the model file and the closed list
+abbrev pub SourceSays : Held → List ℕ → Option (List ℕ) → Faults → Faults → Refusal → Type 0
+SourceSays held model closed before now (Read file.Model) = Rose (before model) (now model)
+SourceSays held model closed before now (Read file.Closed) = (name : List ℕ) × (closed ≡ Some name) × Rose (before name) (now name)
+SourceSays held model closed before now (Model fault) = IfSome (held model) (λ bytes. model_refusal bytes ≡ Some fault)
+SourceSays held model closed before now (Closed fault) = ClosedRefused held model closed fault
+SourceSays held model closed before now Memory = Unit {0}
+SourceSays held model closed before now refusal = ⊥
 
 abbrev pub InitialSays : Held → List ℕ → Tables → Faults → Faults → Refusal → Type 0
 InitialSays held name i before now (Read file.Initial) = Rose (before name) (now name)
@@ -64,30 +73,26 @@ JudgeSays i a0 a (ChangedBroken cause) = Feasible i a0 a0 × (first_broken i a0 
 JudgeSays i a0 a Memory = Unit {0}
 JudgeSays i a0 a refusal = ⊥
 
+-- the initial list alone
+abbrev pub StartSays : Tables → List Machine → Refusal → Type 0
+StartSays i a0 (InitialBroken cause) = first_broken i a0 a0 ≡ Some cause
+StartSays i a0 Memory = Unit {0}
+StartSays i a0 refusal = ⊥
+
 -- the two lists were read
-pub record ReadsLists (held : Held) (names : Names) (i : Tables) (a0 a : List Machine) : Type 0 where
-  pub initial : ListIs held names.initial i a0
+pub record ReadsLists (held : Held) (first second : List ℕ) (i : Tables) (a0 a : List Machine) : Type 0 where
+  pub initial : ListIs held first i a0
   pub initial_fits : IsAssignment i a0
-  pub changed : ListIs held names.changed i a
+  pub changed : ListIs held second i a
   pub changed_fits : IsAssignment i a
 
--- the new list is refused, where the initial list was read
-pub record SecondRefused (held : Held) (names : Names) (i : Tables) (fault : AssignFault) : Type 0 where
-  pub a0 : List Machine
-  pub initial : ListIs held names.initial i a0
-  pub refused : ListRefused held names.changed i fault
-
-abbrev pub ListsSay : Held → Names → Tables → Faults → Faults → Refusal → Type 0
-ListsSay held names i before now (Read file.Initial) = Rose (before names.initial) (now names.initial)
-ListsSay held names i before now (Read file.Changed) = Rose (before names.changed) (now names.changed)
-ListsSay held names i before now (Initial fault) = ListRefused held names.initial i fault
-ListsSay held names i before now (Changed fault) = SecondRefused held names i fault
-ListsSay held names i before now Memory = Unit {0}
-ListsSay held names i before now refusal = ⊥
-
--- no text was put
-abbrev pub Nowhere : List ℕ → Type 0
-Nowhere text = ⊥
+abbrev pub ListsSay : Held → List ℕ → List ℕ → Tables → Faults → Faults → Refusal → Type 0
+ListsSay held first second i before now (Read file.Initial) = Rose (before first) (now first)
+ListsSay held first second i before now (Read file.Changed) = Rose (before second) (now second)
+ListsSay held first second i before now (Initial fault) = ListRefused held first i fault
+ListsSay held first second i before now (Changed fault) = (a0 : List Machine) × ListIs held first i a0 × ListRefused held second i fault
+ListsSay held first second i before now Memory = Unit {0}
+ListsSay held first second i before now refusal = ⊥
 
 -- all files passed, and these are the parts of the new list
 pub record Passed (held : Held) (names : Names) (parts : Parts) : Type 0 where
@@ -102,9 +107,3 @@ pub record Judged (i : Tables) (a0 a : List Machine) (parts : Parts) : Type 0 wh
   pub initial : Feasible i a0 a0
   pub changed : Feasible i a0 a
   pub are : parts ≡ parts_of i a0 a
-
--- a refusal can be told: it is of a file that is named
-abbrev pub CanTell : Names → Refusal → Type 0
-CanTell names (Read f) = IsNamed names f
-CanTell names (Closed fault) = IsSome names.closed
-CanTell names refusal = Unit {0}

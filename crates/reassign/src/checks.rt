@@ -1,7 +1,9 @@
 ghost use Rattle.std.specs.Prelude.{◌≡◌, ℕ, ◌≤◌, List, Option, IfSome, IfOk, IfErr};
 ghost use Rattle.ra_model.specs.Assignments.{IsAssignment};
-ghost use Rattle.reassign.specs.Checks.{ModelIs};
-ghost use Rattle.reassign.specs.Stages.{model_as, ModelSays, ClosedSays, InitialSays, ChangedSays, Judged, JudgeSays, IsClosing, IsList};
+ghost use Rattle.ra_check.specs.Made.{IsMadeFor};
+ghost use Rattle.ra_model.specs.Feasible.{Feasible};
+ghost use Rattle.reassign.specs.Files.{ModelIs};
+ghost use Rattle.reassign.specs.Stages.{model_as, ModelSays, ClosedSays, InitialSays, ChangedSays, Judged, JudgeSays, StartSays, IsClosing, IsList};
 
 use crate::refusals::{File, Refusal};
 use ra_assign::{AssignFault, ClosedFault, read_assignment, read_closed};
@@ -29,7 +31,7 @@ pub(crate) fn read_open<F: Files>(
     }
 }
 
-/// A refusal of the model reader, as one of a check.
+/// A refusal of the model reader, as one of a job.
 fn model_refused(fault: ModelFault) -> Refusal
     ensures { result ≡ model_as fault }
 {
@@ -112,14 +114,31 @@ pub(crate) fn judge(
     ensures passes { IfOk result (Judged inst.now.tables initial.now.items changed.now.items) }
     ensures refused { IfErr result (JudgeSays inst.now.tables initial.now.items changed.now.items) }
 {
+    match judge_start(alloc, inst, initial) {
+        Ok(mut scratch) => match first_broken(inst, initial, changed, &mut scratch) {
+            Some(cause) => Err(Refusal::ChangedBroken(cause)),
+            None => Ok(parts(inst, initial, changed, &mut scratch)),
+        },
+        Err(refusal) => Err(refusal),
+    }
+}
+
+/// Tables to check with, where the initial list is feasible.
+pub(crate) fn judge_start(
+    alloc: Global,
+    inst: &Instance,
+    initial: &Assignment,
+) -> Result<Scratch, Refusal>
+    requires { IsAssignment inst.now.tables initial.now.items }
+    ensures feasible { IfOk result (λ _. Feasible inst.now.tables initial.now.items initial.now.items) }
+    ensures made { IfOk result (λ scratch. IsMadeFor scratch inst.now.tables) }
+    ensures refused { IfErr result (StartSays inst.now.tables initial.now.items) }
+{
     let Ok(mut scratch) = Scratch::make(alloc, inst) else {
         return Err(Refusal::Memory);
     };
-    if let Some(cause) = first_broken(inst, initial, initial, &mut scratch) {
-        return Err(Refusal::InitialBroken(cause));
+    match first_broken(inst, initial, initial, &mut scratch) {
+        Some(cause) => Err(Refusal::InitialBroken(cause)),
+        None => Ok(scratch),
     }
-    if let Some(cause) = first_broken(inst, initial, changed, &mut scratch) {
-        return Err(Refusal::ChangedBroken(cause));
-    }
-    Ok(parts(inst, initial, changed, &mut scratch))
 }

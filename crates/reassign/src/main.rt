@@ -1,29 +1,33 @@
-//! `reassign`: checks assignments of the machine reassignment problem.
+//! `reassign`: checks and improves assignments of the machine reassignment problem.
 //!
-//! `run` is the top call: it takes the words of the command line apart and does the one job that they name, over files
-//! and sinks that are handed in. `main` hands in those of the system.
+//! `run` is the top call: it does the one job that the words of the command line name, over files and sinks that are
+//! handed in. `main` hands in those of the system.
 #![tactic(auto)]
 
+mod bound;
 mod check;
 mod checks;
 mod refusals;
+mod refusing;
 mod run;
+mod solve;
 mod stages;
 mod status;
 mod steady;
-mod words;
 
+pub use bound::bound_run;
+pub use check::{CheckFiles, check_run};
 use ra_io::{DiskFiles, ErrSink, NoGate, OutSink, Sink};
-pub use refusals::{CheckFiles, File, Refusal};
-pub use run::{check_run, run};
-use run::{refuse_memory, refuse_words};
+pub use refusals::{File, JobFiles, Refusal};
+use refusing::{refuse_memory, refuse_words};
+pub use run::run;
+pub use solve::{SolveFiles, solve_run};
 pub use status::Status;
 use std::io;
 use std::io::ErrorKind;
 use std::process::ExitCode;
 use std::rt::Env;
 pub use steady::check_steady;
-pub use words::{Job, WordsFault, read_words};
 
 #[cfg(test)]
 mod tests;

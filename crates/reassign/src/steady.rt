@@ -1,12 +1,13 @@
-ghost use Rattle.std.specs.Prelude.{◌≡◌, ◌≢◌, ◌⊎◌};
+ghost use Rattle.std.specs.Prelude.{◌≡◌, ◌≢◌, ◌⊎◌, ℕ, List};
 ghost use Rattle.std.specs.Io.KnownBytes.{Appends};
 ghost use Rattle.std.specs.Option.{option_copied};
 ghost use Rattle.ra_report.specs.Pieces.{Breaks, Puts};
-ghost use Rattle.reassign.specs.Checks.{names_in};
+ghost use Rattle.reassign.specs.Files.{check_names};
+ghost use Rattle.reassign.specs.Outputs.{Printed};
 ghost use Rattle.reassign.specs.Complete.{AreValid};
 ghost use Rattle.reassign.specs.Ends.{Ends};
 
-use crate::run::check_run;
+use crate::check::check_run;
 use crate::status::Status;
 use ra_base::Name;
 use ra_io::{CountSink, Files, Sink, SteadyFiles};
@@ -24,15 +25,16 @@ pub fn check_steady<'n>(
     out: &mut CountSink,
     err: &mut CountSink,
 ) -> Status
-    ensures ends { Ends (⟦<SteadyFiles as Files>⟧.held files.old) (names_in model.now (option_copied closed.entry) initial.now changed.now)
-        (⟦<SteadyFiles as Files>⟧.faults files.old) (⟦<SteadyFiles as Files>⟧.faults files.new)
-        (Appends (⟦<CountSink as Sink>⟧.taken out.old) (⟦<CountSink as Sink>⟧.taken out.new))
-        (Breaks (⟦<CountSink as Sink>⟧.taken out.old) (⟦<CountSink as Sink>⟧.taken out.new) (⟦<CountSink as Sink>⟧.faults out.old) (⟦<CountSink as Sink>⟧.faults out.new))
+    ensures ends { let names = check_names model.now (option_copied closed.entry) initial.now changed.now in
+        Ends (⟦<SteadyFiles as Files>⟧.held files.old) names (⟦<SteadyFiles as Files>⟧.faults files.old) (⟦<SteadyFiles as Files>⟧.faults files.new)
+        (Printed (⟦<SteadyFiles as Files>⟧.held files.old) names (Appends (⟦<CountSink as Sink>⟧.taken out.old) (⟦<CountSink as Sink>⟧.taken out.new)))
+        (Printed (⟦<SteadyFiles as Files>⟧.held files.old) names (Breaks (⟦<CountSink as Sink>⟧.taken out.old) (⟦<CountSink as Sink>⟧.taken out.new) (⟦<CountSink as Sink>⟧.faults out.old) (⟦<CountSink as Sink>⟧.faults out.new)))
         (Puts (⟦<CountSink as Sink>⟧.taken err.old) (⟦<CountSink as Sink>⟧.taken err.new) (⟦<CountSink as Sink>⟧.faults err.old) (⟦<CountSink as Sink>⟧.faults err.new))
         (out.new ≡ out.old) (err.new ≡ err.old) result }
     ensures no_read_fault { result ≢ Status.ReadFault }
     ensures no_write_fault { result ≢ Status.WriteFault }
-    ensures complete { AreValid (⟦<SteadyFiles as Files>⟧.held files.old) (names_in model.now (option_copied closed.entry) initial.now changed.now)
+    ensures kept { (other : List ℕ) → ⟦<SteadyFiles as Files>⟧.held files.new other ≡ ⟦<SteadyFiles as Files>⟧.held files.old other }
+    ensures complete { AreValid (⟦<SteadyFiles as Files>⟧.held files.old) (check_names model.now (option_copied closed.entry) initial.now changed.now)
         → (result ≡ Status.Done) ⊎ (result ≡ Status.NoMemory) }
 {
     check_run(alloc, model, initial, changed, closed, files, out, err)

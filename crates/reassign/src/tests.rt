@@ -1,5 +1,6 @@
 mod boundaries;
 mod runs;
+mod solves;
 
 use super::*;
 use ra_base::Name;
@@ -12,7 +13,7 @@ const SAMPLE: &str =
     "2\n1 100\n0 10\n4\n0 0 30 400 16 80 0 1 4 5\n0 0 10 240 8 160 1 0 3 4\n1 1 15 100 12 80 4 3 0 2\n1 2 10 100 8 80 5 4 2 0\n2\n2 0\n1 1 0\n3\n0 12 10 1000\n0 10 20 100\n1 6 200 1\n1\n0 1 20\n10\n1 10 100\n";
 
 /// Lists of the sample, and numbers at their limits.
-const LISTS: &[Case] = &[
+const LISTS: &[Case<'static>] = &[
     // the sample: its new list
     Case {
         words: &["check", "m", "i", "n"],
@@ -155,7 +156,7 @@ fn lists_are_judged_and_weighed(rt: HostRuntime) -> Result<(), Fail> {
 }
 
 /// Runs with closed machines.
-const CLOSED: &[Case] = &[
+const CLOSED: &[Case<'static>] = &[
     // a move to a closed machine
     Case {
         words: &["check", "m", "i", "n", "--closed", "c"],
@@ -233,7 +234,7 @@ fn closed_machines_take_no_process(rt: HostRuntime) -> Result<(), Fail> {
 }
 
 /// Files that are no model, no list or cannot be read.
-const REFUSED: &[Case] = &[
+const REFUSED: &[Case<'static>] = &[
     // the model ends early
     Case {
         words: &["check", "m", "i", "n"],
@@ -333,14 +334,6 @@ const REFUSED: &[Case] = &[
         out: "",
         err: "bad model: flag at 2: 2\n",
     },
-    // a bad dependency
-    Case {
-        words: &["check", "m", "i", "n"],
-        files: &[("m", "1 1 1 1 0 0 5 5 0 1 1 1 1"), ("i", "0"), ("n", "0")],
-        status: Status::BadModel,
-        out: "",
-        err: "bad model: range dependency at 24: 1 not in 0 to 0\n",
-    },
     // a machine that does not exist
     Case {
         words: &["check", "m", "i", "n"],
@@ -399,12 +392,80 @@ fn each_refusal_names_its_place(rt: HostRuntime) -> Result<(), Fail> {
     Ok(())
 }
 
+/// Short files that are no model, and the line of each.
+const MALFORMED: &[(&str, &str)] = &[
+    (
+        "21",
+        "bad model: range resource count at 0: 21 not in 1 to 20\n",
+    ),
+    (
+        "1 1 1 0",
+        "bad model: range machine count at 6: 0 not in 1 to 5000\n",
+    ),
+    (
+        "1 1 1 5001",
+        "bad model: range machine count at 6: 5001 not in 1 to 5000\n",
+    ),
+    ("1 1 1 5000", "bad model: missing neighbourhood 0\n"),
+    (
+        "1 1 1 1 0 0 5 5 0 0",
+        "bad model: range service count at 18: 0 not in 1 to 50000\n",
+    ),
+    (
+        "1 1 1 1 0 0 5 5 0 50001",
+        "bad model: range service count at 18: 50001 not in 1 to 50000\n",
+    ),
+    ("1 1 1 1 0 0 5 5 0 50000", "bad model: missing spread 0\n"),
+    (
+        "1 1 1 1 0 0 5 5 0 1 1 100001",
+        "bad model: range dependency count at 22: 100001 not in 0 to 100000\n",
+    ),
+    (
+        "1 1 1 1 0 0 5 5 0 1 1 1 1",
+        "bad model: range dependency at 24: 1 not in 0 to 0\n",
+    ),
+    (
+        "1 1 1 1 0 0 5 5 0 1 1 0 0",
+        "bad model: range process count at 24: 0 not in 1 to 50000\n",
+    ),
+    (
+        "1 1 1 1 0 0 5 5 0 1 1 0 50001",
+        "bad model: range process count at 24: 50001 not in 1 to 50000\n",
+    ),
+    (
+        "1 1 1 1 0 0 5 5 0 1 1 0 1 1",
+        "bad model: range service at 26: 1 not in 0 to 0\n",
+    ),
+    (
+        "1 1 1 1 0 0 5 5 0 1 1 0 1 0 2 1 11",
+        "bad model: range balance count at 32: 11 not in 0 to 10\n",
+    ),
+    ("2x", "bad model: bad byte 120 at 1\n"),
+    ("4294967296x", "bad model: number too large at 0\n"),
+];
+
+#[test]
+fn malformed_models_are_refused(rt: HostRuntime) -> Result<(), Fail> {
+    for (model, line) in MALFORMED {
+        let files = [("m", *model), ("i", "0"), ("n", "0")];
+        let case = Case {
+            words: &["check", "m", "i", "n"],
+            files: &files,
+            status: Status::BadModel,
+            out: "",
+            err: line,
+        };
+        assert!(rt; ends_so(&rt, rt.alloc(), &SOUND, &case)?);
+    }
+    Ok(())
+}
+
 /// How a run without such a job ends.
 const USAGE_TEXT: &str =
     "usage: reassign check MODEL INITIAL NEW [--closed FILE] | bound MODEL | solve MODEL INITIAL [--slack N] [--closed FILE] [--draws 1|2] LOT ... | trial N\n";
 
 /// Words that are no job.
-const USAGE: &[Case] = &[
+const USAGE: &[Case<'static>] = &[
     // no words
     Case {
         words: &[],
@@ -485,9 +546,105 @@ const USAGE: &[Case] = &[
         out: "",
         err: USAGE_TEXT,
     },
-    // bound m
+    // bound -m
     Case {
-        words: &["bound", "m"],
+        words: &["bound", "-m"],
+        files: &[],
+        status: Status::Usage,
+        out: "",
+        err: USAGE_TEXT,
+    },
+    // bound
+    Case {
+        words: &["bound"],
+        files: &[],
+        status: Status::Usage,
+        out: "",
+        err: USAGE_TEXT,
+    },
+    // bound m x
+    Case {
+        words: &["bound", "m", "x"],
+        files: &[],
+        status: Status::Usage,
+        out: "",
+        err: USAGE_TEXT,
+    },
+    // solve m i
+    Case {
+        words: &["solve", "m", "i"],
+        files: &[],
+        status: Status::Usage,
+        out: "",
+        err: USAGE_TEXT,
+    },
+    // solve m i 7:1000001
+    Case {
+        words: &["solve", "m", "i", "7:1000001"],
+        files: &[],
+        status: Status::Usage,
+        out: "",
+        err: USAGE_TEXT,
+    },
+    // solve m i 7:1 7:1
+    Case {
+        words: &["solve", "m", "i", "7:1", "7:1"],
+        files: &[],
+        status: Status::Usage,
+        out: "",
+        err: USAGE_TEXT,
+    },
+    // solve m i w:1,2
+    Case {
+        words: &["solve", "m", "i", "w:1,2"],
+        files: &[],
+        status: Status::Usage,
+        out: "",
+        err: USAGE_TEXT,
+    },
+    // solve m i 7:1 --slack 3
+    Case {
+        words: &["solve", "m", "i", "7:1", "--slack", "3"],
+        files: &[],
+        status: Status::Usage,
+        out: "",
+        err: USAGE_TEXT,
+    },
+    // solve m i --draws 3 7:1
+    Case {
+        words: &["solve", "m", "i", "--draws", "3", "7:1"],
+        files: &[],
+        status: Status::Usage,
+        out: "",
+        err: USAGE_TEXT,
+    },
+    // solve m i --draws 1 --slack 3 7:1
+    Case {
+        words: &["solve", "m", "i", "--draws", "1", "--slack", "3", "7:1"],
+        files: &[],
+        status: Status::Usage,
+        out: "",
+        err: USAGE_TEXT,
+    },
+    // solve m i --slack=3 7:1
+    Case {
+        words: &["solve", "m", "i", "--slack=3", "7:1"],
+        files: &[],
+        status: Status::Usage,
+        out: "",
+        err: USAGE_TEXT,
+    },
+    // trial 1
+    Case {
+        words: &["trial", "1"],
+        files: &[],
+        status: Status::Usage,
+        out: "",
+        err: USAGE_TEXT,
+    },
+    // --version
+    Case {
+        words: &["--version"],
         files: &[],
         status: Status::Usage,
         out: "",
@@ -520,11 +677,13 @@ fn other_words_are_a_usage_fault(rt: HostRuntime) -> Result<(), Fail> {
 }
 
 /// The sample's check, where a fetch or a put fails.
-const FAULTS: &[(Outside, Case)] = &[
+const FAULTS: &[(Outside, Case<'static>)] = &[
     // the first fetch of the model
     (
         Outside {
             each: 40,
+            blanks: 0,
+            takes: 1_000,
             fetches: &[0],
             puts: &[],
         },
@@ -540,6 +699,8 @@ const FAULTS: &[(Outside, Case)] = &[
     (
         Outside {
             each: 40,
+            blanks: 0,
+            takes: 1_000,
             fetches: &[3],
             puts: &[],
         },
@@ -555,6 +716,8 @@ const FAULTS: &[(Outside, Case)] = &[
     (
         Outside {
             each: 40,
+            blanks: 0,
+            takes: 1_000,
             fetches: &[7],
             puts: &[],
         },
@@ -570,6 +733,8 @@ const FAULTS: &[(Outside, Case)] = &[
     (
         Outside {
             each: 40,
+            blanks: 0,
+            takes: 1_000,
             fetches: &[9],
             puts: &[],
         },
@@ -585,6 +750,8 @@ const FAULTS: &[(Outside, Case)] = &[
     (
         Outside {
             each: 40,
+            blanks: 0,
+            takes: 1_000,
             fetches: &[],
             puts: &[0],
         },
@@ -600,6 +767,8 @@ const FAULTS: &[(Outside, Case)] = &[
     (
         Outside {
             each: 40,
+            blanks: 0,
+            takes: 1_000,
             fetches: &[],
             puts: &[2],
         },
@@ -625,21 +794,29 @@ fn a_fault_is_told_with_its_file(rt: HostRuntime) -> Result<(), Fail> {
 const CUTS: &[Outside] = &[
     Outside {
         each: 1,
+        blanks: 0,
+        takes: 1_000,
         fetches: &[],
         puts: &[],
     },
     Outside {
         each: 7,
+        blanks: 0,
+        takes: 1_000,
         fetches: &[],
         puts: &[],
     },
     Outside {
         each: 65_535,
+        blanks: 0,
+        takes: 1_000,
         fetches: &[],
         puts: &[],
     },
     Outside {
         each: 65_536,
+        blanks: 0,
+        takes: 1_000,
         fetches: &[],
         puts: &[],
     },
@@ -648,8 +825,79 @@ const CUTS: &[Outside] = &[
 #[test]
 fn the_cut_of_files_changes_nothing(rt: HostRuntime) -> Result<(), Fail> {
     for outside in CUTS {
-        for case in CLOSED {
-            assert!(rt; ends_so(&rt, rt.alloc(), outside, case)?);
+        for cases in [LISTS, CLOSED, REFUSED] {
+            for case in cases {
+                assert!(rt; ends_so(&rt, rt.alloc(), outside, case)?);
+            }
+        }
+    }
+    Ok(())
+}
+
+/// Models behind so many spaces that the reader's buffer of 65,536 bytes ends near their first byte.
+const FAR: &[(usize, Case<'static>)] = &[
+    // the first number stands at the buffer's end
+    (
+        65_534,
+        Case {
+            words: &["check", "m", "i", "n"],
+            files: &[("m", SAMPLE), ("i", "0 3 0"), ("n", "0 2 0")],
+            status: Status::Done,
+            out: "cost 3510\nload 1500\nbalance 1700\nprocess 100\nservice 10\nmachine 200\n",
+            err: "",
+        },
+    ),
+    // a number too many behind the same
+    (
+        65_534,
+        Case {
+            words: &["check", "m", "i", "n"],
+            files: &[
+                (
+                    "m",
+                    "2\n1 100\n0 10\n4\n0 0 30 400 16 80 0 1 4 5\n0 0 10 240 8 160 1 0 3 4\n1 1 15 100 12 80 4 3 0 2\n1 2 10 100 8 80 5 4 2 0\n2\n2 0\n1 1 0\n3\n0 12 10 1000\n0 10 20 100\n1 6 200 1\n1\n0 1 20\n10\n1 10 100\n7",
+                ),
+                ("i", "0 3 0"),
+                ("n", "0 2 0"),
+            ],
+            status: Status::BadModel,
+            out: "",
+            err: "bad model: extra at 65718\n",
+        },
+    ),
+    // a number too large, cut by the buffer's end
+    (
+        65_530,
+        Case {
+            words: &["check", "m", "i", "n"],
+            files: &[("m", "4294967296"), ("i", "0 3 0"), ("n", "0 2 0")],
+            status: Status::BadModel,
+            out: "",
+            err: "bad model: number too large at 65530\n",
+        },
+    ),
+    // spaces alone
+    (
+        65_536,
+        Case {
+            words: &["check", "m", "i", "n"],
+            files: &[("m", ""), ("i", "0 3 0"), ("n", "0 2 0")],
+            status: Status::BadModel,
+            out: "",
+            err: "bad model: missing resource count 0\n",
+        },
+    ),
+];
+
+#[test]
+fn the_end_of_the_buffer_changes_nothing(rt: HostRuntime) -> Result<(), Fail> {
+    for cut in CUTS {
+        for (blanks, case) in FAR {
+            let outside = Outside {
+                blanks: *blanks,
+                ..*cut
+            };
+            assert!(rt; ends_so(&rt, rt.alloc(), &outside, case)?);
         }
     }
     Ok(())

@@ -3,7 +3,7 @@ use crate::Status;
 use std::test::Fail;
 
 /// Small instances with weights of 0, one or more for each kind of cause and each boundary, worked out by hand.
-const BOUNDARIES: &[Case] = &[
+const BOUNDARIES: &[Case<'static>] = &[
     // capacity: use 4 + 6 = 10 of 10
     Case {
         words: &["check", "m", "i", "n"],
