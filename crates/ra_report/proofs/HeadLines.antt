@@ -5,6 +5,7 @@ use Rattle.ra_base.specs.declared.causes.Drawing.{Drawing}
 use Rattle.ra_base.specs.declared.costs.Parts.{Parts}
 use Rattle.ra_base.specs.declared.ids.Machine.{Machine}
 use Rattle.ra_draws.specs.declared.budgets.Lots.{Lots}
+use Rattle.ra_bounds.specs.Bounds.{bound_of}
 use Rattle.ra_model.specs.declared.raw.Tables.{Tables}
 use Rattle.ra_journal.specs.declared.entries.Entry.{Entry}
 use Rattle.ra_report.specs.Texts.{space, number_text, number_line, parts_text}
@@ -81,6 +82,6 @@ pub written_tells_its_journal : (parts : Parts) (total best : ℕ) (a : List Mac
 unfolding report_lines
 written_tells_its_journal parts total best a d h = head_left parts total best a d (entries_text h (length h))
 
-pub report_tells_its_journal : (i : Tables) (a0 : List Machine) (l : Lots) (h : List Entry) (total : ℕ) → IsJournalOf (report_text i a0 l h total) h
+pub report_tells_its_journal : (i : Tables) (a0 : List Machine) (l : Lots) (h : List Entry) → IsJournalOf (report_text i a0 l h) h
 unfolding report_text
-report_tells_its_journal i a0 l h total = written_tells_its_journal _ total _ _ _ h
+report_tells_its_journal i a0 l h = written_tells_its_journal _ (bound_of i).total _ _ _ h

@@ -6,6 +6,8 @@ use Rattle.ra_base.specs.declared.causes.Drawing.TheVariants.{One, Two}
 use Rattle.ra_base.specs.declared.costs.Parts.{Parts}
 use Rattle.ra_base.specs.declared.ids.Machine.{Machine}
 use Rattle.ra_draws.specs.declared.budgets.Lots.{Lots}
+use Rattle.ra_bounds.specs.declared.costs.Bound.{Bound}
+use Rattle.ra_bounds.specs.Bounds.{bound_of}
 use Rattle.ra_model.specs.declared.raw.Tables.{Tables}
 use Rattle.ra_model.specs.Costs.{parts_of}
 use Rattle.ra_moves.specs.declared.steps.MoveKind.{MoveKind}
@@ -83,16 +85,16 @@ head_text parts bound_total best_at a drawing =
 unfoldable pub report_lines : Parts → ℕ → ℕ → List Machine → Drawing → List Entry → List ℕ
 report_lines parts bound_total best_at a drawing h = head_text parts bound_total best_at a drawing ++ entries_text h (length h)
 
--- the report of journal h from start a0, with the total of the instance's bound: it tells the best state
-unfoldable pub report_text : Tables → List Machine → Lots → List Entry → ℕ → List ℕ
-report_text i a0 l h bound_total =
+-- the report of journal h from start a0: it tells the best state, and the total of the instance's bound
+unfoldable pub report_text : Tables → List Machine → Lots → List Entry → List ℕ
+report_text i a0 l h =
     let j = best_of i a0 h in
     let best = state a0 h j in
-    report_lines (parts_of i a0 best) bound_total j best l.drawing h
+    report_lines (parts_of i a0 best) (bound_of i).total j best l.drawing h
 
 -- the three lines of a bound: its total, its load and its balance
-unfoldable pub bound_text : ℕ → ℕ → ℕ → List ℕ
-bound_text all load balance = number_line (codes "bound") all ++ number_line (codes "load") load ++ number_line (codes "balance") balance
+unfoldable pub bound_text : Bound → List ℕ
+bound_text b = number_line (codes "bound") b.total ++ number_line (codes "load") b.load ++ number_line (codes "balance") b.balance
 
 -- what comes behind the first line, where there is a line
 unfoldable pub after_line : List ℕ → Option (List ℕ)

@@ -28,4 +28,4 @@ WrittenTellsItsJournal = (parts : Parts) (bound_total best_at : ℕ) (a : List M
 
 -- the report of a journal tells that journal
 abbrev pub ReportTellsItsJournal : Type 0
-ReportTellsItsJournal = (i : Tables) (a0 : List Machine) (l : Lots) (h : List Entry) (bound_total : ℕ) → IsJournalOf (report_text i a0 l h bound_total) h
+ReportTellsItsJournal = (i : Tables) (a0 : List Machine) (l : Lots) (h : List Entry) → IsJournalOf (report_text i a0 l h) h

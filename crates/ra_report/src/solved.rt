@@ -8,6 +8,7 @@ use crate::journal::write_entries;
 use crate::pieces::{Piece, WriteFault, put_pieces};
 use crate::texts::write_parts;
 use ra_base::{Assignment, Drawing, Machine, Parts};
+use ra_bounds::Bound;
 use ra_io::Sink;
 use ra_journal::Entry;
 
@@ -17,16 +18,16 @@ pub fn write_report<O: Sink>(
     sink: &mut O,
     best: &Assignment,
     parts: &Parts,
-    bound_total: u128,
+    bound: &Bound,
     best_at: u64,
     drawing: Drawing,
     entries: &[Entry],
 ) -> Result<(), WriteFault>
-    ensures whole { OnOk result (Appends (O.taken sink.old) (O.taken sink.new) (report_lines parts.now bound_total best_at best.now.items drawing entries.now)) }
-    ensures part { OnErr result (Breaks (O.taken sink.old) (O.taken sink.new) (O.faults sink.old) (O.faults sink.new) (report_lines parts.now bound_total best_at best.now.items drawing entries.now)) }
+    ensures whole { OnOk result (Appends (O.taken sink.old) (O.taken sink.new) (report_lines parts.now bound.now.total best_at best.now.items drawing entries.now)) }
+    ensures part { OnErr result (Breaks (O.taken sink.old) (O.taken sink.new) (O.faults sink.old) (O.faults sink.new) (report_lines parts.now bound.now.total best_at best.now.items drawing entries.now)) }
     ensures never_falls { O.faults sink.old ≤ O.faults sink.new }
 {
-    write_head(sink, best, parts, bound_total, best_at, drawing)?;
+    write_head(sink, best, parts, bound.total, best_at, drawing)?;
     write_entries(sink, entries)
 }
 
@@ -103,25 +104,20 @@ fn write_machines<O: Sink>(sink: &mut O, machines: &[Machine]) -> Result<(), Wri
 
 /// Writes the three lines of a bound: its total, its load and its balance.
 #[tactic(auto, unfolding(crate::specs::JournalTexts::bound_text))]
-pub fn write_bound<O: Sink>(
-    sink: &mut O,
-    total: u128,
-    load: u128,
-    balance: u128,
-) -> Result<(), WriteFault>
-    ensures whole { OnOk result (Appends (O.taken sink.old) (O.taken sink.new) (bound_text total load balance)) }
-    ensures part { OnErr result (Breaks (O.taken sink.old) (O.taken sink.new) (O.faults sink.old) (O.faults sink.new) (bound_text total load balance)) }
+pub fn write_bound<O: Sink>(sink: &mut O, bound: &Bound) -> Result<(), WriteFault>
+    ensures whole { OnOk result (Appends (O.taken sink.old) (O.taken sink.new) (bound_text bound.now)) }
+    ensures part { OnErr result (Breaks (O.taken sink.old) (O.taken sink.new) (O.faults sink.old) (O.faults sink.new) (bound_text bound.now)) }
     ensures never_falls { O.faults sink.old ≤ O.faults sink.new }
 {
     put_pieces(
         sink,
         &[
             Piece::Text("bound "),
-            Piece::Number(total),
+            Piece::Number(bound.total),
             Piece::Text("\nload "),
-            Piece::Number(load),
+            Piece::Number(bound.load),
             Piece::Text("\nbalance "),
-            Piece::Number(balance),
+            Piece::Number(bound.balance),
             Piece::Text("\n"),
         ],
     )

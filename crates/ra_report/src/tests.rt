@@ -1,5 +1,6 @@
 use super::*;
 use ra_base::{Assignment, Cause, Drawing, Fixed, Machine, Parts, Process, Resource, Service};
+use ra_bounds::Bound;
 use ra_io::MemorySink;
 use ra_journal::Entry;
 use ra_moves::{Move, Step, Verdict};
@@ -36,6 +37,13 @@ const PARTS: Parts = Parts {
     total: 3510,
 };
 
+/// The sample's bound.
+const BOUND: Bound = Bound {
+    load: 1300,
+    balance: 0,
+    total: 1300,
+};
+
 fn step(process: u32, from: u32, to: u32) -> Step {
     Step {
         process: Process(process),
@@ -66,7 +74,15 @@ fn the_report_of_the_sample(rt: HostRuntime) -> Result<(), Fail> {
     let mut out = sound(&rt)?;
     let machines = best(&rt)?;
     assert_eq!(rt;
-        write_report(&mut out, &machines, &PARTS, 1300, 1, Drawing::One, &entries),
+        write_report(
+            &mut out,
+            &machines,
+            &PARTS,
+            &BOUND,
+            1,
+            Drawing::One,
+            &entries
+        ),
         Ok(())
     );
     assert_eq!(rt;
@@ -82,12 +98,20 @@ fn a_report_with_no_entry_has_ten_lines(rt: HostRuntime) -> Result<(), Fail> {
     let mut out = sound(&rt)?;
     let machines: Assignment = Fixed::make(rt.alloc(), 0)?;
     assert_eq!(rt;
-        write_report(&mut out, &machines, &PARTS, 0, 0, Drawing::Two, &entries),
+        write_report(
+            &mut out,
+            &machines,
+            &PARTS,
+            &BOUND,
+            0,
+            Drawing::Two,
+            &entries
+        ),
         Ok(())
     );
     assert_eq!(rt;
         out.bytes(),
-        b"cost 3510\nload 1500\nbalance 1700\nprocess 100\nservice 10\nmachine 200\nbound 0\nbest_at 0\nassignment\ndraws 2\n".as_slice()
+        b"cost 3510\nload 1500\nbalance 1700\nprocess 100\nservice 10\nmachine 200\nbound 1300\nbest_at 0\nassignment\ndraws 2\n".as_slice()
     );
     Ok(())
 }
@@ -193,7 +217,7 @@ fn a_failed_put_ends_the_report(rt: HostRuntime) -> Result<(), Fail> {
             &mut out,
             &machines,
             &PARTS,
-            1300,
+            &BOUND,
             0,
             Drawing::One,
             &all_refused()
@@ -210,7 +234,12 @@ fn a_failed_put_ends_the_report(rt: HostRuntime) -> Result<(), Fail> {
 #[test]
 fn the_lines_of_a_bound(rt: HostRuntime) -> Result<(), Fail> {
     let mut out = sound(&rt)?;
-    assert_eq!(rt; write_bound(&mut out, 1310, 1300, 10), Ok(()));
+    let bound = Bound {
+        load: 1300,
+        balance: 10,
+        total: 1310,
+    };
+    assert_eq!(rt; write_bound(&mut out, &bound), Ok(()));
     assert_eq!(rt;
         out.bytes(),
         b"bound 1310\nload 1300\nbalance 10\n".as_slice()

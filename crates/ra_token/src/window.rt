@@ -105,8 +105,9 @@ impl Window {
         Some((self.start + first as u64, run))
     }
 
-    /// Adds the values of the next runs from `place` on to a list, at most `most` of them, as far as `ready_run` would
-    /// give them. The place behind the last.
+    /// Adds the values of the next runs from `place` on to a list, at most `most` of them, as far as they stand close
+    /// together in the buffer: each behind one blank, and ending well before the buffer's end. The place behind the
+    /// last.
     pub fn ready_values(&self, place: u64, most: usize, values: &mut Fixed<u32>) -> u64
         requires place { place ≤ PLACE_LIMIT }
         requires room { length values.old.items + most ≤ values.old.room }

@@ -27,25 +27,25 @@ starts held later model closed initial i a0 same instance list = record {
 }
 
 -- the lines that are put are the report of the journal
-report_is : (i : Tables) (a0 : List Machine) (l : Lots) (run : Run) (total : ℕ) → IsRun i a0 l run → report_lines run.parts total run.best_at run.best.items l.drawing run.entries.items ≡ report_text i a0 l run.entries.items total
+report_is : (i : Tables) (a0 : List Machine) (l : Lots) (run : Run) → IsRun i a0 l run → report_lines run.parts (bound_of i).total run.best_at run.best.items l.drawing run.entries.items ≡ report_text i a0 l run.entries.items
 unfolding report_text
-report_is i a0 l run total is = rw (is.parts, is.best, is.best_at) refl
+report_is i a0 l run is = rw (is.parts, is.best, is.best_at) refl
 
 pub solved : (held : Held) (names : Names) (i : Tables) (a0 : List Machine) (l : Lots) (run : Run) (way : List ℕ → Type 0) → WellFormed i → worker_count l ≡ 1 → IsStart held names i a0 → HasRun i a0 l run → way (report_lines run.parts (bound_of i).total run.best_at run.best.items l.drawing run.entries.items) → Solved held names l way
 solved held names i a0 l run way limits one start ran text =
     let h = run.entries.items in
     let whole : IsSoloRun i a0 l h = subst (IsSoloRun i a0 l) (sym ran.ran.entries) (one_lot i a0 l one).stands in
-    let lines = report_is i a0 l run (bound_of i).total ran.ran in
+    let lines = report_is i a0 l run ran.ran in
     record {
       tables = i;
       a0 = a0;
       journal = h;
-      bytes = report_text i a0 l h (bound_of i).total;
+      bytes = report_text i a0 l h;
       accepts = start.accepts;
       start = ran.start;
       text = subst way lines text;
       report = refl;
-      told = report_tells_its_journal i a0 l h (bound_of i).total;
+      told = report_tells_its_journal i a0 l h;
       legal = whole.legal;
       whole = whole.whole;
       sound = λ j within. sound i a0 l h limits start.fits ran.start whole.legal j within;

@@ -97,8 +97,8 @@ pub says_model : (held : Held) (names : Names) (before now : Faults) (written : 
 says_model held names before now written refusal says = says_source held names before now written refusal (source_model held names.model names.closed before now refusal says)
 
 -- the text of a bound went this way
-pub bound_printed : (held : Held) (name : List ℕ) (i : Tables) (b : Bound) (way : List ℕ → Type 0) → ModelIs held name i → b ≡ bound_of i → way (bound_text b.total b.load b.balance) → BoundPrinted held (bound_names name) way
-bound_printed held name i b way read is text = record { tables = i; read = read; text = subst (λ x. way (bound_text x.total x.load x.balance)) is text }
+pub bound_printed : (held : Held) (name : List ℕ) (i : Tables) (b : Bound) (way : List ℕ → Type 0) → ModelIs held name i → b ≡ bound_of i → way (bound_text b) → BoundPrinted held (bound_names name) way
+bound_printed held name i b way read is text = record { tables = i; read = read; text = subst (λ x. way (bound_text x)) is text }
 
 -- the lists of a check
 

@@ -26,7 +26,7 @@ pub record Printed (held : Held) (names : Names) (way : List ℕ → Type 0) : T
 pub record BoundPrinted (held : Held) (names : Names) (way : List ℕ → Type 0) : Type 0 where
   pub tables : Tables
   pub read : ModelIs held names.model tables
-  pub text : let b = bound_of tables in way (bound_text b.total b.load b.balance)
+  pub text : way (bound_text (bound_of tables))
 
 -- `solve`, the headline: the printed journal is one legal history in which every proposal of every worker stands exactly
 -- once; every state in it meets all constraints, and its kept cost is the challenge's objective computed afresh; the
@@ -43,7 +43,7 @@ pub record Solved (held : Held) (names : Names) (l : Lots) (way : List ℕ → T
   -- these bytes went this way: they are the report of the journal, which is the one that they tell, and it is legal and
   -- whole
   pub text : way bytes
-  pub report : bytes ≡ report_text tables a0 l journal (bound_of tables).total
+  pub report : bytes ≡ report_text tables a0 l journal
   pub told : IsJournalOf bytes journal
   pub legal : Legal tables a0 l journal
   pub whole : Whole l journal

@@ -17,12 +17,12 @@ use Rattle.ra_assign.specs.ClosedLists.{IsClosedOf, closed_refusal}
 use Rattle.reassign.specs.declared.refusals.File.TheVariants as file
 use Rattle.reassign.specs.declared.refusals.Refusal.{Refusal}
 use Rattle.reassign.specs.declared.refusals.Refusal.TheVariants.{Read, Model, Closed, Initial, Changed, InitialBroken, ChangedBroken, Memory}
-use Rattle.reassign.specs.Files.{Held, Faults, Names, ListIs, Passes}
+use Rattle.reassign.specs.Files.{Held, Faults, Names, CloseIs, ListIs, Passes}
 use Rattle.reassign.specs.Refusals.{ListRefused, ClosedRefused}
 
 -- the instance with the machines of a told closed list closed
 abbrev pub IsClosing : Held → List ℕ → Tables → Tables → Type 0
-IsClosing held name model i = (flags : Listed Bool) × (i ≡ with_closed model flags) × IfSome (held name) (λ bytes. IsClosedOf bytes model flags.items)
+IsClosing held name model i = CloseIs held (Some name) model i
 
 -- a file means this assignment, which fits the instance
 abbrev pub IsList : Held → List ℕ → Tables → List Machine → Type 0

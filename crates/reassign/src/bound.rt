@@ -68,7 +68,7 @@ fn print_bound<F: Files, O: Sink>(
     match read_open(alloc, files, model) {
         Ok(inst) => {
             let bound = bound(&inst);
-            match write_bound(out, bound.total, bound.load, bound.balance) {
+            match write_bound(out, &bound) {
                 Ok(()) => Ok(()),
                 Err(_) => Err(Refusal::Write),
             }

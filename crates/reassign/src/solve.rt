@@ -182,7 +182,7 @@ fn report<O: Sink>(out: &mut O, inst: &Instance, lots: &Lots, run: &Run) -> Resu
         out,
         &run.best,
         &run.parts,
-        bound(inst).total,
+        &bound(inst),
         run.best_at,
         lots.drawing(),
         run.entries.as_slice(),

@@ -10,7 +10,7 @@ use Rattle.ra_report.proofs.solved.write_report.Goals as goal
 pub returns-in_err-write_head-clause-part : goal.returns-in_err-write_head-clause-part
 unfolding report_lines
 returns-in_err-write_head-clause-part g c =
-    let head = head_text c.args.parts.now c.args.bound_total c.args.best_at c.args.best.now.items c.args.drawing in
+    let head = head_text c.args.parts.now c.args.bound.now.total c.args.best_at c.args.best.now.items c.args.drawing in
     let entries = entries_text c.args.entries.now (length c.args.entries.now) in
     let p = err_from_is_err_and c.from_residual.result c.from_residual.ensures.1 in
     rw p.1 (breaks_before _ _ head entries _ _ c.in_err-write_head.ensures.part)
@@ -18,7 +18,7 @@ returns-in_err-write_head-clause-part g c =
 pub returns-clause-whole : goal.returns-clause-whole
 unfolding report_lines
 returns-clause-whole g c =
-    let head = head_text c.args.parts.now c.args.bound_total c.args.best_at c.args.best.now.items c.args.drawing in
+    let head = head_text c.args.parts.now c.args.bound.now.total c.args.best_at c.args.best.now.items c.args.drawing in
     let entries = entries_text c.args.entries.now (length c.args.entries.now) in
     on_ok_weaker c.write_entries.result
     (λ (took : Appends (g.O.Sink.taken c.write_head.new.sink) (g.O.Sink.taken c.write_entries.new.sink) entries).
@@ -28,7 +28,7 @@ returns-clause-whole g c =
 pub returns-clause-part : goal.returns-clause-part
 unfolding report_lines
 returns-clause-part g c =
-    let head = head_text c.args.parts.now c.args.bound_total c.args.best_at c.args.best.now.items c.args.drawing in
+    let head = head_text c.args.parts.now c.args.bound.now.total c.args.best_at c.args.best.now.items c.args.drawing in
     let entries = entries_text c.args.entries.now (length c.args.entries.now) in
     on_err_weaker c.write_entries.result
     (λ (breaks : Breaks (g.O.Sink.taken c.write_head.new.sink) (g.O.Sink.taken c.write_entries.new.sink) (g.O.Sink.faults c.write_head.new.sink) (g.O.Sink.faults c.write_entries.new.sink) entries).
