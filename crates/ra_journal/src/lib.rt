@@ -4,5 +4,7 @@
 
 mod entries;
 pub mod laws;
+mod states;
 
 pub use entries::Entry;
+pub use states::{advance, cost_then};

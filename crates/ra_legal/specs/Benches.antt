@@ -10,7 +10,7 @@ use Rattle.ra_moves.specs.declared.verdicts.Verdict.TheVariants.{Done}
 use Rattle.ra_moves.specs.Steps.{StandsAt, Distinct, from_in}
 use Rattle.ra_journal.specs.declared.entries.Entry.{Entry}
 use Rattle.ra_journal.specs.Entries.{entry_at}
-use Rattle.ra_journal.specs.States.{state}
+use Rattle.ra_journal.specs.States.{state, IsDistinctIfDone}
 use Rattle.ra_legal.specs.declared.bench.Bench.{Bench}
 
 -- a bench has room for the assignments of an instance, and tables for its checks
@@ -18,10 +18,6 @@ pub record IsBenchFor (b : Bench) (i : Tables) : Type 0 where
   pub state : b.state.room ≡ process_count i
   pub other : b.other.room ≡ process_count i
   pub scratch : IsMadeFor b.scratch i
-
--- a move that is done names no process twice
-abbrev pub IsDistinctIfDone : List Step → Verdict → Type 0
-IsDistinctIfDone steps verdict = (cost : ℕ) → verdict ≡ Done cost → Distinct steps
 
 -- the processes of each of the first n moves stand where the move takes them from, and one that is done names none twice
 pub record CanReplay (a0 : List Machine) (h : List Entry) (n : ℕ) : Type 0 where

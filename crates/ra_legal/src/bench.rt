@@ -4,19 +4,19 @@ ghost use Rattle.ra_model.specs.Assignments.{IsAssignment};
 ghost use Rattle.ra_moves.specs.Judging.{judge};
 ghost use Rattle.ra_moves.specs.Options.{plan_of};
 ghost use Rattle.ra_moves.specs.Steps.{StandsAt, from_in, to_in};
-ghost use Rattle.ra_journal.specs.Entries.{worker_count, budget, words, allowed, steps_made};
-ghost use Rattle.ra_journal.specs.States.{state, after_made};
+ghost use Rattle.ra_journal.specs.Entries.{worker_count, budget, words, allowed};
+ghost use Rattle.ra_journal.specs.States.{state};
 ghost use Rattle.ra_journal.specs.Legal.{IsLegal};
-ghost use Rattle.ra_legal.specs.Benches.{IsBenchFor, CanReplay, IsDistinctIfDone};
+ghost use Rattle.ra_legal.specs.Benches.{IsBenchFor, CanReplay};
 
 use crate::places::entry;
 use crate::proposals::{allowed_of, words_of};
 use ra_base::{Assignment, Fixed, NoMemory};
 use ra_check::{Scratch, parts};
 use ra_draws::Lots;
-use ra_journal::Entry;
+use ra_journal::{Entry, advance};
 use ra_model::Instance;
-use ra_moves::{Move, Verdict, apply};
+use ra_moves::{Move, Verdict};
 use ra_plain::{judge_plainly, plan_plainly};
 use std::alloc::Global;
 
@@ -125,21 +125,7 @@ fn replay(a: &mut Assignment, a0: &Assignment, entries: &[Entry], n: usize)
     copy_to(a, a0);
     for j in 0..n {
         let e = entry(entries, j);
-        go(a, &e.mv, &e.verdict);
-    }
-}
-
-/// Applies a move where it is done.
-#[tactic(auto, unfolding(ra_journal::specs::States::after_made, ra_journal::specs::Entries::steps_made))]
-fn go(state: &mut Assignment, mv: &Move, verdict: &Verdict)
-    requires stands { StandsAt from_in mv.now.steps state.old.items }
-    requires distinct { IsDistinctIfDone mv.now.steps verdict.now }
-    ensures items { state.new.items ≡ after_made state.old.items (steps_made verdict.now mv.now.steps) }
-    ensures room { state.new.room ≡ state.old.room }
-{
-    match verdict {
-        Verdict::Done { .. } => apply(state, mv),
-        Verdict::Refused { .. } => {}
+        advance(a, &e.mv, &e.verdict);
     }
 }
 

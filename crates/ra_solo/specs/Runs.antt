@@ -43,10 +43,6 @@ pub record IsBestSoFar (old new : Progress) (at : ℕ) : Type 0 where
   pub best_cost : new.best_cost ≡ (if nat_lt old.cost old.best_cost then old.cost else old.best_cost)
   pub best_room : new.best.room ≡ old.best.room
 
--- a move that is done names no process twice
-abbrev pub IsDistinctIfDone : List Step → Verdict → Type 0
-IsDistinctIfDone steps verdict = (cost : ℕ) → verdict ≡ Done cost → Distinct steps
-
 -- a run that has ended: its journal is that of the one worker, its best state is the first of least cost, and its
 -- parts are that state's
 pub record IsRun (i : Tables) (a0 : List Machine) (l : Lots) (run : Run) : Type 0 where

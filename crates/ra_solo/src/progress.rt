@@ -4,17 +4,14 @@ ghost use Rattle.ra_model.specs.Numbers.{process_count};
 ghost use Rattle.ra_model.specs.Assignments.{IsAssignment};
 ghost use Rattle.ra_check.specs.Made.{IsMadeFor};
 ghost use Rattle.ra_draws.specs.declared.budgets.Lots.{Lots};
-ghost use Rattle.ra_moves.specs.Steps.{StandsAt, from_in};
-ghost use Rattle.ra_journal.specs.Entries.{budget, words, steps_made};
-ghost use Rattle.ra_journal.specs.States.{after_made, cost_then};
-ghost use Rattle.ra_solo.specs.Runs.{IsAfter, IsBestSoFar, IsDistinctIfDone};
+ghost use Rattle.ra_journal.specs.Entries.{budget, words};
+ghost use Rattle.ra_solo.specs.Runs.{IsAfter, IsBestSoFar};
 
 use ra_base::{Assignment, Fixed, NoMemory};
 use ra_check::{Scratch, parts};
 use ra_draws::{Lots, allow};
-use ra_journal::Entry;
+use ra_journal::{Entry, advance, cost_then};
 use ra_model::Instance;
-use ra_moves::{Move, Verdict, apply};
 use ra_plain::plan_plainly;
 use std::alloc::Global;
 
@@ -98,8 +95,8 @@ impl Progress {
             mv: planned.mv,
             verdict: planned.verdict,
         });
-        go(&mut self.state, &planned.mv, &planned.verdict);
-        go(&mut self.other, &planned.mv, &planned.verdict);
+        advance(&mut self.state, &planned.mv, &planned.verdict);
+        advance(&mut self.other, &planned.mv, &planned.verdict);
         self.cost = cost_then(self.cost, &planned.verdict);
         self.keep_best(k + 1);
     }
@@ -114,31 +111,6 @@ impl Progress {
             self.best_at = at;
             self.best_cost = self.cost;
         }
-    }
-}
-
-/// Applies a move where it is done.
-#[tactic(auto, unfolding(ra_journal::specs::States::after_made, ra_journal::specs::Entries::steps_made))]
-fn go(state: &mut Assignment, mv: &Move, verdict: &Verdict)
-    requires stands { StandsAt from_in mv.now.steps state.old.items }
-    requires distinct { IsDistinctIfDone mv.now.steps verdict.now }
-    ensures items { state.new.items ≡ after_made state.old.items (steps_made verdict.now mv.now.steps) }
-    ensures room { state.new.room ≡ state.old.room }
-{
-    match verdict {
-        Verdict::Done { .. } => apply(state, mv),
-        Verdict::Refused { .. } => {}
-    }
-}
-
-/// The cost after a verdict.
-#[tactic(auto, unfolding(ra_journal::specs::States::cost_then))]
-fn cost_then(cost: u128, verdict: &Verdict) -> u128
-    ensures { result ≡ cost_then cost verdict.now }
-{
-    match verdict {
-        Verdict::Done { cost } => *cost,
-        Verdict::Refused { .. } => cost,
     }
 }
 

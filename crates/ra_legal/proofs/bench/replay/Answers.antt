@@ -1,7 +1,7 @@
 use Rattle.std.proofs.Common.{sym, ◌∙◌, subst}
 use Rattle.ra_journal.specs.declared.entries.Entry.{Entry}
 use Rattle.ra_journal.specs.States.{state}
-use Rattle.ra_legal.specs.Benches.{IsDistinctIfDone}
+use Rattle.ra_journal.specs.States.{IsDistinctIfDone}
 use Rattle.ra_legal.proofs.Clauses.{state_next}
 use Rattle.ra_legal.proofs.bench.replay.Goals as goal
 
@@ -9,8 +9,8 @@ pub loop-j-init : goal.loop-j-init
 unfolding state
 loop-j-init c = record { items = c.copy_to.ensures.items; room = c.copy_to.ensures.room }
 
-pub go-requires-clause-distinct : goal.go-requires-clause-distinct
-go-requires-clause-distinct c = subst (λ (e : Entry). IsDistinctIfDone e.mv.steps e.verdict) (sym c.entry-e.ensures) (c.requires.can.distinct c.loop-j.j c.loop-j-test.true)
+pub advance-requires-clause-distinct : goal.advance-requires-clause-distinct
+advance-requires-clause-distinct c = subst (λ (e : Entry). IsDistinctIfDone e.mv.steps e.verdict) (sym c.entry-e.ensures) (c.requires.can.distinct c.loop-j.j c.loop-j-test.true)
 
 pub loop-j-preserved : goal.loop-j-preserved
-loop-j-preserved c = record { items = c.go.ensures.items ∙ state_next _ _ _ _ _ c.loop-j.invariant.items c.entry-e.ensures; room = c.go.ensures.room ∙ c.loop-j.invariant.room }
+loop-j-preserved c = record { items = c.advance.ensures.items ∙ state_next _ _ _ _ _ c.loop-j.invariant.items c.entry-e.ensures; room = c.advance.ensures.room ∙ c.loop-j.invariant.room }

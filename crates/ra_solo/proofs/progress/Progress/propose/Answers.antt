@@ -17,11 +17,11 @@ allow-allowed-requires c = rw c.lot.ensures c.requires.left
 pub push-requires : goal.push-requires
 push-requires c = omega (arith, c.requires.left, c.requires.before.room, ap (λ (h : List Entry). length h) c.requires.before.entries, solo_length c.args.inst.now.tables c.args.a0.now.items c.args.lots.now c.args.k)
 
-pub go-requires-clause-distinct : goal.go-requires-clause-distinct
-go-requires-clause-distinct c = λ cost done. c.plan_plainly-planned.ensures.distinct (done_not_repeated _ _ _ _ _ cost _ c.plan_plainly-planned.ensures.judged done)
+pub advance-requires-clause-distinct : goal.advance-requires-clause-distinct
+advance-requires-clause-distinct c = λ cost done. c.plan_plainly-planned.ensures.distinct (done_not_repeated _ _ _ _ _ cost _ c.plan_plainly-planned.ensures.judged done)
 
-pub go-requires-2-clause-distinct : goal.go-requires-2-clause-distinct
-go-requires-2-clause-distinct c = λ cost done. c.plan_plainly-planned.ensures.distinct (done_not_repeated _ _ _ _ _ cost _ c.plan_plainly-planned.ensures.judged done)
+pub advance-requires-2-clause-distinct : goal.advance-requires-2-clause-distinct
+advance-requires-2-clause-distinct c = λ cost done. c.plan_plainly-planned.ensures.distinct (done_not_repeated _ _ _ _ _ cost _ c.plan_plainly-planned.ensures.judged done)
 
 pub overflow_add-k : goal.overflow_add-k
 unfolding budget budget_of
@@ -31,7 +31,7 @@ pub keep_best-requires : goal.keep_best-requires
 keep_best-requires c =
     let planned = c.plan_plainly-planned in
     let fits = fits_more _ _ planned.result.mv.steps planned.result.verdict c.requires.before.fits planned.ensures.reaches in
-    omega (arith, fits.one_each, c.requires.before.best_room, ap (λ (a : List Machine). length a) c.go.ensures.items)
+    omega (arith, fits.one_each, c.requires.before.best_room, ap (λ (a : List Machine). length a) c.advance.ensures.items)
 
 pub returns-clause-after : goal.returns-clause-after
 unfolding allowed allowance_of budget_of
@@ -45,8 +45,8 @@ returns-clause-after c =
     (record {
       entries = c.push.ensures.items;
       room = c.push.ensures.room;
-      stands = c.go.ensures.items;
-      other = c.go-2.ensures.items ∙ ap (λ (x : Listed Machine). after_made x.items made) planned.ensures.unchanged;
+      stands = c.advance.ensures.items;
+      other = c.advance-2.ensures.items ∙ ap (λ (x : Listed Machine). after_made x.items made) planned.ensures.unchanged;
       cost = c.cost_then-self.ensures;
       best = refl;
       best_at = refl;

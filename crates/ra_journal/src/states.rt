@@ -1,0 +1,32 @@
+ghost use Rattle.std.specs.Prelude.{◌≡◌};
+ghost use Rattle.ra_moves.specs.Steps.{StandsAt, from_in};
+ghost use Rattle.ra_journal.specs.Entries.{steps_made};
+ghost use Rattle.ra_journal.specs.States.{after_made, cost_then, IsDistinctIfDone};
+
+use ra_base::Assignment;
+use ra_moves::{Move, Verdict, apply};
+
+/// Takes an entry into a state: its move is applied where its verdict is done.
+#[tactic(auto, unfolding(crate::specs::States::after_made, crate::specs::Entries::steps_made))]
+pub fn advance(state: &mut Assignment, mv: &Move, verdict: &Verdict)
+    requires stands { StandsAt from_in mv.now.steps state.old.items }
+    requires distinct { IsDistinctIfDone mv.now.steps verdict.now }
+    ensures items { state.new.items ≡ after_made state.old.items (steps_made verdict.now mv.now.steps) }
+    ensures room { state.new.room ≡ state.old.room }
+{
+    match verdict {
+        Verdict::Done { .. } => apply(state, mv),
+        Verdict::Refused { .. } => {}
+    }
+}
+
+/// The cost that is kept after a verdict, where `cost` was kept before it.
+#[tactic(auto, unfolding(crate::specs::States::cost_then))]
+pub fn cost_then(cost: u128, verdict: &Verdict) -> u128
+    ensures { result ≡ cost_then cost verdict.now }
+{
+    match verdict {
+        Verdict::Done { cost } => *cost,
+        Verdict::Refused { .. } => cost,
+    }
+}
