@@ -1,0 +1,384 @@
+#!/usr/bin/env python3
+"""Compares the program with a second implementation of docs/PROBLEM.md and docs/FORMATS.md, which stands in this file.
+
+Makes small random instances and lists, runs `bound`, `check` and `solve` on them, and compares the status and every
+byte of both outputs. It stops at the first difference, says on what it was, and leaves the files there.
+
+usage: compare.py PROGRAM FIRST_SEED INSTANCES
+"""
+import os
+import random
+import shutil
+import subprocess
+import sys
+import tempfile
+from collections import Counter
+from dataclasses import dataclass
+
+LARGEST_WORD = 2**64 - 1
+LABELS = [0, 1, 7, 4294967295]
+
+
+@dataclass
+class Instance:
+    transient: list
+    load_weights: list
+    neighbourhoods: list
+    locations: list
+    capacities: list
+    safeties: list
+    way_costs: list
+    spreads: list
+    dependencies: list
+    services: list
+    requirements: list
+    process_costs: list
+    balances: list
+    weights: list
+    closed: list
+
+    def text(self):
+        """The model file."""
+        numbers = [len(self.transient)]
+        for transient, weight in zip(self.transient, self.load_weights):
+            numbers += [transient, weight]
+        numbers.append(len(self.locations))
+        for m in range(len(self.locations)):
+            numbers += [self.neighbourhoods[m], self.locations[m]]
+            numbers += self.capacities[m] + self.safeties[m] + self.way_costs[m]
+        numbers.append(len(self.spreads))
+        for spread, needs in zip(self.spreads, self.dependencies):
+            numbers += [spread, len(needs)] + needs
+        numbers.append(len(self.services))
+        for p, service in enumerate(self.services):
+            numbers += [service] + self.requirements[p] + [self.process_costs[p]]
+        numbers.append(len(self.balances))
+        for balance in self.balances:
+            numbers += balance
+        return joined(numbers + self.weights)
+
+    def use(self, machines, m, r):
+        return sum(self.requirements[p][r] for p, at in enumerate(machines) if at == m)
+
+    def transient_use(self, start, machines, m, r):
+        return sum(
+            self.requirements[p][r]
+            for p, at in enumerate(machines)
+            if at == m or start[p] == m
+        )
+
+    def machines_of(self, service, machines):
+        return [at for p, at in enumerate(machines) if self.services[p] == service]
+
+    def broken(self, start, machines):
+        """The text of the first broken constraint, or None."""
+        places = [
+            (m, r)
+            for m in range(len(self.locations))
+            for r in range(len(self.transient))
+        ]
+        for m, r in places:
+            used = self.use(machines, m, r)
+            if used > self.capacities[m][r]:
+                return f"capacity {m} {r} {used} {self.capacities[m][r]}"
+        for m, r in places:
+            used = self.transient_use(start, machines, m, r)
+            if self.transient[r] and used > self.capacities[m][r]:
+                return f"transient {m} {r} {used} {self.capacities[m][r]}"
+        for s in range(len(self.spreads)):
+            own = self.machines_of(s, machines)
+            twice = [m for m in own if own.count(m) > 1]
+            if twice:
+                return f"conflict {s} {min(twice)}"
+        for s, wants in enumerate(self.spreads):
+            has = len({self.locations[m] for m in self.machines_of(s, machines)})
+            if has < wants:
+                return f"spread {s} {has} {wants}"
+        for s, needs in enumerate(self.dependencies):
+            for needed in needs:
+                near = {
+                    self.neighbourhoods[m] for m in self.machines_of(needed, machines)
+                }
+                for m in self.machines_of(s, machines):
+                    if self.neighbourhoods[m] not in near:
+                        return f"dependency {s} {needed} {self.neighbourhoods[m]}"
+        for p, m in enumerate(machines):
+            if self.closed[m] and m != start[p]:
+                return f"closed {p} {m}"
+        return None
+
+    def parts(self, start, machines):
+        """The objective and its five parts."""
+        every = range(len(self.locations))
+        moved = [p for p, m in enumerate(machines) if m != start[p]]
+        load = sum(
+            weight
+            * sum(max(0, self.use(machines, m, r) - self.safeties[m][r]) for m in every)
+            for r, weight in enumerate(self.load_weights)
+        )
+
+        def available(m, r):
+            return self.capacities[m][r] - self.use(machines, m, r)
+
+        balance = sum(
+            weight
+            * sum(max(0, target * available(m, one) - available(m, two)) for m in every)
+            for one, two, target, weight in self.balances
+        )
+        process = self.weights[0] * sum(self.process_costs[p] for p in moved)
+        most = max(
+            sum(1 for p in moved if self.services[p] == s)
+            for s in range(len(self.spreads))
+        )
+        service = self.weights[1] * most
+        machine = self.weights[2] * sum(
+            self.way_costs[start[p]][m] for p, m in enumerate(machines)
+        )
+        parts = [load, balance, process, service, machine]
+        return [sum(parts)] + parts
+
+    def bound(self):
+        """The lower bound and its two parts."""
+        every = range(len(self.transient))
+        required = [sum(row[r] for row in self.requirements) for r in every]
+        safe = [sum(row[r] for row in self.safeties) for r in every]
+        spare = [sum(row[r] for row in self.capacities) - required[r] for r in every]
+        load = sum(
+            weight * max(0, required[r] - safe[r])
+            for r, weight in enumerate(self.load_weights)
+        )
+        balance = sum(
+            weight * max(0, target * spare[one] - spare[two])
+            for one, two, target, weight in self.balances
+        )
+        return [load + balance, load, balance]
+
+
+def joined(numbers, between=" "):
+    return between.join(str(number) for number in numbers)
+
+
+def lines(names, numbers):
+    return "".join(f"{name} {number}\n" for name, number in zip(names, numbers))
+
+
+def cost_lines(parts):
+    return lines(["cost", "load", "balance", "process", "service", "machine"], parts)
+
+
+def words_of_seed(seed):
+    """The stream of xoshiro256++, whose state is four words of splitmix64."""
+
+    def turned(word, by):
+        return (word << by | word >> (64 - by)) & LARGEST_WORD
+
+    state = []
+    for _ in range(4):
+        seed = (seed + 0x9E3779B97F4A7C15) & LARGEST_WORD
+        word = ((seed ^ seed >> 30) * 0xBF58476D1CE4E5B9) & LARGEST_WORD
+        word = ((word ^ word >> 27) * 0x94D049BB133111EB) & LARGEST_WORD
+        state.append(word ^ word >> 31)
+    while True:
+        a, b, c, d = state
+        yield (turned((a + d) & LARGEST_WORD, 23) + a) & LARGEST_WORD
+        shifted = b << 17 & LARGEST_WORD
+        c ^= a
+        d ^= b
+        state = [a ^ d, b ^ c, c ^ shifted, turned(d, 45)]
+
+
+def options(inst, at, words, drawing):
+    """The kind of a proposal, and its moves as lists of (process, from, to)."""
+    machines = len(inst.locations)
+    p, q, r = (words[k] % len(at) for k in (1, 2, 3))
+    kind = words[0] % 8
+    if kind <= 4 and drawing == 1:
+        return "shift", [[(p, at[p], word % machines)] for word in words[2:6]]
+    if kind <= 4:
+        window = range(min(64, machines))
+        return "shift", [
+            [(p, at[p], (words[2] % machines + i) % machines)] for i in window
+        ]
+    if kind <= 6:
+        others = [word % len(at) for word in words[2:6]]
+        return "swap", [
+            [(p, at[p], at[other]), (other, at[other], at[p])] for other in others
+        ]
+    return "chain", [
+        [(p, at[p], at[q]), (q, at[q], at[r]), (r, at[r], words[4] % machines)]
+    ]
+
+
+def after(at, move):
+    moved = list(at)
+    for process, _, to in move:
+        moved[process] = to
+    return moved
+
+
+def judge(inst, start, at, move, allowed):
+    """Whether the move is done, and the new cost or the cause."""
+    processes = [process for process, _, _ in move]
+    for k, process in enumerate(processes):
+        if process in processes[:k]:
+            return False, f"repeat {process}"
+    for process, left, entered in move:
+        if left == entered:
+            return False, f"same {process}"
+    cause = inst.broken(start, after(at, move))
+    if cause:
+        return False, cause
+    before, cost = (inst.parts(start, a)[0] for a in (at, after(at, move)))
+    if cost > before + allowed:
+        return False, f"rise {before} {cost} {allowed}"
+    return True, cost
+
+
+def report(inst, start, slack, drawing, proposals):
+    """The report of one worker's run, where `proposals` has eight words for each."""
+    at, entries = start, []
+    best_cost, best_at, best = inst.parts(start, start)[0], 0, start
+    for k, words in enumerate(proposals):
+        allowed = slack * (len(proposals) - 1 - k) // len(proposals)
+        kind, moves = options(inst, at, words, drawing)
+        verdicts = [judge(inst, start, at, move, allowed) for move in moves]
+        done = [i for i, (is_done, _) in enumerate(verdicts) if is_done]
+        plan = min(done, key=lambda i: (verdicts[i][1], i), default=0)
+        is_done, told = verdicts[plan]
+        steps = joined(f"{p}:{left}>{entered}" for p, left, entered in moves[plan])
+        verdict = f"{'done' if is_done else 'refused'} {told}"
+        entries.append(f"{k} 0 {k} {k} {kind} {steps} {verdict}\n")
+        if is_done:
+            at = after(at, moves[plan])
+            if told < best_cost:
+                best_cost, best_at, best = told, k + 1, at
+    head = cost_lines(inst.parts(start, best))
+    head += f"bound {inst.bound()[0]}\nbest_at {best_at}\n"
+    head += f"assignment {joined(best)}\ndraws {drawing}\n"
+    return head + "".join(entries)
+
+
+def random_instance(chance):
+    resources, services = chance.randint(1, 3), chance.randint(1, 4)
+    machines = chance.choice([1, 2, 3, 4, 5, 6, 70])
+    processes, high = chance.randint(1, 8), chance.choice([12, 20, 40])
+
+    def row(count, least, most):
+        return [chance.randint(least, most) for _ in range(count)]
+
+    return Instance(
+        transient=row(resources, 0, 1),
+        load_weights=row(resources, 0, 20),
+        neighbourhoods=[chance.choice(LABELS) for _ in range(machines)],
+        locations=[chance.choice(LABELS) for _ in range(machines)],
+        capacities=[row(resources, 5, high) for _ in range(machines)],
+        safeties=[row(resources, 0, high) for _ in range(machines)],
+        way_costs=[row(machines, 0, 5) for _ in range(machines)],
+        spreads=[chance.choice([0, 0, 1, 1, 2]) for _ in range(services)],
+        dependencies=[
+            row(chance.choice([0, 0, 0, 1, 2]), 0, services - 1)
+            for _ in range(services)
+        ],
+        services=row(processes, 0, services - 1),
+        requirements=[row(resources, 0, 9) for _ in range(processes)],
+        process_costs=row(processes, 0, 9),
+        balances=[
+            row(2, 0, resources - 1) + row(1, 0, 4) + row(1, 0, 9)
+            for _ in range(chance.choice([0, 1, 2]))
+        ],
+        weights=row(3, 0, 5),
+        closed=[False] * machines,
+    )
+
+
+def random_start(chance, inst):
+    """An initial list, which is feasible where one is found soon."""
+    for _ in range(200):
+        start = [chance.randrange(len(inst.locations)) for _ in inst.services]
+        if inst.broken(start, start) is None:
+            break
+    return start
+
+
+def random_lot(chance):
+    """The word of a lot, and eight words for each of its proposals."""
+    if chance.random() < 0.5:
+        seed = chance.choice([0, 1, 7, LARGEST_WORD, chance.getrandbits(64)])
+        budget = chance.randint(0, 40)
+        stream = words_of_seed(seed)
+        return f"{seed}:{budget}", [[next(stream) for _ in range(8)] for _ in range(budget)]
+    listed = [
+        [chance.choice([chance.randrange(10), chance.getrandbits(64)]) for _ in range(8)]
+        for _ in range(chance.randint(1, 10))
+    ]
+    return "w:" + joined((word for words in listed for word in words), ","), listed
+
+
+def wanted(inst, start, other, done):
+    """The status and both outputs, where `done` gives the text of a job that is done."""
+    for name, machines in [("i", start), ("n", other)]:
+        cause = inst.broken(start, machines)
+        if cause:
+            return 6, "", f"infeasible: {name}: {cause}\n"
+    return 0, done(), ""
+
+
+def compare(program, words, want, kinds):
+    ran = subprocess.run([program] + words, capture_output=True, text=True, check=False)
+    got = ran.returncode, ran.stdout, ran.stderr
+    if got != want:
+        sys.exit(f"{joined(words)} in {os.getcwd()}\n  wanted {want}\n  got    {got}")
+    for line in (want[1] + want[2]).splitlines():
+        if line.startswith("infeasible"):
+            kinds[line.split()[2]] += 1
+        elif ">" in line:
+            kinds["done" if " done " in line else line.split(" refused ")[1].split()[0]] += 1
+
+
+def write(name, text):
+    with open(name, "w", encoding="ascii") as file:
+        file.write(text)
+
+
+def compare_instance(program, chance, kinds):
+    inst = random_instance(chance)
+    start = random_start(chance, inst)
+    write("m", inst.text())
+    write("i", joined(start))
+    bound = lines(["bound", "load", "balance"], inst.bound())
+    compare(program, ["bound", "m"], (0, bound, ""), kinds)
+    closing = []
+    if chance.random() < 0.4:
+        closed = [chance.randrange(len(inst.closed)) for _ in range(chance.randint(0, 3))]
+        inst.closed = [m in closed for m in range(len(inst.closed))]
+        write("c", joined(closed, "\n"))
+        closing = ["--closed", "c"]
+    for _ in range(4):
+        new = [chance.choice([m, m, chance.randrange(len(inst.closed))]) for m in start]
+        write("n", joined(new, "\n"))
+        want = wanted(inst, start, new, lambda: cost_lines(inst.parts(start, new)))
+        compare(program, ["check", "m", "i", "n"] + closing, want, kinds)
+    for _ in range(2):
+        slack, drawing = chance.choice([0, 5, 50, 1000, LARGEST_WORD]), chance.choice([1, 2])
+        lot, proposals = random_lot(chance)
+        words = ["solve", "m", "i"]
+        words += [] if slack == 0 else ["--slack", str(slack)]
+        words += closing
+        words += [] if drawing == 2 else ["--draws", str(drawing)]
+        want = wanted(inst, start, start, lambda: report(inst, start, slack, drawing, proposals))
+        compare(program, words + [lot], want, kinds)
+
+
+def main():
+    program, seed, instances = os.path.abspath(sys.argv[1]), int(sys.argv[2]), int(sys.argv[3])
+    kinds = Counter()
+    folder = tempfile.mkdtemp()
+    os.chdir(folder)
+    for number in range(seed, seed + instances):
+        compare_instance(program, random.Random(number), kinds)
+    shutil.rmtree(folder)
+    told = ", ".join(f"{kind} {count}" for kind, count in sorted(kinds.items()))
+    print(f"{instances} instances, no difference; causes and moves met: {told}")
+
+
+main()
