@@ -2,7 +2,6 @@ pub mod CapacityLaws
 pub mod ClosedLaws
 pub mod CostLaws
 pub mod MovedLaws
-pub mod SampleLaws
 pub mod TableLaws
 pub mod TransientLaws
 pub mod StampLemmas

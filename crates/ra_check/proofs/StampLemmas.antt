@@ -12,7 +12,8 @@ use Rattle.ra_model.specs.Assignments.{IsAssignment}
 use Rattle.ra_model.specs.Members.{member_at, members_of, AreMembers}
 use Rattle.ra_model.specs.Places.{AreFirst}
 use Rattle.ra_model.proofs.MemberLemmas.{member_within}
-use Rattle.ra_model.proofs.PlaceLemmas.{machine_read, place_le}
+use Rattle.ra_model.proofs.PlaceLemmas.{place_le}
+use Rattle.ra_model.proofs.TallyLemmas.{machine_at_read}
 use Rattle.ra_check.specs.Stamps.{seat_of, site_of, AreSeated, ArePlaced, AreBelow, AreStamped}
 
 -- a read of a mark
@@ -26,7 +27,7 @@ seat_there processes k n within = within
 
 pub seat_read : (a : List Machine) (processes : List Process) (k : ℕ) (m : Machine) → member_at processes k < length a → m ≡ get_or a (get_or processes k (record { 0 = 0 })).0 m → m.0 ≡ seat_of a processes k
 unfolding seat_of member_at
-seat_read a processes k m within read = machine_read a (get_or processes k (record { 0 = 0 })).0 m within read
+seat_read a processes k m within read = machine_at_read a (get_or processes k (record { 0 = 0 })).0 m within read
 
 pub ruleset reads = (mark_read, seat_there, seat_read)
 

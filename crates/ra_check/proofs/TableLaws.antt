@@ -18,11 +18,6 @@ use Rattle.ra_check.specs.Stands.{IsTally, AddsShare, IsBelow}
 pub replicate_more : {A : Type 0} → (n : ℕ) (a : A) → replicate n a ++ a ∷ [] ≡ replicate (n + 1) a
 replicate_more n a = replicate-append-replicate n 1 a
 
--- what a read of an assignment gives
-pub machine_read : (a : List Machine) (p : ℕ) (m : Machine) → p < length a → m ≡ get_or a p m → m.0 ≡ machine_at a p
-unfolding machine_at
-machine_read a p m within read = ap (λ (x : Machine). x.0) (get_or_read a p m within read _)
-
 -- a table of zeros
 
 pub zeros_at : (n k : ℕ) → get_or {A = ℕ} (replicate n 0) k 0 ≡ 0

@@ -1,4 +1,3 @@
-mod fits;
 mod samples;
 mod services;
 
@@ -6,7 +5,6 @@ use super::*;
 use crate::capacity::broken_capacity;
 use crate::closed::broken_closed;
 use crate::transient::broken_transient;
-use fits::is_assignment;
 use ra_base::{Cause, Fixed, Machine, NoMemory, Parts, Process, Resource};
 use ra_model::Instance;
 use samples::{assignment, instance_at_limits, list, sample};
@@ -20,7 +18,7 @@ type Answer<T> = Result<Option<T>, NoMemory>;
 fn costs(alloc: Global, inst: &Instance, start: &[u32], new: &[u32]) -> Answer<Parts> {
     let a0 = assignment(alloc, start)?;
     let a = assignment(alloc, new)?;
-    if !is_assignment(inst, &a0) || !is_assignment(inst, &a) {
+    if !inst.is_assignment(&a0) || !inst.is_assignment(&a) {
         return Ok(None);
     }
     let mut scratch = Scratch::make(alloc, inst)?;
@@ -30,7 +28,7 @@ fn costs(alloc: Global, inst: &Instance, start: &[u32], new: &[u32]) -> Answer<P
 /// The first use above a capacity.
 fn over_capacity(alloc: Global, inst: &Instance, new: &[u32]) -> Answer<Option<Cause>> {
     let a = assignment(alloc, new)?;
-    if !is_assignment(inst, &a) {
+    if !inst.is_assignment(&a) {
         return Ok(None);
     }
     let mut scratch = Scratch::make(alloc, inst)?;
@@ -46,7 +44,7 @@ fn over_between(
 ) -> Answer<Option<Cause>> {
     let a0 = assignment(alloc, start)?;
     let a = assignment(alloc, new)?;
-    if !is_assignment(inst, &a0) || !is_assignment(inst, &a) {
+    if !inst.is_assignment(&a0) || !inst.is_assignment(&a) {
         return Ok(None);
     }
     let mut scratch = Scratch::make(alloc, inst)?;
@@ -57,7 +55,7 @@ fn over_between(
 fn shut_out(alloc: Global, inst: &Instance, start: &[u32], new: &[u32]) -> Answer<Option<Cause>> {
     let a0 = assignment(alloc, start)?;
     let a = assignment(alloc, new)?;
-    if !is_assignment(inst, &a0) || !is_assignment(inst, &a) {
+    if !inst.is_assignment(&a0) || !inst.is_assignment(&a) {
         return Ok(None);
     }
     Ok(Some(broken_closed(inst, &a0, &a)))

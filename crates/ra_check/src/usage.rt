@@ -63,7 +63,7 @@ pub(crate) fn sum_transient<L: Ledger>(
 }
 
 /// The machine of a process.
-#[tactic(auto, using(crate::proofs::TableLaws::machine_read))]
+#[tactic(auto, using(ra_model::proofs::TallyLemmas::machine_at_read))]
 pub(crate) fn machine_of(a: &Assignment, p: u32) -> Machine
     requires { p < length a.now.items }
     ensures { result.0 ≡ machine_at a.now.items p }

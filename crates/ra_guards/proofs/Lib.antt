@@ -1,3 +1,2 @@
 pub mod GuardLemmas
-pub mod SampleLaws
 pub mod TouchLemmas

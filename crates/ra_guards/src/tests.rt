@@ -1,5 +1,4 @@
 //! Moves on an instance of eight machines, four services and six processes.
-mod fits;
 mod samples;
 
 ghost use Rattle.std.specs.Prelude.{◌≡◌, IsTrue};

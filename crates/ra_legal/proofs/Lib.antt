@@ -1,5 +1,4 @@
 pub mod Standing
 pub mod Clauses
 pub mod SameMoves
-pub mod SampleLaws
 pub mod LotLaws

@@ -1,9 +1,7 @@
-mod fits;
 mod lots;
 mod samples;
 
 use super::*;
-use fits::is_assignment;
 use lots::{one_lot, two_lots};
 use ra_base::{Cause, Machine, Process, Resource};
 use ra_draws::Lots;
@@ -22,7 +20,7 @@ const THREE: [u64; 24] = [
 fn told(rt: &impl Abort, alloc: Global, lots: &Lots, entries: &[Entry]) -> Option<usize> {
     let inst = sample(rt, alloc);
     let a0 = assignment(rt, alloc, &[0, 3, 0]);
-    assert!(rt; is_assignment(&inst, &a0));
+    assert!(rt; inst.is_assignment(&a0));
     first_illegal(alloc, &inst, &a0, lots, entries).expect(rt, "no memory")
 }
 

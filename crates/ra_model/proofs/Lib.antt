@@ -7,3 +7,4 @@ pub mod PartLemmas
 pub mod SortingLemmas
 pub mod MemberLemmas
 pub mod PlaceLemmas
+pub mod RawLemmas

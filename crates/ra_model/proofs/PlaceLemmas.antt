@@ -3,7 +3,7 @@ use Rattle.std.proofs.Common.{◌≡◌, ℕ, ◌+◌, ◌<◌, ◌≤◌, ◌�
 use Rattle.std.specs.Prelude.{unwrap_or}
 use Rattle.std.proofs.Math.Seq.{get_or-append_seam}
 use Rattle.std.proofs.lemmas.Bool.{cases_lt, cases_eq, cond-true, cond-false}
-use Rattle.std.proofs.lemmas.List.{get_or_read, get_or_append_left}
+use Rattle.std.proofs.lemmas.List.{get_or_append_left}
 use Rattle.ra_base.specs.Searches.{or_else, first}
 use Rattle.ra_base.specs.declared.ids.Machine.{Machine}
 use Rattle.ra_base.proofs.Searches.{first_none, first_more, first_some_at, first_none_at, or_else_none_right}
@@ -21,11 +21,6 @@ first_labelled label n x = first n (labelled label x)
 -- what is looked up at a label is the first of n machines with it
 pub record IsKnown (label : ℕ → ℕ) (n : ℕ) (known : ℕ → Option Machine) : Type 0 where
   pub each : (x : ℕ) → known x ≡ first_labelled label n x
-
--- a read of a machine
-pub machine_read : (machines : List Machine) (k : ℕ) (m : Machine) → k < length machines → m ≡ get_or machines k m → m.0 ≡ machine_at machines k
-unfolding machine_at
-machine_read machines k m within read = ap (λ (n : Machine). n.0) (get_or_read machines k m within read (record { 0 = 0 }))
 
 labelled_yes : (label : ℕ → ℕ) (x m : ℕ) → label m ≡ x → labelled label x m ≡ Some (record { 0 = m })
 unfolding labelled

@@ -49,7 +49,7 @@ impl Places {
     }
 
     /// The first machine with the location label of `m`.
-    #[tactic(auto, using(crate::proofs::PlaceLemmas::machine_read))]
+    #[tactic(auto, using(crate::proofs::TallyLemmas::machine_at_read))]
     pub fn location(&self, m: Machine) -> Machine
         requires { m.0 < length self.now.locations }
         ensures { result.0 ≡ machine_at self.now.locations m.0 }
@@ -58,7 +58,7 @@ impl Places {
     }
 
     /// The first machine with the neighbourhood label of `m`.
-    #[tactic(auto, using(crate::proofs::PlaceLemmas::machine_read))]
+    #[tactic(auto, using(crate::proofs::TallyLemmas::machine_at_read))]
     pub fn neighbourhood(&self, m: Machine) -> Machine
         requires { m.0 < length self.now.neighbourhoods }
         ensures { result.0 ≡ machine_at self.now.neighbourhoods m.0 }

@@ -5,6 +5,7 @@
 #![tactic(auto)]
 
 mod copying;
+mod fits;
 mod labels;
 pub mod laws;
 mod members;

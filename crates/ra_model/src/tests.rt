@@ -1,9 +1,10 @@
-ghost use Rattle.std.specs.Prelude.{◌≡◌, ◌<◌, [], ◌∷◌, map, length, IfOk};
+ghost use Rattle.std.specs.Prelude.{◌≡◌, ◌<◌, IfOk};
 
 use super::*;
 use ra_base::{Fixed, Machine, NoMemory, Process, Resource, Service, Steps};
 use std::alloc::Global;
 use std::marker::Brand;
+use std::process::Abort;
 use std::sync::ledger::{Blank, Ledger};
 use std::test::Fail;
 
@@ -16,9 +17,7 @@ fn listed<T: Copy>(alloc: Global, items: &[T]) -> Result<Fixed<T>, NoMemory>
     Ok(list)
 }
 
-fn service_rows(alloc: Global) -> Result<Fixed<ServiceRow>, NoMemory>
-    ensures { IfOk result (λ list. map (λ s. s.dependency_end) list.items ≡ 0 ∷ 1 ∷ []) }
-{
+fn service_rows(alloc: Global) -> Result<Fixed<ServiceRow>, NoMemory> {
     let first = ServiceRow {
         spread_min: 2,
         dependency_end: 0,
@@ -30,9 +29,7 @@ fn service_rows(alloc: Global) -> Result<Fixed<ServiceRow>, NoMemory>
     listed(alloc, &[first, second])
 }
 
-fn process_rows(alloc: Global) -> Result<Fixed<ProcessRow>, NoMemory>
-    ensures { IfOk result (λ list. map (λ p. p.service.0) list.items ≡ 0 ∷ 0 ∷ 1 ∷ []) }
-{
+fn process_rows(alloc: Global) -> Result<Fixed<ProcessRow>, NoMemory> {
     let first = ProcessRow {
         service: Service(0),
         move_cost: 1000,
@@ -48,9 +45,7 @@ fn process_rows(alloc: Global) -> Result<Fixed<ProcessRow>, NoMemory>
     listed(alloc, &[first, second, third])
 }
 
-fn machine_rows(alloc: Global) -> Result<Fixed<MachineRow>, NoMemory>
-    ensures { IfOk result (λ list. length list.items ≡ 4) }
-{
+fn machine_rows(alloc: Global) -> Result<Fixed<MachineRow>, NoMemory> {
     let first = MachineRow {
         neighbourhood: 0,
         location: 0,
@@ -66,9 +61,7 @@ fn machine_rows(alloc: Global) -> Result<Fixed<MachineRow>, NoMemory>
     listed(alloc, &[first, first, third, fourth])
 }
 
-fn resource_rows(alloc: Global) -> Result<Fixed<ResourceRow>, NoMemory>
-    ensures { IfOk result (λ list. length list.items ≡ 2) }
-{
+fn resource_rows(alloc: Global) -> Result<Fixed<ResourceRow>, NoMemory> {
     let first = ResourceRow {
         transient: true,
         load_weight: 100,
@@ -80,10 +73,7 @@ fn resource_rows(alloc: Global) -> Result<Fixed<ResourceRow>, NoMemory>
     listed(alloc, &[first, second])
 }
 
-fn balance_rows(alloc: Global) -> Result<Fixed<BalanceRow>, NoMemory>
-    ensures firsts { IfOk result (λ list. map (λ b. b.first.0) list.items ≡ 0 ∷ []) }
-    ensures seconds { IfOk result (λ list. map (λ b. b.second.0) list.items ≡ 1 ∷ []) }
-{
+fn balance_rows(alloc: Global) -> Result<Fixed<BalanceRow>, NoMemory> {
     let only = BalanceRow {
         first: Resource(0),
         second: Resource(1),
@@ -94,7 +84,7 @@ fn balance_rows(alloc: Global) -> Result<Fixed<BalanceRow>, NoMemory>
 }
 
 /// Two resources, four machines, two services and three processes.
-fn sample(alloc: Global) -> Result<Instance, NoMemory> {
+fn sample_lists(alloc: Global) -> Result<RawInstance, NoMemory> {
     let resources = resource_rows(alloc)?;
     let machines = machine_rows(alloc)?;
     let capacities = listed(alloc, &[30, 400, 10, 240, 15, 100, 10, 100])?;
@@ -105,7 +95,7 @@ fn sample(alloc: Global) -> Result<Instance, NoMemory> {
     let processes = process_rows(alloc)?;
     let requirements = listed(alloc, &[12, 10, 10, 20, 6, 200])?;
     let balances = balance_rows(alloc)?;
-    Ok(Instance::of(RawInstance {
+    Ok(RawInstance {
         resources,
         machines,
         capacities,
@@ -119,7 +109,14 @@ fn sample(alloc: Global) -> Result<Instance, NoMemory> {
         process_weight: 1,
         service_weight: 10,
         machine_weight: 100,
-    }))
+    })
+}
+
+/// Their instance.
+fn sample(rt: &impl Abort, alloc: Global) -> Result<Instance, NoMemory> {
+    let raw = sample_lists(alloc)?;
+    assert!(rt; raw.is_instance());
+    Ok(Instance::of(raw))
 }
 
 fn counts(instance: &Instance) -> [u32; 5] {
@@ -204,7 +201,7 @@ fn without_third(alloc: Global, instance: Instance) -> Result<Instance, NoMemory
 
 #[test]
 fn the_sample_is_read_back(rt: HostRuntime) -> Result<(), Fail> {
-    let instance = sample(rt.alloc())?;
+    let instance = sample(&rt, rt.alloc())?;
     assert_eq!(rt; counts(&instance), [2, 4, 2, 3, 1]);
     assert_eq!(rt; weights(&instance), [1, 10, 100]);
     assert_eq!(rt;
@@ -222,10 +219,132 @@ fn the_sample_is_read_back(rt: HostRuntime) -> Result<(), Fail> {
 
 #[test]
 fn closed_machines_are_those_flagged(rt: HostRuntime) -> Result<(), Fail> {
-    let open = sample(rt.alloc())?;
+    let open = sample(&rt, rt.alloc())?;
     assert!(rt; !is_closed(&open, Machine(2)));
     let closing = without_third(rt.alloc(), open)?;
     assert!(rt; is_closed(&closing, Machine(2)));
     assert!(rt; !is_closed(&closing, Machine(3)));
+    Ok(())
+}
+
+/// Lengths of lists and tables, and what is named in them.
+#[derive(Clone, Copy)]
+struct Shape {
+    capacities: &'static [u32],
+    safeties: &'static [u32],
+    move_costs: &'static [u32],
+    requirements: &'static [u32],
+    first_end: u32,
+    second_end: u32,
+    needs: u32,
+    service: u32,
+    second_resource: u32,
+}
+
+/// Those of the sample.
+const SAMPLE: Shape = Shape {
+    capacities: &[0; 8],
+    safeties: &[0; 8],
+    move_costs: &[0; 16],
+    requirements: &[0; 6],
+    first_end: 0,
+    second_end: 1,
+    needs: 0,
+    service: 1,
+    second_resource: 1,
+};
+
+/// The sample's lists with such a shape.
+fn shaped(alloc: Global, shape: &Shape) -> Result<RawInstance, NoMemory> {
+    let first = ServiceRow {
+        spread_min: 2,
+        dependency_end: shape.first_end,
+    };
+    let second = ServiceRow {
+        spread_min: 1,
+        dependency_end: shape.second_end,
+    };
+    let process = ProcessRow {
+        service: Service(shape.service),
+        move_cost: 1,
+    };
+    let balance = BalanceRow {
+        first: Resource(0),
+        second: Resource(shape.second_resource),
+        target: 20,
+        weight: 10,
+    };
+    let mut raw = sample_lists(alloc)?;
+    raw.capacities = listed(alloc, shape.capacities)?;
+    raw.safeties = listed(alloc, shape.safeties)?;
+    raw.move_costs = listed(alloc, shape.move_costs)?;
+    raw.requirements = listed(alloc, shape.requirements)?;
+    raw.services = listed(alloc, &[first, second])?;
+    raw.dependencies = listed(alloc, &[Service(shape.needs)])?;
+    raw.processes = listed(alloc, &[process, process, process])?;
+    raw.balances = listed(alloc, &[balance])?;
+    Ok(raw)
+}
+
+#[test]
+fn lists_that_fit_one_another_are_an_instance(rt: HostRuntime) -> Result<(), Fail> {
+    assert!(rt; shaped(rt.alloc(), &SAMPLE)?.is_instance());
+    let misshapen = [
+        Shape {
+            capacities: &[0; 7],
+            ..SAMPLE
+        },
+        Shape {
+            safeties: &[0; 9],
+            ..SAMPLE
+        },
+        Shape {
+            move_costs: &[0; 12],
+            ..SAMPLE
+        },
+        Shape {
+            requirements: &[0; 5],
+            ..SAMPLE
+        },
+        Shape {
+            first_end: 2,
+            ..SAMPLE
+        },
+        Shape {
+            second_end: 0,
+            ..SAMPLE
+        },
+        Shape {
+            second_end: 2,
+            ..SAMPLE
+        },
+        Shape { needs: 2, ..SAMPLE },
+        Shape {
+            service: 2,
+            ..SAMPLE
+        },
+        Shape {
+            second_resource: 2,
+            ..SAMPLE
+        },
+    ];
+    for shape in &misshapen {
+        assert!(rt; !shaped(rt.alloc(), shape)?.is_instance());
+    }
+    Ok(())
+}
+
+#[test]
+fn each_process_has_one_machine_of_the_instance(rt: HostRuntime) -> Result<(), Fail> {
+    let instance = sample(&rt, rt.alloc())?;
+    let (first, last) = (Machine(0), Machine(3));
+    let fitting = listed(rt.alloc(), &[first, last, first])?;
+    assert!(rt; instance.is_assignment(&fitting));
+    let past_last = listed(rt.alloc(), &[first, Machine(4), first])?;
+    assert!(rt; !instance.is_assignment(&past_last));
+    let one_few = listed(rt.alloc(), &[first, last])?;
+    assert!(rt; !instance.is_assignment(&one_few));
+    let one_more = listed(rt.alloc(), &[first, last, first, first])?;
+    assert!(rt; !instance.is_assignment(&one_more));
     Ok(())
 }

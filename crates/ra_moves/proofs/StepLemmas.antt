@@ -7,10 +7,6 @@ use Rattle.ra_model.specs.Assignments.{machine_at}
 use Rattle.ra_moves.specs.declared.steps.Step.{Step}
 use Rattle.ra_moves.specs.Steps.{step_at}
 
-pub machine_read : (a : List Machine) (p : ℕ) (m : Machine) → p < length a → m ≡ slice_index_or a p m → m.0 ≡ machine_at a p
-unfolding machine_at
-machine_read a p m within read = ap (λ (n : Machine). n.0) (get_or_read a p m within read _)
-
 pub step_first : (i : ℕ) (s : Step) (steps : List Step) → i ≡ 0 → s ≡ step_at (s ∷ steps) i
 unfolding step_at
 step_first i s steps here = rw here refl

@@ -153,7 +153,7 @@ fn step(a: &Assignment, process: Process, to: Machine) -> Step
 }
 
 /// The machine of a process.
-#[tactic(auto, using(crate::proofs::StepLemmas::machine_read))]
+#[tactic(auto, using(ra_model::proofs::TallyLemmas::machine_at_read))]
 fn at(a: &Assignment, p: Process) -> Machine
     requires { p.0 < length a.now.items }
     ensures { result.0 ≡ machine_at a.now.items p.0 }

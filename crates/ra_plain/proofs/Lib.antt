@@ -1,4 +1,3 @@
 pub mod Judged
 pub mod Fitting
 pub mod Cheapest
-pub mod SampleLaws

@@ -1,9 +1,7 @@
-mod fits;
 mod plans;
 mod samples;
 
 use super::*;
-use fits::is_assignment;
 use ra_base::{Cause, Drawing, Machine, Process, Resource, Service};
 use ra_check::{Scratch, parts};
 use ra_model::Instance;
@@ -38,8 +36,8 @@ fn judged(
 ) -> Verdict {
     let a0 = assignment(rt, alloc, start);
     let mut a = assignment(rt, alloc, now);
-    assert!(rt; is_assignment(inst, &a0));
-    assert!(rt; is_assignment(inst, &a));
+    assert!(rt; inst.is_assignment(&a0));
+    assert!(rt; inst.is_assignment(&a));
     let mut scratch = Scratch::make(alloc, inst).expect(rt, "no memory");
     let before = parts(inst, &a0, &a, &mut scratch).total;
     let _some = options(words, inst.machines(), Drawing::One);

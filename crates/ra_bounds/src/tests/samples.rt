@@ -1,11 +1,11 @@
 //! Small instances that are built by hand.
-ghost use Rattle.std.specs.Prelude.{◌≡◌, [], ◌∷◌, map, length, IfOk};
 
 use ra_base::{Fixed, NoMemory, Resource, Service};
 use ra_model::{
     BalanceRow, Instance, MachineRow, ProcessRow, RawInstance, ResourceRow, ServiceRow,
 };
 use std::alloc::Global;
+use std::process::Abort;
 
 /// The numbers of an instance that its bound rests on. The instance has two resources, four machines, two services and
 /// three processes. Its one objective weighs the first resource against the second.
@@ -30,17 +30,13 @@ pub(super) const SAMPLE: Numbers = Numbers {
 };
 
 /// The list of these items.
-fn listed<T: Copy>(alloc: Global, items: &[T]) -> Result<Fixed<T>, NoMemory>
-    ensures { IfOk result (λ list. list.items ≡ items.now) }
-{
+fn listed<T: Copy>(alloc: Global, items: &[T]) -> Result<Fixed<T>, NoMemory> {
     let mut list = Fixed::make(alloc, items.len())?;
     list.extend_from_slice(items);
     Ok(list)
 }
 
-fn resource_rows(alloc: Global, load_weights: [u32; 2]) -> Result<Fixed<ResourceRow>, NoMemory>
-    ensures { IfOk result (λ list. length list.items ≡ 2) }
-{
+fn resource_rows(alloc: Global, load_weights: [u32; 2]) -> Result<Fixed<ResourceRow>, NoMemory> {
     let first = ResourceRow {
         transient: true,
         load_weight: load_weights[0],
@@ -52,9 +48,7 @@ fn resource_rows(alloc: Global, load_weights: [u32; 2]) -> Result<Fixed<Resource
     listed(alloc, &[first, second])
 }
 
-fn machine_rows(alloc: Global) -> Result<Fixed<MachineRow>, NoMemory>
-    ensures { IfOk result (λ list. length list.items ≡ 4) }
-{
+fn machine_rows(alloc: Global) -> Result<Fixed<MachineRow>, NoMemory> {
     let first = MachineRow {
         neighbourhood: 0,
         location: 0,
@@ -70,9 +64,7 @@ fn machine_rows(alloc: Global) -> Result<Fixed<MachineRow>, NoMemory>
     listed(alloc, &[first, first, third, fourth])
 }
 
-fn service_rows(alloc: Global) -> Result<Fixed<ServiceRow>, NoMemory>
-    ensures { IfOk result (λ list. map (λ s. s.dependency_end) list.items ≡ 0 ∷ 1 ∷ []) }
-{
+fn service_rows(alloc: Global) -> Result<Fixed<ServiceRow>, NoMemory> {
     let first = ServiceRow {
         spread_min: 2,
         dependency_end: 0,
@@ -84,9 +76,7 @@ fn service_rows(alloc: Global) -> Result<Fixed<ServiceRow>, NoMemory>
     listed(alloc, &[first, second])
 }
 
-fn process_rows(alloc: Global) -> Result<Fixed<ProcessRow>, NoMemory>
-    ensures { IfOk result (λ list. map (λ p. p.service.0) list.items ≡ 0 ∷ 0 ∷ 1 ∷ []) }
-{
+fn process_rows(alloc: Global) -> Result<Fixed<ProcessRow>, NoMemory> {
     let first = ProcessRow {
         service: Service(0),
         move_cost: 1000,
@@ -102,10 +92,7 @@ fn process_rows(alloc: Global) -> Result<Fixed<ProcessRow>, NoMemory>
     listed(alloc, &[first, second, third])
 }
 
-fn balance_rows(alloc: Global, target: u32, weight: u32) -> Result<Fixed<BalanceRow>, NoMemory>
-    ensures firsts { IfOk result (λ list. map (λ b. b.first.0) list.items ≡ 0 ∷ []) }
-    ensures seconds { IfOk result (λ list. map (λ b. b.second.0) list.items ≡ 1 ∷ []) }
-{
+fn balance_rows(alloc: Global, target: u32, weight: u32) -> Result<Fixed<BalanceRow>, NoMemory> {
     let only = BalanceRow {
         first: Resource(0),
         second: Resource(1),
@@ -116,7 +103,11 @@ fn balance_rows(alloc: Global, target: u32, weight: u32) -> Result<Fixed<Balance
 }
 
 /// The sample with these numbers.
-pub(super) fn instance(alloc: Global, numbers: &Numbers) -> Result<Instance, NoMemory> {
+pub(super) fn instance(
+    rt: &impl Abort,
+    alloc: Global,
+    numbers: &Numbers,
+) -> Result<Instance, NoMemory> {
     let resources = resource_rows(alloc, numbers.load_weights)?;
     let machines = machine_rows(alloc)?;
     let capacities = listed(alloc, &numbers.capacities)?;
@@ -127,7 +118,7 @@ pub(super) fn instance(alloc: Global, numbers: &Numbers) -> Result<Instance, NoM
     let processes = process_rows(alloc)?;
     let requirements = listed(alloc, &numbers.requirements)?;
     let balances = balance_rows(alloc, numbers.target, numbers.weight)?;
-    Ok(Instance::of(RawInstance {
+    let raw = RawInstance {
         resources,
         machines,
         capacities,
@@ -141,5 +132,7 @@ pub(super) fn instance(alloc: Global, numbers: &Numbers) -> Result<Instance, NoM
         process_weight: 1,
         service_weight: 10,
         machine_weight: 100,
-    }))
+    };
+    assert!(rt; raw.is_instance());
+    Ok(Instance::of(raw))
 }

@@ -1,5 +1,4 @@
 //! Instances and assignments that are built by hand.
-use super::fits::is_instance;
 use ra_base::{Assignment, Fixed, Machine, NoMemory, Resource, Service};
 use ra_model::{
     BalanceRow, Instance, MachineRow, ProcessRow, RawInstance, ResourceRow, ServiceRow,
@@ -55,7 +54,7 @@ fn process(service: u32, move_cost: u32) -> ProcessRow {
 }
 
 fn checked(raw: RawInstance) -> Option<Instance> {
-    if is_instance(&raw) {
+    if raw.is_instance() {
         Some(Instance::of(raw))
     } else {
         None

@@ -1,5 +1,4 @@
 //! The checks of services on an instance of five machines, four services and seven processes.
-use super::fits::{is_assignment, is_instance};
 use super::samples::{assignment, list};
 use crate::conflict::broken_conflict;
 use crate::dependency::broken_dependency;
@@ -100,7 +99,7 @@ fn instance(alloc: Global) -> Result<Option<Instance>, NoMemory> {
         service_weight: 1,
         machine_weight: 1,
     };
-    Ok(if is_instance(&raw) {
+    Ok(if raw.is_instance() {
         Some(Instance::of(raw))
     } else {
         None
@@ -115,7 +114,7 @@ fn causes(
 ) -> Result<(Option<Cause>, Option<Cause>, Option<Cause>), Fail> {
     let inst = instance(alloc)?.ok_or("the lists are no instance")?;
     let a = assignment(alloc, machines)?;
-    assert!(rt; is_assignment(&inst, &a));
+    assert!(rt; inst.is_assignment(&a));
     let mut checks = Services::make(alloc, &inst)?;
     let dependency = broken_dependency(&inst, &a, &mut checks);
     let spread = broken_spread(&inst, &a, &mut checks);

@@ -1,5 +1,4 @@
 //! An instance that is built by hand.
-use super::fits::is_instance;
 use ra_base::{Fixed, NoMemory, Service};
 use ra_model::{Instance, MachineRow, ProcessRow, RawInstance, ResourceRow, ServiceRow};
 use std::alloc::Global;
@@ -66,7 +65,7 @@ pub(super) fn instance(alloc: Global) -> Result<Option<Instance>, NoMemory> {
         service_weight: 1,
         machine_weight: 1,
     };
-    Ok(if is_instance(&raw) {
+    Ok(if raw.is_instance() {
         Some(Instance::of(raw))
     } else {
         None

@@ -1,7 +1,6 @@
 //! The sample instance, built by hand, and assignments.
 ghost use Rattle.std.specs.Prelude.{◌≡◌};
 
-use super::fits::is_instance;
 use ra_base::{Assignment, Fixed, Machine, Resource, Service};
 use ra_model::{
     BalanceRow, Instance, MachineRow, ProcessRow, RawInstance, ResourceRow, ServiceRow,
@@ -89,6 +88,6 @@ pub(super) fn sample(rt: &impl Abort, alloc: Global) -> Instance {
         service_weight: 10,
         machine_weight: 100,
     };
-    assert!(rt; is_instance(&raw));
+    assert!(rt; raw.is_instance());
     Instance::of(raw)
 }

@@ -1,5 +1,4 @@
 //! What proposals name, judge and choose.
-use super::fits::is_assignment;
 use super::samples::{assignment, crossed_pair, list, sample, single, tight_pair};
 use crate::{Planned, plan_plainly};
 use ra_base::{Cause, Drawing, Machine, Process, Resource, Service};
@@ -37,8 +36,8 @@ fn planned(
     let a0 = assignment(rt, alloc, start);
     let a = assignment(rt, alloc, now);
     let mut other = list(rt, alloc, a.as_slice());
-    assert!(rt; is_assignment(inst, &a0));
-    assert!(rt; is_assignment(inst, &a));
+    assert!(rt; inst.is_assignment(&a0));
+    assert!(rt; inst.is_assignment(&a));
     let mut scratch = Scratch::make(alloc, inst).expect(rt, "no memory");
     let before = parts(inst, &a0, &a, &mut scratch).total;
     let planned = plan_plainly(

@@ -1,7 +1,6 @@
 //! Instances and assignments that are built by hand.
 ghost use Rattle.std.specs.Prelude.{◌≡◌};
 
-use super::fits::is_instance;
 use ra_base::{Assignment, Fixed, Machine, Resource, Service};
 use ra_model::{
     BalanceRow, Instance, MachineRow, ProcessRow, RawInstance, ResourceRow, ServiceRow,
@@ -88,7 +87,7 @@ fn instance(rt: &impl Abort, alloc: Global, lists: &Lists<'_>) -> Instance {
         service_weight: lists.weights[1],
         machine_weight: lists.weights[2],
     };
-    assert!(rt; is_instance(&raw));
+    assert!(rt; raw.is_instance());
     Instance::of(raw)
 }
 
