@@ -1,0 +1,63 @@
+"""Times commands side by side: each round runs each of them once. Seconds and ratios are the medians of all rounds, since
+a machine may be slower for a while.
+
+usage: measure.py PROGRAM LOOP FOLDER
+
+FOLDER has the instances 1000, 5000 and 100 of make_instance.py. LOOP is the plain loop of numbers.c.
+"""
+import os
+import subprocess
+import sys
+from statistics import median
+
+ROUNDS = 15
+PROPOSALS = 200
+
+
+def seconds_and_peak(command):
+    """Seconds of processor time, and the peak of memory in MB, of one run."""
+    ran = subprocess.Popen(command, stdout=subprocess.DEVNULL)
+    _, status, usage = os.wait4(ran.pid, 0)
+    ran.returncode = os.waitstatus_to_exitcode(status)
+    if ran.returncode != 0:
+        sys.exit(f"{' '.join(command)}: status {ran.returncode}")
+    return usage.ru_utime + usage.ru_stime, usage.ru_maxrss / 1024
+
+
+def measure(commands):
+    """Prints a line for each named command; gives the seconds of each in each round."""
+    runs = {name: [] for name in commands}
+    for _ in range(ROUNDS):
+        for name, command in commands.items():
+            runs[name].append(seconds_and_peak(command))
+    for name, taken in runs.items():
+        seconds, peak = median(s for s, _ in taken), max(peak for _, peak in taken)
+        print(f"  {name}: {seconds:.3f} s, peak {peak:.1f} MB")
+    return {name: [seconds for seconds, _ in taken] for name, taken in runs.items()}
+
+
+def main():
+    program, loop, folder = sys.argv[1:4]
+    for machines in ["1000", "5000"]:
+        model, initial, new = (
+            os.path.join(folder, machines, name) for name in ["model", "initial", "new"]
+        )
+        print(f"{machines} machines, a model of {os.path.getsize(model)} bytes")
+        loops, *others = measure(
+            {
+                "plain C loop over the model": [loop, model],
+                "reassign bound": [program, "bound", model],
+                "reassign check": [program, "check", model, initial, new],
+            }
+        ).items()
+        for name, seconds in others:
+            ratio = median(own / max(plain, 0.001) for own, plain in zip(seconds, loops[1]))
+            print(f"  {name} takes {ratio:.2f} times the loop's time")
+    model, initial = (os.path.join(folder, "100", name) for name in ["model", "initial"])
+    print("100 machines, 1000 processes, 4 resources")
+    lot = f"7:{PROPOSALS}"
+    (seconds,) = measure({f"reassign solve {lot}": [program, "solve", model, initial, lot]}).values()
+    print(f"  {PROPOSALS / median(seconds):.0f} proposals per second")
+
+
+main()
