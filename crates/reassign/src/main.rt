@@ -4,6 +4,14 @@
 //! handed in. `main` hands in those of the system.
 #![tactic(auto)]
 
+ghost use Rattle.std.specs.Prelude.{◌≡◌, ◌⊎◌, ◌↔◌, [], ◌∷◌};
+ghost use Rattle.std.specs.IoError.{error_kind};
+ghost use Rattle.ra_report.specs.FaultTexts.{usage_line};
+ghost use Rattle.ra_report.specs.Pieces.{Puts, joined};
+ghost use Rattle.ra_report.specs.Texts.{line_end};
+ghost use Rattle.reassign.specs.Files.{Names};
+ghost use Rattle.reassign.specs.Lines.{refusal_line};
+
 mod bound;
 mod check;
 mod checks;
@@ -63,7 +71,12 @@ fn words_of<R: Env + AllocGlobal>(rt: &R) -> io::Result<Vec<String>> {
 }
 
 /// Refuses a command line that was not read: for want of memory, or since a word is no text.
-fn refuse_line<E: Sink>(err: &mut E, error: &io::Error) -> Status {
+fn refuse_line<E: Sink>(err: &mut E, error: &io::Error) -> Status
+    ensures status { (result ≡ Status.NoMemory) ⊎ (result ≡ Status.Usage) }
+    ensures memory { (result ≡ Status.NoMemory) ↔ (error_kind error.now ≡ ErrorKind.OutOfMemory) }
+    ensures memory_line { result ≡ Status.NoMemory → (names : Names) → Puts (E.taken err.old) (E.taken err.new) (E.faults err.old) (E.faults err.new) (refusal_line names Refusal.Memory) }
+    ensures usage_line { result ≡ Status.Usage → Puts (E.taken err.old) (E.taken err.new) (E.faults err.old) (E.faults err.new) (joined (usage_line ∷ line_end ∷ [])) }
+{
     if error.kind() == ErrorKind::OutOfMemory {
         refuse_memory(err)
     } else {
