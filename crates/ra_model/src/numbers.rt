@@ -40,12 +40,8 @@ impl Instance {
         ensures { result.tables ≡ with_closed self.tables flags }
     {
         let Instance { tables } = self;
-        let Tables { raw, closed: _ } = tables;
         Instance {
-            tables: Tables {
-                raw,
-                closed: Some(flags),
-            },
+            tables: tables.closing(flags),
         }
     }
 

@@ -1,4 +1,4 @@
-ghost use Rattle.std.specs.Prelude.{ℕ, ◌^◌, ◌<◌};
+ghost use Rattle.std.specs.Prelude.{◌≡◌, ℕ, ◌^◌, ◌<◌};
 
 use ra_base::{Fixed, Resource, Service};
 
@@ -58,7 +58,7 @@ pub struct BalanceRow {
 }
 
 /// The lists of a model file. Tables are stored by machine or by process first.
-#[derive(Debug, Drop)]
+#[derive(Debug)]
 pub struct RawInstance {
     pub resources: Fixed<ResourceRow>,
     pub machines: Fixed<MachineRow>,
@@ -83,10 +83,54 @@ pub struct RawInstance {
     ghost small_machine_weight: { machine_weight < 2 ^ 32 },
 }
 
+/// Lets all lists go. It is written out so that the end of an owner is one call, and not the ends of ten lists at each
+/// of its exits, which take long to prove.
+impl Drop for RawInstance {
+    fn drop(self) {
+        let RawInstance {
+            resources: _,
+            machines: _,
+            capacities: _,
+            safeties: _,
+            move_costs: _,
+            services: _,
+            dependencies: _,
+            processes: _,
+            requirements: _,
+            balances: _,
+            process_weight: _,
+            service_weight: _,
+            machine_weight: _,
+        } = self;
+    }
+}
+
 /// All numbers of an instance: the lists of the model file, and one flag for each machine that says whether it is
 /// closed. No list of flags means that no machine is closed.
-#[derive(Debug, Drop)]
+#[derive(Debug)]
 pub struct Tables {
     pub raw: RawInstance,
     pub closed: Option<Fixed<bool>>,
+}
+
+/// Lets the lists and the flags go, in one call, as `RawInstance` does.
+impl Drop for Tables {
+    fn drop(self) {
+        let Tables { raw: _, closed: _ } = self;
+    }
+}
+
+impl Tables {
+    ghost use Rattle.ra_model.specs.Numbers.{with_closed};
+
+    /// The same lists with exactly the flagged machines closed.
+    pub(crate) fn closing(self, flags: Fixed<bool>) -> Tables
+        ensures { result ≡ with_closed self flags }
+    {
+        let Tables { raw, closed: _ } = self;
+        Tables {
+            raw,
+            closed: Some(flags),
+        }
+    }
 }

@@ -3,6 +3,6 @@ use Rattle.ra_model.proofs.numbers.Instance.closing.Goals as goal
 
 pub invariant_of-result : goal.invariant_of-result
 invariant_of-result c = record {
-  well_formed = well_formed_closed c.args.self.tables c.args.flags c.args.self.well_formed;
-  small = small_closed c.args.self.tables c.args.flags c.args.self.small;
+  well_formed = rw (c.closing.ensures) (well_formed_closed c.args.self.tables c.args.flags c.args.self.well_formed);
+  small = rw (c.closing.ensures) (small_closed c.args.self.tables c.args.flags c.args.self.small);
 }
