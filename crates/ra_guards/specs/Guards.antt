@@ -4,7 +4,8 @@ use Rattle.ra_base.specs.Sums.{count, is_named}
 use Rattle.ra_base.specs.declared.ids.Guard.{Guard}
 use Rattle.ra_base.specs.declared.ids.Guard.TheVariants as guard
 use Rattle.ra_model.specs.declared.raw.Tables.{Tables}
-use Rattle.ra_model.specs.Numbers.{process_count, service_of, dependency_count, need_of}
+use Rattle.ra_model.specs.Numbers.{process_count, service_of}
+use Rattle.ra_model.specs.Relations.{are_joined}
 use Rattle.ra_moves.specs.declared.steps.Step.{Step}
 use Rattle.ra_moves.specs.Steps.{process_in, from_in, to_in}
 
@@ -19,14 +20,6 @@ service_in i steps j = service_of i (process_in steps j)
 -- a process of service s moves
 unfoldable pub moves_service : Tables → List Step → ℕ → Bool
 moves_service i steps s = is_named (length steps) (service_in i steps) s
-
--- service s depends on service u
-unfoldable pub depends : Tables → ℕ → ℕ → Bool
-depends i s u = is_named (dependency_count i s) (need_of i s) u
-
--- one of two services depends on the other
-unfoldable pub are_joined : Tables → ℕ → ℕ → Bool
-are_joined i s u = depends i s u || depends i u s
 
 -- a service that moves depends on service u, or service u on one that moves
 unfoldable pub reads_service : Tables → List Step → ℕ → Bool

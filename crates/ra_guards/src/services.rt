@@ -1,6 +1,7 @@
 ghost use Rattle.std.specs.Prelude.{◌≡◌, ◌<◌};
 ghost use Rattle.ra_model.specs.Numbers.{service_count};
-ghost use Rattle.ra_guards.specs.Guards.{AreKnown, moves_service, depends, are_joined, reads_service, guards_service};
+ghost use Rattle.ra_model.specs.Relations.{depends, are_joined};
+ghost use Rattle.ra_guards.specs.Guards.{AreKnown, moves_service, reads_service, guards_service};
 
 use ra_base::Service;
 use ra_model::Instance;
@@ -46,7 +47,7 @@ fn reads_service(inst: &Instance, mv: &Move, service: Service) -> bool
 }
 
 /// Whether one of two services depends on the other.
-#[tactic(auto, unfolding(crate::specs::Guards::are_joined))]
+#[tactic(auto, unfolding(ra_model::specs::Relations::are_joined))]
 fn are_joined(inst: &Instance, one: Service, other: Service) -> bool
     requires one { one.0 < service_count inst.now.tables }
     requires other { other.0 < service_count inst.now.tables }
@@ -56,7 +57,7 @@ fn are_joined(inst: &Instance, one: Service, other: Service) -> bool
 }
 
 /// Whether a service depends on another.
-#[tactic(auto, using(ra_base::proofs::Named::names, crate::proofs::GuardLemmas::need_read), unfolding(crate::specs::Guards::depends))]
+#[tactic(auto, using(ra_base::proofs::Named::names, crate::proofs::GuardLemmas::need_read), unfolding(ra_model::specs::Relations::depends))]
 fn depends(inst: &Instance, service: Service, on: Service) -> bool
     requires { service.0 < service_count inst.now.tables }
     ensures { result ≡ depends inst.now.tables service.0 on.0 }

@@ -10,6 +10,7 @@ pub mod Numbers
 pub mod Parts
 pub mod PlaceLists
 pub mod Places
+pub mod Relations
 pub mod Services
 pub mod Sorting
 pub mod Usage
