@@ -2,6 +2,7 @@ pub mod InstanceLemmas
 pub mod TallyLemmas
 pub mod BrokenLemmas
 pub mod BoundLemmas
+pub mod MachineLemmas
 pub mod CopyLemmas
 pub mod PartLemmas
 pub mod SortingLemmas

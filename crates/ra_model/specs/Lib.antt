@@ -5,6 +5,7 @@ pub mod Costs
 pub mod Feasible
 pub mod Laws
 pub mod Limits
+pub mod MachineCosts
 pub mod Members
 pub mod Numbers
 pub mod Parts

@@ -1,5 +1,6 @@
 //! Laws of the definitions: each function does nothing, and its contract is a law that was proved.
 ghost use Rattle.ra_model.specs.Laws.{BrokenNamesAll, BrokenNamesConstraints, OneShareChanges, CountsGoOverMembers, AllSumsFit};
+ghost use Rattle.ra_model.specs.MachineCosts.{LoadIsByMachine, BalanceIsByMachine, AllMachineCostsFit};
 
 /// An assignment for which no broken constraint is named is feasible, and for a feasible one none is named.
 pub fn broken_names_all()
@@ -24,4 +25,19 @@ pub fn counts_go_over_members()
 /// No sum of an instance is too large for the numbers of a program.
 pub fn all_sums_fit()
     ensures { AllSumsFit }
+{}
+
+/// The load cost is the sum over the machines of what each adds to it.
+pub fn load_is_by_machine()
+    ensures { LoadIsByMachine }
+{}
+
+/// The balance cost is the sum over the machines of what each adds to it.
+pub fn balance_is_by_machine()
+    ensures { BalanceIsByMachine }
+{}
+
+/// No cost of a machine is too large for the numbers of a program.
+pub fn all_machine_costs_fit()
+    ensures { AllMachineCostsFit }
 {}
