@@ -3,3 +3,4 @@ pub mod OptionLemmas
 pub mod Settled
 pub mod StepLemmas
 pub mod Repeats
+pub mod ValueLemmas

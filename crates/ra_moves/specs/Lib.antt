@@ -5,3 +5,4 @@ pub mod Options
 pub mod Replacing
 pub mod Settling
 pub mod Steps
+pub mod Values
