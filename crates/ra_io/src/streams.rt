@@ -42,40 +42,8 @@ impl<W: Write + Drop> Sink for OutSink<W> {
     }
 }
 
-/// Standard error, or another writer in its place. What it took is untold.
-#[derive(Drop)]
-pub struct ErrSink<W: Write + Drop> {
-    to: W,
-    faults: Count,
-}
-
-impl<W: Write + Drop> ErrSink<W> {
-    /// A sink that writes to this writer.
-    pub fn make(to: W) -> ErrSink<W>
-        ensures { ⟦<ErrSink<W> as Sink>⟧.faults result ≡ 0 }
-    {
-        ErrSink {
-            to,
-            faults: Count::make(),
-        }
-    }
-}
-
-impl<W: Write + Drop> Sink for ErrSink<W> {
-    ghost taken = { λ s. None };
-
-    ghost faults = { λ s. s.faults.value };
-
-    ghost counted = { λ s. s.faults.small };
-
-    fn put(&mut self, piece: &[u8]) -> Result<usize, Failed>
-        ensures some { IfOk result (λ n. 0 < n) }
-        ensures bound { IfOk result (λ n. n ≤ length piece.now) }
-        ensures faults { self.new.faults.value ≡ (if is_err result then raised self.old.faults.value else self.old.faults.value) }
-    {
-        counted(write_some(&mut self.to, piece), &mut self.faults)
-    }
-}
+/// The same over standard error.
+pub type ErrSink<W> = OutSink<W>;
 
 /// Writes the front of a piece and flushes. To take nothing is an error.
 fn write_some<W: Write>(to: &mut W, piece: &[u8]) -> io::Result<usize>
