@@ -1,0 +1,15 @@
+-- What the lists that were made have to do with the slices that they were made of.
+use Rattle.std.specs.Prelude.{◌≡◌, slice_index}
+use Rattle.ra_model.specs.declared.raw.RawInstance.{RawInstance}
+use Rattle.ra_samples.specs.declared.lists.Lists.{Lists}
+
+-- each list and each weight is that of the slices
+unfoldable pub IsCopy : RawInstance → Lists → Type 0
+IsCopy raw lists =
+    (raw.resources.items ≡ lists.resources.now) × (raw.machines.items ≡ lists.machines.now)
+    × (raw.capacities.items ≡ lists.capacities.now) × (raw.safeties.items ≡ lists.safeties.now)
+    × (raw.move_costs.items ≡ lists.move_costs.now) × (raw.services.items ≡ lists.services.now)
+    × (raw.dependencies.items ≡ lists.dependencies.now) × (raw.processes.items ≡ lists.processes.now)
+    × (raw.requirements.items ≡ lists.requirements.now) × (raw.balances.items ≡ lists.balances.now)
+    × (raw.process_weight ≡ slice_index lists.weights 0) × (raw.service_weight ≡ slice_index lists.weights 1)
+    × (raw.machine_weight ≡ slice_index lists.weights 2)

@@ -1,0 +1,15 @@
+//! Instances that the tests of other crates stand on, each made of the same few slices, and the lists and assignments
+//! that such tests write.
+#![tactic(auto)]
+
+mod instances;
+mod lists;
+mod numbers;
+mod pairs;
+mod rows;
+
+pub use instances::{eight_machines, seven_processes, single};
+pub use lists::{Lists, NotMade, assignment, instance, list};
+pub use numbers::{Numbers, SAMPLE, sample, sample_with};
+pub use pairs::{crossed_pair, pair_at_limits, tight_pair};
+pub use rows::{balance, machine, process, resource, service};
