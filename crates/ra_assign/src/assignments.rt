@@ -27,10 +27,13 @@ pub fn read_assignment<F: Files>(
     name: &str,
     inst: &Instance,
 ) -> Result<Assignment, AssignFault>
-    ensures ok { IfOk result (λ a. IfSome (F.held files.old name.now) (λ bytes. IsAssignmentOf bytes inst.now.tables a.items)) }
+    ensures ok { IfOk result (λ a. IfSome (F.held files.old name.now) (λ bytes.
+        IsAssignmentOf bytes inst.now.tables a.items)) }
     ensures fits { IfOk result (λ a. IsAssignment inst.now.tables a.items) }
-    ensures refused { IfErr result (λ fault. IfSome (F.held files.old name.now) (λ bytes. IsAssignRefusal bytes inst.now.tables fault)) }
-    ensures fault { result ≡ Err AssignFault.ReadFault → Rose (F.faults files.old name.now) (F.faults files.new name.now) }
+    ensures refused { IfErr result (λ fault. IfSome (F.held files.old name.now) (λ bytes.
+        IsAssignRefusal bytes inst.now.tables fault)) }
+    ensures fault { result ≡ Err AssignFault.ReadFault →
+        Rose (F.faults files.old name.now) (F.faults files.new name.now) }
     ensures kept { (other : List ℕ) → F.held files.new other ≡ F.held files.old other }
     ensures never_fall { (other : List ℕ) → F.faults files.old other ≤ F.faults files.new other }
 {
@@ -55,9 +58,15 @@ fn read_machines<F: Files>(
     requires start { (bytes : List ℕ) → tokens_before bytes tokens.old.place ≡ 0 }
     requires empty { list.old.items ≡ [] }
     requires room { list.old.room ≡ process_count inst.now.tables }
-    ensures gives { OnOk result (Went (λ bytes before after. IsAssignmentOf bytes inst.now.tables list.new.items) (here (F.held files.old) (F.faults files.old) tokens.old) (here (F.held files.new) (F.faults files.new) tokens.new)) }
+    ensures gives { OnOk result (Went (λ bytes before after.
+        IsAssignmentOf bytes inst.now.tables list.new.items)
+        (here (F.held files.old) (F.faults files.old) tokens.old)
+        (here (F.held files.new) (F.faults files.new) tokens.new)) }
     ensures fits { OnOk result (IsAssignment inst.now.tables list.new.items) }
-    ensures refuses { IfErr result (λ fault. Refuses AssignFault.ReadFault (λ bytes before. IsAssignRefusal bytes inst.now.tables fault) (here (F.held files.old) (F.faults files.old) tokens.old) (here (F.held files.new) (F.faults files.new) tokens.new) fault) }
+    ensures refuses { IfErr result (λ fault. Refuses AssignFault.ReadFault (λ bytes before.
+        IsAssignRefusal bytes inst.now.tables fault)
+        (here (F.held files.old) (F.faults files.old) tokens.old)
+        (here (F.held files.new) (F.faults files.new) tokens.new) fault) }
 {
     for p in 0..inst.processes() {
         let machine = next_machine(files, tokens, inst, p)?;
@@ -75,10 +84,15 @@ fn next_machine<F: Files>(
     p: u32,
 ) -> Result<Machine, AssignFault>
     requires stands { Stands (here (F.held files.old) (F.faults files.old) tokens.old) }
-    ensures gives { IfOk result (λ m. Went (λ bytes before after. TakesMachine bytes inst.now.tables before after m) (here (F.held files.old) (F.faults files.old) tokens.old) (here (F.held files.new) (F.faults files.new) tokens.new)) }
+    ensures gives { IfOk result (λ m.
+        Went (λ bytes before after. TakesMachine bytes inst.now.tables before after m)
+        (here (F.held files.old) (F.faults files.old) tokens.old)
+        (here (F.held files.new) (F.faults files.new) tokens.new)) }
     ensures exists { IfOk result (λ m. m.0 < machine_count inst.now.tables) }
     ensures refuses { IfErr result (λ fault. Refuses AssignFault.ReadFault (λ bytes before.
-        tokens_before bytes before ≡ p → AssignSays (process_test bytes inst.now.tables p) fault) (here (F.held files.old) (F.faults files.old) tokens.old) (here (F.held files.new) (F.faults files.new) tokens.new) fault) }
+        tokens_before bytes before ≡ p → AssignSays (process_test bytes inst.now.tables p) fault)
+        (here (F.held files.old) (F.faults files.old) tokens.old)
+        (here (F.held files.new) (F.faults files.new) tokens.new) fault) }
 {
     let Some(token) = next_token(files, tokens)? else {
         return Err(AssignFault::Missing {
@@ -97,9 +111,13 @@ fn next_machine<F: Files>(
 /// The end of the file, behind the last process.
 fn read_end<F: Files>(files: &mut F, tokens: &mut Tokens) -> Result<(), AssignFault>
     requires stands { Stands (here (F.held files.old) (F.faults files.old) tokens.old) }
-    ensures gives { OnOk result (Went (λ bytes before after. HasEnded bytes before) (here (F.held files.old) (F.faults files.old) tokens.old) (here (F.held files.new) (F.faults files.new) tokens.new)) }
+    ensures gives { OnOk result (Went (λ bytes before after. HasEnded bytes before)
+        (here (F.held files.old) (F.faults files.old) tokens.old)
+        (here (F.held files.new) (F.faults files.new) tokens.new)) }
     ensures refuses { IfErr result (λ fault. Refuses AssignFault.ReadFault (λ bytes before.
-        AssignSays (end_test bytes (tokens_before bytes before)) fault) (here (F.held files.old) (F.faults files.old) tokens.old) (here (F.held files.new) (F.faults files.new) tokens.new) fault) }
+        AssignSays (end_test bytes (tokens_before bytes before)) fault)
+        (here (F.held files.old) (F.faults files.old) tokens.old)
+        (here (F.held files.new) (F.faults files.new) tokens.new) fault) }
 {
     let next = next_token(files, tokens)?;
     match next {
@@ -111,9 +129,14 @@ fn read_end<F: Files>(files: &mut F, tokens: &mut Tokens) -> Result<(), AssignFa
 /// The next token, or none at the end of the file.
 fn next_token<F: Files>(files: &mut F, tokens: &mut Tokens) -> Result<Option<Token>, AssignFault>
     requires stands { Stands (here (F.held files.old) (F.faults files.old) tokens.old) }
-    ensures gives { IfOk result (λ next. Went (λ bytes before after. HasNext bytes before after next) (here (F.held files.old) (F.faults files.old) tokens.old) (here (F.held files.new) (F.faults files.new) tokens.new)) }
+    ensures gives { IfOk result (λ next.
+        Went (λ bytes before after. HasNext bytes before after next)
+        (here (F.held files.old) (F.faults files.old) tokens.old)
+        (here (F.held files.new) (F.faults files.new) tokens.new)) }
     ensures refuses { IfErr result (λ fault. Refuses AssignFault.ReadFault (λ bytes before.
-        HasFault assign_fault bytes before fault) (here (F.held files.old) (F.faults files.old) tokens.old) (here (F.held files.new) (F.faults files.new) tokens.new) fault) }
+        HasFault assign_fault bytes before fault)
+        (here (F.held files.old) (F.faults files.old) tokens.old)
+        (here (F.held files.new) (F.faults files.new) tokens.new) fault) }
 {
     match tokens.next(files) {
         Ok(next) => Ok(next),

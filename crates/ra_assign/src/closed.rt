@@ -25,10 +25,13 @@ pub fn read_closed<F: Files>(
     name: &str,
     inst: &Instance,
 ) -> Result<Fixed<bool>, ClosedFault>
-    ensures ok { IfOk result (λ flags. IfSome (F.held files.old name.now) (λ bytes. IsClosedOf bytes inst.now.tables flags.items)) }
+    ensures ok { IfOk result (λ flags. IfSome (F.held files.old name.now) (λ bytes.
+        IsClosedOf bytes inst.now.tables flags.items)) }
     ensures fits { IfOk result (λ flags. length flags.items ≡ machine_count inst.now.tables) }
-    ensures refused { IfErr result (λ fault. IfSome (F.held files.old name.now) (λ bytes. IsClosedRefusal bytes inst.now.tables fault)) }
-    ensures fault { result ≡ Err ClosedFault.ReadFault → Rose (F.faults files.old name.now) (F.faults files.new name.now) }
+    ensures refused { IfErr result (λ fault. IfSome (F.held files.old name.now) (λ bytes.
+        IsClosedRefusal bytes inst.now.tables fault)) }
+    ensures fault { result ≡ Err ClosedFault.ReadFault →
+        Rose (F.faults files.old name.now) (F.faults files.new name.now) }
     ensures kept { (other : List ℕ) → F.held files.new other ≡ F.held files.old other }
     ensures never_fall { (other : List ℕ) → F.faults files.old other ≤ F.faults files.new other }
 {
@@ -52,9 +55,15 @@ fn flag_machines<F: Files>(
     requires stands { Stands (here (F.held files.old) (F.faults files.old) tokens.old) }
     requires start { (bytes : List ℕ) → tokens_before bytes tokens.old.place ≡ 0 }
     requires none_flagged { flags.old.items ≡ replicate (machine_count inst.now.tables) false }
-    ensures gives { OnOk result (Went (λ bytes before after. IsClosedOf bytes inst.now.tables flags.new.items) (here (F.held files.old) (F.faults files.old) tokens.old) (here (F.held files.new) (F.faults files.new) tokens.new)) }
+    ensures gives { OnOk result (Went (λ bytes before after.
+        IsClosedOf bytes inst.now.tables flags.new.items)
+        (here (F.held files.old) (F.faults files.old) tokens.old)
+        (here (F.held files.new) (F.faults files.new) tokens.new)) }
     ensures fits { OnOk result (length flags.new.items ≡ machine_count inst.now.tables) }
-    ensures refuses { IfErr result (λ fault. Refuses ClosedFault.ReadFault (λ bytes before. IsClosedRefusal bytes inst.now.tables fault) (here (F.held files.old) (F.faults files.old) tokens.old) (here (F.held files.new) (F.faults files.new) tokens.new) fault) }
+    ensures refuses { IfErr result (λ fault. Refuses ClosedFault.ReadFault (λ bytes before.
+        IsClosedRefusal bytes inst.now.tables fault)
+        (here (F.held files.old) (F.faults files.old) tokens.old)
+        (here (F.held files.new) (F.faults files.new) tokens.new) fault) }
 {
     for taken in 0..PLACE_LIMIT + 1 {
         let Some(machine) = next_closed(files, tokens, inst)? else {
@@ -72,9 +81,15 @@ fn next_closed<F: Files>(
     inst: &Instance,
 ) -> Result<Option<Machine>, ClosedFault>
     requires stands { Stands (here (F.held files.old) (F.faults files.old) tokens.old) }
-    ensures gives { IfOk result (λ next. Went (λ bytes before after. ClosedNext bytes inst.now.tables before after next) (here (F.held files.old) (F.faults files.old) tokens.old) (here (F.held files.new) (F.faults files.new) tokens.new)) }
+    ensures gives { IfOk result (λ next.
+        Went (λ bytes before after. ClosedNext bytes inst.now.tables before after next)
+        (here (F.held files.old) (F.faults files.old) tokens.old)
+        (here (F.held files.new) (F.faults files.new) tokens.new)) }
     ensures exists { IfOk result (λ next. IfSome next (λ m. m.0 < machine_count inst.now.tables)) }
-    ensures refuses { IfErr result (λ fault. Refuses ClosedFault.ReadFault (λ bytes before. ClosedStop bytes inst.now.tables before fault) (here (F.held files.old) (F.faults files.old) tokens.old) (here (F.held files.new) (F.faults files.new) tokens.new) fault) }
+    ensures refuses { IfErr result (λ fault. Refuses ClosedFault.ReadFault (λ bytes before.
+        ClosedStop bytes inst.now.tables before fault)
+        (here (F.held files.old) (F.faults files.old) tokens.old)
+        (here (F.held files.new) (F.faults files.new) tokens.new) fault) }
 {
     let Some(token) = next_token(files, tokens)? else {
         return Ok(None);
@@ -91,9 +106,14 @@ fn next_closed<F: Files>(
 /// The next token, or none at the end of the file.
 fn next_token<F: Files>(files: &mut F, tokens: &mut Tokens) -> Result<Option<Token>, ClosedFault>
     requires stands { Stands (here (F.held files.old) (F.faults files.old) tokens.old) }
-    ensures gives { IfOk result (λ next. Went (λ bytes before after. HasNext bytes before after next) (here (F.held files.old) (F.faults files.old) tokens.old) (here (F.held files.new) (F.faults files.new) tokens.new)) }
+    ensures gives { IfOk result (λ next.
+        Went (λ bytes before after. HasNext bytes before after next)
+        (here (F.held files.old) (F.faults files.old) tokens.old)
+        (here (F.held files.new) (F.faults files.new) tokens.new)) }
     ensures refuses { IfErr result (λ fault. Refuses ClosedFault.ReadFault (λ bytes before.
-        HasFault closed_fault bytes before fault) (here (F.held files.old) (F.faults files.old) tokens.old) (here (F.held files.new) (F.faults files.new) tokens.new) fault) }
+        HasFault closed_fault bytes before fault)
+        (here (F.held files.old) (F.faults files.old) tokens.old)
+        (here (F.held files.new) (F.faults files.new) tokens.new) fault) }
 {
     match tokens.next(files) {
         Ok(next) => Ok(next),

@@ -18,7 +18,8 @@ use std::sync::ledger::Blank;
 #[tactic(auto, unfolding(crate::specs::Bounds::bound_of))]
 pub fn bound(inst: &Instance) -> Bound
     ensures value { result ≡ bound_of inst.now.tables }
-    ensures below { (a0 a : List Machine) → IsAssignment inst.now.tables a → Feasible inst.now.tables a0 a → result.total ≤ objective inst.now.tables a0 a }
+    ensures below { (a0 a : List Machine) → IsAssignment inst.now.tables a →
+        Feasible inst.now.tables a0 a → result.total ≤ objective inst.now.tables a0 a }
 {
     let required = required_sums::<Brand>(inst, Blank::new(1));
     let safety = safety_sums(inst);

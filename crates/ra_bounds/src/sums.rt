@@ -54,8 +54,10 @@ fn add_requirements<L: Ledger>(
     steps: &mut Steps<L>,
 )
     requires process { p.0 < process_count inst.now.tables }
-    requires before { AreTotals (resource_count inst.now.tables) p.0 (requirement_of inst.now.tables) sums.old }
-    ensures { AreTotals (resource_count inst.now.tables) (p.0 + 1) (requirement_of inst.now.tables) sums.new }
+    requires before { AreTotals (resource_count inst.now.tables) p.0
+        (requirement_of inst.now.tables) sums.old }
+    ensures { AreTotals (resource_count inst.now.tables) (p.0 + 1)
+        (requirement_of inst.now.tables) sums.new }
 {
     for r in 0..inst.resources() {
         let amount = inst.requirement(p, Resource(r), steps);
@@ -66,8 +68,10 @@ fn add_requirements<L: Ledger>(
 /// Adds the safety capacities of a machine.
 fn add_safeties(inst: &Instance, m: Machine, sums: &mut [u64; MOST_RESOURCES])
     requires machine { m.0 < machine_count inst.now.tables }
-    requires before { AreTotals (resource_count inst.now.tables) m.0 (safety_of inst.now.tables) sums.old }
-    ensures { AreTotals (resource_count inst.now.tables) (m.0 + 1) (safety_of inst.now.tables) sums.new }
+    requires before { AreTotals (resource_count inst.now.tables) m.0
+        (safety_of inst.now.tables) sums.old }
+    ensures { AreTotals (resource_count inst.now.tables) (m.0 + 1)
+        (safety_of inst.now.tables) sums.new }
 {
     for r in 0..inst.resources() {
         sums[r as usize] += u64::from(inst.safety(m, Resource(r)));
@@ -77,8 +81,10 @@ fn add_safeties(inst: &Instance, m: Machine, sums: &mut [u64; MOST_RESOURCES])
 /// Adds the capacities of a machine.
 fn add_capacities(inst: &Instance, m: Machine, sums: &mut [u64; MOST_RESOURCES])
     requires machine { m.0 < machine_count inst.now.tables }
-    requires before { AreTotals (resource_count inst.now.tables) m.0 (capacity_of inst.now.tables) sums.old }
-    ensures { AreTotals (resource_count inst.now.tables) (m.0 + 1) (capacity_of inst.now.tables) sums.new }
+    requires before { AreTotals (resource_count inst.now.tables) m.0
+        (capacity_of inst.now.tables) sums.old }
+    ensures { AreTotals (resource_count inst.now.tables) (m.0 + 1)
+        (capacity_of inst.now.tables) sums.new }
 {
     for r in 0..inst.resources() {
         sums[r as usize] += u64::from(inst.capacity(m, Resource(r)));

@@ -1,9 +1,10 @@
-ghost use Rattle.std.specs.Prelude.{◌≡◌, ◌*◌, ◌^◌, ◌<◌, ◌≤◌, List, length};
+ghost use Rattle.std.specs.Prelude.{◌≡◌, ◌*◌, ◌^◌, ◌<◌, ◌≤◌, List};
 ghost use Rattle.ra_base.specs.Sums.{total};
 ghost use Rattle.ra_base.specs.declared.ids.Machine.{Machine};
 ghost use Rattle.ra_model.specs.Numbers.{resource_count, machine_count, balance_count};
 ghost use Rattle.ra_model.specs.Costs.{available, shortfall, balance_part, balance_cost};
 ghost use Rattle.ra_check.specs.Stands.{IsUsage};
+ghost use Rattle.ra_check.specs.Made.{IsGrid};
 
 use crate::cells::read_cell;
 use ra_base::{Fixed, Machine, Resource};
@@ -12,8 +13,9 @@ use ra_model::Instance;
 /// The balance cost of whatever assignment the table has the use of.
 #[tactic(auto, using(ra_base::proofs::Sums::sums), unfolding(ra_model::specs::Costs::balance_cost))]
 pub(crate) fn balance_cost(inst: &Instance, used: &Fixed<u64>) -> u128
-    requires { length used.now.items ≡ machine_count inst.now.tables * resource_count inst.now.tables }
-    ensures value { (a : List Machine) → IsUsage inst.now.tables a used.now.items → result ≡ balance_cost inst.now.tables a }
+    requires { IsGrid inst.now.tables used.now.items }
+    ensures value { (a : List Machine) → IsUsage inst.now.tables a used.now.items →
+        result ≡ balance_cost inst.now.tables a }
     ensures bound { result ≤ 10 * 2 ^ 110 }
 {
     let mut cost: u128 = 0;
@@ -27,8 +29,9 @@ pub(crate) fn balance_cost(inst: &Instance, used: &Fixed<u64>) -> u128
 #[tactic(auto, using(crate::proofs::CostLaws::times_below), unfolding(ra_model::specs::Costs::balance_part, ra_model::specs::Numbers::balance_weight_of))]
 fn balance_part(inst: &Instance, used: &Fixed<u64>, b: u32) -> u128
     requires objective { b < balance_count inst.now.tables }
-    requires grid { length used.now.items ≡ machine_count inst.now.tables * resource_count inst.now.tables }
-    ensures value { (a : List Machine) → IsUsage inst.now.tables a used.now.items → result ≡ balance_part inst.now.tables a b }
+    requires grid { IsGrid inst.now.tables used.now.items }
+    ensures value { (a : List Machine) → IsUsage inst.now.tables a used.now.items →
+        result ≡ balance_part inst.now.tables a b }
     ensures bound { result ≤ 2 ^ 110 }
 {
     let missing = missing(inst, used, b);
@@ -39,8 +42,9 @@ fn balance_part(inst: &Instance, used: &Fixed<u64>, b: u32) -> u128
 #[tactic(auto, using(ra_base::proofs::Sums::sums))]
 fn missing(inst: &Instance, used: &Fixed<u64>, b: u32) -> u128
     requires objective { b < balance_count inst.now.tables }
-    requires grid { length used.now.items ≡ machine_count inst.now.tables * resource_count inst.now.tables }
-    ensures value { (a : List Machine) → IsUsage inst.now.tables a used.now.items → result ≡ total (machine_count inst.now.tables) (shortfall inst.now.tables a b) }
+    requires grid { IsGrid inst.now.tables used.now.items }
+    ensures value { (a : List Machine) → IsUsage inst.now.tables a used.now.items →
+        result ≡ total (machine_count inst.now.tables) (shortfall inst.now.tables a b) }
     ensures bound { result ≤ 5000 * 2 ^ 64 }
 {
     let mut sum: u128 = 0;
@@ -54,8 +58,9 @@ fn missing(inst: &Instance, used: &Fixed<u64>, b: u32) -> u128
 fn shortfall(inst: &Instance, used: &Fixed<u64>, b: u32, m: Machine) -> u64
     requires objective { b < balance_count inst.now.tables }
     requires machine { m.0 < machine_count inst.now.tables }
-    requires grid { length used.now.items ≡ machine_count inst.now.tables * resource_count inst.now.tables }
-    ensures { (a : List Machine) → IsUsage inst.now.tables a used.now.items → result ≡ shortfall inst.now.tables a b m.0 }
+    requires grid { IsGrid inst.now.tables used.now.items }
+    ensures { (a : List Machine) → IsUsage inst.now.tables a used.now.items →
+        result ≡ shortfall inst.now.tables a b m.0 }
 {
     let objective = inst.balance(b);
     let first = available(inst, used, m, objective.first);
@@ -68,8 +73,9 @@ fn shortfall(inst: &Instance, used: &Fixed<u64>, b: u32, m: Machine) -> u64
 fn available(inst: &Instance, used: &Fixed<u64>, m: Machine, r: Resource) -> u64
     requires machine { m.0 < machine_count inst.now.tables }
     requires resource { r.0 < resource_count inst.now.tables }
-    requires grid { length used.now.items ≡ machine_count inst.now.tables * resource_count inst.now.tables }
-    ensures value { (a : List Machine) → IsUsage inst.now.tables a used.now.items → result ≡ available inst.now.tables a m.0 r.0 }
+    requires grid { IsGrid inst.now.tables used.now.items }
+    ensures value { (a : List Machine) → IsUsage inst.now.tables a used.now.items →
+        result ≡ available inst.now.tables a m.0 r.0 }
     ensures bound { result < 2 ^ 32 }
 {
     let used = read_cell(used, inst.resources(), m.0, r.0);

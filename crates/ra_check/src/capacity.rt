@@ -1,9 +1,9 @@
-ghost use Rattle.std.specs.Prelude.{◌≡◌, ◌*◌, ◌<◌, List, length};
+ghost use Rattle.std.specs.Prelude.{◌≡◌, ◌<◌, List};
 ghost use Rattle.ra_base.specs.declared.ids.Machine.{Machine};
 ghost use Rattle.ra_model.specs.Numbers.{resource_count, machine_count};
 ghost use Rattle.ra_model.specs.Assignments.{IsAssignment};
 ghost use Rattle.ra_model.specs.Broken.{capacity_test, row_capacity, broken_capacity};
-ghost use Rattle.ra_check.specs.Made.{IsMadeFor};
+ghost use Rattle.ra_check.specs.Made.{IsGrid, IsMadeFor};
 ghost use Rattle.ra_check.specs.Stands.{IsUsage};
 
 use crate::cells::read_cell;
@@ -32,8 +32,9 @@ pub(crate) fn broken_capacity(
 /// The first use above a capacity, for whatever assignment the table has the use of.
 #[tactic(auto, using(ra_base::proofs::Searches::searches), unfolding(ra_model::specs::Broken::broken_capacity))]
 fn machines_capacity(inst: &Instance, used: &Fixed<u64>) -> Option<Cause>
-    requires { length used.now.items ≡ machine_count inst.now.tables * resource_count inst.now.tables }
-    ensures { (a : List Machine) → IsUsage inst.now.tables a used.now.items → result ≡ broken_capacity inst.now.tables a }
+    requires { IsGrid inst.now.tables used.now.items }
+    ensures { (a : List Machine) → IsUsage inst.now.tables a used.now.items →
+        result ≡ broken_capacity inst.now.tables a }
 {
     for m in 0..inst.machines() {
         if let Some(cause) = row_capacity(inst, used, Machine(m)) {
@@ -47,8 +48,9 @@ fn machines_capacity(inst: &Instance, used: &Fixed<u64>) -> Option<Cause>
 #[tactic(auto, using(ra_base::proofs::Searches::searches), unfolding(ra_model::specs::Broken::row_capacity))]
 fn row_capacity(inst: &Instance, used: &Fixed<u64>, m: Machine) -> Option<Cause>
     requires machine { m.0 < machine_count inst.now.tables }
-    requires grid { length used.now.items ≡ machine_count inst.now.tables * resource_count inst.now.tables }
-    ensures { (a : List Machine) → IsUsage inst.now.tables a used.now.items → result ≡ row_capacity inst.now.tables a m.0 }
+    requires grid { IsGrid inst.now.tables used.now.items }
+    ensures { (a : List Machine) → IsUsage inst.now.tables a used.now.items →
+        result ≡ row_capacity inst.now.tables a m.0 }
 {
     for r in 0..inst.resources() {
         if let Some(cause) = capacity_test(inst, used, m, Resource(r)) {
@@ -63,8 +65,9 @@ fn row_capacity(inst: &Instance, used: &Fixed<u64>, m: Machine) -> Option<Cause>
 fn capacity_test(inst: &Instance, used: &Fixed<u64>, m: Machine, r: Resource) -> Option<Cause>
     requires machine { m.0 < machine_count inst.now.tables }
     requires resource { r.0 < resource_count inst.now.tables }
-    requires grid { length used.now.items ≡ machine_count inst.now.tables * resource_count inst.now.tables }
-    ensures { (a : List Machine) → IsUsage inst.now.tables a used.now.items → result ≡ capacity_test inst.now.tables a m.0 r.0 }
+    requires grid { IsGrid inst.now.tables used.now.items }
+    ensures { (a : List Machine) → IsUsage inst.now.tables a used.now.items →
+        result ≡ capacity_test inst.now.tables a m.0 r.0 }
 {
     let used = read_cell(used, inst.resources(), m.0, r.0);
     let cap = inst.capacity(m, r);

@@ -17,7 +17,8 @@ pub(crate) fn read_cell(table: &Fixed<u64>, width: u32, row: u32, column: u32) -
 pub(crate) fn add_to_cell(table: &mut Fixed<u64>, width: u32, row: u32, column: u32, amount: u32)
     requires place { row * width + column < length table.old.items }
     requires fits { cell width table.old.items row column + amount < 2 ^ 64 }
-    ensures { table.new.items ≡ slice_set table.old.items (row * width + column) (cell width table.old.items row column + amount) }
+    ensures { table.new.items ≡ slice_set table.old.items (row * width + column)
+        (cell width table.old.items row column + amount) }
 {
     let _within = table.len();
     let sum = read_cell(table, width, row, column) + u64::from(amount);

@@ -60,7 +60,8 @@ fn crowded(
 ) -> Option<Machine>
     requires seated { AreSeated a.now.items processes.now (length marks.old.items) }
     requires fresh { AreBelow marks.old.items (length marks.old.items) stamp }
-    ensures machine { result ≡ first (length marks.old.items) (crowd_test (seat_of a.now.items processes.now) (length processes.now)) }
+    ensures machine { result ≡ first (length marks.old.items)
+        (crowd_test (seat_of a.now.items processes.now) (length processes.now)) }
     ensures marks { AreBelow marks.new.items (length marks.old.items) (stamp + 1) }
 {
     let mut least = None;

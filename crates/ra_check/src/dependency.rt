@@ -75,9 +75,11 @@ fn service_apart(
     requires members { AreMembers members.now inst.now.tables }
     requires places { ArePlaces places.now inst.now.tables }
     requires there { service.0 < service_count inst.now.tables }
-    requires marks { TellTrue members.now places.now.neighbourhoods a.now.items (machine_count inst.now.tables) marks.old.items last.old }
+    requires marks { TellTrue members.now places.now.neighbourhoods a.now.items
+        (machine_count inst.now.tables) marks.old.items last.old }
     ensures cause { result ≡ service_dependency inst.now.tables a.now.items service.0 }
-    ensures marks { TellTrue members.now places.now.neighbourhoods a.now.items (machine_count inst.now.tables) marks.new.items last.new }
+    ensures marks { TellTrue members.now places.now.neighbourhoods a.now.items
+        (machine_count inst.now.tables) marks.new.items last.new }
 {
     let own = members.of(service);
     let all_needs = inst.depends(service);
@@ -107,10 +109,13 @@ fn stamp_service(
 )
     requires there { service.0 < length members.now }
     requires small { service.0 + 1 < 2 ^ 32 }
-    requires seated { AreSeated a.now.items (members_of members.now service.0) (length marks.old.items) }
+    requires seated { AreSeated a.now.items (members_of members.now service.0)
+        (length marks.old.items) }
     requires placed { ArePlaced places.now.neighbourhoods (length marks.old.items) }
-    requires marks { TellTrue members.now places.now.neighbourhoods a.now.items (length marks.old.items) marks.old.items last.old }
-    ensures marks { TellTrue members.now places.now.neighbourhoods a.now.items (length marks.old.items) marks.new.items last.new }
+    requires marks { TellTrue members.now places.now.neighbourhoods a.now.items
+        (length marks.old.items) marks.old.items last.old }
+    ensures marks { TellTrue members.now places.now.neighbourhoods a.now.items
+        (length marks.old.items) marks.new.items last.new }
     ensures last { last.new ≡ service.0 + 1 }
 {
     let stamp = service.0 + 1;
@@ -131,7 +136,8 @@ fn stamp_all(
 )
     requires seated { AreSeated a.now.items processes.now (length marks.old.items) }
     requires placed { ArePlaced places.now.neighbourhoods (length marks.old.items) }
-    ensures { AreSet marks.old.items marks.new.items stamp (holds_site places.now.neighbourhoods a.now.items processes.now) }
+    ensures { AreSet marks.old.items marks.new.items stamp
+        (holds_site places.now.neighbourhoods a.now.items processes.now) }
 {
     for k in 0..processes.len() {
         let place = neighbourhood_of(places, a, processes, k);
@@ -150,7 +156,8 @@ fn first_far(
 ) -> Option<Machine>
     requires seated { AreSeated a.now.items processes.now (length marks.now.items) }
     requires placed { ArePlaced places.now.neighbourhoods (length marks.now.items) }
-    ensures { result ≡ first (length processes.now) (far_seat marks.now.items stamp places.now.neighbourhoods a.now.items processes.now) }
+    ensures { result ≡ first (length processes.now)
+        (far_seat marks.now.items stamp places.now.neighbourhoods a.now.items processes.now) }
 {
     for k in 0..processes.len() {
         let place = neighbourhood_of(places, a, processes, k);

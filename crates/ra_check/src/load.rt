@@ -1,9 +1,10 @@
-ghost use Rattle.std.specs.Prelude.{◌≡◌, ◌*◌, ◌^◌, ◌<◌, ◌≤◌, List, length};
+ghost use Rattle.std.specs.Prelude.{◌≡◌, ◌*◌, ◌^◌, ◌<◌, ◌≤◌, List};
 ghost use Rattle.ra_base.specs.Sums.{total};
 ghost use Rattle.ra_base.specs.declared.ids.Machine.{Machine};
 ghost use Rattle.ra_model.specs.Numbers.{resource_count, machine_count};
 ghost use Rattle.ra_model.specs.Costs.{excess_on, load_part, load_cost};
 ghost use Rattle.ra_check.specs.Stands.{IsUsage};
+ghost use Rattle.ra_check.specs.Made.{IsGrid};
 
 use crate::cells::read_cell;
 use ra_base::{Fixed, Machine, Resource};
@@ -12,8 +13,9 @@ use ra_model::Instance;
 /// The load cost of whatever assignment the table has the use of.
 #[tactic(auto, using(ra_base::proofs::Sums::sums), unfolding(ra_model::specs::Costs::load_cost))]
 pub(crate) fn load_cost(inst: &Instance, used: &Fixed<u64>) -> u128
-    requires { length used.now.items ≡ machine_count inst.now.tables * resource_count inst.now.tables }
-    ensures value { (a : List Machine) → IsUsage inst.now.tables a used.now.items → result ≡ load_cost inst.now.tables a }
+    requires { IsGrid inst.now.tables used.now.items }
+    ensures value { (a : List Machine) → IsUsage inst.now.tables a used.now.items →
+        result ≡ load_cost inst.now.tables a }
     ensures bound { result ≤ 20 * 2 ^ 110 }
 {
     let mut cost: u128 = 0;
@@ -27,8 +29,9 @@ pub(crate) fn load_cost(inst: &Instance, used: &Fixed<u64>) -> u128
 #[tactic(auto, using(crate::proofs::CostLaws::times_below), unfolding(ra_model::specs::Costs::load_part))]
 fn load_part(inst: &Instance, used: &Fixed<u64>, r: Resource) -> u128
     requires resource { r.0 < resource_count inst.now.tables }
-    requires grid { length used.now.items ≡ machine_count inst.now.tables * resource_count inst.now.tables }
-    ensures value { (a : List Machine) → IsUsage inst.now.tables a used.now.items → result ≡ load_part inst.now.tables a r.0 }
+    requires grid { IsGrid inst.now.tables used.now.items }
+    ensures value { (a : List Machine) → IsUsage inst.now.tables a used.now.items →
+        result ≡ load_part inst.now.tables a r.0 }
     ensures bound { result ≤ 2 ^ 110 }
 {
     let excess = excess(inst, used, r);
@@ -39,8 +42,9 @@ fn load_part(inst: &Instance, used: &Fixed<u64>, r: Resource) -> u128
 #[tactic(auto, using(ra_base::proofs::Sums::sums))]
 fn excess(inst: &Instance, used: &Fixed<u64>, r: Resource) -> u128
     requires resource { r.0 < resource_count inst.now.tables }
-    requires grid { length used.now.items ≡ machine_count inst.now.tables * resource_count inst.now.tables }
-    ensures value { (a : List Machine) → IsUsage inst.now.tables a used.now.items → result ≡ total (machine_count inst.now.tables) (excess_on inst.now.tables a r.0) }
+    requires grid { IsGrid inst.now.tables used.now.items }
+    ensures value { (a : List Machine) → IsUsage inst.now.tables a used.now.items →
+        result ≡ total (machine_count inst.now.tables) (excess_on inst.now.tables a r.0) }
     ensures bound { result ≤ 5000 * 2 ^ 64 }
 {
     let mut sum: u128 = 0;
@@ -54,8 +58,9 @@ fn excess(inst: &Instance, used: &Fixed<u64>, r: Resource) -> u128
 fn excess_on(inst: &Instance, used: &Fixed<u64>, r: Resource, m: Machine) -> u64
     requires machine { m.0 < machine_count inst.now.tables }
     requires resource { r.0 < resource_count inst.now.tables }
-    requires grid { length used.now.items ≡ machine_count inst.now.tables * resource_count inst.now.tables }
-    ensures { (a : List Machine) → IsUsage inst.now.tables a used.now.items → result ≡ excess_on inst.now.tables a r.0 m.0 }
+    requires grid { IsGrid inst.now.tables used.now.items }
+    ensures { (a : List Machine) → IsUsage inst.now.tables a used.now.items →
+        result ≡ excess_on inst.now.tables a r.0 m.0 }
 {
     let used = read_cell(used, inst.resources(), m.0, r.0);
     used.saturating_sub(u64::from(inst.safety(m, r)))

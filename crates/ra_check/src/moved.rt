@@ -46,7 +46,8 @@ fn count_moved(inst: &Instance, a0: &Assignment, a: &Assignment, counts: &mut Fi
     requires start_fits { IsAssignment inst.now.tables a0.now.items }
     requires fits { IsAssignment inst.now.tables a.now.items }
     requires slots { length counts.old.items ≡ service_count inst.now.tables }
-    ensures counted { HasMoved inst.now.tables a0.now.items a.now.items (process_count inst.now.tables) counts.new.items }
+    ensures counted { HasMoved inst.now.tables a0.now.items a.now.items
+        (process_count inst.now.tables) counts.new.items }
     ensures slots { length counts.new.items ≡ service_count inst.now.tables }
 {
     let services = counts.len();

@@ -78,7 +78,8 @@ fn count_locations(
     requires seated { AreSeated a.now.items processes.now (length marks.old.items) }
     requires placed { ArePlaced places.now.locations (length marks.old.items) }
     requires fresh { AreBelow marks.old.items (length marks.old.items) stamp }
-    ensures count { result ≡ count (length marks.old.items) (holds_site places.now.locations a.now.items processes.now) }
+    ensures count { result ≡ count (length marks.old.items)
+        (holds_site places.now.locations a.now.items processes.now) }
     ensures marks { AreBelow marks.new.items (length marks.old.items) (stamp + 1) }
 {
     let mut has = 0;

@@ -1,9 +1,9 @@
-ghost use Rattle.std.specs.Prelude.{◌≡◌, ◌*◌, ◌<◌, List, length};
+ghost use Rattle.std.specs.Prelude.{◌≡◌, ◌<◌, List};
 ghost use Rattle.ra_base.specs.declared.ids.Machine.{Machine};
 ghost use Rattle.ra_model.specs.Numbers.{resource_count, machine_count};
 ghost use Rattle.ra_model.specs.Assignments.{IsAssignment};
 ghost use Rattle.ra_model.specs.Broken.{transient_test, row_transient, broken_transient};
-ghost use Rattle.ra_check.specs.Made.{IsMadeFor};
+ghost use Rattle.ra_check.specs.Made.{IsGrid, IsMadeFor};
 ghost use Rattle.ra_check.specs.Stands.{IsTransientUse};
 
 use crate::cells::read_cell;
@@ -34,8 +34,9 @@ pub(crate) fn broken_transient(
 /// The first transient use above a capacity, for whatever assignment the table has the transient use of.
 #[tactic(auto, using(ra_base::proofs::Searches::searches), unfolding(ra_model::specs::Broken::broken_transient))]
 fn machines_transient(inst: &Instance, used: &Fixed<u64>) -> Option<Cause>
-    requires { length used.now.items ≡ machine_count inst.now.tables * resource_count inst.now.tables }
-    ensures { (a0 a : List Machine) → IsTransientUse inst.now.tables a0 a used.now.items → result ≡ broken_transient inst.now.tables a0 a }
+    requires { IsGrid inst.now.tables used.now.items }
+    ensures { (a0 a : List Machine) → IsTransientUse inst.now.tables a0 a used.now.items →
+        result ≡ broken_transient inst.now.tables a0 a }
 {
     for m in 0..inst.machines() {
         if let Some(cause) = row_transient(inst, used, Machine(m)) {
@@ -49,8 +50,9 @@ fn machines_transient(inst: &Instance, used: &Fixed<u64>) -> Option<Cause>
 #[tactic(auto, using(ra_base::proofs::Searches::searches), unfolding(ra_model::specs::Broken::row_transient))]
 fn row_transient(inst: &Instance, used: &Fixed<u64>, m: Machine) -> Option<Cause>
     requires machine { m.0 < machine_count inst.now.tables }
-    requires grid { length used.now.items ≡ machine_count inst.now.tables * resource_count inst.now.tables }
-    ensures { (a0 a : List Machine) → IsTransientUse inst.now.tables a0 a used.now.items → result ≡ row_transient inst.now.tables a0 a m.0 }
+    requires grid { IsGrid inst.now.tables used.now.items }
+    ensures { (a0 a : List Machine) → IsTransientUse inst.now.tables a0 a used.now.items →
+        result ≡ row_transient inst.now.tables a0 a m.0 }
 {
     for r in 0..inst.resources() {
         if let Some(cause) = transient_test(inst, used, m, Resource(r)) {
@@ -65,8 +67,9 @@ fn row_transient(inst: &Instance, used: &Fixed<u64>, m: Machine) -> Option<Cause
 fn transient_test(inst: &Instance, used: &Fixed<u64>, m: Machine, r: Resource) -> Option<Cause>
     requires machine { m.0 < machine_count inst.now.tables }
     requires resource { r.0 < resource_count inst.now.tables }
-    requires grid { length used.now.items ≡ machine_count inst.now.tables * resource_count inst.now.tables }
-    ensures { (a0 a : List Machine) → IsTransientUse inst.now.tables a0 a used.now.items → result ≡ transient_test inst.now.tables a0 a m.0 r.0 }
+    requires grid { IsGrid inst.now.tables used.now.items }
+    ensures { (a0 a : List Machine) → IsTransientUse inst.now.tables a0 a used.now.items →
+        result ≡ transient_test inst.now.tables a0 a m.0 r.0 }
 {
     let used = read_cell(used, inst.resources(), m.0, r.0);
     let cap = inst.capacity(m, r);

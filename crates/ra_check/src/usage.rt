@@ -1,9 +1,10 @@
-ghost use Rattle.std.specs.Prelude.{◌≡◌, ◌*◌, ◌^◌, ◌<◌, List, length};
+ghost use Rattle.std.specs.Prelude.{◌≡◌, ◌^◌, ◌<◌, List, length};
 ghost use Rattle.ra_base.specs.declared.ids.Machine.{Machine};
 ghost use Rattle.ra_model.specs.Numbers.{resource_count, machine_count, process_count};
 ghost use Rattle.ra_model.specs.Assignments.{IsAssignment, machine_at};
 ghost use Rattle.ra_model.specs.Usage.{use_share, transient_share};
 ghost use Rattle.ra_check.specs.Stands.{IsUsage, IsTransientUse, AddsShare, IsBelow};
+ghost use Rattle.ra_check.specs.Made.{IsGrid};
 
 use crate::cells::add_to_cell;
 use crate::scratch::fill;
@@ -22,9 +23,9 @@ pub(crate) fn sum_usage<L: Ledger>(
     requires parts { blank.parts ≡ L.parts }
     requires some { 0 < blank.parts }
     requires fits { IsAssignment inst.now.tables a.now.items }
-    requires grid { length table.old.items ≡ machine_count inst.now.tables * resource_count inst.now.tables }
+    requires grid { IsGrid inst.now.tables table.old.items }
     ensures sums { IsUsage inst.now.tables a.now.items table.new.items }
-    ensures grid { length table.new.items ≡ machine_count inst.now.tables * resource_count inst.now.tables }
+    ensures grid { IsGrid inst.now.tables table.new.items }
 {
     let mut steps = Steps::<L>::make(blank);
     let cells = table.len();
@@ -48,9 +49,9 @@ pub(crate) fn sum_transient<L: Ledger>(
     requires some { 0 < blank.parts }
     requires start_fits { IsAssignment inst.now.tables a0.now.items }
     requires fits { IsAssignment inst.now.tables a.now.items }
-    requires grid { length table.old.items ≡ machine_count inst.now.tables * resource_count inst.now.tables }
+    requires grid { IsGrid inst.now.tables table.old.items }
     ensures sums { IsTransientUse inst.now.tables a0.now.items a.now.items table.new.items }
-    ensures grid { length table.new.items ≡ machine_count inst.now.tables * resource_count inst.now.tables }
+    ensures grid { IsGrid inst.now.tables table.new.items }
 {
     let mut steps = Steps::<L>::make(blank);
     let cells = table.len();
@@ -85,9 +86,11 @@ fn add_rows<L: Ledger>(
     requires process { p.0 < process_count inst.now.tables }
     requires from { from.0 < machine_count inst.now.tables }
     requires at { at.0 < machine_count inst.now.tables }
-    requires grid { length table.old.items ≡ machine_count inst.now.tables * resource_count inst.now.tables }
+    requires grid { IsGrid inst.now.tables table.old.items }
     requires below { IsBelow (resource_count inst.now.tables) (2 ^ 62) table.old.items }
-    ensures adds { (a0 : List Machine) → machine_at a0 p.0 ≡ from.0 → AddsShare (resource_count inst.now.tables) (transient_share inst.now.tables a0) p.0 at.0 table.old.items table.new.items }
+    ensures adds { (a0 : List Machine) → machine_at a0 p.0 ≡ from.0 →
+        AddsShare (resource_count inst.now.tables)
+        (transient_share inst.now.tables a0) p.0 at.0 table.old.items table.new.items }
     ensures grid { length table.new.items ≡ length table.old.items }
 {
     add_row(inst, p, from, table, steps);
@@ -106,9 +109,10 @@ fn add_row<L: Ledger>(
 )
     requires process { p.0 < process_count inst.now.tables }
     requires at { at.0 < machine_count inst.now.tables }
-    requires grid { length table.old.items ≡ machine_count inst.now.tables * resource_count inst.now.tables }
+    requires grid { IsGrid inst.now.tables table.old.items }
     requires below { IsBelow (resource_count inst.now.tables) (2 ^ 63) table.old.items }
-    ensures adds { AddsShare (resource_count inst.now.tables) (use_share inst.now.tables) p.0 at.0 table.old.items table.new.items }
+    ensures adds { AddsShare (resource_count inst.now.tables)
+        (use_share inst.now.tables) p.0 at.0 table.old.items table.new.items }
     ensures grid { length table.new.items ≡ length table.old.items }
 {
     for r in 0..inst.resources() {

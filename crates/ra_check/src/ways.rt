@@ -36,7 +36,8 @@ pub(crate) fn machine_cost(inst: &Instance, a0: &Assignment, a: &Assignment) -> 
 fn moved_sum(inst: &Instance, a0: &Assignment, a: &Assignment) -> u64
     requires start_fits { IsAssignment inst.now.tables a0.now.items }
     requires fits { IsAssignment inst.now.tables a.now.items }
-    ensures { result ≡ tally (process_count inst.now.tables) (process_share inst.now.tables a0.now.items) a.now.items }
+    ensures { result ≡ tally (process_count inst.now.tables)
+        (process_share inst.now.tables a0.now.items) a.now.items }
 {
     let mut sum: u64 = 0;
     for p in 0..inst.processes() {
@@ -50,7 +51,8 @@ fn moved_sum(inst: &Instance, a0: &Assignment, a: &Assignment) -> u64
 fn way_sum(inst: &Instance, a0: &Assignment, a: &Assignment) -> u64
     requires start_fits { IsAssignment inst.now.tables a0.now.items }
     requires fits { IsAssignment inst.now.tables a.now.items }
-    ensures { result ≡ tally (process_count inst.now.tables) (way_share inst.now.tables a0.now.items) a.now.items }
+    ensures { result ≡ tally (process_count inst.now.tables)
+        (way_share inst.now.tables a0.now.items) a.now.items }
 {
     let mut sum: u64 = 0;
     for p in 0..inst.processes() {

@@ -38,7 +38,8 @@ impl Count {
 /// The number that a call of the system gave, or a failure, which is counted.
 pub fn counted(outcome: io::Result<usize>, faults: &mut Count) -> Result<usize, Failed>
     ensures value { result_ok result ≡ result_ok outcome }
-    ensures faults { faults.new.value ≡ (if is_err result then raised faults.old.value else faults.old.value) }
+    ensures faults { faults.new.value ≡
+        (if is_err result then raised faults.old.value else faults.old.value) }
 {
     match outcome {
         Ok(number) => Ok(number),

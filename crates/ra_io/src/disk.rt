@@ -37,7 +37,8 @@ impl<R: rt::Files> Files for DiskFiles<'_, R> {
         ensures bound { IfOk result (λ n. n ≤ length into.new) }
         ensures failed { OnErr result (Rose self.old.faults.value self.new.faults.value) }
         ensures never_fall { (other : List ℕ) → self.old.faults.value ≤ self.new.faults.value }
-        ensures faults { self.new.faults.value ≡ (if is_err result then raised self.old.faults.value else self.old.faults.value) }
+        ensures faults { self.new.faults.value ≡
+            (if is_err result then raised self.old.faults.value else self.old.faults.value) }
     {
         counted(read_at(self.rt, name, at, into), &mut self.faults)
     }

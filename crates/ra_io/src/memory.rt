@@ -47,8 +47,10 @@ impl MemoryFiles {
 
     /// Sets the bytes of a name.
     pub fn add(&mut self, alloc: Global, name: &str, bytes: &[u8]) -> Result<(), NoMemory>
-        ensures set { OnOk result (Sets (files.held self.old) (files.held self.new) name.now bytes.now) }
-        ensures unchanged { OnErr result ((other : List ℕ) → files.held self.new other ≡ files.held self.old other) }
+        ensures set { OnOk result (Sets (files.held self.old)
+            (files.held self.new) name.now bytes.now) }
+        ensures unchanged { OnErr result ((other : List ℕ) →
+            files.held self.new other ≡ files.held self.old other) }
         ensures each { files.each self.new ≡ files.each self.old }
         ensures fails { files.fails self.new ≡ files.fails self.old }
         ensures calls { files.calls self.new ≡ files.calls self.old }
@@ -69,15 +71,19 @@ impl Files for MemoryFiles {
 
     fn fetch(&mut self, name: &str, at: u64, into: &mut [u8]) -> Result<usize, Failed>
         // It fails exactly where its number is listed or the name isn't held.
-        ensures fails { is_err result ≡ (is_listed (files.fails self.old) (files.calls self.old) || is_none (files.held self.old name.now)) }
+        ensures fails { is_err result ≡
+            (is_listed (files.fails self.old) (files.calls self.old) || is_none
+            (files.held self.old name.now)) }
         ensures number { IfSome (files.held self.old name.now)
-            (λ bytes. IfOk result (λ n. n ≡ piece_len (length into.new) (files.each self.old) at bytes)) }
+            (λ bytes. IfOk result (λ n. n ≡
+            piece_len (length into.new) (files.each self.old) at bytes)) }
         ensures bytes { IfSome (files.held self.old name.now)
             (λ bytes. IfOk result (λ n. take n into.new ≡ take n (drop at bytes))) }
 
         // It counts itself, and its failure.
         ensures calls { files.calls self.new ≡ raised (files.calls self.old) }
-        ensures faults { files.faults self.new ≡ (if is_err result then raised (files.faults self.old) else files.faults self.old) }
+        ensures faults { files.faults self.new ≡
+            (if is_err result then raised (files.faults self.old) else files.faults self.old) }
         ensures held { (other : List ℕ) → files.held self.new other ≡ files.held self.old other }
         ensures each { files.each self.new ≡ files.each self.old }
         ensures listed { files.fails self.new ≡ files.fails self.old }
@@ -157,14 +163,19 @@ impl Sink for MemorySink {
 
     fn put(&mut self, piece: &[u8]) -> Result<usize, Failed>
         // It fails exactly where its number is listed or no room is left.
-        ensures fails { is_err result ≡ (is_listed (sink.fails self.old) (sink.calls self.old) || nat_eq (sink.left self.old) 0) }
-        ensures number { IfOk result (λ n. n ≡ min (min (length piece.now) (sink.each self.old)) (sink.left self.old)) }
-        ensures bytes { sink.bytes self.new ≡ sink.bytes self.old ++ take (result_unwrap_or result 0) piece.now }
+        ensures fails { is_err result ≡
+            (is_listed (sink.fails self.old) (sink.calls self.old) || nat_eq
+            (sink.left self.old) 0) }
+        ensures number { IfOk result (λ n. n ≡ min (min (length piece.now) (sink.each self.old))
+            (sink.left self.old)) }
+        ensures bytes { sink.bytes self.new ≡
+            sink.bytes self.old ++ take (result_unwrap_or result 0) piece.now }
         ensures left { sink.left self.new ≡ sink.left self.old - result_unwrap_or result 0 }
 
         // It counts itself, and its failure.
         ensures calls { sink.calls self.new ≡ raised (sink.calls self.old) }
-        ensures faults { sink.faults self.new ≡ (if is_err result then raised (sink.faults self.old) else sink.faults self.old) }
+        ensures faults { sink.faults self.new ≡
+            (if is_err result then raised (sink.faults self.old) else sink.faults self.old) }
         ensures each { sink.each self.new ≡ sink.each self.old }
         ensures listed { sink.fails self.new ≡ sink.fails self.old }
     {

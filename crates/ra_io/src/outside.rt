@@ -49,7 +49,8 @@ pub trait Sink {
         requires { 0 < length piece.now }
         ensures some { IfOk result (λ n. 0 < n) }
         ensures bound { IfOk result (λ n. n ≤ length piece.now) }
-        ensures grows { IfOk result (λ n. Appends (taken self.old) (taken self.new) (take n piece.now)) }
+        ensures grows { IfOk result (λ n.
+            Appends (taken self.old) (taken self.new) (take n piece.now)) }
 
         // A failure is counted and takes nothing, and the count never falls.
         ensures failed { OnErr result (Rose (faults self.old) (faults self.new)) }

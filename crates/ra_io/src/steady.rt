@@ -29,8 +29,10 @@ impl SteadyFiles {
     /// Sets the bytes of a name.
     pub fn add(&mut self, alloc: Global, name: &str, bytes: &[u8]) -> Result<(), NoMemory>
         ensures set { OnOk result
-            (Sets (λ n. Some (files.bytes self.old n)) (λ n. Some (files.bytes self.new n)) name.now bytes.now) }
-        ensures unchanged { OnErr result ((other : List ℕ) → files.bytes self.new other ≡ files.bytes self.old other) }
+            (Sets (λ n. Some (files.bytes self.old n)) (λ n.
+            Some (files.bytes self.new n)) name.now bytes.now) }
+        ensures unchanged { OnErr result ((other : List ℕ) →
+            files.bytes self.new other ≡ files.bytes self.old other) }
     {
         set_text(&mut self.texts, alloc, name, bytes)
     }
@@ -45,8 +47,10 @@ impl Files for SteadyFiles {
 
     fn fetch(&mut self, name: &str, at: u64, into: &mut [u8]) -> Result<usize, Failed>
         ensures succeeds { IsOk result }
-        ensures number { IfOk result (λ n. n ≡ min (length into.new) (length (files.bytes self.old name.now) - at)) }
-        ensures bytes { IfOk result (λ n. take n into.new ≡ take n (drop at (files.bytes self.old name.now))) }
+        ensures number { IfOk result (λ n.
+            n ≡ min (length into.new) (length (files.bytes self.old name.now) - at)) }
+        ensures bytes { IfOk result (λ n. take n into.new ≡
+            take n (drop at (files.bytes self.old name.now))) }
         ensures same { self.new ≡ self.old }
     {
         let bytes = text_of(&self.texts, name).unwrap_or(&[]);

@@ -36,7 +36,8 @@ impl<W: Write + Drop> Sink for OutSink<W> {
     fn put(&mut self, piece: &[u8]) -> Result<usize, Failed>
         ensures some { IfOk result (λ n. 0 < n) }
         ensures bound { IfOk result (λ n. n ≤ length piece.now) }
-        ensures faults { self.new.faults.value ≡ (if is_err result then raised self.old.faults.value else self.old.faults.value) }
+        ensures faults { self.new.faults.value ≡
+            (if is_err result then raised self.old.faults.value else self.old.faults.value) }
     {
         counted(write_some(&mut self.to, piece), &mut self.faults)
     }

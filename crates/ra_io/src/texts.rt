@@ -13,7 +13,8 @@ pub type Texts = BTreeMap<String, Vec<u8>>;
 /// Sets the bytes of a name.
 pub fn set_text(texts: &mut Texts, alloc: Global, name: &str, bytes: &[u8]) -> Result<(), NoMemory>
     ensures set { OnOk result (Sets (held_in texts.old) (held_in texts.new) name.now bytes.now) }
-    ensures unchanged { OnErr result ((other : List ℕ) → held_in texts.new other ≡ held_in texts.old other) }
+    ensures unchanged { OnErr result ((other : List ℕ) →
+        held_in texts.new other ≡ held_in texts.old other) }
 {
     let name = String::from_str(alloc, name)?;
     let bytes = Vec::from_slice(alloc, bytes)?;

@@ -60,10 +60,13 @@ pub fn put_all<S: Sink>(sink: &mut S, text: &[u8]) -> Result<(), Failed>
 
 /// Reads a whole file. A refusal for want of memory may come at any time.
 pub fn read_all<F: Files>(alloc: Global, files: &mut F, name: &str) -> Result<Vec<u8>, Unread>
-    ensures whole { IfOk result (λ v. IfSome (F.held files.old name.now) (λ bytes. v.items ≡ bytes)) }
+    ensures whole { IfOk result (λ v. IfSome (F.held files.old name.now) (λ bytes.
+        v.items ≡ bytes)) }
     ensures within { IfOk result (λ v. vec_len v ≤ MOST_BYTES) }
-    ensures fault { result ≡ Err Unread.ReadFault → Rose (F.faults files.old name.now) (F.faults files.new name.now) }
-    ensures long { result ≡ Err Unread.TooLong → IfSome (F.held files.old name.now) (λ bytes. MOST_BYTES < length bytes) }
+    ensures fault { result ≡ Err Unread.ReadFault →
+        Rose (F.faults files.old name.now) (F.faults files.new name.now) }
+    ensures long { result ≡ Err Unread.TooLong →
+        IfSome (F.held files.old name.now) (λ bytes. MOST_BYTES < length bytes) }
     ensures kept { (other : List ℕ) → F.held files.new other ≡ F.held files.old other }
     ensures never_fall { (other : List ℕ) → F.faults files.old other ≤ F.faults files.new other }
 {
@@ -86,9 +89,12 @@ fn read_more<F: Files>(
     ensures front { OnOk result (IsFront (F.held files.old name.now) bytes.new.items) }
     ensures within { OnOk result (vec_len bytes.new ≤ MOST_BYTES) }
     ensures more { result ≡ Ok true → vec_len bytes.old < vec_len bytes.new }
-    ensures ended { result ≡ Ok false → IfSome (F.held files.old name.now) (λ all. bytes.new.items ≡ all) }
-    ensures fault { result ≡ Err Unread.ReadFault → Rose (F.faults files.old name.now) (F.faults files.new name.now) }
-    ensures long { result ≡ Err Unread.TooLong → IfSome (F.held files.old name.now) (λ all. MOST_BYTES < length all) }
+    ensures ended { result ≡ Ok false →
+        IfSome (F.held files.old name.now) (λ all. bytes.new.items ≡ all) }
+    ensures fault { result ≡ Err Unread.ReadFault →
+        Rose (F.faults files.old name.now) (F.faults files.new name.now) }
+    ensures long { result ≡ Err Unread.TooLong →
+        IfSome (F.held files.old name.now) (λ all. MOST_BYTES < length all) }
     ensures kept { (other : List ℕ) → F.held files.new other ≡ F.held files.old other }
     ensures never_fall { (other : List ℕ) → F.faults files.old other ≤ F.faults files.new other }
 {

@@ -11,7 +11,8 @@ use ra_moves::{Move, Verdict, apply};
 pub fn advance(state: &mut Assignment, mv: &Move, verdict: &Verdict)
     requires stands { StandsAt from_in mv.now.steps state.old.items }
     requires distinct { IsDistinctIfDone mv.now.steps verdict.now }
-    ensures items { state.new.items ≡ after_made state.old.items (steps_made verdict.now mv.now.steps) }
+    ensures items { state.new.items ≡
+        after_made state.old.items (steps_made verdict.now mv.now.steps) }
     ensures room { state.new.room ≡ state.old.room }
 {
     match verdict {

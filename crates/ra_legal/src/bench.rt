@@ -56,7 +56,10 @@ impl Bench {
         requires before { IsLegal inst.now.tables a0.now.items lots.now entries.now e.now.q }
         requires worker { e.now.worker < worker_count lots.now }
         requires left { e.now.k < budget lots.now e.now.worker }
-        ensures planned { result ≡ plan_of inst.now.tables a0.now.items (state a0.now.items entries.now e.now.q) (words lots.now e.now.worker e.now.k) lots.now.drawing (allowed lots.now e.now.worker e.now.k) }
+        ensures planned { result ≡ plan_of inst.now.tables a0.now.items
+            (state a0.now.items entries.now e.now.q)
+            (words lots.now e.now.worker e.now.k) lots.now.drawing
+            (allowed lots.now e.now.worker e.now.k) }
         ensures kept { IsBenchFor self.new inst.now.tables }
     {
         replay(&mut self.state, a0, entries, e.q as usize);
@@ -95,8 +98,11 @@ impl Bench {
         requires worker { e.now.worker < worker_count lots.now }
         requires left { e.now.k < budget lots.now e.now.worker }
         requires stands { StandsAt from_in e.now.mv.steps (state a0.now.items entries.now j) }
-        requires reaches { (n : ℕ) → n < length e.now.mv.steps → to_in e.now.mv.steps n < machine_count inst.now.tables }
-        ensures judged { result ≡ judge inst.now.tables a0.now.items (state a0.now.items entries.now j) e.now.mv.steps (allowed lots.now e.now.worker e.now.k) }
+        requires reaches { (n : ℕ) → n < length e.now.mv.steps →
+            to_in e.now.mv.steps n < machine_count inst.now.tables }
+        ensures judged { result ≡ judge inst.now.tables a0.now.items
+            (state a0.now.items entries.now j) e.now.mv.steps
+            (allowed lots.now e.now.worker e.now.k) }
         ensures kept { IsBenchFor self.new inst.now.tables }
     {
         replay(&mut self.state, a0, entries, j);

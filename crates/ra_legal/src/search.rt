@@ -25,8 +25,10 @@ pub fn first_illegal(
     entries: &[Entry],
 ) -> Result<Option<usize>, NoMemory>
     requires fits { IsAssignment inst.now.tables a0.now.items }
-    ensures legal { IfOk result (λ found. found ≡ None → Legal inst.now.tables a0.now.items lots.now entries.now) }
-    ensures first { IfOk result (λ found. IfSome found (λ j. IsFirstIllegal inst.now.tables a0.now.items lots.now entries.now j)) }
+    ensures legal { IfOk result (λ found. found ≡ None →
+        Legal inst.now.tables a0.now.items lots.now entries.now) }
+    ensures first { IfOk result (λ found.
+        IfSome found (λ j. IsFirstIllegal inst.now.tables a0.now.items lots.now entries.now j)) }
 {
     let mut bench = Bench::make(alloc, inst)?;
     for j in 0..entries.len() {
@@ -50,8 +52,10 @@ fn is_legal(
     requires made { IsBenchFor bench.old inst.now.tables }
     requires there { j < length entries.now }
     requires before { IsLegal inst.now.tables a0.now.items lots.now entries.now j }
-    ensures legal { result ≡ true → IsLegalAt inst.now.tables a0.now.items lots.now entries.now j (entry_at entries.now j) }
-    ensures illegal { result ≡ false → IsLegalAt inst.now.tables a0.now.items lots.now entries.now j (entry_at entries.now j) → ⊥ }
+    ensures legal { result ≡ true → IsLegalAt inst.now.tables a0.now.items lots.now entries.now j
+        (entry_at entries.now j) }
+    ensures illegal { result ≡ false → IsLegalAt inst.now.tables a0.now.items lots.now entries.now j
+        (entry_at entries.now j) → ⊥ }
     ensures kept { IsBenchFor bench.new inst.now.tables }
 {
     let e = entry(entries, j);

@@ -16,8 +16,10 @@ pub(crate) fn is_untouched(inst: &Instance, entries: &[Entry], j: usize, e: &Ent
     requires there { j ≤ length entries.now }
     requires place { e.now.q ≤ j }
     requires known { AreKnown inst.now.tables e.now.mv.steps }
-    requires all_known { (n : ℕ) → n < j → AreKnown inst.now.tables (entry_at entries.now n).mv.steps }
-    ensures { (result ≡ true) ↔ Untouched inst.now.tables (made_in entries.now) e.now.q j e.now.mv.steps }
+    requires all_known { (n : ℕ) → n < j →
+        AreKnown inst.now.tables (entry_at entries.now n).mv.steps }
+    ensures { (result ≡ true) ↔ Untouched inst.now.tables
+        (made_in entries.now) e.now.q j e.now.mv.steps }
 {
     for p in e.q as usize..j {
         if !is_apart(inst, &e.mv, entry(entries, p)) {

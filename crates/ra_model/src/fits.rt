@@ -60,10 +60,14 @@ fn is_within(count: usize, least: usize, most: usize) -> bool
 /// Whether the counts are within the limits.
 #[tactic(auto, unfolding(crate::specs::Numbers::resource_count, crate::specs::Numbers::machine_count, crate::specs::Numbers::service_count, crate::specs::Numbers::process_count, crate::specs::Numbers::balance_count))]
 fn counts_fit(raw: &RawInstance) -> bool
-    ensures resources { result ≡ true → (1 ≤ resource_count (all_open raw.now)) × (resource_count (all_open raw.now) ≤ 20) }
-    ensures machines { result ≡ true → (1 ≤ machine_count (all_open raw.now)) × (machine_count (all_open raw.now) ≤ 5000) }
-    ensures services { result ≡ true → (1 ≤ service_count (all_open raw.now)) × (service_count (all_open raw.now) ≤ 50000) }
-    ensures processes { result ≡ true → (1 ≤ process_count (all_open raw.now)) × (process_count (all_open raw.now) ≤ 50000) }
+    ensures resources { result ≡ true → (1 ≤ resource_count (all_open raw.now)) ×
+        (resource_count (all_open raw.now) ≤ 20) }
+    ensures machines { result ≡ true → (1 ≤ machine_count (all_open raw.now)) ×
+        (machine_count (all_open raw.now) ≤ 5000) }
+    ensures services { result ≡ true → (1 ≤ service_count (all_open raw.now)) ×
+        (service_count (all_open raw.now) ≤ 50000) }
+    ensures processes { result ≡ true → (1 ≤ process_count (all_open raw.now)) ×
+        (process_count (all_open raw.now) ≤ 50000) }
     ensures balances { result ≡ true → balance_count (all_open raw.now) ≤ 10 }
     ensures dependencies { result ≡ true → length raw.now.dependencies.items ≤ 100000 }
     ensures only { WellFormed (all_open raw.now) → result ≡ true }
@@ -82,10 +86,14 @@ fn tables_fit(raw: &RawInstance) -> bool
     requires resources { resource_count (all_open raw.now) ≤ 20 }
     requires machines { machine_count (all_open raw.now) ≤ 5000 }
     requires processes { process_count (all_open raw.now) ≤ 50000 }
-    ensures capacities { result ≡ true → length raw.now.capacities.items ≡ machine_count (all_open raw.now) * resource_count (all_open raw.now) }
-    ensures safeties { result ≡ true → length raw.now.safeties.items ≡ machine_count (all_open raw.now) * resource_count (all_open raw.now) }
-    ensures ways { result ≡ true → length raw.now.move_costs.items ≡ machine_count (all_open raw.now) * machine_count (all_open raw.now) }
-    ensures requirements { result ≡ true → length raw.now.requirements.items ≡ process_count (all_open raw.now) * resource_count (all_open raw.now) }
+    ensures capacities { result ≡ true → length raw.now.capacities.items ≡
+        machine_count (all_open raw.now) * resource_count (all_open raw.now) }
+    ensures safeties { result ≡ true → length raw.now.safeties.items ≡
+        machine_count (all_open raw.now) * resource_count (all_open raw.now) }
+    ensures ways { result ≡ true → length raw.now.move_costs.items ≡
+        machine_count (all_open raw.now) * machine_count (all_open raw.now) }
+    ensures requirements { result ≡ true → length raw.now.requirements.items ≡
+        process_count (all_open raw.now) * resource_count (all_open raw.now) }
     ensures only { WellFormed (all_open raw.now) → result ≡ true }
 {
     let resources = raw.resources.len();
@@ -98,9 +106,12 @@ fn tables_fit(raw: &RawInstance) -> bool
 
 /// Whether the services own the dependencies, one service after another.
 fn dependencies_fit(raw: &RawInstance) -> bool
-    ensures ordered { result ≡ true → (s : ℕ) → s < service_count (all_open raw.now) → dependency_start (all_open raw.now) s ≤ dependency_end (all_open raw.now) s }
-    ensures within { result ≡ true → (s : ℕ) → s < service_count (all_open raw.now) → dependency_end (all_open raw.now) s ≤ length raw.now.dependencies.items }
-    ensures all { result ≡ true → dependency_start (all_open raw.now) (service_count (all_open raw.now)) ≡ length raw.now.dependencies.items }
+    ensures ordered { result ≡ true → (s : ℕ) → s < service_count (all_open raw.now) →
+        dependency_start (all_open raw.now) s ≤ dependency_end (all_open raw.now) s }
+    ensures within { result ≡ true → (s : ℕ) → s < service_count (all_open raw.now) →
+        dependency_end (all_open raw.now) s ≤ length raw.now.dependencies.items }
+    ensures all { result ≡ true → dependency_start (all_open raw.now)
+        (service_count (all_open raw.now)) ≡ length raw.now.dependencies.items }
     ensures only { WellFormed (all_open raw.now) → result ≡ true }
 {
     let count = raw.dependencies.len();
@@ -117,7 +128,8 @@ fn dependencies_fit(raw: &RawInstance) -> bool
 
 /// Whether each service that another needs exists.
 fn needs_exist(raw: &RawInstance) -> bool
-    ensures needs { result ≡ true → (place : ℕ) → place < length raw.now.dependencies.items → need_at (all_open raw.now) place < service_count (all_open raw.now) }
+    ensures needs { result ≡ true → (place : ℕ) → place < length raw.now.dependencies.items →
+        need_at (all_open raw.now) place < service_count (all_open raw.now) }
     ensures only { WellFormed (all_open raw.now) → result ≡ true }
 {
     for place in 0..raw.dependencies.len() {
@@ -130,7 +142,8 @@ fn needs_exist(raw: &RawInstance) -> bool
 
 /// Whether the service of each process exists.
 fn services_exist(raw: &RawInstance) -> bool
-    ensures services { result ≡ true → (p : ℕ) → p < process_count (all_open raw.now) → service_of (all_open raw.now) p < service_count (all_open raw.now) }
+    ensures services { result ≡ true → (p : ℕ) → p < process_count (all_open raw.now) →
+        service_of (all_open raw.now) p < service_count (all_open raw.now) }
     ensures only { WellFormed (all_open raw.now) → result ≡ true }
 {
     for p in 0..raw.processes.len() {
@@ -143,8 +156,10 @@ fn services_exist(raw: &RawInstance) -> bool
 
 /// Whether the resources of each balance objective exist.
 fn resources_exist(raw: &RawInstance) -> bool
-    ensures firsts { result ≡ true → (b : ℕ) → b < balance_count (all_open raw.now) → first_of (all_open raw.now) b < resource_count (all_open raw.now) }
-    ensures seconds { result ≡ true → (b : ℕ) → b < balance_count (all_open raw.now) → second_of (all_open raw.now) b < resource_count (all_open raw.now) }
+    ensures firsts { result ≡ true → (b : ℕ) → b < balance_count (all_open raw.now) →
+        first_of (all_open raw.now) b < resource_count (all_open raw.now) }
+    ensures seconds { result ≡ true → (b : ℕ) → b < balance_count (all_open raw.now) →
+        second_of (all_open raw.now) b < resource_count (all_open raw.now) }
     ensures only { WellFormed (all_open raw.now) → result ≡ true }
 {
     for b in 0..raw.balances.len() {

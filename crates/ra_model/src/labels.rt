@@ -81,7 +81,8 @@ fn label_at(inst: &Instance, label: Label, m: Machine) -> u32
 
 /// For each machine the first one with its label.
 fn firsts(alloc: Global, inst: &Instance, label: Label) -> Result<Fixed<Machine>, NoMemory>
-    ensures { IfOk result (λ places. AreFirst (label_of inst.now.tables label) (machine_count inst.now.tables) places.items) }
+    ensures { IfOk result (λ places.
+        AreFirst (label_of inst.now.tables label) (machine_count inst.now.tables) places.items) }
 {
     let count = inst.machines();
     let mut known = BTreeMap::new(alloc);
@@ -97,7 +98,8 @@ fn firsts(alloc: Global, inst: &Instance, label: Label) -> Result<Fixed<Machine>
 /// The machine that is known for a label; where there is none, `m` is from now on.
 fn first_of(known: &mut BTreeMap<u32, Machine>, label: u32, m: Machine) -> Result<Machine, NoMemory>
     ensures place { IfOk result (λ p. p ≡ unwrap_or (get nat_cmp known.old label) m) }
-    ensures known { IfOk result (λ p. (q : ℕ) → get nat_cmp known.new q ≡ (if label == q then Some p else get nat_cmp known.old q)) }
+    ensures known { IfOk result (λ p. (q : ℕ) →
+        get nat_cmp known.new q ≡ (if label == q then Some p else get nat_cmp known.old q)) }
 {
     match known.get(&label).copied() {
         Some(first) => Ok(first),

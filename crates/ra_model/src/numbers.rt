@@ -165,7 +165,8 @@ impl Instance {
     pub fn depends(&self, s: Service) -> &[Service]
         requires { s.0 < service_count self.now.tables }
         ensures count { length result.now ≡ dependency_count self.now.tables s.0 }
-        ensures each { (k : ℕ) → k < dependency_count self.now.tables s.0 → (slice_index_or result.now k (record { 0 = 0 })).0 ≡ need_of self.now.tables s.0 k }
+        ensures each { (k : ℕ) → k < dependency_count self.now.tables s.0 →
+            (slice_index_or result.now k (record { 0 = 0 })).0 ≡ need_of self.now.tables s.0 k }
     {
         let start = self.dependency_start(s);
         let end = self.service(s).dependency_end;

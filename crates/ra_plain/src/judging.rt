@@ -32,7 +32,8 @@ pub fn judge_plainly(
     requires made { IsMadeFor scratch.old inst.now.tables }
     requires before { before ≡ objective inst.now.tables a0.now.items a.old.items }
     requires stands { StandsAt from_in mv.now.steps a.old.items }
-    requires reaches { (j : ℕ) → j < length mv.now.steps → to_in mv.now.steps j < machine_count inst.now.tables }
+    requires reaches { (j : ℕ) → j < length mv.now.steps →
+        to_in mv.now.steps j < machine_count inst.now.tables }
     ensures verdict { result ≡ judge inst.now.tables a0.now.items a.old.items mv.now.steps allowed }
     ensures unchanged { a.new ≡ a.old }
     ensures kept { IsMadeFor scratch.new inst.now.tables }
@@ -60,7 +61,8 @@ fn judge_after(
     requires made { IsMadeFor scratch.old inst.now.tables }
     requires small { before < 2 ^ 114 }
     ensures verdict { result ≡ verdict_of
-        (or_else (first_broken inst.now.tables a0.now.items after.now.items) (rise_test before (objective inst.now.tables a0.now.items after.now.items) allowed))
+        (or_else (first_broken inst.now.tables a0.now.items after.now.items)
+        (rise_test before (objective inst.now.tables a0.now.items after.now.items) allowed))
         (objective inst.now.tables a0.now.items after.now.items) }
     ensures kept { IsMadeFor scratch.new inst.now.tables }
 {

@@ -43,9 +43,11 @@ pub fn plan_plainly(
     requires made { IsMadeFor scratch.old inst.now.tables }
     requires before { before ≡ objective inst.now.tables a0.now.items a.now.items }
     ensures planned { result.mv ≡ plan_of inst.now.tables a0.now.items a.now.items words.now drawing allowed }
-    ensures judged { result.verdict ≡ judge inst.now.tables a0.now.items a.now.items result.mv.steps allowed }
+    ensures judged { result.verdict ≡
+        judge inst.now.tables a0.now.items a.now.items result.mv.steps allowed }
     ensures stands { StandsAt from_in result.mv.steps a.now.items }
-    ensures reaches { (j : ℕ) → j < length result.mv.steps → to_in result.mv.steps j < machine_count inst.now.tables }
+    ensures reaches { (j : ℕ) → j < length result.mv.steps →
+        to_in result.mv.steps j < machine_count inst.now.tables }
     ensures distinct { repeat_of result.mv.steps ≡ None → Distinct result.mv.steps }
     ensures unchanged { other.new ≡ other.old }
     ensures kept { IsMadeFor scratch.new inst.now.tables }
@@ -65,7 +67,8 @@ pub fn plan_plainly(
 
 /// The second of two moves where it is done at a lower cost than the first, else the first.
 fn cheaper(first: Planned, second: Planned) -> Planned
-    ensures { result ≡ (if is_better (done_cost second.verdict) (done_cost first.verdict) then second else first) }
+    ensures { result ≡ (if is_better (done_cost second.verdict)
+        (done_cost first.verdict) then second else first) }
 {
     if is_cheaper(&second.verdict, &first.verdict) {
         second

@@ -42,7 +42,8 @@ impl Progress {
     ) -> Result<Progress, NoMemory>
         requires fits { IsAssignment inst.now.tables a0.now.items }
         requires made { IsMadeFor scratch.old inst.now.tables }
-        ensures start { IfOk result (λ p. (l : Lots) → budget l 0 ≡ room → IsAfter inst.now.tables a0.now.items l 0 p) }
+        ensures start { IfOk result (λ p. (l : Lots) → budget l 0 ≡ room →
+            IsAfter inst.now.tables a0.now.items l 0 p) }
         ensures kept { IsMadeFor scratch.new inst.now.tables }
     {
         let cost = parts(inst, a0, a0, scratch).total;

@@ -30,7 +30,8 @@ pub(crate) fn are_lots(words: &[String], place: usize) -> bool
 /// Whether the words from a place on are lots, with budgets that aren't too much together.
 fn fit_together(words: &[String], place: usize) -> bool
     requires { place ≤ length words.now }
-    ensures { result ≡ (list_all is_lot (drop place (texts words.now)) && nat_le (sum_by budget_says (drop place (texts words.now))) MOST_PROPOSALS) }
+    ensures { result ≡ (list_all is_lot (drop place (texts words.now)) && nat_le
+        (sum_by budget_says (drop place (texts words.now))) MOST_PROPOSALS) }
 {
     let mut left = MOST_PROPOSALS;
     for k in place..words.len() {
@@ -67,7 +68,8 @@ fn is_written(word: &[u8]) -> bool
 #[tactic(auto, unfolding(crate::specs::LotTexts::is_written_lot, crate::specs::LotTexts::written_pieces))]
 fn written_budget(word: &[u8]) -> Option<u64>
     requires { 2 ≤ length word.now }
-    ensures { result ≡ (if is_written_lot word.now then Some (length (written_pieces word.now) / 8) else None) }
+    ensures { result ≡ (if is_written_lot word.now then Some
+        (length (written_pieces word.now) / 8) else None) }
 {
     match count_numbers(text_from(word, 2)) {
         Some(count) if count % 8 == 0 => Some(count as u64 / 8),
@@ -78,7 +80,8 @@ fn written_budget(word: &[u8]) -> Option<u64>
 /// How many proposals stand behind a seed and a colon. `None` where that is no lot.
 #[tactic(auto, using(crate::proofs::LotLaws::no_colon, crate::proofs::LotLaws::behind_colon), unfolding(crate::specs::LotTexts::is_seed_lot, crate::specs::LotTexts::seed_text, crate::specs::LotTexts::budget_text))]
 fn seed_budget(word: &[u8]) -> Option<u64>
-    ensures { result ≡ (if is_seed_lot word.now then Some (worth (budget_text word.now)) else None) }
+    ensures { result ≡ (if is_seed_lot word.now then Some
+        (worth (budget_text word.now)) else None) }
 {
     let colon = first_place(word, b':');
     if colon == word.len() || !is_number(&word[..colon]) {
@@ -89,7 +92,8 @@ fn seed_budget(word: &[u8]) -> Option<u64>
 
 /// The number of proposals that a text is. `None` where it is none, or too much.
 fn budget_of(text: &[u8]) -> Option<u64>
-    ensures { result ≡ (if is_number text.now && nat_le (worth text.now) MOST_PROPOSALS then Some (worth text.now) else None) }
+    ensures { result ≡ (if is_number text.now && nat_le (worth text.now) MOST_PROPOSALS then Some
+        (worth text.now) else None) }
 {
     if is_number(text) && number(text) <= MOST_PROPOSALS {
         Some(number(text))
@@ -101,7 +105,8 @@ fn budget_of(text: &[u8]) -> Option<u64>
 /// The lots that the words from a place on say.
 pub(crate) fn read_lots(alloc: Global, words: &[String], place: usize) -> Result<Vec<Lot>, NoMemory>
     requires { are_lots (drop place (texts words.now)) ≡ true }
-    ensures said { IfOk result (λ lots. map said_lot lots.items ≡ map lot_says (drop place (texts words.now))) }
+    ensures said { IfOk result (λ lots. map said_lot lots.items ≡
+        map lot_says (drop place (texts words.now))) }
     ensures fitting { IfOk result (λ lots. IsLots lots.items) }
 {
     let mut lots = Vec::new(alloc);

@@ -44,7 +44,8 @@ fn piece_at(text: &[u8], start: usize) -> &[u8]
 /// How many numbers a text has, with one comma between two. `None` where another thing stands there.
 #[tactic(auto, using(crate::proofs::PieceLaws::piece_refused, crate::proofs::PieceLaws::piece_accepted, crate::proofs::PieceLaws::piece_counted, crate::proofs::PieceLaws::left_past), unfolding(crate::proofs::PieceLaws::left_from))]
 pub(crate) fn count_numbers(text: &[u8]) -> Option<usize>
-    ensures { result ≡ (if list_all is_number (pieces text.now) then Some (length (pieces text.now)) else None) }
+    ensures { result ≡ (if list_all is_number (pieces text.now) then Some
+        (length (pieces text.now)) else None) }
 {
     let mut count = 0;
     let mut start = 0;
