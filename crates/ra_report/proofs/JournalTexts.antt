@@ -1,12 +1,12 @@
 -- The lines of a journal tell it, and a report tells the lines of its journal.
-use Rattle.std.proofs.Common.{◌≡◌, ℕ, zero, suc, ◌+◌, ◌<◌, ◌≤◌, ⊎_elim, List, [], ◌++◌, length, get_or, Option, refl, sym, ◌∙◌, ap, arith, append_assoc, length-append, subst, add-one, eq-or-lt_of_le, le_of_suc-le-suc}
+use Rattle.std.proofs.Common.{◌≡◌, ℕ, zero, suc, ◌+◌, ◌<◌, ⊎_elim, List, [], ◌++◌, length, get_or, Option, refl, sym, ◌∙◌, ap, arith, append_assoc, length-append, subst, add-one, eq-or-lt_of_le, le_of_suc-le-suc}
 use Rattle.std.proofs.lemmas.List.{append-nil, ext_get_or, get_or_default}
-use Rattle.std.specs.Io.KnownBytes.{Appends}
 use Rattle.ra_journal.specs.declared.entries.Entry.{Entry}
 use Rattle.ra_journal.specs.Entries.{entry_at}
 use Rattle.ra_report.specs.JournalTexts.{entry_line, entries_text, IsJournalOf}
-use Rattle.ra_report.specs.Pieces.{Breaks}
-use Rattle.ra_report.proofs.PieceLemmas.{appends_more, breaks_after, breaks_before}
+use Rattle.ra_report.specs.declared.gathered.Gathered.{Gathered}
+use Rattle.ra_report.specs.Gathering.{Adds}
+use Rattle.ra_report.proofs.GatheringLemmas.{adds_more}
 use Rattle.ra_report.proofs.EntryTexts.{entry_then, line_some}
 
 -- the first n entries are the same
@@ -87,23 +87,11 @@ same_lines_same_journal h k e =
 pub one_journal_of_bytes : (bytes : List ℕ) (h k : List Entry) → IsJournalOf bytes h → IsJournalOf bytes k → h ≡ k
 one_journal_of_bytes bytes h k one two = same_lines_same_journal h k (let e = sym one ∙ two in (cc))
 
--- a front of the first lines is a front of more lines
-pub lines_break : (h : List Entry) (n m : ℕ) (a c : Option (List ℕ)) (f g : ℕ) → n ≤ m → Breaks a c f g (entries_text h n) → Breaks a c f g (entries_text h m)
+-- one more line
+pub adds_line : {O : Type 0} (taken : O → Option (List ℕ)) (faults : O → ℕ) (h : List Entry) (n : ℕ) (a b c : Gathered O)
+    → Adds taken faults a b (entries_text h n) → Adds taken faults b c (entry_line n (entry_at h n)) → Adds taken faults a c (entries_text h (n + 1))
 unfolding entries_text
-lines_break h n zero a c f g within breaks = subst (λ k. Breaks a c f g (entries_text h k)) (let none : n ≡ 0 = omega arith in none) breaks
-lines_break h n (suc m) a c f g within breaks =
-    ⊎_elim (λ (same : n ≡ suc m). subst (λ k. Breaks a c f g (entries_text h k)) same breaks)
-    (λ (less : n < suc m). breaks_before a c (entries_text h m) (entry_line m (entry_at h m)) f g (lines_break h n m a c f g (le_of_suc-le-suc less) breaks)) (eq-or-lt_of_le within)
-
--- one line more
-pub line_append : (h : List Entry) (n : ℕ) (a b c : Option (List ℕ)) → Appends a b (entries_text h n) → Appends b c (entry_line n (entry_at h n)) → Appends a c (entries_text h (n + 1))
-unfolding entries_text
-line_append h n a b c first next = rw add-one (appends_more a b c (entries_text h n) (entry_line n (entry_at h n)) first next)
-
-pub line_break : (h : List Entry) (n : ℕ) (a b c : Option (List ℕ)) (f g k : ℕ) → n < length h → Appends a b (entries_text h n) → f ≤ g → Breaks b c g k (entry_line n (entry_at h n)) → Breaks a c f k (entries_text h (length h))
-unfolding entries_text
-line_break h n a b c f g k within first never_fell breaks =
-    lines_break h (suc n) (length h) a c f k within (breaks_after a b c (entries_text h n) (entry_line n (entry_at h n)) f g k first never_fell breaks)
+adds_line taken faults h n a b c first next = rw add-one (adds_more taken faults a b c (entries_text h n) (entry_line n (entry_at h n)) first next)
 
 pub entry_read : (h : List Entry) (n : ℕ) (e : Entry) → n < length h → e ≡ get_or h n e → entry_at h n ≡ e
 unfolding entry_at

@@ -1,4 +1,5 @@
 pub mod PieceLemmas
+pub mod GatheringLemmas
 pub mod NumberTexts
 pub mod EntryTexts
 pub mod JournalTexts

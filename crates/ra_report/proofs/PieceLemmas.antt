@@ -1,31 +1,22 @@
 -- What a sink has taken after one text and then another.
-use Rattle.std.proofs.Common.{◌≡◌, ℕ, ◌+◌, ◌-◌, ◌^◌, ◌<◌, ◌≤◌, List, [], ◌∷◌, ◌++◌, length, take, drop, get_or, Option, Some, None, refl, sym, ◌∙◌, ap, inl, inr, ⊎_elim, append_assoc, arith, length-append}
-use Rattle.std.proofs.lemmas.List.{append-nil, take-append-le, take-append-drop, take_more}
+use Rattle.std.proofs.Common.{◌≡◌, ℕ, ◌+◌, ◌-◌, ◌^◌, ◌<◌, ◌≤◌, List, [], ◌∷◌, ◌++◌, length, take, get_or, Option, refl, sym, ◌∙◌, ap, inl, inr, ⊎_elim, append_assoc, arith, length-append}
+use Rattle.std.proofs.lemmas.List.{append-nil, take-append-le, take_more}
 use Rattle.std.proofs.Math.Seq.{take-append-add}
 use Rattle.std.proofs.lemmas.Grind.{flat_map-append}
 use Rattle.std.specs.List.{flat_map}
 use Rattle.std.specs.Io.KnownBytes.{Appends}
+use Rattle.std.proofs.KnownBytes.{Appends-trans}
 use Rattle.ra_io.specs.Faults.{Rose}
 use Rattle.ra_io.specs.Pieces.{AppendsPart}
 use Rattle.ra_report.specs.declared.pieces.Piece.{Piece}
 use Rattle.ra_report.specs.Pieces.{bytes_of, piece_bytes, Breaks}
-
-pub appends_none : (told : Option (List ℕ)) → Appends told told []
-appends_none None = tt
-appends_none (Some xs) = sym (append-nil xs)
-
-pub appends_more : (a b c : Option (List ℕ)) (s t : List ℕ) → Appends a b s → Appends b c t → Appends a c (s ++ t)
-appends_more None b c s t first next = tt
-appends_more (Some xs) None c s t first next = absurd first
-appends_more (Some xs) (Some ys) None s t first next = next
-appends_more (Some xs) (Some ys) (Some zs) s t first next = rw (next, first) (append_assoc xs s t)
 
 -- a front of the second text, behind the whole first one
 pub part_after : (a b c : Option (List ℕ)) (s t : List ℕ) → Appends a b s → AppendsPart b c t → AppendsPart a c (s ++ t)
 part_after a b c s t first part =
     let same : take (length s + part.0) (s ++ t) ≡ s ++ take part.0 t = take-append-add s t part.0 in
     let short : length s + part.0 ≤ length (s ++ t) = rw length-append (let h : part.0 ≤ length t = part.1 in omega arith) in
-    (length s + part.0, short, rw same (appends_more a b c s (take part.0 t) first part.2))
+    (length s + part.0, short, rw same (Appends-trans a b c s (take part.0 t) first part.2))
 
 -- a front of the first text is a front of both
 pub part_before : (a c : Option (List ℕ)) (s t : List ℕ) → AppendsPart a c s → AppendsPart a c (s ++ t)
@@ -55,33 +46,7 @@ bytes_take xs i d within =
     let more : take (i + 1) xs ≡ take i xs ++ get_or xs i d ∷ [] = take_more xs i d within in
     ap bytes_of more ∙ bytes_append (take i xs) (get_or xs i d ∷ []) ∙ ap (λ (t : List ℕ). bytes_of (take i xs) ++ t) (append-nil (piece_bytes (get_or xs i d)))
 
--- the pieces before, one piece and the pieces behind it
-pub bytes_split : (xs : List Piece) (i : ℕ) (d : Piece) → i < length xs → bytes_of xs ≡ (bytes_of (take i xs) ++ piece_bytes (get_or xs i d)) ++ bytes_of (drop (i + 1) xs)
-bytes_split xs i d within =
-    let whole : take (i + 1) xs ++ drop (i + 1) xs ≡ xs = take-append-drop (i + 1) xs in
-    ap bytes_of (sym whole) ∙ bytes_append (take (i + 1) xs) (drop (i + 1) xs) ∙ ap (λ (t : List ℕ). t ++ bytes_of (drop (i + 1) xs)) (bytes_take xs i d within)
-
--- a piece that breaks after others that were put
-pub breaks_at : (xs : List Piece) (i : ℕ) (d : Piece) (a b c : Option (List ℕ)) (f g h : ℕ) → i < length xs → Appends a b (bytes_of (take i xs)) → f ≤ g → Breaks b c g h (piece_bytes (get_or xs i d)) → Breaks a c f h (bytes_of xs)
-breaks_at xs i d a b c f g h within first never_fell breaks =
-    rw (bytes_split xs i d within) (breaks_before a c (bytes_of (take i xs) ++ piece_bytes (get_or xs i d)) (bytes_of (drop (i + 1) xs)) f h (breaks_after a b c (bytes_of (take i xs)) (piece_bytes (get_or xs i d)) f g h first never_fell breaks))
-
-pub appends_at : (xs : List Piece) (i : ℕ) (d : Piece) (a b c : Option (List ℕ)) → i < length xs → Appends a b (bytes_of (take i xs)) → Appends b c (piece_bytes (get_or xs i d)) → Appends a c (bytes_of (take (i + 1) xs))
-appends_at xs i d a b c within first next = rw (bytes_take xs i d within) (appends_more a b c (bytes_of (take i xs)) (piece_bytes (get_or xs i d)) first next)
-
 -- the words of one more item
 pub words_take : {X : Type 0} (word : X → List ℕ) (xs : List X) (i : ℕ) (d : X) → i < length xs → flat_map word (take (i + 1) xs) ≡ flat_map word (take i xs) ++ word (get_or xs i d)
 words_take word xs i d within =
     ap (flat_map word) (take_more xs i d within) ∙ (flat_map-append word (take i xs) (get_or xs i d ∷ []) ∙ ap (λ (t : List ℕ). flat_map word (take i xs) ++ t) (append-nil (word (get_or xs i d))))
-
--- the words before, those of one item and the words behind it
-pub words_split : {X : Type 0} (word : X → List ℕ) (xs : List X) (i : ℕ) (d : X) → i < length xs → flat_map word xs ≡ (flat_map word (take i xs) ++ word (get_or xs i d)) ++ flat_map word (drop (i + 1) xs)
-words_split word xs i d within =
-    ap (flat_map word) (sym (take-append-drop (i + 1) xs)) ∙ (flat_map-append word (take (i + 1) xs) (drop (i + 1) xs) ∙ ap (λ (t : List ℕ). t ++ flat_map word (drop (i + 1) xs)) (words_take word xs i d within))
-
-pub words_break : {X : Type 0} (word : X → List ℕ) (xs : List X) (i : ℕ) (d : X) (a b c : Option (List ℕ)) (f g h : ℕ) → i < length xs → Appends a b (flat_map word (take i xs)) → f ≤ g → Breaks b c g h (word (get_or xs i d)) → Breaks a c f h (flat_map word xs)
-words_break word xs i d a b c f g h within first never_fell breaks =
-    rw (words_split word xs i d within) (breaks_before a c (flat_map word (take i xs) ++ word (get_or xs i d)) (flat_map word (drop (i + 1) xs)) f h (breaks_after a b c (flat_map word (take i xs)) (word (get_or xs i d)) f g h first never_fell breaks))
-
-pub words_append : {X : Type 0} (word : X → List ℕ) (xs : List X) (i : ℕ) (d : X) (a b c : Option (List ℕ)) → i < length xs → Appends a b (flat_map word (take i xs)) → Appends b c (word (get_or xs i d)) → Appends a c (flat_map word (take (i + 1) xs))
-words_append word xs i d a b c within first next = rw (words_take word xs i d within) (appends_more a b c (flat_map word (take i xs)) (word (get_or xs i d)) first next)

@@ -1,4 +1,5 @@
 pub mod FaultTexts
+pub mod Gathering
 pub mod JournalTexts
 pub mod Pieces
 pub mod ReportLaws

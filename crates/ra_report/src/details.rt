@@ -1,11 +1,12 @@
-ghost use Rattle.std.specs.Prelude.{◌≡◌, ◌≤◌, ◌++◌, List, ℕ, OnOk, OnErr};
-ghost use Rattle.std.specs.Io.KnownBytes.{Appends};
-ghost use Rattle.ra_report.specs.Pieces.{Breaks, bytes_of};
+ghost use Rattle.std.specs.Prelude.{◌≡◌, ◌++◌, List, ℕ};
+ghost use Rattle.ra_report.specs.Gathering.{Adds};
+ghost use Rattle.ra_report.specs.Pieces.{bytes_of};
 ghost use Rattle.ra_report.specs.Texts.{cause_text};
 ghost use Rattle.ra_report.specs.FaultTexts.{field_text, model_detail, assign_detail, closed_detail, line_of, about};
 
-use crate::pieces::{Piece, WriteFault, put_pieces};
-use crate::texts::write_cause;
+use crate::gathered::Gathered;
+use crate::pieces::{Piece, add_pieces};
+use crate::texts::add_cause;
 use ra_assign::{AssignFault, ClosedFault};
 use ra_base::{Cause, Name};
 use ra_io::Sink;
@@ -13,66 +14,60 @@ use ra_model_read::{Field, ModelFault};
 
 /// What a line says of a fault.
 pub(crate) trait Detail {
-    ghost text: { Self → List ℕ };
+    ghost says: { Self → List ℕ };
 
-    /// Writes it, with no end of the line.
-    fn write<E: Sink>(&self, sink: &mut E) -> Result<(), WriteFault>
-        ensures whole { OnOk result (Appends (E.taken sink.old) (E.taken sink.new) (text self.now)) }
-        ensures part { OnErr result (Breaks (E.taken sink.old) (E.taken sink.new) (E.faults sink.old) (E.faults sink.new) (text self.now)) }
-        ensures never_falls { E.faults sink.old ≤ E.faults sink.new };
+    /// Adds it, with no end of the line.
+    fn add<O: Sink>(&self, text: &mut Gathered<'_, O>)
+        ensures { Adds O.taken O.faults text.old text.new (says self.now) };
 }
 
-/// Writes a line: what comes before, what is wrong, and the end of the line.
-pub(crate) fn write_line<E: Sink, D: Detail>(
-    sink: &mut E,
+/// Adds a line: what comes before, what is wrong, and the end of the line.
+pub(crate) fn add_line<O: Sink, D: Detail>(
+    text: &mut Gathered<'_, O>,
     before: &[Piece<'_>],
     detail: &D,
-) -> Result<(), WriteFault>
-    ensures whole { OnOk result (Appends (E.taken sink.old) (E.taken sink.new) (line_of (bytes_of before.now) (D.text detail.now))) }
-    ensures part { OnErr result (Breaks (E.taken sink.old) (E.taken sink.new) (E.faults sink.old) (E.faults sink.new) (line_of (bytes_of before.now) (D.text detail.now))) }
-    ensures never_falls { E.faults sink.old ≤ E.faults sink.new }
+)
+    ensures { Adds O.taken O.faults text.old text.new (line_of (bytes_of before.now) (D.says detail.now)) }
 {
-    put_pieces(sink, before)?;
-    detail.write(sink)?;
-    put_pieces(sink, &[Piece::Text("\n")])
+    add_pieces(text, before);
+    detail.add(text);
+    add_pieces(text, &[Piece::Text("\n")])
 }
 
-/// Writes a line about a file: some words, its name, and what is wrong with it.
-pub(crate) fn write_about<'x, E: Sink, D: Detail>(
-    sink: &mut E,
+/// Adds a line about a file: some words, its name, and what is wrong with it.
+pub(crate) fn add_about<'x, O: Sink, D: Detail>(
+    text: &mut Gathered<'_, O>,
     words: &'x str,
     name: &'x Name,
     detail: &D,
-) -> Result<(), WriteFault>
-    ensures whole { OnOk result (Appends (E.taken sink.old) (E.taken sink.new) (about words.now name.now (D.text detail.now))) }
-    ensures part { OnErr result (Breaks (E.taken sink.old) (E.taken sink.new) (E.faults sink.old) (E.faults sink.new) (about words.now name.now (D.text detail.now))) }
-    ensures never_falls { E.faults sink.old ≤ E.faults sink.new }
+)
+    ensures { Adds O.taken O.faults text.old text.new (about words.now name.now (D.says detail.now)) }
 {
     let before = [
         Piece::Text(words),
         Piece::Text(name.as_str()),
         Piece::Text(": "),
     ];
-    write_line(sink, &before, detail)
+    add_line(text, &before, detail)
 }
 
 impl Detail for Cause {
-    ghost text = { cause_text };
+    ghost says = { cause_text };
 
-    fn write<E: Sink>(&self, sink: &mut E) -> Result<(), WriteFault> {
-        write_cause(sink, self)
+    fn add<O: Sink>(&self, text: &mut Gathered<'_, O>) {
+        add_cause(text, self)
     }
 }
 
 impl Detail for ModelFault {
-    ghost text = { model_detail };
+    ghost says = { model_detail };
 
     #[tactic(auto, unfolding(crate::specs::FaultTexts::model_detail))]
-    fn write<E: Sink>(&self, sink: &mut E) -> Result<(), WriteFault> {
+    fn add<O: Sink>(&self, text: &mut Gathered<'_, O>) {
         match *self {
-            ModelFault::ReadFault => Ok(()),
-            ModelFault::BadByte { at, byte } => put_pieces(
-                sink,
+            ModelFault::ReadFault => {}
+            ModelFault::BadByte { at, byte } => add_pieces(
+                text,
                 &[
                     Piece::Text("bad byte "),
                     Piece::Number(byte as u128),
@@ -80,16 +75,16 @@ impl Detail for ModelFault {
                     Piece::Number(at as u128),
                 ],
             ),
-            ModelFault::TooLarge { at } => put_pieces(
-                sink,
+            ModelFault::TooLarge { at } => add_pieces(
+                text,
                 &[
                     Piece::Text("number too large at "),
                     Piece::Number(at as u128),
                 ],
             ),
-            ModelFault::TooLong => put_pieces(sink, &[Piece::Text("file too long")]),
-            ModelFault::Missing { what, item } => put_pieces(
-                sink,
+            ModelFault::TooLong => add_pieces(text, &[Piece::Text("file too long")]),
+            ModelFault::Missing { what, item } => add_pieces(
+                text,
                 &[
                     Piece::Text("missing "),
                     Piece::Text(field_name(what)),
@@ -103,8 +98,8 @@ impl Detail for ModelFault {
                 value,
                 least,
                 most,
-            } => put_pieces(
-                sink,
+            } => add_pieces(
+                text,
                 &[
                     Piece::Text("range "),
                     Piece::Text(field_name(what)),
@@ -118,8 +113,8 @@ impl Detail for ModelFault {
                     Piece::Number(most as u128),
                 ],
             ),
-            ModelFault::Flag { at, value } => put_pieces(
-                sink,
+            ModelFault::Flag { at, value } => add_pieces(
+                text,
                 &[
                     Piece::Text("flag at "),
                     Piece::Number(at as u128),
@@ -127,24 +122,24 @@ impl Detail for ModelFault {
                     Piece::Number(value as u128),
                 ],
             ),
-            ModelFault::Extra { at } => put_pieces(
-                sink,
+            ModelFault::Extra { at } => add_pieces(
+                text,
                 &[Piece::Text("extra at "), Piece::Number(at as u128)],
             ),
-            ModelFault::NoMemory => Ok(()),
+            ModelFault::NoMemory => {}
         }
     }
 }
 
 impl Detail for AssignFault {
-    ghost text = { assign_detail };
+    ghost says = { assign_detail };
 
     #[tactic(auto, unfolding(crate::specs::FaultTexts::assign_detail))]
-    fn write<E: Sink>(&self, sink: &mut E) -> Result<(), WriteFault> {
+    fn add<O: Sink>(&self, text: &mut Gathered<'_, O>) {
         match *self {
-            AssignFault::ReadFault => Ok(()),
-            AssignFault::BadByte { at, byte } => put_pieces(
-                sink,
+            AssignFault::ReadFault => {}
+            AssignFault::BadByte { at, byte } => add_pieces(
+                text,
                 &[
                     Piece::Text("bad byte "),
                     Piece::Number(byte as u128),
@@ -152,23 +147,23 @@ impl Detail for AssignFault {
                     Piece::Number(at as u128),
                 ],
             ),
-            AssignFault::TooLarge { at } => put_pieces(
-                sink,
+            AssignFault::TooLarge { at } => add_pieces(
+                text,
                 &[
                     Piece::Text("number too large at "),
                     Piece::Number(at as u128),
                 ],
             ),
-            AssignFault::TooLong => put_pieces(sink, &[Piece::Text("file too long")]),
-            AssignFault::Missing { process } => put_pieces(
-                sink,
+            AssignFault::TooLong => add_pieces(text, &[Piece::Text("file too long")]),
+            AssignFault::Missing { process } => add_pieces(
+                text,
                 &[
                     Piece::Text("missing process "),
                     Piece::Number(process.0 as u128),
                 ],
             ),
-            AssignFault::NoMachine { process, value } => put_pieces(
-                sink,
+            AssignFault::NoMachine { process, value } => add_pieces(
+                text,
                 &[
                     Piece::Text("no machine for process "),
                     Piece::Number(process.0 as u128),
@@ -176,24 +171,24 @@ impl Detail for AssignFault {
                     Piece::Number(value as u128),
                 ],
             ),
-            AssignFault::Extra { at } => put_pieces(
-                sink,
+            AssignFault::Extra { at } => add_pieces(
+                text,
                 &[Piece::Text("extra at "), Piece::Number(at as u128)],
             ),
-            AssignFault::NoMemory => Ok(()),
+            AssignFault::NoMemory => {}
         }
     }
 }
 
 impl Detail for ClosedFault {
-    ghost text = { closed_detail };
+    ghost says = { closed_detail };
 
     #[tactic(auto, unfolding(crate::specs::FaultTexts::closed_detail))]
-    fn write<E: Sink>(&self, sink: &mut E) -> Result<(), WriteFault> {
+    fn add<O: Sink>(&self, text: &mut Gathered<'_, O>) {
         match *self {
-            ClosedFault::ReadFault => Ok(()),
-            ClosedFault::BadByte { at, byte } => put_pieces(
-                sink,
+            ClosedFault::ReadFault => {}
+            ClosedFault::BadByte { at, byte } => add_pieces(
+                text,
                 &[
                     Piece::Text("bad byte "),
                     Piece::Number(byte as u128),
@@ -201,16 +196,16 @@ impl Detail for ClosedFault {
                     Piece::Number(at as u128),
                 ],
             ),
-            ClosedFault::TooLarge { at } => put_pieces(
-                sink,
+            ClosedFault::TooLarge { at } => add_pieces(
+                text,
                 &[
                     Piece::Text("number too large at "),
                     Piece::Number(at as u128),
                 ],
             ),
-            ClosedFault::TooLong => put_pieces(sink, &[Piece::Text("file too long")]),
-            ClosedFault::NoMachine { at, value } => put_pieces(
-                sink,
+            ClosedFault::TooLong => add_pieces(text, &[Piece::Text("file too long")]),
+            ClosedFault::NoMachine { at, value } => add_pieces(
+                text,
                 &[
                     Piece::Text("no machine at "),
                     Piece::Number(at as u128),
@@ -218,7 +213,7 @@ impl Detail for ClosedFault {
                     Piece::Number(value as u128),
                 ],
             ),
-            ClosedFault::NoMemory => Ok(()),
+            ClosedFault::NoMemory => {}
         }
     }
 }

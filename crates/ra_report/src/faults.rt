@@ -1,10 +1,9 @@
-ghost use Rattle.std.specs.Prelude.{◌≡◌, ◌≤◌, OnOk, OnErr};
-ghost use Rattle.std.specs.Io.KnownBytes.{Appends};
-ghost use Rattle.ra_report.specs.Pieces.{Breaks};
+ghost use Rattle.ra_report.specs.Gathering.{Adds};
 ghost use Rattle.ra_report.specs.FaultTexts.{fault_text, read_fault_line};
 
-use crate::details::{write_about, write_line};
-use crate::pieces::{Piece, WriteFault, put_pieces};
+use crate::details::{add_about, add_line};
+use crate::gathered::Gathered;
+use crate::pieces::{Piece, add_pieces};
 use ra_assign::{AssignFault, ClosedFault};
 use ra_base::{Cause, Name};
 use ra_io::Sink;
@@ -34,33 +33,29 @@ pub enum Fault<'n> {
 const USAGE: &str =
     "usage: reassign check MODEL INITIAL NEW [--closed FILE] | bound MODEL | solve MODEL INITIAL [--slack N] [--closed FILE] [--draws 1|2] LOT ... | trial N";
 
-/// Writes the line of a fault. A reader's `ReadFault` and `NoMemory` have variants of their own, and no detail.
+/// Adds the line of a fault. A reader's `ReadFault` and `NoMemory` have variants of their own, and no detail.
 #[tactic(auto, unfolding(crate::specs::FaultTexts::fault_text))]
-pub fn write_fault<E: Sink>(sink: &mut E, fault: &Fault<'_>) -> Result<(), WriteFault>
-    ensures whole { OnOk result (Appends (E.taken sink.old) (E.taken sink.new) (fault_text fault.now)) }
-    ensures part { OnErr result (Breaks (E.taken sink.old) (E.taken sink.new) (E.faults sink.old) (E.faults sink.new) (fault_text fault.now)) }
-    ensures never_falls { E.faults sink.old ≤ E.faults sink.new }
+pub(crate) fn add_fault<O: Sink>(text: &mut Gathered<'_, O>, fault: &Fault<'_>)
+    ensures { Adds O.taken O.faults text.old text.new (fault_text fault.now) }
 {
     match *fault {
-        Fault::Usage => put_pieces(sink, &[Piece::Text(USAGE), Piece::Text("\n")]),
-        Fault::Read { name } => write_read_fault(sink, name),
-        Fault::Model { fault } => write_line(sink, &[Piece::Text("bad model: ")], &fault),
-        Fault::Closed { name, fault } => write_about(sink, "bad closed list: ", name, &fault),
-        Fault::Assign { name, fault } => write_about(sink, "bad assignment: ", name, &fault),
-        Fault::Infeasible { name, cause } => write_about(sink, "infeasible: ", name, &cause),
-        Fault::Write => put_pieces(sink, &[Piece::Text("write fault"), Piece::Text("\n")]),
-        Fault::Memory => put_pieces(sink, &[Piece::Text("no memory"), Piece::Text("\n")]),
+        Fault::Usage => add_pieces(text, &[Piece::Text(USAGE), Piece::Text("\n")]),
+        Fault::Read { name } => add_read_fault(text, name),
+        Fault::Model { fault } => add_line(text, &[Piece::Text("bad model: ")], &fault),
+        Fault::Closed { name, fault } => add_about(text, "bad closed list: ", name, &fault),
+        Fault::Assign { name, fault } => add_about(text, "bad assignment: ", name, &fault),
+        Fault::Infeasible { name, cause } => add_about(text, "infeasible: ", name, &cause),
+        Fault::Write => add_pieces(text, &[Piece::Text("write fault"), Piece::Text("\n")]),
+        Fault::Memory => add_pieces(text, &[Piece::Text("no memory"), Piece::Text("\n")]),
     }
 }
 
-/// The line of a file that was not read.
-fn write_read_fault<E: Sink>(sink: &mut E, name: &Name) -> Result<(), WriteFault>
-    ensures whole { OnOk result (Appends (E.taken sink.old) (E.taken sink.new) (read_fault_line name.now)) }
-    ensures part { OnErr result (Breaks (E.taken sink.old) (E.taken sink.new) (E.faults sink.old) (E.faults sink.new) (read_fault_line name.now)) }
-    ensures never_falls { E.faults sink.old ≤ E.faults sink.new }
+/// Adds the line of a file that was not read.
+fn add_read_fault<O: Sink>(text: &mut Gathered<'_, O>, name: &Name)
+    ensures { Adds O.taken O.faults text.old text.new (read_fault_line name.now) }
 {
-    put_pieces(
-        sink,
+    add_pieces(
+        text,
         &[
             Piece::Text("read fault: "),
             Piece::Text(name.as_str()),

@@ -1,19 +1,20 @@
 //! The printed lines: the parts of a cost, causes, the report of a run with its journal, a bound, and the line of each
-//! fault, put to a sink piece by piece.
+//! fault, gathered and put to a sink in large pieces.
 #![tactic(auto)]
 
 mod details;
 mod faults;
+mod gathered;
 mod journal;
 pub mod laws;
 mod pieces;
 mod solved;
 mod texts;
+mod writing;
 
-pub use faults::{Fault, write_fault};
-pub use pieces::WriteFault;
-pub use solved::{write_bound, write_report};
-pub use texts::{write_cause, write_parts};
+pub use faults::Fault;
+pub use gathered::WriteFault;
+pub use writing::{write_bound, write_cause, write_fault, write_parts, write_report};
 
 #[cfg(test)]
 mod tests;

@@ -6,16 +6,16 @@ use ra_journal::Entry;
 use ra_moves::{Move, Step, Verdict};
 use std::test::Fail;
 
-/// A sink that takes up to 1,000 bytes at once, and whose put with this number fails.
-fn sink(rt: &impl AllocGlobal, failing: u64) -> Result<MemorySink, Fail> {
+/// A sink for 30,000 bytes that takes up to `each` at once, and whose put with this number fails.
+fn sink(rt: &impl AllocGlobal, each: usize, failing: u64) -> Result<MemorySink, Fail> {
     let mut fails = Fixed::make(rt.alloc(), 1)?;
     fails.push(failing);
-    Ok(MemorySink::make(rt.alloc(), 2000, 1000, fails)?)
+    Ok(MemorySink::make(rt.alloc(), 30_000, each.max(1), fails)?)
 }
 
 /// A sink whose puts do not fail.
 fn sound(rt: &impl AllocGlobal) -> Result<MemorySink, Fail> {
-    sink(rt, 1_000_000)
+    sink(rt, 1000, 1_000_000)
 }
 
 /// The best assignment of the sample's run.
@@ -135,12 +135,19 @@ fn lines_of_each_kind_of_move(rt: HostRuntime) -> Result<(), Fail> {
         },
     ];
     let mut out = sound(&rt)?;
-    assert_eq!(rt; journal::write_entries(&mut out, &entries), Ok(()));
+    assert_eq!(rt; journal_of(&mut out, &entries), Ok(()));
     assert_eq!(rt;
         out.bytes(),
         b"0 0 0 0 swap 0:0>3 1:3>0 done 4200\n1 4294967295 18446744073709551615 0 chain 10:1>2 20:2>3 30:3>4 done 340282366920938463463374607431768211455\n".as_slice()
     );
     Ok(())
+}
+
+/// Writes the lines of entries alone.
+fn journal_of(out: &mut MemorySink, entries: &[Entry]) -> Result<(), WriteFault> {
+    let mut text = gathered::Gathered::make(out);
+    journal::add_entries(&mut text, entries);
+    text.finish()
 }
 
 /// A refused entry for each cause.
@@ -200,7 +207,7 @@ fn all_refused() -> [Entry; 9] {
 #[test]
 fn lines_of_each_cause(rt: HostRuntime) -> Result<(), Fail> {
     let mut out = sound(&rt)?;
-    assert_eq!(rt; journal::write_entries(&mut out, &all_refused()), Ok(()));
+    assert_eq!(rt; journal_of(&mut out, &all_refused()), Ok(()));
     assert_eq!(rt;
         out.bytes(),
         b"0 0 0 0 shift 1:3>2 refused repeat 1\n1 0 1 1 shift 1:3>2 refused same 1\n2 0 2 2 shift 1:3>2 refused capacity 2 3 12 10\n3 0 3 3 shift 1:3>2 refused transient 2 3 12 10\n4 0 4 4 shift 1:3>2 refused conflict 4 2\n5 0 5 5 shift 1:3>2 refused spread 4 1 2\n6 0 6 6 shift 1:3>2 refused dependency 4 5 7\n7 0 7 7 shift 1:3>2 refused rise 10 20 5\n8 0 8 8 shift 1:3>2 refused closed 1 2\n".as_slice()
@@ -210,7 +217,7 @@ fn lines_of_each_cause(rt: HostRuntime) -> Result<(), Fail> {
 
 #[test]
 fn a_failed_put_ends_the_report(rt: HostRuntime) -> Result<(), Fail> {
-    let mut out = sink(&rt, 13)?;
+    let mut out = sink(&rt, 28, 2)?;
     let machines = best(&rt)?;
     assert_eq!(rt;
         write_report(
@@ -226,8 +233,28 @@ fn a_failed_put_ends_the_report(rt: HostRuntime) -> Result<(), Fail> {
     );
     assert_eq!(rt;
         out.bytes(),
-        b"cost 3510\nload 1500\nbalance 1700\nprocess 100\nservice 10\nmachine 200\n".as_slice()
+        b"cost 3510\nload 1500\nbalance 1700\nprocess 100\nservice 10\n".as_slice()
     );
+    Ok(())
+}
+
+/// 500 lines of 37, 40 or 43 bytes are put in three pieces.
+#[test]
+fn a_long_text_is_put_in_few_pieces(rt: HostRuntime) -> Result<(), Fail> {
+    let mut entries = Fixed::make(rt.alloc(), 500)?;
+    for k in 0..500 {
+        if entries.len() < entries.room() {
+            entries.push(refused(
+                k,
+                Cause::Repeat {
+                    process: Process(1),
+                },
+            ));
+        }
+    }
+    let mut out = sink(&rt, 30_000, 3)?;
+    assert_eq!(rt; journal_of(&mut out, entries.as_slice()), Ok(()));
+    assert_eq!(rt; out.bytes().len(), 10 * 37 + 90 * 40 + 400 * 43);
     Ok(())
 }
 

@@ -1,0 +1,15 @@
+use Rattle.ra_report.specs.FaultTexts.{assign_detail}
+use Rattle.ra_report.proofs.GatheringLemmas.{adds_none}
+use Rattle.ra_report.proofs.details.AssignFaultDetail.add.Goals as goal
+
+pub returns-in-ReadFault : goal.returns-in-ReadFault
+unfolding assign_detail
+returns-in-ReadFault g c = rw c.in-ReadFault.is (adds_none g.O.Sink.taken g.O.Sink.faults c.args.text.now)
+
+pub returns-in-NoMemory : goal.returns-in-NoMemory
+unfolding assign_detail
+returns-in-NoMemory g c = rw c.in-NoMemory.is (adds_none g.O.Sink.taken g.O.Sink.faults c.args.text.now)
+
+pub returns-in-Missing : goal.returns-in-Missing
+unfolding assign_detail
+returns-in-Missing g c = rw c.in-Missing.is c.add_pieces-in-Missing.ensures
