@@ -17,11 +17,12 @@ use Rattle.ra_turn.specs.declared.sight.Stage.{Stage}
 use Rattle.ra_turn.specs.declared.sight.Stage.TheVariants.{Maker, Idle}
 use Rattle.ra_turn.specs.Notes.{Stands}
 use Rattle.ra_turn.specs.Seats.{Covers}
-use Rattle.ra_turn.specs.Law.{HasNumber, Scene, Ruled, Fits, Knows, Slot, IsLive, IsPass, HasTicket, IsServed, HasSlot, left_of, maker}
+use Rattle.ra_turn.specs.Law.{AtTicket, HasNumber, Scene, Ruled, Fits, Knows, Slot, left_of, maker}
+use Rattle.ra_turn.specs.Stages.{IsLive, IsPass, HasTicket, IsServed, HasSlot}
 use Rattle.ra_turn.specs.Steps.{cut_left, cut_right, turns_of, joined, spent}
-use Rattle.ra_turn.proofs.Lists.{at_end, at_below, sum_changes, all_one, all_map}
+use Rattle.ra_turn.proofs.Lists.{stands_at, at_end, at_below, sum_changes, all_one, all_map}
 use Rattle.ra_turn.proofs.Stages.{slot_ticket, ticket_pass}
-use Rattle.ra_turn.proofs.Keeps.{slot_stays, stands}
+use Rattle.ra_turn.proofs.Keeps.{slot_stays}
 use Rattle.ra_turn.proofs.Latches.{locks_start, locks_view, locks_more, locks_less}
 
 -- one pass more has its turns
@@ -59,6 +60,7 @@ module _ {V N O : Type 0} (opening : V → O) (notes : V → List N) (author : N
           words = words;
           order = omega arith;
           turns_left = omega arith;
+          waits = λ t from below. absurd (omega arith);
           numbers = omega arith;
           given_out = λ n lt. absurd (omega arith);
           unheard = λ n ge. refl;
@@ -91,7 +93,7 @@ module _ {V N O : Type 0} (opening : V → O) (notes : V → List N) (author : N
         owned = ap (λ (b : Bool). cond b (length s.views) (c.owner p.number)) (ne_eqb p.number c.given (λ e. omega arith)) ∙ f.owned;
         seen = f.seen;
         mine = f.mine;
-        told = f.told;
+        own_seen = f.own_seen;
       } in
       let first : Known c' s.homes i left = record {
         maker = λ t e. (let m = kv.maker t e in let same : t ≡ turns = m.1 in
@@ -112,7 +114,7 @@ module _ {V N O : Type 0} (opening : V → O) (notes : V → List N) (author : N
           owned = here;
           seen = (c.history, refl);
           mine = k.unheard v.at (let e = made.2 in omega arith);
-          told = refl;
+          own_seen = refl;
         });
         ticket = λ h. absurd h;
         served = λ h. absurd h;
@@ -135,6 +137,8 @@ module _ {V N O : Type 0} (opening : V → O) (notes : V → List N) (author : N
           words = k.words;
           order = k.order;
           turns_left = (let a = sum_changes left_of s.views i v left at in let b = sum_by_push left_of views' right in let t = k.turns_left in omega arith);
+          waits = λ t from below. (let g = stands_at (AtTicket t) s.views i v left (c.queue t) at (λ h. absurd (subst HasTicket stage h.0)) (k.waits t from below) in
+              (g.0, g.1, at_longer views' (right ∷ []) (c.queue t) g.0 g.2));
           numbers = (let e = made.2 in omega arith);
           given_out = λ n lt. dite (ℕ_discrete n c.given)
               (λ e. (let turned : c'.owner n ≡ length s.views = ap (λ (b : Bool). cond b (length s.views) (c.owner n)) (eq-eqb n c.given e) in (
@@ -143,7 +147,7 @@ module _ {V N O : Type 0} (opening : V → O) (notes : V → List N) (author : N
                 ap (get_elem? (views' ++ right ∷ [])) turned ∙ at_last views' right (length s.views) (length-set s.views i left),
               )))
               (λ ne. (let kept : c'.owner n ≡ c.owner n = ap (λ (b : Bool). cond b (length s.views) (c.owner n)) (ne_eqb n c.given ne) in
-              let g = stands opening notes author passes turns o s.views i v left n (c.owner n) at (λ h. absurd (subst IsPass stage h.0)) (k.given_out n (omega arith)) in
+              let g = stands_at (HasNumber n) s.views i v left (c.owner n) at (λ h. absurd (subst IsPass stage h.0)) (k.given_out n (omega arith)) in
               (g.0, g.1, ap (get_elem? (views' ++ right ∷ [])) kept ∙ at_longer views' (right ∷ []) (c.owner n) g.0 g.2)));
           unheard = λ n ge. k.unheard n (omega arith);
           slot = slot_longer c.history c.serving s.homes views' (right ∷ []) (slot_stays opening notes author passes turns o c.history c.serving s.homes s.views i v left at none_has k.slot);
@@ -155,12 +159,12 @@ module _ {V N O : Type 0} (opening : V → O) (notes : V → List N) (author : N
               (at_end views' right u j e);
         };
         locks = locks_more author touches o guards c.history r.guard_words views' right
-            (locks_view author touches o guards c.history r.guard_words s.views i v left r.locks at refl refl (r.locks.told i v at)) refl refl;
+            (locks_view author touches o guards c.history r.guard_words s.views i v left r.locks at refl refl (λ h. h) (r.locks.news i v at)) refl refl;
       }
 
-  -- one pass is joined to another
-  pub glues : (i : ℕ) (v : Sight N O) (other : ℕ) (w : Sight N O) → v.stage ≡ Idle → w.stage ≡ Idle → Joins Rule i v other w (joined v w) spent
-  glues i v other w stage stage' s r at apart at' =
+  -- one pass is joined to another, and both hold nothing
+  pub glues : (i : ℕ) (v : Sight N O) (other : ℕ) (w : Sight N O) → v.stage ≡ Idle → w.stage ≡ Idle → v.grips ≡ [] → w.grips ≡ [] → Joins Rule i v other w (joined v w) spent
+  glues i v other w stage stage' empty empty' s r at apart at' =
       let k = r.kept in let c = r.scene in let kv = k.each i v at in
       let both : Sight N O = joined v w in
       let views' : List (Sight N O) = set s.views i both in
@@ -172,14 +176,14 @@ module _ {V N O : Type 0} (opening : V → O) (notes : V → List N) (author : N
         owned = ap (λ (b : Bool). cond b i (c.owner p.number)) (ne_eqb (c.owner p.number) other (λ e. ne (sym f.owned ∙ e))) ∙ f.owned;
         seen = f.seen;
         mine = f.mine;
-        told = f.told;
+        own_seen = f.own_seen;
       } in
       let comes : (p : Part N) → Fits author c.history c.given c.owner other p → Fits author c.history c.given c'.owner i p = λ p f. record {
         below = f.below;
         owned = ap (λ (b : Bool). cond b i (c.owner p.number)) (eq-eqb (c.owner p.number) other f.owned);
         seen = f.seen;
         mine = f.mine;
-        told = f.told;
+        own_seen = f.own_seen;
       } in
       let i_apart : i ≢ other = λ e. apart (sym e) in
       let first : Known c' s.homes i both = record {
@@ -219,6 +223,8 @@ module _ {V N O : Type 0} (opening : V → O) (notes : V → List N) (author : N
           words = k.words;
           order = k.order;
           turns_left = (let a = sum_changes left_of s.views i v both at in let b = sum_changes left_of views' other w spent at' in let t = k.turns_left in omega arith);
+          waits = λ t from below. stands_at (AtTicket t) views' other w spent (c.queue t) at' (λ h. absurd (subst HasTicket stage' h.0))
+              (stands_at (AtTicket t) s.views i v both (c.queue t) at (λ h. absurd (subst HasTicket stage h.0)) (k.waits t from below));
           numbers = k.numbers;
           given_out = λ n lt. dite (ℕ_discrete (c.owner n) other)
               (λ e. (let turned : c'.owner n ≡ i = ap (λ (b : Bool). cond b i (c.owner n)) (eq-eqb (c.owner n) other e) in
@@ -230,7 +236,7 @@ module _ {V N O : Type 0} (opening : V → O) (notes : V → List N) (author : N
                 ap (get_elem? (set views' other spent)) turned ∙ (set_else views' other i spent i_apart ∙ set_here s.views i both (at_below s.views i v at)),
               )))
               (λ ne. (let kept : c'.owner n ≡ c.owner n = ap (λ (b : Bool). cond b i (c.owner n)) (ne_eqb (c.owner n) other ne) in
-              let g = stands opening notes author passes turns o s.views i v both n (c.owner n) at
+              let g = stands_at (HasNumber n) s.views i v both (c.owner n) at
               (λ h. (h.0, (h.1.0, Contains-append_left (v.own ∷ v.joined) (w.own ∷ w.joined) h.1.0 h.1.1, h.1.2))) (k.given_out n lt) in
               (g.0, g.1, ap (get_elem? (set views' other spent)) kept ∙ (set_else views' other (c.owner n) spent ne ∙ g.2))));
           unheard = k.unheard;
@@ -243,8 +249,8 @@ module _ {V N O : Type 0} (opening : V → O) (notes : V → List N) (author : N
               (λ q. others j u h.0 q.1) (at_set s.views i j both u h.1))
               (at_set views' other j spent u e);
         };
-        locks = locks_less author touches o guards c.history r.guard_words views' other spent
-            (locks_view author touches o guards c.history r.guard_words s.views i v both r.locks at refl refl (r.locks.told i v at)) refl refl;
+        locks = locks_less author touches o guards c.history r.guard_words views' other w spent
+            (locks_view author touches o guards c.history r.guard_words s.views i v both r.locks at refl refl (λ h. h) (r.locks.news i v at)) at' empty' refl refl;
       }
 
   -- where one idle seat has every number, the slot is at home, and its value stands for what the seat knows

@@ -10,13 +10,14 @@ use Rattle.atomic_table.specs.Table.{State, Act, Me, Allows, step, keeps, gives,
 use Rattle.atomic_table.proofs.Lists.{set_here}
 use Rattle.ra_turn.specs.declared.sight.Part.{Part}
 use Rattle.ra_turn.specs.declared.sight.Sight.{Sight}
-use Rattle.ra_turn.specs.declared.sight.Stage.TheVariants.{Idle, Holding, Noted}
+use Rattle.ra_turn.specs.declared.sight.Stage.TheVariants.{Idle, InTurn, Counted}
 use Rattle.ra_turn.specs.Notes.{by, HoldsAll}
-use Rattle.ra_turn.specs.Law.{Scene, Kept, Ruled, Fits, Knows, IsPass, IsServed, HasSlot, counted_by}
+use Rattle.ra_turn.specs.Law.{AtTicket, Scene, Kept, Ruled, Fits, Knows}
+use Rattle.ra_turn.specs.Stages.{IsPass, IsServed, HasSlot, counted_by}
 use Rattle.ra_turn.specs.Steps.{with_stage, with_seen, served, noted}
-use Rattle.ra_turn.proofs.Lists.{prefix_self, prefix_longer, at_below, all_one, all_map, by_other}
+use Rattle.ra_turn.proofs.Lists.{stands_at, prefix_self, prefix_longer, at_below, all_one, all_map, by_other}
 use Rattle.ra_turn.proofs.Stages.{slot_served, served_ticket, ticket_pass, pass_live, counted_most}
-use Rattle.ra_turn.proofs.Keeps.{moved}
+use Rattle.ra_turn.proofs.Keeps.{moved, waits_stay}
 use Rattle.ra_turn.proofs.Latches.{locks_view, locks_note}
 use Rattle.ra_turn.proofs.Turns.{few_notes, served_one, is_shut, renumbered}
 
@@ -42,8 +43,8 @@ module _ {V N O : Type 0} (opening : V → O) (notes : V → List N) (author : N
       k.slot
 
   -- a note is counted
-  pub notes_one : (slots i : ℕ) (m : Me (Option V) (Sight N O)) (old : ℕ) (said : Option V) (x : V) (n : N) → passes * turns < 2 ^ 62 → m.0.stage ≡ Holding → length m.0.joined ≡ 0 → length m.0.own.seen ≡ old → said ≡ Some x
-      → notes x ≡ m.0.own.seen ++ n ∷ [] → author n ≡ m.0.own.number → m.0.opened ≡ Some (opening x) → HoldsAll touches (opening x) m.0.held n
+  pub notes_one : (slots i : ℕ) (m : Me (Option V) (Sight N O)) (old : ℕ) (said : Option V) (x : V) (n : N) → passes * turns < 2 ^ 62 → m.0.stage ≡ InTurn → length m.0.joined ≡ 0 → length m.0.own.seen ≡ old → said ≡ Some x
+      → notes x ≡ m.0.own.seen ++ n ∷ [] → author n ≡ m.0.own.number → m.0.opened ≡ Some (opening x) → HoldsAll touches (opening x) m.0.grips n
       → Allows Rule slots i m 2 (λ f. either (f == old) (old + 1) f) (noted notes author (step slots 2 old (old + 1) (some said)) m)
   notes_one slots i m old said x n small stage alone count saying added mine_is opened holding s r len at fits =
       let k = r.kept in let c = r.scene in let v = m.0 in let kv = k.each i v at in
@@ -51,10 +52,10 @@ module _ {V N O : Type 0} (opening : V → O) (notes : V → List N) (author : N
       let sv : IsServed v.stage = slot_served v.stage has in
       let pass : IsPass v.stage = subst IsPass (sym stage) tt in
       let c' : Scene N = record c { history = notes x } in
-      let w : Sight N O = with_seen author v Noted (notes x) in
+      let w : Sight N O = with_seen author v Counted (notes x) in
       let whole : v.own.seen ≡ c.history = kv.whole has in
       let one_opening : opening x ≡ o = (let e = sym opened ∙ kv.opened (pass_live v.stage pass) in cc e) in
-      let holds : HoldsAll touches o v.held n = subst (λ (z : O). HoldsAll touches z v.held n) one_opening holding in
+      let holds : HoldsAll touches o v.grips n = subst (λ (z : O). HoldsAll touches z v.grips n) one_opening holding in
       let longer : notes x ≡ c.history ++ n ∷ [] = added ∙ ap (λ (xs : List N). xs ++ n ∷ []) whole in
       let one_more : length (notes x) ≡ length c.history + 1 = ap length longer ∙ length-append c.history (n ∷ []) in
       let hit : (length c.history == old) ≡ true = eq-eqb (length c.history) old (ap length (sym whole) ∙ count) in
@@ -68,7 +69,7 @@ module _ {V N O : Type 0} (opening : V → O) (notes : V → List N) (author : N
         owned = fits_own.owned;
         seen = prefix_self (notes x);
         mine = refl;
-        told = refl;
+        own_seen = refl;
       } in
       let mine : Known c' s.homes i w = record {
         maker = λ t e. absurd (cc e);
@@ -86,7 +87,7 @@ module _ {V N O : Type 0} (opening : V → O) (notes : V → List N) (author : N
         owned = f.owned;
         seen = subst (λ (xs : List N). IsPrefix p.seen xs) (sym longer) (prefix_longer p.seen c.history (n ∷ []) f.seen);
         mine = ap (by author p.number) longer ∙ (by_other author p.number c.history n apart ∙ f.mine);
-        told = f.told;
+        own_seen = f.own_seen;
       } in
       let others : (j : ℕ) (u : Sight N O) → j ≢ i → get_elem? s.views j ≡ some u → Known c' s.homes j u = λ j u ne e. let ku = k.each j u e in record {
         maker = ku.maker;
@@ -112,15 +113,15 @@ module _ {V N O : Type 0} (opening : V → O) (notes : V → List N) (author : N
           scene = c';
           guard_words = r.guard_words;
           kept = moved opening notes author passes turns o c c' r.guard_words r.guard_words s i v w _ s.homes k at
-              (ap (λ (f : ℕ). c.ticket ∷ c.serving ∷ f ∷ r.guard_words) raised) k.order (omega arith) k.numbers refl (λ n. refl) (λ n q. (tt, renumbered opening notes author touches passes turns guards o n v w refl refl q.1)) unheard
+              (ap (λ (f : ℕ). c.ticket ∷ c.serving ∷ f ∷ r.guard_words) raised) k.order (omega arith) k.numbers refl (λ n. refl) (λ n q. (tt, renumbered opening notes author touches passes turns guards o n v w refl refl q.1)) (waits_stay opening notes author passes turns o c r.guard_words s i v w k at (λ t q. (tt, q.1))) unheard
               (inr (i, w, record { out = kv.away has; seat = set_here s.views i w (at_below s.views i v at); has = tt; few = omega arith }))
               mine others;
-          locks = locks_note author touches o guards c.history (notes x) r.guard_words s.views i v w n r.locks at longer mine_is holds refl refl refl;
+          locks = locks_note author touches o guards c.history (notes x) r.guard_words s.views i v w n r.locks at longer mine_is holds refl refl (λ h. tt) refl;
         },
         (
-          fits_own.told,
+          fits_own.own_seen,
           λ y e. (let same : x ≡ y = cc (e, saying) in
-              (ap (λ (z : V). (with_seen author m.0 Noted (notes z), m.1)) same, subst (λ (z : V). length (notes z) < 2 ^ 62) same (let f = few_notes opening notes author touches passes turns guards o c r.guard_words s i v k at sv in omega arith))),
+              (ap (λ (z : V). (with_seen author m.0 Counted (notes z), m.1)) same, subst (λ (z : V). length (notes z) < 2 ^ 62) same (let f = few_notes opening notes author touches passes turns guards o c r.guard_words s i v k at sv in omega arith))),
         ),
       )
 
@@ -161,6 +162,8 @@ module _ {V N O : Type 0} (opening : V → O) (notes : V → List N) (author : N
         whole = λ z. ku.whole z;
         away = λ z. absurd (ne (served_one opening notes author touches passes turns guards o c s.homes j i u v ku kv (slot_served u.stage z) sv));
       } in
+      let waits : (t : ℕ) → c.serving + 1 ≤ t → t < c.ticket → (u : Sight N O) × AtTicket t u × (get_elem? (set s.views i w) (c.queue t) ≡ some u) = λ t from below.
+      stands_at (AtTicket t) s.views i v w (c.queue t) at (λ h. absurd (let e = h.1 in omega arith)) (k.waits t (omega arith) below) in
       let P : List ℕ → List (ℕ × Option V) → Type 0 = λ ws cs. (w' : Sight N O) × (a : Act (Option V)) × Valid s.homes cs a
       × Rule (record { words = set ws 1 ((get_or ws 1 0 + 1) % 2 ^ 64); homes = homes_after s.homes cs a; views = set s.views i w' })
       × served author touches (step slots 1 1 0 none) m (get_or ws 1 0) (w', carried_after cs a) in
@@ -172,10 +175,10 @@ module _ {V N O : Type 0} (opening : V → O) (notes : V → List N) (author : N
           scene = c';
           guard_words = r.guard_words;
           kept = moved opening notes author passes turns o c c' r.guard_words r.guard_words s i v w _ homes' k at
-              (ap (λ (f : ℕ). c.ticket ∷ f ∷ length c.history ∷ r.guard_words) next) (omega arith) (omega arith) k.numbers refl (λ n. refl) (λ n q. (tt, q.1)) k.unheard
+              (ap (λ (f : ℕ). c.ticket ∷ f ∷ length c.history ∷ r.guard_words) next) (omega arith) (omega arith) k.numbers refl (λ n. refl) (λ n q. (tt, q.1)) waits k.unheard
               (inl (x, record { here = back; same = same ∙ kv.whole has; opened = cc (opened, kv.opened (pass_live v.stage pass)); few = omega arith }))
               mine others;
-          locks = locks_view author touches o guards c.history r.guard_words s.views i v w r.locks at refl refl (r.locks.told i v at);
+          locks = locks_view author touches o guards c.history r.guard_words s.views i v w r.locks at refl refl (λ h. tt) (r.locks.news i v at);
         },
-        (refl, is_shut opening notes author touches passes turns guards o c r.guard_words s.views i v r.locks at v.own.seen v.held v.own.number (kv.opened (pass_live v.stage pass)) (kv.whole has) refl refl),
+        (refl, is_shut opening notes author touches passes turns guards o c r.guard_words s.views i v r.locks at v.own.seen v.grips v.own.number (kv.opened (pass_live v.stage pass)) (kv.whole has) refl refl),
       ))

@@ -12,10 +12,11 @@ use Rattle.ra_turn.specs.declared.sight.Sight.{Sight}
 use Rattle.ra_turn.specs.declared.sight.Stage.{Stage}
 use Rattle.ra_turn.specs.declared.sight.Stage.TheVariants.{Idle}
 use Rattle.ra_turn.specs.Notes.{grip, without, touching, OnlyBy, IsVersion, IsNews, ShutBy}
-use Rattle.ra_turn.specs.Law.{Scene, Kept, Ruled, Knows, IsPass, HasSlot}
+use Rattle.ra_turn.specs.Law.{Scene, Kept, Ruled, Knows}
+use Rattle.ra_turn.specs.Stages.{IsPass, HasSlot}
 use Rattle.ra_turn.specs.Locks.{Latch, Latched, Locks}
-use Rattle.ra_turn.specs.Steps.{with_held, with_news, at_version, heard, glanced, gripped, released, Took}
-use Rattle.ra_turn.proofs.Keeps.{moved, slot_stays}
+use Rattle.ra_turn.specs.Steps.{with_grips, with_news, at_version, heard, glanced, gripped, released, Took}
+use Rattle.ra_turn.proofs.Keeps.{moved, slot_stays, waits_stay}
 use Rattle.ra_turn.proofs.Stages.{pass_live}
 use Rattle.ra_turn.proofs.Lists.{all_map, at_below}
 use Rattle.atomic_table.proofs.Lists.{set_here}
@@ -30,11 +31,11 @@ module _ {V N O : Type 0} (opening : V → O) (notes : V → List N) (author : N
   Base = Kept opening notes author passes turns o
 
   -- an idle seat's view changes in what it holds and was told alone, and one guard's word changes
-  base_grip : (c : Scene N) (gs gs' : List ℕ) (s : State (Option V) (Sight N O)) (i : ℕ) (v : Sight N O) (held news : List Grip) → v.stage ≡ Idle → Base c gs s → get_elem? s.views i ≡ some v
-      → Base c gs' (record { words = c.ticket ∷ c.serving ∷ length c.history ∷ gs'; homes = s.homes; views = set s.views i (record v { held = held; news = news }) })
-  base_grip c gs gs' s i v held news stage k at =
+  base_grip : (c : Scene N) (gs gs' : List ℕ) (s : State (Option V) (Sight N O)) (i : ℕ) (v : Sight N O) (grips news : List Grip) → v.stage ≡ Idle → Base c gs s → get_elem? s.views i ≡ some v
+      → Base c gs' (record { words = c.ticket ∷ c.serving ∷ length c.history ∷ gs'; homes = s.homes; views = set s.views i (record v { grips = grips; news = news }) })
+  base_grip c gs gs' s i v grips news stage k at =
       let kv = k.each i v at in
-      let w : Sight N O = record v { held = held; news = news } in
+      let w : Sight N O = record v { grips = grips; news = news } in
       let mine : Knows author passes turns o c s.homes i w = record {
         maker = kv.maker;
         opened = kv.opened;
@@ -44,7 +45,8 @@ module _ {V N O : Type 0} (opening : V → O) (notes : V → List N) (author : N
         whole = kv.whole;
         away = kv.away;
       } in
-      moved opening notes author passes turns o c c gs gs' s i v w _ s.homes k at refl k.order (omega arith) k.numbers refl (λ n. refl) (λ n h. h) k.unheard
+      moved opening notes author passes turns o c c gs gs' s i v w _ s.homes k at refl k.order (omega arith) k.numbers refl (λ n. refl) (λ n h. h)
+      (waits_stay opening notes author passes turns o c gs s i v w k at (λ t h. h)) k.unheard
       (slot_stays opening notes author passes turns o c.history c.serving s.homes s.views i v w at (subst (λ (x : Stage). ¬ HasSlot x) (sym stage) (λ h. h)) k.slot)
       mine (λ j u ne e. k.each j u e)
 
@@ -76,7 +78,7 @@ module _ {V N O : Type 0} (opening : V → O) (notes : V → List N) (author : N
       let news : List Grip = heard guard word v.news in
       let w : Sight N O = with_news v news in
       let same : set gs guard word ≡ gs = set-get_or gs guard 0 in
-      let true_news : All (IsNews touches o c.history) news = heard_true c.history guard word (r.locks.latch guard) v.news (r.locks.shows guard below) (r.locks.told i v at) (word % 2 == 0) refl in
+      let true_news : All (IsNews touches o c.history) news = heard_true c.history guard word (r.locks.latch guard) v.news (r.locks.shows guard below) (r.locks.news i v at) (word % 2 == 0) refl in
       let P : List ℕ → ℕ → Type 0 = λ ws q. (w' : Sight N O) × (a : Act (Option V)) × Valid s.homes m.1 a
       × Rule (record { words = set ws q (get_or ws q 0); homes = homes_after s.homes m.1 a; views = set s.views i w' })
       × glanced (step slots (3 + guard) 0 0 none) m (get_or ws q 0) (w', carried_after m.1 a) in
@@ -87,9 +89,9 @@ module _ {V N O : Type 0} (opening : V → O) (notes : V → List N) (author : N
         record {
           scene = c;
           guard_words = set gs guard word;
-          kept = base_grip c gs (set gs guard word) s i v v.held news stage k at;
+          kept = base_grip c gs (set gs guard word) s i v v.grips news stage k at;
           locks = subst (λ (ys : List ℕ). Locks author touches o guards c.history ys (set s.views i w)) (sym same)
-              (locks_view author touches o guards c.history gs s.views i v w r.locks at refl refl true_news);
+              (locks_view author touches o guards c.history gs s.views i v w r.locks at refl refl (λ h. h) true_news);
         },
         λ g e. (let one : guard ≡ g = omega arith in ap (λ (q : ℕ). (with_news m.0 (heard q word m.0.news), m.1)) one),
       ))
@@ -110,19 +112,19 @@ module _ {V N O : Type 0} (opening : V → O) (notes : V → List N) (author : N
       let pass : IsPass v.stage = subst IsPass (sym stage) tt in
       let found : word ≡ old = grind (arith, nat_tests) in
       let even : slice_index gs guard ≡ 2 * p = found ∙ twice in
-      let held : List Grip = v.held ++ grip guard p ∷ [] in
-      let w : Sight N O = with_held v held in
+      let grips : List Grip = v.grips ++ grip guard p ∷ [] in
+      let w : Sight N O = with_grips v grips in
       let m' : Me (Option V) (Sight N O) = (w, m.1) in
       let gs' : List ℕ = set gs guard (either (word == old) (old + 1) word) in
       let raised : either (word == old) (old + 1) word ≡ 2 * p + 1 = ap (λ (b : Bool). either b (old + 1) word) e ∙ omega arith in
       let same : gs' ≡ set gs guard (2 * p + 1) = ap (set gs guard) raised in
       let views' : List (Sight N O) = set s.views i w in
-      let taken_now : Locks author touches o guards c.history (set gs guard (2 * p + 1)) views' = locks_grip author touches o guards c.history gs s.views i v w guard p r.locks at below even refl refl refl in
+      let taken_now : Locks author touches o guards c.history (set gs guard (2 * p + 1)) views' = locks_grip author touches o guards c.history gs s.views i v w guard p r.locks at (pass_live v.stage pass) below even refl refl refl in
       let locks' : Locks author touches o guards c.history gs' views' = subst (λ (ys : List ℕ). Locks author touches o guards c.history ys views') (sym same) taken_now in
       let fits_own = (kv.parts pass) 0 v.own (omega arith) in
       let opened : v.opened ≡ Some o = kv.opened (pass_live v.stage pass) in
-      let shut : ShutBy touches o author v.own.number v.own.seen held =
-      all_map (λ kk. OnlyBy (touching touches o kk.guard) author v.own.number c.history kk.version) (λ kk. OnlyBy (touching touches o kk.guard) author v.own.number v.own.seen kk.version) held
+      let shut : ShutBy touches o author v.own.number v.own.seen grips =
+      all_map (λ kk. OnlyBy (touching touches o kk.guard) author v.own.number c.history kk.version) (λ kk. OnlyBy (touching touches o kk.guard) author v.own.number v.own.seen kk.version) grips
       (λ kk only. only_shorter (touching touches o kk.guard) author v.own.number v.own.seen c.history kk.version fits_own.seen only)
       (shut_by author touches o guards c.history gs' views' i w locks' (set_here s.views i w (at_below s.views i v at))) in
       let current : p ≤ length v.own.seen → IsVersion (touching touches o guard) v.own.seen p = λ le.
@@ -132,7 +134,7 @@ module _ {V N O : Type 0} (opening : V → O) (notes : V → List N) (author : N
       subst (λ (x : ℕ). Took author touches m m' x q) g'
       (subst (λ (y : ℕ). Took author touches m m' guard y) q' (
         refl,
-        λ o' opened'. subst (λ (z : O). ShutBy touches z author v.own.number v.own.seen held) (let z = sym opened ∙ opened' in cc z) shut,
+        λ o' opened'. subst (λ (z : O). ShutBy touches z author v.own.number v.own.seen grips) (let z = sym opened ∙ opened' in cc z) shut,
         λ o' opened' le. subst (λ (z : O). IsVersion (touching touches z guard) v.own.seen p) (let z = sym opened ∙ opened' in cc z) (current le),
       ))) in (
         w,
@@ -141,7 +143,7 @@ module _ {V N O : Type 0} (opening : V → O) (notes : V → List N) (author : N
         record {
           scene = c;
           guard_words = gs';
-          kept = base_grip c gs gs' s i v held v.news stage k at;
+          kept = base_grip c gs gs' s i v grips v.news stage k at;
           locks = locks';
         },
         subst (λ (b : Bool). MatchBool b ((guard' q : ℕ) → 3 + guard ≡ 3 + guard' → old ≡ 2 * q → Took author touches m m' guard' q) (m' ≡ m)) (sym e) facts,
@@ -157,8 +159,8 @@ module _ {V N O : Type 0} (opening : V → O) (notes : V → List N) (author : N
         record {
           scene = c;
           guard_words = gs';
-          kept = base_grip c gs gs' s i v v.held v.news stage k at;
-          locks = subst (λ (ys : List ℕ). Locks author touches o guards c.history ys (set s.views i v)) (sym same) (locks_view author touches o guards c.history gs s.views i v v r.locks at refl refl (r.locks.told i v at));
+          kept = base_grip c gs gs' s i v v.grips v.news stage k at;
+          locks = subst (λ (ys : List ℕ). Locks author touches o guards c.history ys (set s.views i v)) (sym same) (locks_view author touches o guards c.history gs s.views i v v r.locks at refl refl (λ h. h) (r.locks.news i v at));
         },
         subst (λ (b : Bool). MatchBool b ((guard' q : ℕ) → 3 + guard ≡ 3 + guard' → old ≡ 2 * q → Took author touches m m guard' q) (m ≡ m)) (sym e) refl,
       )
@@ -173,7 +175,7 @@ module _ {V N O : Type 0} (opening : V → O) (notes : V → List N) (author : N
       (grips_at slots i m guard old p s stage below twice r at (get_or r.guard_words guard 0 == old) refl))
 
   -- a guard is given back
-  pub releases : (slots i : ℕ) (m : Me (Option V) (Sight N O)) (guard p q : ℕ) → m.0.stage ≡ Idle → Contains m.0.held (grip guard p) → p ≤ length m.0.own.seen
+  pub releases : (slots i : ℕ) (m : Me (Option V) (Sight N O)) (guard p q : ℕ) → m.0.stage ≡ Idle → Contains m.0.grips (grip guard p) → p ≤ length m.0.own.seen
       → ((z : O) → m.0.opened ≡ Some z → IsVersion (touching touches z guard) m.0.own.seen q)
       → Allows Rule slots i m (3 + guard) (λ n. 2 * q) (released (step slots (3 + guard) (2 * q) 0 none) m)
   releases slots i m guard p q stage has reached version s r len at fits =
@@ -181,10 +183,10 @@ module _ {V N O : Type 0} (opening : V → O) (notes : V → List N) (author : N
       let pass : IsPass v.stage = subst IsPass (sym stage) tt in
       let opened : v.opened ≡ Some o = kv.opened (pass_live v.stage pass) in
       let f = (kv.parts pass) 0 v.own (omega arith) in
-      let only = All-contains (λ kk. OnlyBy (touching touches o kk.guard) author v.own.number c.history kk.version) v.held (grip guard p) (shut_by author touches o guards c.history gs s.views i v r.locks at) has in
-      let is : IsVersion (touching touches o guard) c.history q = version_whole (touching touches o guard) author v.own.number v.own.seen c.history v.own.mine p q f.seen f.told f.mine reached only (version o opened) in
-      let held : List Grip = without guard v.held in
-      let w : Sight N O = with_held v held in
+      let only = All-contains (λ kk. OnlyBy (touching touches o kk.guard) author v.own.number c.history kk.version) v.grips (grip guard p) (shut_by author touches o guards c.history gs s.views i v r.locks at) has in
+      let is : IsVersion (touching touches o guard) c.history q = version_whole (touching touches o guard) author v.own.number v.own.seen c.history v.own.mine p q f.seen f.own_seen f.mine reached only (version o opened) in
+      let grips : List Grip = without guard v.grips in
+      let w : Sight N O = with_grips v grips in
       let P : List ℕ → ℕ → Type 0 = λ ws z. (w' : Sight N O) × (a : Act (Option V)) × Valid s.homes m.1 a
       × Rule (record { words = set ws z (2 * q); homes = homes_after s.homes m.1 a; views = set s.views i w' })
       × released (step slots (3 + guard) (2 * q) 0 none) m (get_or ws z 0) (w', carried_after m.1 a) in
@@ -195,8 +197,8 @@ module _ {V N O : Type 0} (opening : V → O) (notes : V → List N) (author : N
         record {
           scene = c;
           guard_words = set gs guard (2 * q);
-          kept = base_grip c gs (set gs guard (2 * q)) s i v held v.news stage k at;
-          locks = locks_release author touches o guards c.history gs s.views i v w guard p q r.locks at has is refl refl refl;
+          kept = base_grip c gs (set gs guard (2 * q)) s i v grips v.news stage k at;
+          locks = locks_release author touches o guards c.history gs s.views i v w guard p q r.locks at (λ h. h) has is refl refl refl;
         },
-        λ g e. (let one : guard ≡ g = omega arith in ap (λ (z : ℕ). (with_held m.0 (without z m.0.held), m.1)) one),
+        λ g e. (let one : guard ≡ g = omega arith in ap (λ (z : ℕ). (with_grips m.0 (without z m.0.grips), m.1)) one),
       ))

@@ -8,7 +8,7 @@ use Rattle.ra_turn.specs.declared.story.Story.{Ghosts}
 use Rattle.ra_turn.specs.declared.pass.Pass.{Pass}
 use Rattle.ra_turn.specs.declared.turn.Turn.{Turn}
 use Rattle.ra_turn.specs.declared.sight.Sight.{Sight}
-use Rattle.ra_turn.specs.Passes.{EachAt, IsPassOf, IsIdle, IsDone, IsJoined, passes_of}
+use Rattle.ra_turn.specs.Passes.{EachAt, grips_of, IsPassOf, IsIdle, IsDone, IsJoined, passes_of}
 use Rattle.ra_turn.specs.Seats.{Covers}
 use Rattle.ra_turn.specs.Steps.{joined}
 use Rattle.ra_turn.proofs.Lists.{all_one, all_map}
@@ -42,12 +42,13 @@ module _ {V N O : Type 0} {g : Ghosts V N O} where
         record {
           table = d.of.0;
           idle = d.idle.0;
+          empty = d.grips;
           parts = all_one (λ (q : Pass V N O g). Contains (p.seat.me.0.own ∷ p.seat.me.0.joined) q.seat.me.0.own) p [] refl (0, omega arith, refl);
         },
       )
 
-  pub next_done : (t : Turn V N O) (items left ps : List (Pass V N O g)) (p : Pass V N O g) (s : Seat (Option V) (Sight N O)) → EachAt (IsDone t) items → ps ≡ left ++ p ∷ [] → JoinedFrom t ps items s → IsPassOf t p × IsIdle p
-  next_done t items left ps p s each popped from = let d = (last_done t items left ps from.0 p each popped from.1).1 in (d.of, d.idle)
+  pub next_done : (t : Turn V N O) (items left ps : List (Pass V N O g)) (p : Pass V N O g) (s : Seat (Option V) (Sight N O)) → EachAt (IsDone t) items → ps ≡ left ++ p ∷ [] → JoinedFrom t ps items s → IsPassOf t p × IsIdle p × (grips_of p ≡ [])
+  next_done t items left ps p s each popped from = let d = (last_done t items left ps from.0 p each popped from.1).1 in (d.of, d.idle, d.grips)
 
   pub next_joined : (t : Turn V N O) (items left ps : List (Pass V N O g)) (p : Pass V N O g) (s s' : Seat (Option V) (Sight N O)) → EachAt (IsDone t) items → ps ≡ left ++ p ∷ [] → JoinedFrom t ps items s
       → s'.table_id ≡ s.table_id → s'.me.0 ≡ joined s.me.0 p.seat.me.0 → JoinedFrom t left items s'
@@ -62,6 +63,7 @@ module _ {V N O : Type 0} {g : Ghosts V N O} where
         record {
           table = table ∙ j.table;
           idle = ap (λ (x : Sight N O). x.stage) view ∙ j.idle;
+          empty = ap (λ (x : Sight N O). x.grips) view ∙ j.empty;
           parts = subst (λ (x : Sight N O). All (has x) (p ∷ from.0)) (sym view) (All-cons (has (joined v w)) p from.0 new old);
         },
       )

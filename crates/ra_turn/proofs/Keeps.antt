@@ -2,28 +2,23 @@
 use Rattle.std.proofs.Common.{◌≡◌, ◌≢◌, ℕ, ◌+◌, ◌<◌, ◌≤◌, List, [], ◌∷◌, length, set, ap, sym, subst, ◌∙◌, inl, inr, ⊎_elim, arith, Option}
 use mathlib.Core.Option.{none, some, some-injective}
 use mathlib.Core.Option as maybe
-use mathlib.Core.Logic.{dite}
-use native.Mathlib.Decide.{ℕ_discrete}
 use lib.ListN.{get_elem?}
 use Rattle.atomic_table.specs.Table.{State}
-use Rattle.atomic_table.proofs.Lists.{at_set, set_else, set_here}
+use Rattle.atomic_table.proofs.Lists.{at_set, set_else}
 use Rattle.ra_turn.specs.declared.sight.Sight.{Sight}
 use Rattle.ra_turn.specs.Notes.{by}
-use Rattle.ra_turn.specs.Law.{HasNumber, Scene, Kept, Knows, Slot, HasSlot, left_of}
-use Rattle.ra_turn.proofs.Lists.{at_below, sum_changes}
+use Rattle.ra_turn.specs.Law.{AtTicket, HasNumber, Scene, Kept, Knows, Slot, left_of}
+use Rattle.ra_turn.specs.Stages.{HasSlot}
+use Rattle.ra_turn.proofs.Lists.{stands_at, sum_changes}
 
 module _ {V N O : Type 0} (opening : V → O) (notes : V → List N) (author : N → ℕ) (passes turns : ℕ) (o : O) where
   abbrev Rule : Scene N → List ℕ → State (Option V) (Sight N O) → Type 0
   Rule = Kept opening notes author passes turns o
 
-  -- a number stands where its seat gets another view with the same numbers
-  pub stands : (views : List (Sight N O)) (i : ℕ) (v w : Sight N O) (n j : ℕ) → get_elem? views i ≡ some v → (HasNumber n v → HasNumber n w)
-      → (u : Sight N O) × HasNumber n u × (get_elem? views j ≡ some u) → (u : Sight N O) × HasNumber n u × (get_elem? (set views i w) j ≡ some u)
-  stands views i v w n j at has g =
-      dite (ℕ_discrete j i)
-      (λ e. (let same : g.0 ≡ v = some-injective g.0 v (sym g.2 ∙ (ap (get_elem? views) e ∙ at)) in
-      (w, has (subst (HasNumber n) same g.1), ap (get_elem? (set views i w)) e ∙ set_here views i w (at_below views i v at))))
-      (λ ne. (g.0, g.1, set_else views i j w ne ∙ g.2))
+  -- a ticket stands where its seat gets another view with the same ticket
+  pub waits_stay : (c : Scene N) (gs : List ℕ) (s : State (Option V) (Sight N O)) (i : ℕ) (v w : Sight N O) → Rule c gs s → get_elem? s.views i ≡ some v → ((t : ℕ) → AtTicket t v → AtTicket t w)
+      → (t : ℕ) → c.serving ≤ t → t < c.ticket → (u : Sight N O) × AtTicket t u × (get_elem? (set s.views i w) (c.queue t) ≡ some u)
+  waits_stay c gs s i v w k at has t from below = stands_at (AtTicket t) s.views i v w (c.queue t) at (has t) (k.waits t from below)
 
   -- the seat i goes from v to w, and what the others know stands
   pub moved : (c c' : Scene N) (gs gs' : List ℕ) (s : State (Option V) (Sight N O)) (i : ℕ) (v w : Sight N O) (ws : List ℕ) (homes : List (maybe.Option (Option V)))
@@ -31,18 +26,20 @@ module _ {V N O : Type 0} (opening : V → O) (notes : V → List N) (author : N
       → ws ≡ c'.ticket ∷ c'.serving ∷ length c'.history ∷ gs'
       → c'.serving ≤ c'.ticket → c'.ticket + w.left ≤ c.ticket + v.left → c'.given ≤ passes
       → c'.given ≡ c.given → ((n : ℕ) → c'.owner n ≡ c.owner n) → ((n : ℕ) → HasNumber n v → HasNumber n w)
+      → ((t : ℕ) → c'.serving ≤ t → t < c'.ticket → (u : Sight N O) × AtTicket t u × (get_elem? (set s.views i w) (c'.queue t) ≡ some u))
       → ((n : ℕ) → c'.given ≤ n → by author n c'.history ≡ [])
       → Slot opening notes author passes turns o c'.history c'.serving homes (set s.views i w)
       → Knows author passes turns o c' homes i w
       → ((j : ℕ) (u : Sight N O) → j ≢ i → get_elem? s.views j ≡ some u → Knows author passes turns o c' homes j u)
       → Kept opening notes author passes turns o c' gs' (record { words = ws; homes = homes; views = set s.views i w })
-  moved c c' gs gs' s i v w ws homes k at words order fewer numbers given owner has unheard slot mine others = record {
+  moved c c' gs gs' s i v w ws homes k at words order fewer numbers given owner has waits unheard slot mine others = record {
     words = words;
     order = order;
     turns_left = (let e = sum_changes left_of s.views i v w at in let all = k.turns_left in omega arith);
+    waits = waits;
     numbers = numbers;
     given_out = λ n lt. (let g = k.given_out n (subst (λ (z : ℕ). n < z) given lt) in
-        let found = stands s.views i v w n (c.owner n) at (has n) g in
+        let found = stands_at (HasNumber n) s.views i v w (c.owner n) at (has n) g in
         (found.0, found.1, ap (get_elem? (set s.views i w)) (owner n) ∙ found.2));
     unheard = unheard;
     slot = slot;

@@ -10,4 +10,4 @@ pub mod Versions
 pub mod Latches
 pub mod Grips
 pub mod Passing
-pub mod Holding
+pub mod Grasping

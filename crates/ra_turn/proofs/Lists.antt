@@ -1,12 +1,15 @@
 -- Beginnings of lists, the notes by one number, and sums where one element changes.
-use Rattle.std.proofs.Common.{◌≡◌, ◌≢◌, ℕ, zero, suc, ◌+◌, ◌==◌, ◌⊎◌, ◌≤◌, ◌<◌, Bool, true, false, cond, List, [], ◌∷◌, ◌++◌, length, drop, set, All, sum_by, filter, refl, ap, sym, ◌∙◌, inl, inr, ne_eqb, eq-eqb, arith, append_assoc}
+use Rattle.std.proofs.Common.{◌≡◌, ◌≢◌, ℕ, zero, suc, ◌+◌, ◌==◌, ◌⊎◌, ◌≤◌, ◌<◌, Bool, true, false, cond, List, [], ◌∷◌, ◌++◌, length, drop, set, All, sum_by, filter, refl, ap, sym, subst, ◌∙◌, inl, inr, ne_eqb, eq-eqb, arith, append_assoc}
 use Rattle.std.proofs.Math.Seq.{drop-append_seam}
 use Rattle.std.proofs.lemmas.List.{append-nil}
 use Rattle.std.proofs.lemmas.List.Sums.{sum_by-cons}
 use Rattle.std.proofs.lemmas.List.Elements.{filter-append}
 use mathlib.Core.Option.{some, some-injective, some-ne-none}
 use mathlib.Core.List.{IsPrefix}
+use mathlib.Core.Logic.{dite}
+use native.Mathlib.Decide.{ℕ_discrete}
 use lib.ListN.{get_elem?}
+use Rattle.atomic_table.proofs.Lists.{set_else, set_here}
 use Rattle.ra_turn.specs.Notes.{by}
 
 module _ {A : Type 0} where
@@ -28,6 +31,15 @@ module _ {A : Type 0} where
   at_below [] j b e = absurd (some-ne-none b (sym e))
   at_below (x ∷ xs) zero b e = omega arith
   at_below (x ∷ xs) (suc j) b e = omega (arith, at_below xs j b e)
+
+  -- what the element at a place has, it has where one element changes and keeps it
+  pub stands_at : (P : A → Type 0) (l : List A) (i : ℕ) (v w : A) (j : ℕ) → get_elem? l i ≡ some v → (P v → P w)
+      → (u : A) × P u × (get_elem? l j ≡ some u) → (u : A) × P u × (get_elem? (set l i w) j ≡ some u)
+  stands_at P l i v w j at has g =
+      dite (ℕ_discrete j i)
+      (λ e. (let same : g.0 ≡ v = some-injective g.0 v (sym g.2 ∙ (ap (get_elem? l) e ∙ at)) in
+      (w, has (subst P same g.1), ap (get_elem? (set l i w)) e ∙ set_here l i w (at_below l i v at))))
+      (λ ne. (g.0, g.1, set_else l i j w ne ∙ g.2))
 
   -- a sum where one element changes
   pub sum_changes : (f : A → ℕ) (l : List A) (i : ℕ) (v w : A) → get_elem? l i ≡ some v → sum_by f (set l i w) + f v ≡ sum_by f l + f w

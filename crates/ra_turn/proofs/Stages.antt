@@ -1,12 +1,12 @@
 -- What follows from where a seat stands.
 use Rattle.std.proofs.Common.{◌≤◌, arith}
 use Rattle.ra_turn.specs.declared.sight.Stage.{Stage}
-use Rattle.ra_turn.specs.declared.sight.Stage.TheVariants.{Maker, Spent, Idle, Drawn, Called, Holding, Noted}
-use Rattle.ra_turn.specs.Law.{IsLive, IsPass, HasTicket, IsServed, HasSlot, counted_by}
+use Rattle.ra_turn.specs.declared.sight.Stage.TheVariants.{Maker, Spent, Idle, Drawn, Called, InTurn, Counted}
+use Rattle.ra_turn.specs.Stages.{IsLive, IsPass, HasTicket, IsServed, HasSlot, counted_by}
 
 pub slot_served : (s : Stage) → HasSlot s → IsServed s
-slot_served Holding h = tt
-slot_served Noted h = tt
+slot_served InTurn h = tt
+slot_served Counted h = tt
 slot_served (Maker t) h = absurd h
 slot_served Spent h = absurd h
 slot_served Idle h = absurd h
@@ -15,8 +15,8 @@ slot_served Called h = absurd h
 
 pub served_ticket : (s : Stage) → IsServed s → HasTicket s
 served_ticket Called h = tt
-served_ticket Holding h = tt
-served_ticket Noted h = tt
+served_ticket InTurn h = tt
+served_ticket Counted h = tt
 served_ticket (Maker t) h = absurd h
 served_ticket Spent h = absurd h
 served_ticket Idle h = absurd h
@@ -28,8 +28,8 @@ slot_ticket s h = served_ticket s (slot_served s h)
 pub ticket_pass : (s : Stage) → HasTicket s → IsPass s
 ticket_pass Drawn h = tt
 ticket_pass Called h = tt
-ticket_pass Holding h = tt
-ticket_pass Noted h = tt
+ticket_pass InTurn h = tt
+ticket_pass Counted h = tt
 ticket_pass (Maker t) h = absurd h
 ticket_pass Spent h = absurd h
 ticket_pass Idle h = absurd h
@@ -38,16 +38,16 @@ pub pass_live : (s : Stage) → IsPass s → IsLive s
 pass_live Idle h = tt
 pass_live Drawn h = tt
 pass_live Called h = tt
-pass_live Holding h = tt
-pass_live Noted h = tt
+pass_live InTurn h = tt
+pass_live Counted h = tt
 pass_live (Maker t) h = absurd h
 pass_live Spent h = absurd h
 
 pub counted_most : (s : Stage) → counted_by s ≤ 1
-counted_most Noted = omega arith
+counted_most Counted = omega arith
 counted_most (Maker t) = omega arith
 counted_most Spent = omega arith
 counted_most Idle = omega arith
 counted_most Drawn = omega arith
 counted_most Called = omega arith
-counted_most Holding = omega arith
+counted_most InTurn = omega arith

@@ -4,22 +4,25 @@ use Rattle.std.proofs.Math.Nat.{mod-eq_of_lt}
 use mathlib.Core.Option.{none, some, some-injective}
 use mathlib.Core.Option as maybe
 use mathlib.Core.List.{IsPrefix}
+use mathlib.Core.Logic.{dite}
+use native.Mathlib.Decide.{ℕ_discrete}
 use lib.ListN.{get_elem?}
 use Rattle.atomic_table.specs.Table.{State, Act, Me, Allows, step, keeps, takes, Valid, homes_after, carried_after}
 use Rattle.atomic_table.proofs.Lists.{set_here}
 use Rattle.ra_turn.specs.declared.sight.Part.{Part}
 use Rattle.ra_turn.specs.declared.sight.Sight.{Sight}
 use Rattle.ra_turn.specs.declared.sight.Stage.{Stage}
-use Rattle.ra_turn.specs.declared.sight.Stage.TheVariants.{Idle, Drawn, Called, Holding}
+use Rattle.ra_turn.specs.declared.sight.Stage.TheVariants.{Idle, Drawn, Called, InTurn}
 use Rattle.ra_turn.specs.declared.sight.Grip.{Grip}
 use Rattle.ra_turn.specs.Notes.{by, IsNews, ShutBy}
 use Rattle.ra_turn.specs.Locks.{Locks}
-use Rattle.ra_turn.specs.Law.{Scene, Kept, Ruled, Fits, Knows, AtHome, OutWith, IsPass, HasTicket, IsServed, HasSlot, left_of}
+use Rattle.ra_turn.specs.Law.{AtTicket, Scene, Kept, Ruled, Fits, Knows, AtHome, OutWith, left_of}
+use Rattle.ra_turn.specs.Stages.{IsPass, HasTicket, IsServed, HasSlot}
 use Rattle.ra_turn.specs.Steps.{with_stage, with_seen, with_ticket, drawn, looked, saw}
 use Rattle.std.proofs.lemmas.Bool.Decides.{nat_tests}
 use Rattle.ra_turn.proofs.Lists.{prefix_self, sum_has, at_below, all_first}
 use Rattle.ra_turn.proofs.Stages.{slot_served, served_ticket, pass_live}
-use Rattle.ra_turn.proofs.Keeps.{moved, slot_stays}
+use Rattle.ra_turn.proofs.Keeps.{moved, slot_stays, waits_stay}
 use Rattle.ra_turn.proofs.Latches.{locks_view, shut_by}
 
 module _ {V N O : Type 0} (opening : V → O) (notes : V → List N) (author : N → ℕ) (touches : O → N → ℕ → Bool) (passes turns guards : ℕ) (o : O) where
@@ -37,14 +40,14 @@ module _ {V N O : Type 0} (opening : V → O) (notes : V → List N) (author : N
 
   -- the guards that a view holds keep others' notes out of the history, and so out of what it has seen of it
   pub is_shut : (c : Scene N) (gs : List ℕ) (views : List (Sight N O)) (i : ℕ) (v : Sight N O) → Lock c gs views → get_elem? views i ≡ some v
-      → (xs : List N) (held : List Grip) (number : ℕ) → v.opened ≡ Some o → xs ≡ c.history → held ≡ v.held → number ≡ v.own.number
-      → (p : O) → v.opened ≡ Some p → ShutBy touches p author number xs held
-  is_shut c gs views i v k at xs held number opened all same one p opened' =
+      → (xs : List N) (grips : List Grip) (number : ℕ) → v.opened ≡ Some o → xs ≡ c.history → grips ≡ v.grips → number ≡ v.own.number
+      → (p : O) → v.opened ≡ Some p → ShutBy touches p author number xs grips
+  is_shut c gs views i v k at xs grips number opened all same one p opened' =
       let whose : o ≡ p = (let e = sym opened ∙ opened' in cc e) in
       let shut = shut_by author touches o guards c.history gs views i v k at in
-      subst (λ (z : O). ShutBy touches z author number xs held) whose
-      (subst (λ (ys : List N). ShutBy touches o author number ys held) (sym all)
-      (subst (λ (q : ℕ). ShutBy touches o author q c.history held) (sym one)
+      subst (λ (z : O). ShutBy touches z author number xs grips) whose
+      (subst (λ (ys : List N). ShutBy touches o author number ys grips) (sym all)
+      (subst (λ (q : ℕ). ShutBy touches o author q c.history grips) (sym one)
       (subst (λ (ks : List Grip). ShutBy touches o author v.own.number c.history ks) (sym same) shut)))
 
   -- what a view was told stands in the history
@@ -55,7 +58,7 @@ module _ {V N O : Type 0} (opening : V → O) (notes : V → List N) (author : N
       let whose : o ≡ p = (let e = sym opened ∙ opened' in cc e) in
       subst (λ (z : O). All (IsNews touches z xs) news) whose
       (subst (λ (ys : List N). All (IsNews touches o ys) news) (sym all)
-      (subst (λ (ks : List Grip). All (IsNews touches o c.history) ks) (sym same) (k.told i v at)))
+      (subst (λ (ks : List Grip). All (IsNews touches o c.history) ks) (sym same) (k.news i v at)))
 
   renumbered_at : (n : ℕ) (v w : Sight N O) → w.own.number ≡ v.own.number → w.joined ≡ v.joined
       → (p : Part N) (k : ℕ) → k < length (v.own ∷ v.joined) → slice_index_or (v.own ∷ v.joined) k p ≡ p → p.number ≡ n → (q : Part N) × Contains (w.own ∷ w.joined) q × (q.number ≡ n)
@@ -102,6 +105,13 @@ module _ {V N O : Type 0} (opening : V → O) (notes : V → List N) (author : N
         whole = ku.whole;
         away = ku.away;
       } in
+      let waits : (t : ℕ) → c.serving ≤ t → t < c'.ticket → (u : Sight N O) × AtTicket t u × (get_elem? (set s.views i w) (c'.queue t) ≡ some u) = λ t from below.
+      dite (ℕ_discrete t c.ticket)
+      (λ e. (let mine : c'.queue t ≡ i = ap (λ (b : Bool). cond b i (c.queue t)) (eq-eqb t c.ticket e) in
+      (w, (tt, sym e), ap (get_elem? (set s.views i w)) mine ∙ set_here s.views i w (at_below s.views i v at))))
+      (λ ne. (let theirs : c'.queue t ≡ c.queue t = ap (λ (b : Bool). cond b i (c.queue t)) (ne_eqb t c.ticket ne) in
+      let g = waits_stay opening notes author passes turns o c r.guard_words s i v w k at (λ q h. absurd (subst HasTicket idle h.0)) t from (omega arith) in
+      (g.0, g.1, ap (get_elem? (set s.views i w)) theirs ∙ g.2))) in
       let P : List ℕ → Type 0 = λ ws. (w' : Sight N O) × (a : Act (Option V)) × Valid s.homes m.1 a
       × Rule (record { words = set ws 0 ((get_or ws 0 0 + 1) % 2 ^ 64); homes = homes_after s.homes m.1 a; views = set s.views i w' })
       × drawn (step slots 0 1 0 none) m (get_or ws 0 0) (w', carried_after m.1 a) in
@@ -114,10 +124,10 @@ module _ {V N O : Type 0} (opening : V → O) (notes : V → List N) (author : N
           guard_words = r.guard_words;
           kept = moved opening notes author passes turns o c c' r.guard_words r.guard_words s i v w _ s.homes k at
               (ap (λ (n : ℕ). n ∷ c.serving ∷ length c.history ∷ r.guard_words) next)
-              (let h = k.order in omega arith) (omega arith) k.numbers refl (λ n. refl) (λ n h. (tt, h.1)) k.unheard
+              (let h = k.order in omega arith) (omega arith) k.numbers refl (λ n. refl) (λ n h. (tt, h.1)) waits k.unheard
               (slot_stays opening notes author passes turns o c.history c.serving s.homes s.views i v w at (subst (λ (x : Stage). ¬ HasSlot x) (sym idle) (λ h. h)) k.slot)
               mine others;
-          locks = locks_view author touches o guards c.history r.guard_words s.views i v w r.locks at refl refl (r.locks.told i v at);
+          locks = locks_view author touches o guards c.history r.guard_words s.views i v w r.locks at refl refl (λ h. tt) (r.locks.news i v at);
         },
         refl,
       )
@@ -155,10 +165,10 @@ module _ {V N O : Type 0} (opening : V → O) (notes : V → List N) (author : N
         record {
           scene = c;
           guard_words = r.guard_words;
-          kept = moved opening notes author passes turns o c c r.guard_words r.guard_words s i v w _ s.homes k at refl k.order (omega arith) k.numbers refl (λ n. refl) (λ n h. (tt, h.1)) k.unheard
+          kept = moved opening notes author passes turns o c c r.guard_words r.guard_words s i v w _ s.homes k at refl k.order (omega arith) k.numbers refl (λ n. refl) (λ n h. (tt, h.1)) (waits_stay opening notes author passes turns o c r.guard_words s i v w k at (λ t h. (tt, h.1))) k.unheard
               (slot_stays opening notes author passes turns o c.history c.serving s.homes s.views i v w at (subst (λ (x : Stage). ¬ HasSlot x) (sym stage) (λ h. h)) k.slot)
               mine (λ j u ne e. k.each j u e);
-          locks = locks_view author touches o guards c.history r.guard_words s.views i v w r.locks at refl refl (r.locks.told i v at);
+          locks = locks_view author touches o guards c.history r.guard_words s.views i v w r.locks at refl refl (λ h. tt) (r.locks.news i v at);
         },
         subst (λ (b : Bool). MatchBool b (m' ≡ m') (m' ≡ m)) (sym e) refl,
       )
@@ -170,10 +180,10 @@ module _ {V N O : Type 0} (opening : V → O) (notes : V → List N) (author : N
         record {
           scene = c;
           guard_words = r.guard_words;
-          kept = moved opening notes author passes turns o c c r.guard_words r.guard_words s i v v _ s.homes k at refl k.order (omega arith) k.numbers refl (λ n. refl) (λ n h. h) k.unheard
+          kept = moved opening notes author passes turns o c c r.guard_words r.guard_words s i v v _ s.homes k at refl k.order (omega arith) k.numbers refl (λ n. refl) (λ n h. h) (waits_stay opening notes author passes turns o c r.guard_words s i v v k at (λ t h. h)) k.unheard
               (slot_stays opening notes author passes turns o c.history c.serving s.homes s.views i v v at (subst (λ (x : Stage). ¬ HasSlot x) (sym stage) (λ h. h)) k.slot)
               (k.each i v at) (λ j u ne e. k.each j u e);
-          locks = locks_view author touches o guards c.history r.guard_words s.views i v v r.locks at refl refl (r.locks.told i v at);
+          locks = locks_view author touches o guards c.history r.guard_words s.views i v v r.locks at refl refl (λ h. h) (r.locks.news i v at);
         },
         subst (λ (b : Bool). MatchBool b (m ≡ m') (m ≡ m)) (sym e) refl,
       )
@@ -203,7 +213,7 @@ module _ {V N O : Type 0} (opening : V → O) (notes : V → List N) (author : N
       × Rule (record { words = set ws 2 ((get_or ws 2 0 + 0) % 2 ^ 64); homes = homes_after s.homes m.1 a; views = set s.views i w' })
       × saw opening notes author touches (step slots 2 0 0 none) m (get_or ws 2 0) (w', carried_after m.1 a) in
       let home : (x : V) → AtHome opening notes o c.history c.serving s.homes x → P (c.ticket ∷ c.serving ∷ length c.history ∷ r.guard_words) = λ x h.
-      let w : Sight N O = with_seen author v Holding (notes x) in
+      let w : Sight N O = with_seen author v InTurn (notes x) in
       let below = h.few in
       let stays : (length c.history + 0) % 2 ^ 64 ≡ length c.history = mod-eq_of_lt (omega arith) ∙ omega arith in
       let homes' : List (maybe.Option (Option V)) = set s.homes 0 none in
@@ -214,7 +224,7 @@ module _ {V N O : Type 0} (opening : V → O) (notes : V → List N) (author : N
         owned = fits_own.owned;
         seen = subst (λ (xs : List N). IsPrefix (notes x) xs) h.same (prefix_self (notes x));
         mine = ap (by author v.own.number) (sym h.same);
-        told = refl;
+        own_seen = refl;
       } in
       let mine : Known c homes' i w = record {
         maker = λ t e. absurd (cc e);
@@ -241,10 +251,10 @@ module _ {V N O : Type 0} (opening : V → O) (notes : V → List N) (author : N
           scene = c;
           guard_words = r.guard_words;
           kept = moved opening notes author passes turns o c c r.guard_words r.guard_words s i v w _ homes' k at
-              (ap (λ (n : ℕ). c.ticket ∷ c.serving ∷ n ∷ r.guard_words) stays) k.order (omega arith) k.numbers refl (λ n. refl) (λ n q. (tt, renumbered n v w refl refl q.1)) k.unheard
+              (ap (λ (n : ℕ). c.ticket ∷ c.serving ∷ n ∷ r.guard_words) stays) k.order (omega arith) k.numbers refl (λ n. refl) (λ n q. (tt, renumbered n v w refl refl q.1)) (waits_stay opening notes author passes turns o c r.guard_words s i v w k at (λ t q. (tt, q.1))) k.unheard
               (inr (i, w, record { out = gone; seat = set_here s.views i w (at_below s.views i v at); has = tt; few = omega arith }))
               mine others;
-          locks = locks_view author touches o guards c.history r.guard_words s.views i v w r.locks at refl refl (r.locks.told i v at);
+          locks = locks_view author touches o guards c.history r.guard_words s.views i v w r.locks at refl refl (λ h. tt) (r.locks.news i v at);
         },
         (
           x,
@@ -256,7 +266,7 @@ module _ {V N O : Type 0} (opening : V → O) (notes : V → List N) (author : N
             small = omega arith;
           },
           refl,
-          is_shut c r.guard_words s.views i v r.locks at (notes x) v.held v.own.number (kv.opened (pass_live v.stage pass)) h.same refl refl,
+          is_shut c r.guard_words s.views i v r.locks at (notes x) v.grips v.own.number (kv.opened (pass_live v.stage pass)) h.same refl refl,
           is_told c r.guard_words s.views i v r.locks at (notes x) v.news (kv.opened (pass_live v.stage pass)) h.same refl,
         ),
       ) in

@@ -7,9 +7,9 @@ use lib.ListN.{get_elem?}
 use Rattle.atomic_table.specs.Table.{State}
 use Rattle.ra_turn.specs.declared.sight.Part.{Part}
 use Rattle.ra_turn.specs.declared.sight.Sight.{Sight}
-use Rattle.ra_turn.specs.declared.sight.Stage.{Stage}
-use Rattle.ra_turn.specs.declared.sight.Stage.TheVariants.{Maker, Spent, Drawn, Called, Holding, Noted}
+use Rattle.ra_turn.specs.declared.sight.Stage.TheVariants.{Maker}
 use Rattle.ra_turn.specs.Notes.{by}
+use Rattle.ra_turn.specs.Stages.{IsLive, IsPass, HasTicket, IsServed, HasSlot, counted_by}
 use Rattle.ra_turn.specs.Locks.{Locks}
 
 -- What all seats are measured by: the words, the history, and two maps, from a ticket and from a pass's number to the seat that has it
@@ -21,43 +21,6 @@ pub record Scene (N : Type 0) : Type 0 where
   pub queue : ℕ → ℕ
   pub owner : ℕ → ℕ
 
--- the seat wasn't joined to another one
-abbrev pub IsLive : Stage → Type 0
-IsLive Spent = ⊥
-IsLive _ = Unit {0}
-
--- the seat is that of a pass
-abbrev pub IsPass : Stage → Type 0
-IsPass (Maker turns) = ⊥
-IsPass Spent = ⊥
-IsPass _ = Unit {0}
-
--- the pass has a ticket
-abbrev pub HasTicket : Stage → Type 0
-HasTicket Drawn = Unit {0}
-HasTicket Called = Unit {0}
-HasTicket Holding = Unit {0}
-HasTicket Noted = Unit {0}
-HasTicket _ = ⊥
-
--- the pass's ticket is served
-abbrev pub IsServed : Stage → Type 0
-IsServed Called = Unit {0}
-IsServed Holding = Unit {0}
-IsServed Noted = Unit {0}
-IsServed _ = ⊥
-
--- the pass has the slot
-abbrev pub HasSlot : Stage → Type 0
-HasSlot Holding = Unit {0}
-HasSlot Noted = Unit {0}
-HasSlot _ = ⊥
-
--- how many notes a seat has counted in this turn
-abbrev pub counted_by : Stage → ℕ
-counted_by Noted = 1
-counted_by _ = 0
-
 abbrev pub left_of : {N O : Type 0} → Sight N O → ℕ
 left_of v = v.left
 
@@ -67,11 +30,15 @@ pub record Fits {N : Type 0} (author : N → ℕ) (history : List N) (given : �
   pub owned : owner p.number ≡ i
   pub seen : IsPrefix p.seen history
   pub mine : by author p.number history ≡ p.mine
-  pub told : by author p.number p.seen ≡ p.mine
+  pub own_seen : by author p.number p.seen ≡ p.mine
 
 -- a view of a pass that has the number
 abbrev pub HasNumber : {N O : Type 0} → ℕ → Sight N O → Type 0
 HasNumber {N} n v = IsPass v.stage × ((p : Part N) × Contains (v.own ∷ v.joined) p × (p.number ≡ n))
+
+-- a view that has the ticket
+abbrev pub AtTicket : {N O : Type 0} → ℕ → Sight N O → Type 0
+AtTicket t v = HasTicket v.stage × (v.at ≡ t)
 
 -- What the seat i knows, where its view is v
 pub record Knows {V N O : Type 0} (author : N → ℕ) (passes turns : ℕ) (o : O) (c : Scene N) (homes : List (maybe.Option (Option V))) (i : ℕ) (v : Sight N O) : Type 0 where
@@ -108,6 +75,8 @@ module _ {V N O : Type 0} (opening : V → O) (notes : V → List N) (author : N
     pub words : s.words ≡ c.ticket ∷ c.serving ∷ length c.history ∷ guard_words
     pub order : c.serving ≤ c.ticket
     pub turns_left : c.ticket + sum_by left_of s.views ≤ passes * turns
+    -- each ticket from the serving word to the ticket word less one stands in the view of its seat, so no ticket is lost before the next one is served
+    pub waits : (t : ℕ) → c.serving ≤ t → t < c.ticket → (v : Sight N O) × AtTicket t v × (get_elem? s.views (c.queue t) ≡ some v)
     pub numbers : c.given ≤ passes
     -- each number that was given stands in the view of its seat
     pub given_out : (n : ℕ) → n < c.given → (v : Sight N O) × HasNumber n v × (get_elem? s.views (c.owner n) ≡ some v)
@@ -129,4 +98,4 @@ nothing n = record { number = n; seen = []; mine = [] }
 
 -- the view of the maker's seat at the start
 abbrev pub maker : {N O : Type 0} → ℕ → ℕ → O → Sight N O
-maker passes turns o = record { opened = Some o; stage = Maker turns; at = 0; left = passes * turns; own = nothing 0; joined = []; held = []; news = [] }
+maker passes turns o = record { opened = Some o; stage = Maker turns; at = 0; left = passes * turns; own = nothing 0; joined = []; grips = []; news = [] }

@@ -1,4 +1,5 @@
 pub mod Notes
+pub mod Stages
 pub mod Law
 pub mod Steps
 pub mod Seats

@@ -49,10 +49,10 @@ module _ {N O : Type 0} (touches : O → N → ℕ → Bool) (o : O) where
   abbrev pub IsNews : List N → Grip → Type 0
   IsNews xs k = (0 < k.version) × TouchedAt (touching touches o k.guard) xs (k.version - 1)
 
-  -- each guard that the note touches is held
+  -- each guard that the note touches is grips
   abbrev pub HoldsAll : List Grip → N → Type 0
-  HoldsAll held n = (guard : ℕ) → touches o n guard ≡ true → (v : ℕ) × Contains held (grip guard v)
+  HoldsAll grips n = (guard : ℕ) → touches o n guard ≡ true → (v : ℕ) × Contains grips (grip guard v)
 
   -- while a pass of the number holds these guards, no note of another touches one of them from the version on at which it was taken
   abbrev pub ShutBy : (N → ℕ) → ℕ → List N → List Grip → Type 0
-  ShutBy author number xs held = All (λ k. OnlyBy (touching touches o k.guard) author number xs k.version) held
+  ShutBy author number xs grips = All (λ k. OnlyBy (touching touches o k.guard) author number xs k.version) grips

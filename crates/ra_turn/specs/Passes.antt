@@ -6,7 +6,7 @@ use Rattle.ra_turn.specs.declared.guards.Hold.{Hold}
 use Rattle.ra_turn.specs.declared.guards.Hold.TheVariants.{Held, Newer}
 use Rattle.ra_turn.specs.declared.pass.Pass.{Pass}
 use Rattle.ra_turn.specs.declared.turn.Turn.{Turn}
-use Rattle.ra_turn.specs.declared.sight.Stage.TheVariants.{Maker, Idle, Holding}
+use Rattle.ra_turn.specs.declared.sight.Stage.TheVariants.{Maker, Idle, InTurn}
 use Rattle.ra_turn.specs.declared.sight.Sight.{Sight}
 use Rattle.atomic_table.specs.declared.shared.Seat.{Seat}
 use Rattle.ra_turn.specs.declared.sight.Grip.{Grip}
@@ -46,8 +46,8 @@ module _ {V N O : Type 0} {g : Ghosts V N O} where
   made_by p = p.seat.me.0.own.mine
 
   -- the guards that it holds, each with the version at which it was taken, in ascending order
-  abbrev pub held_by : Pass V N O g → List Grip
-  held_by p = p.seat.me.0.held
+  abbrev pub grips_of : Pass V N O g → List Grip
+  grips_of p = p.seat.me.0.grips
 
   -- the guards of whose versions it was told: at its next take it sees the note before each
   abbrev pub news_of : Pass V N O g → List Grip
@@ -63,7 +63,7 @@ module _ {V N O : Type 0} {g : Ghosts V N O} where
 
   -- the pass has taken the value
   abbrev pub IsInTurn : Pass V N O g → Type 0
-  IsInTurn p = (p.seat.me.0.stage ≡ Holding) × (p.seat.me.1 ≡ (0, None) ∷ [])
+  IsInTurn p = (p.seat.me.0.stage ≡ InTurn) × (p.seat.me.1 ≡ (0, None) ∷ [])
 
   -- the pass is one of this lock, and has no turn
   abbrev pub IsReady : Turn V N O → Pass V N O g → Type 0
@@ -77,15 +77,15 @@ module _ {V N O : Type 0} {g : Ghosts V N O} where
     pub left : p.left ≡ turns
     pub seen : seen_by p ≡ []
     pub made : made_by p ≡ []
-    pub held : held_by p ≡ []
+    pub grips : grips_of p ≡ []
 
   -- The notes xs are those that the pass has seen, or these and one more by its number, of which it holds each guard that it touches
   abbrev pub MayFollow : O → Pass V N O g → List N → Type 0
-  MayFollow o p xs = (xs ≡ seen_by p) ⊎ ((n : N) × (xs ≡ seen_by p ++ n ∷ []) × (g.author n ≡ p.number) × HoldsAll g.touches o (held_by p) n)
+  MayFollow o p xs = (xs ≡ seen_by p) ⊎ ((n : N) × (xs ≡ seen_by p ++ n ∷ []) × (g.author n ≡ p.number) × HoldsAll g.touches o (grips_of p) n)
 
   -- Of the guards that the pass holds, no note of another pass that it has seen touches one, from the version on at which it was taken
   abbrev pub Shut : Turn V N O → Pass V N O g → Type 0
-  Shut t p = ShutBy g.touches (opening_of g.opening t) g.author p.number (seen_by p) (held_by p)
+  Shut t p = ShutBy g.touches (opening_of g.opening t) g.author p.number (seen_by p) (grips_of p)
 
   -- what the pass was told of stands in what it has seen
   abbrev pub Told : Turn V N O → Pass V N O g → Type 0
@@ -97,7 +97,7 @@ module _ {V N O : Type 0} {g : Ghosts V N O} where
 
   -- it holds the same guards, and was told the same
   abbrev pub HoldsSame : Pass V N O g → Pass V N O g → Type 0
-  HoldsSame p q = (held_by q ≡ held_by p) × (news_of q ≡ news_of p)
+  HoldsSame p q = (grips_of q ≡ grips_of p) × (news_of q ≡ news_of p)
 
   -- it has seen and made the same notes, and has as many turns left
   abbrev pub KnowsSame : Pass V N O g → Pass V N O g → Type 0
@@ -112,7 +112,7 @@ module _ {V N O : Type 0} {g : Ghosts V N O} where
     pub of : IsPassOf t p
     pub idle : IsIdle p
     pub number : p.number ≡ n
-    pub held : held_by p ≡ []
+    pub grips : grips_of p ≡ []
 
   -- what the pass has seen begins the notes xs, which have of its own just those that it made
   abbrev pub IsPartOf : List N → Pass V N O g → Type 0
@@ -122,10 +122,11 @@ module _ {V N O : Type 0} {g : Ghosts V N O} where
   pub record IsJoined (t : Turn V N O) (ps : List (Pass V N O g)) (s : Seat (Option V) (Sight N O)) : Type 0 where
     pub table : s.table_id ≡ t.table.shared.table_id
     pub idle : s.me.0.stage ≡ Idle
+    pub empty : s.me.0.grips ≡ []
     pub parts : All (λ p. Contains (s.me.0.own ∷ s.me.0.joined) p.seat.me.0.own) ps
 
   -- What `Turn::hold` tells. Held: the pass holds the guard besides, at a version of at most the one asked for. It is the guard's version
   -- in the history: in what the pass has seen, where it reaches so far, and the pass is told of it. Newer: the guard had a version above, and the pass is told of it
   abbrev pub IsAnswer : Turn V N O → Pass V N O g → Pass V N O g → ℕ → ℕ → Hold → Type 0
-  IsAnswer t p q guard asked (Held at) = (at ≤ asked) × (held_by q ≡ held_by p ++ grip guard at ∷ []) × Shut t q × (at ≤ length (seen_by q) → HasVersion t q guard at) × (0 < at → Contains (news_of q) (grip guard at))
-  IsAnswer t p q guard asked (Newer at) = (asked < at) × (held_by q ≡ held_by p) × Contains (news_of q) (grip guard at)
+  IsAnswer t p q guard asked (Held at) = (at ≤ asked) × (grips_of q ≡ grips_of p ++ grip guard at ∷ []) × Shut t q × (at ≤ length (seen_by q) → HasVersion t q guard at) × (0 < at → Contains (news_of q) (grip guard at))
+  IsAnswer t p q guard asked (Newer at) = (asked < at) × (grips_of q ≡ grips_of p) × Contains (news_of q) (grip guard at)

@@ -5,7 +5,7 @@ use mathlib.Core.List.{IsPrefix}
 use Rattle.atomic_table.specs.Table.{Me, Step}
 use Rattle.ra_turn.specs.declared.sight.Sight.{Sight}
 use Rattle.ra_turn.specs.declared.sight.Stage.{Stage}
-use Rattle.ra_turn.specs.declared.sight.Stage.TheVariants.{Maker, Spent, Idle, Drawn, Called, Holding, Noted}
+use Rattle.ra_turn.specs.declared.sight.Stage.TheVariants.{Maker, Spent, Idle, Drawn, Called, InTurn, Counted}
 use Rattle.ra_turn.specs.declared.sight.Grip.{Grip}
 use Rattle.ra_turn.specs.Notes.{by, grip, without, touching, IsVersion, IsNews, ShutBy}
 use Rattle.ra_turn.specs.Law.{nothing}
@@ -35,15 +35,15 @@ module _ {N O : Type 0} where
   abbrev pub with_ticket : Sight N O → ℕ → Sight N O
   with_ticket v n = record v { stage = Drawn; at = n; left = v.left - 1 }
 
-  abbrev pub with_held : Sight N O → List Grip → Sight N O
-  with_held v ks = record v { held = ks }
+  abbrev pub with_grips : Sight N O → List Grip → Sight N O
+  with_grips v ks = record v { grips = ks }
 
   abbrev pub with_news : Sight N O → List Grip → Sight N O
   with_news v ks = record v { news = ks }
 
   -- of the guards that the view holds, no other's note that it has seen touches one
   abbrev pub IsShut : (N → ℕ) → (O → N → ℕ → Bool) → Sight N O → Type 0
-  IsShut author touches v = (o : O) → v.opened ≡ Some o → ShutBy touches o author v.own.number v.own.seen v.held
+  IsShut author touches v = (o : O) → v.opened ≡ Some o → ShutBy touches o author v.own.number v.own.seen v.grips
 
   -- a version within what the view has seen is the guard's version there
   abbrev pub IsCurrent : (O → N → ℕ → Bool) → Sight N O → ℕ → ℕ → Type 0
@@ -58,14 +58,14 @@ module _ {N O : Type 0} where
   cut_left v = record v { at = v.at + 1; left = v.left - turns_of v.stage }
 
   abbrev pub cut_right : Sight N O → Sight N O
-  cut_right v = record { opened = v.opened; stage = Idle; at = 0; left = turns_of v.stage; own = nothing v.at; joined = []; held = []; news = [] }
+  cut_right v = record { opened = v.opened; stage = Idle; at = 0; left = turns_of v.stage; own = nothing v.at; joined = []; grips = []; news = [] }
 
   -- two passes as one, and what the second is left with
   abbrev pub joined : Sight N O → Sight N O → Sight N O
   joined v w = record v { left = v.left + w.left; joined = v.joined ++ w.own ∷ w.joined }
 
   abbrev pub spent : Sight N O
-  spent = record { opened = None; stage = Spent; at = 0; left = 0; own = nothing 0; joined = []; held = []; news = [] }
+  spent = record { opened = None; stage = Spent; at = 0; left = 0; own = nothing 0; joined = []; grips = []; news = [] }
 
 module _ {V N O : Type 0} where
   -- its ticket is the word that it found
@@ -85,7 +85,7 @@ module _ {V N O : Type 0} where
 
   -- the seat holds the guard at the version besides
   abbrev pub Took : (N → ℕ) → (O → N → ℕ → Bool) → Me (Option V) (Sight N O) → Me (Option V) (Sight N O) → ℕ → ℕ → Type 0
-  Took author touches m m' guard v = (m' ≡ (with_held m.0 (m.0.held ++ grip guard v ∷ []), m.1)) × IsShut author touches m'.0 × IsCurrent touches m'.0 guard v
+  Took author touches m m' guard v = (m' ≡ (with_grips m.0 (m.0.grips ++ grip guard v ∷ []), m.1)) × IsShut author touches m'.0 × IsCurrent touches m'.0 guard v
 
   -- the guard is taken exactly where the word was as expected, which is twice its version
   abbrev pub gripped : (N → ℕ) → (O → N → ℕ → Bool) → Step (Option V) → Me (Option V) (Sight N O) → ℕ → Me (Option V) (Sight N O) → Type 0
@@ -94,7 +94,7 @@ module _ {V N O : Type 0} where
       (m' ≡ m)
 
   abbrev pub released : Step (Option V) → Me (Option V) (Sight N O) → ℕ → Me (Option V) (Sight N O) → Type 0
-  released s m n m' = (guard : ℕ) → s.word ≡ 3 + guard → m' ≡ (with_held m.0 (without guard m.0.held), m.1)
+  released s m n m' = (guard : ℕ) → s.word ≡ 3 + guard → m' ≡ (with_grips m.0 (without guard m.0.grips), m.1)
 
 module _ {V N O : Type 0} (opening : V → O) (notes : V → List N) (author : N → ℕ) where
   -- the value in the slot: its opening, and its notes, which begin with those seen and have of the pass's own just those that it made
@@ -108,9 +108,9 @@ module _ {V N O : Type 0} (opening : V → O) (notes : V → List N) (author : N
 module _ {V N O : Type 0} (opening : V → O) (notes : V → List N) (author : N → ℕ) (touches : O → N → ℕ → Bool) where
   -- the history is that of the value in the slot, which the pass has then
   abbrev pub saw : Step (Option V) → Me (Option V) (Sight N O) → ℕ → Me (Option V) (Sight N O) → Type 0
-  saw s m n m' = (x : V) × Shows opening notes author m.0 n x × (m' ≡ (with_seen author m.0 Holding (notes x), (0, Some x) ∷ m.1)) × IsShut author touches m'.0 × IsTold touches m'.0
+  saw s m n m' = (x : V) × Shows opening notes author m.0 n x × (m' ≡ (with_seen author m.0 InTurn (notes x), (0, Some x) ∷ m.1)) × IsShut author touches m'.0 × IsTold touches m'.0
 
 module _ {V N O : Type 0} (notes : V → List N) (author : N → ℕ) where
   -- the announced value's notes are the history, and all notes that the pass had made were among those that it had seen
   abbrev pub noted : Step (Option V) → Me (Option V) (Sight N O) → ℕ → Me (Option V) (Sight N O) → Type 0
-  noted s m n m' = (by author m.0.own.number m.0.own.seen ≡ m.0.own.mine) × ((x : V) → s.said ≡ some (Some x) → (m' ≡ (with_seen author m.0 Noted (notes x), m.1)) × (length (notes x) < 2 ^ 62))
+  noted s m n m' = (by author m.0.own.number m.0.own.seen ≡ m.0.own.mine) × ((x : V) → s.said ≡ some (Some x) → (m' ≡ (with_seen author m.0 Counted (notes x), m.1)) × (length (notes x) < 2 ^ 62))

@@ -3,7 +3,7 @@ ghost use Rattle.std.specs.Prelude.{◌≡◌, ℕ, ◌+◌, ◌*◌, ◌/◌, �
 ghost use Rattle.ra_turn.specs.declared.sight.Stage.TheVariants.{Idle};
 ghost use Rattle.ra_turn.specs.Notes.{grip, touching, without, IsVersion};
 ghost use Rattle.ra_turn.specs.Seats.{IsSized, IsSameSeat};
-ghost use Rattle.ra_turn.specs.Steps.{with_held, with_news, heard, Took};
+ghost use Rattle.ra_turn.specs.Steps.{with_grips, with_news, heard, Took};
 ghost use Rattle.ra_turn.specs.Holds.{OnlyHolds, IsAnswerAt};
 
 use crate::law::{Desk, Place};
@@ -34,7 +34,7 @@ fn look<V: Story>(desk: &Desk<V>, seat: &mut Place<V>, guard: u32) -> u64
     requires table { (seat.old.table_id ≡ desk.now.table_id) × IsSized desk.now.table_id desk.now.key }
     requires guard { (seat.old.me.0.stage ≡ Idle) × (guard < desk.now.key.guards) }
     ensures same { IsSameSeat seat.old seat.new }
-    ensures told { seat.new.me ≡ (with_news seat.old.me.0 (heard guard result seat.old.me.0.news), seat.old.me.1) }
+    ensures view { seat.new.me ≡ (with_news seat.old.me.0 (heard guard result seat.old.me.0.news), seat.old.me.1) }
 {
     desk.load::<Glance>(seat, FIRST_GUARD + guard as usize)
 }
@@ -45,7 +45,7 @@ fn grasp<V: Story>(desk: &Desk<V>, seat: &mut Place<V>, guard: u32, word: u64) -
     requires guard { (seat.old.me.0.stage ≡ Idle) × (guard < desk.now.key.guards) }
     requires even { word % 2 ≡ 0 }
     ensures same { IsSameSeat seat.old seat.new }
-    ensures told { MatchBool result (Took V.author V.touches seat.old.me seat.new.me guard (word / 2)) (seat.new.me ≡ seat.old.me) }
+    ensures view { MatchBool result (Took V.author V.touches seat.old.me seat.new.me guard (word / 2)) (seat.new.me ≡ seat.old.me) }
 {
     let free = word;
     let place = FIRST_GUARD + guard as usize;
@@ -57,8 +57,8 @@ fn try_hold<V: Story>(desk: &Desk<V>, seat: &mut Place<V>, guard: u32, version: 
     requires table { (seat.old.table_id ≡ desk.now.table_id) × IsSized desk.now.table_id desk.now.key }
     requires guard { (seat.old.me.0.stage ≡ Idle) × (guard < desk.now.key.guards) }
     ensures same { IsSameSeat seat.old seat.new × OnlyHolds seat.old.me seat.new.me }
-    ensures some { IfSome result (IsAnswerAt V.author V.touches guard version seat.old.me.0.held seat.new.me.0) }
-    ensures none { IfNone result (seat.new.me.0.held ≡ seat.old.me.0.held) }
+    ensures some { IfSome result (IsAnswerAt V.author V.touches guard version seat.old.me.0.grips seat.new.me.0) }
+    ensures none { IfNone result (seat.new.me.0.grips ≡ seat.old.me.0.grips) }
 {
     let word = look(desk, seat, guard);
     if word % 2 != 0 {
@@ -86,7 +86,7 @@ pub(crate) fn hold_guard<V: Story, R: Wait>(
     requires table { (seat.old.table_id ≡ desk.now.table_id) × IsSized desk.now.table_id desk.now.key }
     requires guard { (seat.old.me.0.stage ≡ Idle) × (guard < desk.now.key.guards) }
     ensures same { IsSameSeat seat.old seat.new × OnlyHolds seat.old.me seat.new.me }
-    ensures answer { IsAnswerAt V.author V.touches guard version seat.old.me.0.held seat.new.me.0 result }
+    ensures answer { IsAnswerAt V.author V.touches guard version seat.old.me.0.grips seat.new.me.0 result }
 {
     for _ in rt.forever() {
         if let Some(answer) = try_hold(desk, seat, guard, version) {
@@ -100,10 +100,10 @@ pub(crate) fn hold_guard<V: Story, R: Wait>(
 /// Gives a guard back at its version.
 pub(crate) fn release_guard<V: Story>(desk: &Desk<V>, seat: &mut Place<V>, guard: u32, version: u64)
     requires table { (seat.old.table_id ≡ desk.now.table_id) × (3 + guard < desk.now.table_id.words) × (seat.old.me.0.stage ≡ Idle) }
-    requires held { (v : ℕ) × Contains seat.old.me.0.held (grip guard v) × (v ≤ length seat.old.me.0.own.seen) }
+    requires grips { (v : ℕ) × Contains seat.old.me.0.grips (grip guard v) × (v ≤ length seat.old.me.0.own.seen) }
     requires version { (version < 2 ^ 63) × ((o : V.Opening) → seat.old.me.0.opened ≡ Some o → IsVersion (touching V.touches o guard) seat.old.me.0.own.seen version) }
     ensures same { IsSameSeat seat.old seat.new }
-    ensures told { seat.new.me ≡ (with_held seat.old.me.0 (without guard seat.old.me.0.held), seat.old.me.1) }
+    ensures view { seat.new.me ≡ (with_grips seat.old.me.0 (without guard seat.old.me.0.grips), seat.old.me.1) }
 {
     desk.swap::<Release>(seat, FIRST_GUARD + guard as usize, 2 * version);
 }

@@ -15,7 +15,6 @@ mod tests;
 mod turn;
 
 pub use guards::Hold;
-pub use make::NoMemory;
 pub use pass::{Held, Pass};
 pub use sight::Grip;
 pub use story::Story;

@@ -11,12 +11,9 @@ use crate::plays::Cut;
 use crate::story::Story;
 use crate::turn::Turn;
 use atomic_table::Table;
+use ra_base::NoMemory;
 use std::alloc::Global;
 use std::snapshot::Snapshot;
-
-/// There was no memory.
-#[derive(Clone, Copy, Debug, PartialEq, Eq)]
-pub struct NoMemory;
 
 impl<V: Story> Turn<V> {
     /// A lock round `value` with that many passes, of so many turns each, and guards. At `Err` the value was dropped.

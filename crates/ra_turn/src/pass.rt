@@ -15,7 +15,7 @@ pub struct Pass<V: Story> {
     pub ghost seens: { length seat.me.0.own.seen ≡ seen },
     pub ghost alone: { length seat.me.0.joined ≡ 0 },
     pub ghost small: { seen < 2 ^ 62 },
-    pub ghost within: { All (λ k. 3 + k.guard < seat.table_id.words) seat.me.0.held },
+    pub ghost within: { All (λ k. 3 + k.guard < seat.table_id.words) seat.me.0.grips },
 }
 
 impl<V: Story> Pass<V> {

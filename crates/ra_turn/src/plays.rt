@@ -27,9 +27,9 @@ impl<V: Story> Play<Option<V>, Sight<V::Note, V::Opening>> for See {
 }
 
 /// A note is counted.
-pub(crate) struct Note;
+pub(crate) struct Count;
 
-impl<V: Story> Play<Option<V>, Sight<V::Note, V::Opening>> for Note {
+impl<V: Story> Play<Option<V>, Sight<V::Note, V::Opening>> for Count {
     ghost then = { noted V.notes V.author };
 }
 

@@ -32,9 +32,9 @@ pub enum Stage {
     /// A pass whose ticket is served.
     Called,
     /// A pass that has the slot, and has seen the whole history.
-    Holding,
+    InTurn,
     /// The same, and it has counted a note in this turn.
-    Noted,
+    Counted,
 }
 
 /// The view of a seat.
@@ -52,7 +52,7 @@ pub struct Sight<N, O> {
     /// The numbers of the seats that were joined to it.
     pub joined: LinkedList<Part<N>>,
     /// The guards that it holds.
-    pub held: LinkedList<Grip>,
+    pub grips: LinkedList<Grip>,
     /// The versions that it was told of.
     pub news: LinkedList<Grip>,
 }

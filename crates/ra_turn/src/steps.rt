@@ -1,13 +1,13 @@
 //! The steps of one turn, each on one word of the table.
 ghost use Rattle.std.specs.Prelude.{◌≡◌, ℕ, ◌+◌, ◌<◌, ◌^◌, [], ◌∷◌, ◌++◌, length, Some, None};
-ghost use Rattle.ra_turn.specs.declared.sight.Stage.TheVariants.{Idle, Drawn, Called, Holding, Noted};
-ghost use Rattle.ra_turn.specs.Law.{HasSlot};
+ghost use Rattle.ra_turn.specs.declared.sight.Stage.TheVariants.{Idle, Drawn, Called, InTurn, Counted};
+ghost use Rattle.ra_turn.specs.Stages.{HasSlot};
 ghost use Rattle.ra_turn.specs.Notes.{by, HoldsAll};
 ghost use Rattle.ra_turn.specs.Seats.{IsSized, IsSameSeat};
 ghost use Rattle.ra_turn.specs.Steps.{with_stage, with_seen, with_ticket, Shows, IsShut, IsTold};
 
 use crate::law::{Desk, Place};
-use crate::plays::{Draw, Look, Note, See, Serve};
+use crate::plays::{Count, Draw, Look, See, Serve};
 use crate::story::Story;
 use std::sync::Wait;
 use std::thread;
@@ -23,7 +23,7 @@ pub(crate) fn draw<V: Story>(desk: &Desk<V>, seat: &mut Place<V>) -> u64
     requires table { (seat.old.table_id ≡ desk.now.table_id) × IsSized desk.now.table_id desk.now.key }
     requires idle { (seat.old.me.0.stage ≡ Idle) × (0 < seat.old.me.0.left) }
     ensures same { IsSameSeat seat.old seat.new }
-    ensures told { seat.new.me ≡ (with_ticket seat.old.me.0 result, seat.old.me.1) }
+    ensures view { seat.new.me ≡ (with_ticket seat.old.me.0 result, seat.old.me.1) }
 {
     desk.fetch_add::<Draw>(seat, TICKET, 1)
 }
@@ -33,7 +33,7 @@ pub(crate) fn wait<V: Story, R: Wait>(rt: &R, desk: &Desk<V>, seat: &mut Place<V
     requires table { (seat.old.table_id ≡ desk.now.table_id) × IsSized desk.now.table_id desk.now.key }
     requires drawn { (seat.old.me.0.stage ≡ Drawn) × (seat.old.me.0.at ≡ ticket) }
     ensures same { IsSameSeat seat.old seat.new }
-    ensures told { seat.new.me ≡ (with_stage seat.old.me.0 Called, seat.old.me.1) }
+    ensures view { seat.new.me ≡ (with_stage seat.old.me.0 Called, seat.old.me.1) }
 {
     for _ in rt.forever() {
         if desk.load::<Look>(seat, SERVING) == ticket {
@@ -50,7 +50,7 @@ pub(crate) fn see<V: Story>(desk: &Desk<V>, seat: &mut Place<V>) -> (u64, V)
     requires called { (seat.old.me.0.stage ≡ Called) × (seat.old.me.1 ≡ []) }
     ensures same { IsSameSeat seat.old seat.new }
     ensures shows { Shows V.opening V.notes V.author seat.old.me.0 result.0 result.1 }
-    ensures told { seat.new.me ≡ (with_seen V.author seat.old.me.0 Holding (V.notes result.1), (0, None) ∷ []) }
+    ensures view { seat.new.me ≡ (with_seen V.author seat.old.me.0 InTurn (V.notes result.1), (0, None) ∷ []) }
     ensures guards { IsShut V.author V.touches seat.new.me.0 × IsTold V.touches seat.new.me.0 }
 {
     let count = desk.fetch_add::<See>(seat, COUNT, 0);
@@ -62,13 +62,13 @@ pub(crate) fn see<V: Story>(desk: &Desk<V>, seat: &mut Place<V>) -> (u64, V)
 fn note<V: Story>(desk: &Desk<V>, seat: &mut Place<V>, seen: u64, value: &Option<V>)
     requires table { (seat.old.table_id ≡ desk.now.table_id) × IsSized desk.now.table_id desk.now.key }
     requires small { seen + 1 < 2 ^ 64 }
-    requires holding { (seat.old.me.0.stage ≡ Holding) × (length seat.old.me.0.joined ≡ 0) × (length seat.old.me.0.own.seen ≡ seen) }
-    requires one_more { (x : V) × (n : V.Note) × (value.now ≡ Some x) × (V.notes x ≡ seat.old.me.0.own.seen ++ n ∷ []) × (V.author n ≡ seat.old.me.0.own.number) × (seat.old.me.0.opened ≡ Some (V.opening x)) × HoldsAll V.touches (V.opening x) seat.old.me.0.held n }
+    requires holding { (seat.old.me.0.stage ≡ InTurn) × (length seat.old.me.0.joined ≡ 0) × (length seat.old.me.0.own.seen ≡ seen) }
+    requires one_more { (x : V) × (n : V.Note) × (value.now ≡ Some x) × (V.notes x ≡ seat.old.me.0.own.seen ++ n ∷ []) × (V.author n ≡ seat.old.me.0.own.number) × (seat.old.me.0.opened ≡ Some (V.opening x)) × HoldsAll V.touches (V.opening x) seat.old.me.0.grips n }
     ensures same { IsSameSeat seat.old seat.new }
-    ensures told { (x : V) → value.now ≡ Some x → (seat.new.me ≡ (with_seen V.author seat.old.me.0 Noted (V.notes x), seat.old.me.1)) × (length (V.notes x) < 2 ^ 62) }
+    ensures view { (x : V) → value.now ≡ Some x → (seat.new.me ≡ (with_seen V.author seat.old.me.0 Counted (V.notes x), seat.old.me.1)) × (length (V.notes x) < 2 ^ 62) }
     ensures made { by V.author seat.old.me.0.own.number seat.old.me.0.own.seen ≡ seat.old.me.0.own.mine }
 {
-    desk.compare_exchange_with::<Note>(seat, COUNT, seen, seen + 1, value);
+    desk.compare_exchange_with::<Count>(seat, COUNT, seen, seen + 1, value);
 }
 
 /// Puts the value back, and serves the next ticket.
@@ -77,7 +77,7 @@ fn put_back<V: Story>(desk: &Desk<V>, seat: &mut Place<V>, value: Option<V>)
     requires has { HasSlot seat.old.me.0.stage × (seat.old.me.1 ≡ (0, None) ∷ []) }
     requires value { (x : V) × (value ≡ Some x) × (V.notes x ≡ seat.old.me.0.own.seen) × (seat.old.me.0.opened ≡ Some (V.opening x)) }
     ensures same { IsSameSeat seat.old seat.new }
-    ensures told { seat.new.me ≡ (with_stage seat.old.me.0 Idle, []) }
+    ensures view { seat.new.me ≡ (with_stage seat.old.me.0 Idle, []) }
     ensures guards { IsShut V.author V.touches seat.new.me.0 }
 {
     let before = desk.exchange(seat, 0, value);
@@ -88,10 +88,10 @@ fn put_back<V: Story>(desk: &Desk<V>, seat: &mut Place<V>, value: Option<V>)
 /// Gives back a value whose notes are those that were seen.
 pub(crate) fn hand_back<V: Story>(desk: &Desk<V>, seat: &mut Place<V>, value: V)
     requires table { (seat.old.table_id ≡ desk.now.table_id) × IsSized desk.now.table_id desk.now.key }
-    requires holding { (seat.old.me.0.stage ≡ Holding) × (seat.old.me.1 ≡ (0, None) ∷ []) }
+    requires holding { (seat.old.me.0.stage ≡ InTurn) × (seat.old.me.1 ≡ (0, None) ∷ []) }
     requires value { (V.notes value ≡ seat.old.me.0.own.seen) × (seat.old.me.0.opened ≡ Some (V.opening value)) }
     ensures same { IsSameSeat seat.old seat.new }
-    ensures told { seat.new.me ≡ (with_stage seat.old.me.0 Idle, []) }
+    ensures view { seat.new.me ≡ (with_stage seat.old.me.0 Idle, []) }
     ensures guards { IsShut V.author V.touches seat.new.me.0 }
 {
     put_back(desk, seat, Some(value));
@@ -101,11 +101,11 @@ pub(crate) fn hand_back<V: Story>(desk: &Desk<V>, seat: &mut Place<V>, value: V)
 pub(crate) fn hand_on<V: Story>(desk: &Desk<V>, seat: &mut Place<V>, seen: u64, value: V)
     requires table { (seat.old.table_id ≡ desk.now.table_id) × IsSized desk.now.table_id desk.now.key }
     requires small { seen + 1 < 2 ^ 64 }
-    requires holding { (seat.old.me.0.stage ≡ Holding) × (length seat.old.me.0.joined ≡ 0) × (length seat.old.me.0.own.seen ≡ seen) × (seat.old.me.1 ≡ (0, None) ∷ []) }
-    requires one_more { (n : V.Note) × (V.notes value ≡ seat.old.me.0.own.seen ++ n ∷ []) × (V.author n ≡ seat.old.me.0.own.number) × HoldsAll V.touches (V.opening value) seat.old.me.0.held n }
+    requires holding { (seat.old.me.0.stage ≡ InTurn) × (length seat.old.me.0.joined ≡ 0) × (length seat.old.me.0.own.seen ≡ seen) × (seat.old.me.1 ≡ (0, None) ∷ []) }
+    requires one_more { (n : V.Note) × (V.notes value ≡ seat.old.me.0.own.seen ++ n ∷ []) × (V.author n ≡ seat.old.me.0.own.number) × HoldsAll V.touches (V.opening value) seat.old.me.0.grips n }
     requires opened { seat.old.me.0.opened ≡ Some (V.opening value) }
     ensures same { IsSameSeat seat.old seat.new }
-    ensures told { seat.new.me ≡ (with_seen V.author seat.old.me.0 Idle (V.notes value), []) }
+    ensures view { seat.new.me ≡ (with_seen V.author seat.old.me.0 Idle (V.notes value), []) }
     ensures guards { IsShut V.author V.touches seat.new.me.0 }
     ensures made { (by V.author seat.old.me.0.own.number seat.old.me.0.own.seen ≡ seat.old.me.0.own.mine) × (length (V.notes value) < 2 ^ 62) }
 {

@@ -23,7 +23,7 @@ impl<V: Story> Turn<V> {
     ghost use mathlib.Core.List.{IsPrefix};
     ghost use Rattle.ra_turn.specs.Notes.{by, grip, without};
     ghost use Rattle.ra_turn.specs.Holds.{KeepsNews};
-    ghost use Rattle.ra_turn.specs.Passes.{opening_of, guards_of, seen_by, made_by, held_by, news_of, IsPassOf, IsIdle, IsReady, IsInTurn, IsSamePass, HoldsSame, KnowsSame, MayFollow, Shut, Told, HasVersion, IsAnswer};
+    ghost use Rattle.ra_turn.specs.Passes.{opening_of, guards_of, seen_by, made_by, grips_of, news_of, IsPassOf, IsIdle, IsReady, IsInTurn, IsSamePass, HoldsSame, KnowsSame, MayFollow, Shut, Told, HasVersion, IsAnswer};
 
     /// Waits for the pass's turn, and takes the value. The pass has then seen the whole history.
     pub fn take<R: Wait>(&self, rt: &R, pass: &mut Pass<V>) -> Held<V>
@@ -68,7 +68,7 @@ impl<V: Story> Turn<V> {
     /// Takes a guard for the pass, where its version is at most the one given. It waits while another pass holds the guard.
     pub fn hold<R: Wait>(&self, rt: &R, pass: &mut Pass<V>, guard: u32, version: u64) -> Hold
         requires pass { IsReady self.now pass.old }
-        requires guard { (guard < guards_of self.now) × All (λ k. k.guard < guard) (held_by pass.old) × (length (held_by pass.old) < 9) }
+        requires guard { (guard < guards_of self.now) × All (λ k. k.guard < guard) (grips_of pass.old) × (length (grips_of pass.old) < 9) }
         ensures pass { IsIdle pass.new × IsSamePass pass.old pass.new × KnowsSame pass.old pass.new × KeepsNews (news_of pass.old) (news_of pass.new) }
         ensures answer { IsAnswer self.now pass.old pass.new guard version result }
     {
@@ -78,10 +78,10 @@ impl<V: Story> Turn<V> {
     /// Gives a guard back at its version in the notes that the pass has seen.
     pub fn release(&self, pass: &mut Pass<V>, guard: u32, version: u64)
         requires pass { IsReady self.now pass.old }
-        requires held { (v : ℕ) × Contains (held_by pass.old) (grip guard v) × (v ≤ length (seen_by pass.old)) }
+        requires grip { (v : ℕ) × Contains (grips_of pass.old) (grip guard v) × (v ≤ length (seen_by pass.old)) }
         requires version { HasVersion self.now pass.old guard version }
         ensures pass { IsIdle pass.new × IsSamePass pass.old pass.new × KnowsSame pass.old pass.new × (news_of pass.new ≡ news_of pass.old) }
-        ensures held { held_by pass.new ≡ without guard (held_by pass.old) }
+        ensures grips { grips_of pass.new ≡ without guard (grips_of pass.old) }
     {
         release_guard(&self.table.shared, &mut pass.seat, guard, version);
     }

@@ -1,7 +1,7 @@
 // A value behind the lock: a list of lines.
 ghost use Rattle.std.specs.Prelude.{◌≡◌, ℕ, ◌+◌, ◌<◌, ◌≤◌, ◌==◌, [], ◌∷◌, ◌++◌, length, MatchBool};
 ghost use Rattle.ra_turn.specs.Notes.{IsVersion, grip};
-ghost use Rattle.ra_turn.specs.Passes.{IsReady, guards_of, held_by, seen_by};
+ghost use Rattle.ra_turn.specs.Passes.{IsReady, guards_of, grips_of, seen_by};
 
 use crate::{Hold, Pass, Story, Turn};
 use std::alloc::Global;
@@ -96,7 +96,7 @@ pub fn take_turn<R: Wait>(
     number: Option<u32>,
 ) -> Option<Vec<Line>>
     requires { IsReady turn.now pass.old × (0 < pass.old.left) }
-    ensures { IsReady turn.now pass.new × (pass.new.number ≡ pass.old.number) × (pass.new.left + 1 ≡ pass.old.left) × (held_by pass.new ≡ held_by pass.old) }
+    ensures { IsReady turn.now pass.new × (pass.new.number ≡ pass.old.number) × (pass.new.left + 1 ≡ pass.old.left) × (grips_of pass.new ≡ grips_of pass.old) }
 {
     let mut held = turn.take(rt, pass);
     let found = Vec::from_slice(alloc, held.value.lines.as_slice()).ok();
@@ -116,9 +116,9 @@ pub fn write_held<R: Wait>(
     guard: u32,
     number: u32,
 ) -> Hold
-    requires pass { IsReady turn.now pass.old × (0 < pass.old.left) × (held_by pass.old ≡ []) }
+    requires pass { IsReady turn.now pass.old × (0 < pass.old.left) × (grips_of pass.old ≡ []) }
     requires guard { guard < guards_of turn.now }
-    ensures { IsReady turn.now pass.new × (pass.new.number ≡ pass.old.number) × (pass.new.left + 1 ≡ pass.old.left) × (held_by pass.new ≡ []) }
+    ensures { IsReady turn.now pass.new × (pass.new.number ≡ pass.old.number) × (pass.new.left + 1 ≡ pass.old.left) × (grips_of pass.new ≡ []) }
 {
     let asked = pass.seen();
     let by = pass.number();
@@ -140,7 +140,7 @@ pub fn write_held<R: Wait>(
 pub fn write_line<R: Wait>(rt: &R, turn: &Turn<Pad>, pass: &mut Pass<Pad>, line: Line)
     requires pass { IsReady turn.now pass.old × (0 < pass.old.left) }
     requires line { (line.by ≡ pass.old.number) × (line.touched ≡ 0) }
-    ensures { IsReady turn.now pass.new × (pass.new.number ≡ pass.old.number) × (pass.new.left + 1 ≡ pass.old.left) × (held_by pass.new ≡ held_by pass.old) }
+    ensures { IsReady turn.now pass.new × (pass.new.number ≡ pass.old.number) × (pass.new.left + 1 ≡ pass.old.left) × (grips_of pass.new ≡ grips_of pass.old) }
 {
     let mut held = turn.take(rt, pass);
     write(&mut held.value, line);
@@ -156,9 +156,9 @@ fn write_and_release<R: Wait>(
     line: Line,
 )
     requires pass { IsReady turn.now pass.old × (0 < pass.old.left) }
-    requires held { (v : ℕ) × (held_by pass.old ≡ grip guard v ∷ []) × (v ≤ length (seen_by pass.old)) }
+    requires held { (v : ℕ) × (grips_of pass.old ≡ grip guard v ∷ []) × (v ≤ length (seen_by pass.old)) }
     requires line { (line.by ≡ pass.old.number) × (line.touched ≡ guard + 1) }
-    ensures { IsReady turn.now pass.new × (pass.new.number ≡ pass.old.number) × (pass.new.left + 1 ≡ pass.old.left) × (held_by pass.new ≡ []) }
+    ensures { IsReady turn.now pass.new × (pass.new.number ≡ pass.old.number) × (pass.new.left + 1 ≡ pass.old.left) × (grips_of pass.new ≡ []) }
 {
     let mut held = turn.take(rt, pass);
     write(&mut held.value, line);
@@ -169,9 +169,9 @@ fn write_and_release<R: Wait>(
 
 // Holds the guard at what the pass has seen, and gives it back.
 pub fn hold_and_release<R: Wait>(rt: &R, turn: &Turn<Pad>, pass: &mut Pass<Pad>, guard: u32) -> Hold
-    requires pass { IsReady turn.now pass.old × (held_by pass.old ≡ []) }
+    requires pass { IsReady turn.now pass.old × (grips_of pass.old ≡ []) }
     requires guard { guard < guards_of turn.now }
-    ensures { IsReady turn.now pass.new × (pass.new.number ≡ pass.old.number) × (held_by pass.new ≡ []) }
+    ensures { IsReady turn.now pass.new × (pass.new.number ≡ pass.old.number) × (grips_of pass.new ≡ []) }
 {
     let asked = pass.seen();
     let answer = turn.hold(rt, pass, guard, asked);

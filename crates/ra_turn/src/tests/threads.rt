@@ -1,6 +1,6 @@
 // Passes in threads of their own.
 ghost use Rattle.std.specs.Prelude.{◌≡◌, ◌+◌, ◌*◌, ◌<◌, ◌≤◌, ◌^◌, []};
-ghost use Rattle.ra_turn.specs.Passes.{IsReady, guards_of, held_by};
+ghost use Rattle.ra_turn.specs.Passes.{IsReady, guards_of, grips_of};
 
 use super::pad::{Line, Pad, empty, plain, write_held, write_line};
 use crate::{Pass, Turn};
@@ -12,8 +12,8 @@ use std::thread::Threads;
 
 // Writes a line in each of so many turns.
 fn write_all<R: Wait>(rt: &R, turn: &Turn<Pad>, pass: &mut Pass<Pad>, turns: u32)
-    requires { IsReady turn.now pass.old × (turns ≤ pass.old.left) × (held_by pass.old ≡ []) }
-    ensures { IsReady turn.now pass.new × (pass.new.number ≡ pass.old.number) × (held_by pass.new ≡ []) }
+    requires { IsReady turn.now pass.old × (turns ≤ pass.old.left) × (grips_of pass.old ≡ []) }
+    ensures { IsReady turn.now pass.new × (pass.new.number ≡ pass.old.number) × (grips_of pass.new ≡ []) }
 {
     let by = pass.number();
     for number in 0..turns {
@@ -23,9 +23,9 @@ fn write_all<R: Wait>(rt: &R, turn: &Turn<Pad>, pass: &mut Pass<Pad>, turns: u32
 
 // The same, and holds a guard in each eighth turn.
 fn write_some_held<R: Wait>(rt: &R, turn: &Turn<Pad>, pass: &mut Pass<Pad>, turns: u32, guards: u32)
-    requires pass { IsReady turn.now pass.old × (turns ≤ pass.old.left) × (held_by pass.old ≡ []) }
+    requires pass { IsReady turn.now pass.old × (turns ≤ pass.old.left) × (grips_of pass.old ≡ []) }
     requires guards { (0 < guards) × (guards ≡ guards_of turn.now) }
-    ensures { IsReady turn.now pass.new × (pass.new.number ≡ pass.old.number) × (held_by pass.new ≡ []) }
+    ensures { IsReady turn.now pass.new × (pass.new.number ≡ pass.old.number) × (grips_of pass.new ≡ []) }
 {
     for number in 0..turns {
         write_one(rt, turn, pass, number, guards);
@@ -34,9 +34,9 @@ fn write_some_held<R: Wait>(rt: &R, turn: &Turn<Pad>, pass: &mut Pass<Pad>, turn
 
 // Writes a line, and holds a guard for it at each eighth number.
 fn write_one<R: Wait>(rt: &R, turn: &Turn<Pad>, pass: &mut Pass<Pad>, number: u32, guards: u32)
-    requires pass { IsReady turn.now pass.old × (0 < pass.old.left) × (held_by pass.old ≡ []) }
+    requires pass { IsReady turn.now pass.old × (0 < pass.old.left) × (grips_of pass.old ≡ []) }
     requires guards { (0 < guards) × (guards ≡ guards_of turn.now) }
-    ensures { IsReady turn.now pass.new × (pass.new.number ≡ pass.old.number) × (pass.new.left + 1 ≡ pass.old.left) × (held_by pass.new ≡ []) }
+    ensures { IsReady turn.now pass.new × (pass.new.number ≡ pass.old.number) × (pass.new.left + 1 ≡ pass.old.left) × (grips_of pass.new ≡ []) }
 {
     if number % 8 == 0 {
         write_held(rt, turn, pass, number / 8 % guards, number);

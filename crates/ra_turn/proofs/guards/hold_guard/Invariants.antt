@@ -7,5 +7,5 @@ abbrev pub invariant-loop : goal.invariant-loop
 invariant-loop g l = record {
   seat : IsSameSeat l.initial.seat l.seat;
   only : OnlyHolds l.initial.seat.me l.seat.me;
-  held : l.seat.me.0.held ≡ l.initial.seat.me.0.held;
+  grips : l.seat.me.0.grips ≡ l.initial.seat.me.0.grips;
 }

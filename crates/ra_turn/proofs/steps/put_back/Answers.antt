@@ -1,5 +1,5 @@
 use Rattle.std.proofs.Common.{◌≡◌, ◌∷◌, [], Some, rules, arith, subst, sym, ap, ◌∙◌}
-use Rattle.ra_turn.specs.Law.{HasSlot}
+use Rattle.ra_turn.specs.Stages.{HasSlot}
 use Rattle.ra_turn.proofs.Gives.{serves}
 use Rattle.ra_turn.proofs.steps.put_back.Goals as goal
 

@@ -28,12 +28,12 @@ begins xs ys p = omega (arith, sym (ap length p.1) ∙ length-append xs p.0)
 
 pub give-requires-clause-notes : goal.give-requires-clause-notes
 give-requires-clause-notes g c = let took = c.take-held.ensures in let old = c.requires.held in
-    follows c.write.result c.take-held.new.pass.seat.me.0.own.seen c.take-held.result.value.lines.items c.write.new.pad.lines.items c.args.line c.take-held.new.pass.number c.args.guard old.0 c.take-held.new.pass.seat.me.0.held
+    follows c.write.result c.take-held.new.pass.seat.me.0.own.seen c.take-held.result.value.lines.items c.write.new.pad.lines.items c.args.line c.take-held.new.pass.number c.args.guard old.0 c.take-held.new.pass.seat.me.0.grips
     c.write.ensures took.seen.0 (c.requires.line.0 ∙ sym took.pass.1.2) c.requires.line.1 (took.guards.0.0 ∙ old.1)
 
-pub release-requires-clause-held : goal.release-requires-clause-held
-release-requires-clause-held g c = let took = c.take-held.ensures in let old = c.requires.held in
-    let held : c.give.new.pass.seat.me.0.held ≡ grip c.args.guard old.0 ∷ [] = c.give.ensures.guards.0.0 ∙ (took.guards.0.0 ∙ old.1) in
+pub release-requires-clause-grip : goal.release-requires-clause-grip
+release-requires-clause-grip g c = let took = c.take-held.ensures in let old = c.requires.held in
+    let held : c.give.new.pass.seat.me.0.grips ≡ grip c.args.guard old.0 ∷ [] = c.give.ensures.guards.0.0 ∙ (took.guards.0.0 ∙ old.1) in
     let here : Contains (grip c.args.guard old.0 ∷ []) (grip c.args.guard old.0) = (0, omega arith, refl) in
     let first = old.2 in
     let second = begins c.args.pass.now.seat.me.0.own.seen c.take-held.new.pass.seat.me.0.own.seen took.seen.1 in

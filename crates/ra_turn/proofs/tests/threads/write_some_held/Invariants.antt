@@ -1,5 +1,5 @@
 use Rattle.std.proofs.Common.{◌≡◌, ◌+◌, []}
-use Rattle.ra_turn.specs.Passes.{IsReady, held_by}
+use Rattle.ra_turn.specs.Passes.{IsReady, grips_of}
 use Rattle.ra_turn.proofs.tests.threads.write_some_held.Given as goal
 
 abbrev pub invariant-loop-number : goal.invariant-loop-number
@@ -7,5 +7,5 @@ invariant-loop-number g l = record {
   ready : IsReady l.turn l.pass;
   number : l.pass.number ≡ l.initial.pass.number;
   left : l.pass.left + l.number ≡ l.initial.pass.left;
-  held : held_by l.pass ≡ [];
+  held : grips_of l.pass ≡ [];
 }

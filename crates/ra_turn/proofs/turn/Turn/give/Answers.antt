@@ -7,12 +7,12 @@ pub hand_on-requires-clause-one_more : goal.hand_on-requires-clause-one_more
 hand_on-requires-clause-one_more g c = let v = c.args.pass.now.seat.me.0 in
     ⊎_elim
     (λ same. absurd (c.if-count-pass.false (c.note_count-count.ensures ∙ (ap length same ∙ c.args.pass.now.seens))))
-    (λ more. (more.0, more.1, more.2 ∙ sym c.args.pass.now.numbered, subst (λ o. HoldsAll g.V.Story.touches o v.held more.0) (sym c.requires.opening) more.3))
+    (λ more. (more.0, more.1, more.2 ∙ sym c.args.pass.now.numbered, subst (λ o. HoldsAll g.V.Story.touches o v.grips more.0) (sym c.requires.opening) more.3))
     c.requires.notes
 
 pub returns-else-count-pass-clause-made : goal.returns-else-count-pass-clause-made
 returns-else-count-pass-clause-made g c = let v = c.args.pass.now.seat.me.0 in let notes = g.V.Story.notes c.args.held.value in
-    ap (λ m. m.0.own.mine) c.hand_on.ensures.told
+    ap (λ m. m.0.own.mine) c.hand_on.ensures.view
     ∙ ⊎_elim
     (λ same. absurd (c.if-count-pass.false (c.note_count-count.ensures ∙ (ap length same ∙ c.args.pass.now.seens))))
     (λ more. by_one_more g.V.Story.author v.own.number v.own.seen v.own.mine notes more.0 more.1 (more.2 ∙ sym c.args.pass.now.numbered) c.hand_on.ensures.made.0)

@@ -5,11 +5,11 @@ use Rattle.ra_turn.specs.declared.sight.Grip.{Grip}
 use Rattle.ra_turn.specs.Notes.{without}
 use Rattle.ra_turn.proofs.turn.Turn.release.Goals as goal
 
--- the guards that are still held are words of the table
+-- the guards that are still grips are words of the table
 pub invariant_of-pass-clause-within : goal.invariant_of-pass-clause-within
 invariant_of-pass-clause-within g c = let old = c.args.pass.now.seat in let new = c.release_guard.new.seat in
-    let held : new.me.0.held ≡ without c.args.guard old.me.0.held = ap (λ m. m.0.held) c.release_guard.ensures.told in
+    let grips : new.me.0.grips ≡ without c.args.guard old.me.0.grips = ap (λ m. m.0.grips) c.release_guard.ensures.view in
     let table : new.table_id ≡ old.table_id = c.release_guard.ensures.same.0 in
-    subst (λ ks. All (λ (k : Grip). 3 + k.guard < new.table_id.words) ks) (sym held)
-    (subst (λ (z : TableId). All (λ (k : Grip). 3 + k.guard < z.words) (without c.args.guard old.me.0.held)) (sym table)
-    (All-filter (λ (k : Grip). not (k.guard == c.args.guard)) (λ (k : Grip). 3 + k.guard < old.table_id.words) old.me.0.held c.args.pass.now.within))
+    subst (λ ks. All (λ (k : Grip). 3 + k.guard < new.table_id.words) ks) (sym grips)
+    (subst (λ (z : TableId). All (λ (k : Grip). 3 + k.guard < z.words) (without c.args.guard old.me.0.grips)) (sym table)
+    (All-filter (λ (k : Grip). not (k.guard == c.args.guard)) (λ (k : Grip). 3 + k.guard < old.table_id.words) old.me.0.grips c.args.pass.now.within))
