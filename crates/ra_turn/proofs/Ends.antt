@@ -23,6 +23,7 @@ use Rattle.ra_turn.specs.Steps.{cut_left, cut_right, turns_of, joined, spent}
 use Rattle.ra_turn.proofs.Lists.{stands_at, at_end, at_below, sum_changes, all_one, all_map}
 use Rattle.ra_turn.proofs.Stages.{slot_ticket, ticket_pass}
 use Rattle.ra_turn.proofs.Keeps.{slot_stays}
+use Rattle.ra_turn.proofs.Versions.{all_below}
 use Rattle.ra_turn.proofs.Latches.{locks_start, locks_view, locks_more, locks_less}
 
 -- one pass more has its turns
@@ -255,7 +256,7 @@ module _ {V N O : Type 0} (opening : V → O) (notes : V → List N) (author : N
 
   -- where one idle seat has every number, the slot is at home, and its value stands for what the seat knows
   pub ends : (i : ℕ) (v : Sight N O) (ws : List ℕ) (xs : List (Option V)) → v.stage ≡ Idle → Covers passes v → Final (Seen Rule i v) ws xs
-      → (x : V) × (get_elem? xs 0 ≡ some (Some x)) × (opening x ≡ o) × All (Stands author (notes x)) (v.own ∷ v.joined)
+      → (x : V) × (get_elem? xs 0 ≡ some (Some x)) × (opening x ≡ o) × All (Stands author (notes x)) (v.own ∷ v.joined) × All (λ n. author n < passes) (notes x)
   ends i v ws xs stage covers final =
       let s = final.0 in let r = final.1.0 in let k = r.kept in let c = r.scene in let at = final.1.1 in let kv = k.each i v at in
       let parts = kv.parts (subst IsPass (sym stage) tt) in
@@ -266,6 +267,7 @@ module _ {V N O : Type 0} (opening : V → O) (notes : V → List N) (author : N
         home.opened,
         all_map (Fits author c.history c.given c.owner i) (Stands author (notes x)) (v.own ∷ v.joined)
             (λ p f. subst (λ (ys : List N). Stands author ys p) (sym home.same) (record { seen = f.seen; mine = f.mine })) parts,
+        subst (λ (ys : List N). All (λ n. author n < passes) ys) (sym home.same) (all_below author passes c.given c.history k.numbers k.unheard),
       ))
       (λ h. let j = h.0 in let u = h.1 in let out = h.2 in let ku = k.each j u out.seat in
       let pass : IsPass u.stage = ticket_pass u.stage (slot_ticket u.stage out.has) in

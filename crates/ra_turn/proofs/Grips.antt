@@ -15,7 +15,7 @@ use Rattle.ra_turn.specs.Notes.{grip, without, touching, OnlyBy, IsVersion, IsNe
 use Rattle.ra_turn.specs.Law.{Scene, Kept, Ruled, Knows}
 use Rattle.ra_turn.specs.Stages.{IsPass, HasSlot}
 use Rattle.ra_turn.specs.Locks.{Latch, Latched, Locks}
-use Rattle.ra_turn.specs.Steps.{with_grips, with_news, at_version, heard, glanced, gripped, released, Took}
+use Rattle.ra_turn.specs.Steps.{with_grips, with_news, at_version, heard, glanced, gripped, released, Took, Gave}
 use Rattle.ra_turn.proofs.Keeps.{moved, slot_stays, waits_stay}
 use Rattle.ra_turn.proofs.Stages.{pass_live}
 use Rattle.ra_turn.proofs.Lists.{all_map, at_below}
@@ -177,7 +177,7 @@ module _ {V N O : Type 0} (opening : V → O) (notes : V → List N) (author : N
   -- a guard is given back
   pub releases : (slots i : ℕ) (m : Me (Option V) (Sight N O)) (guard p q : ℕ) → m.0.stage ≡ Idle → Contains m.0.grips (grip guard p) → p ≤ length m.0.own.seen
       → ((z : O) → m.0.opened ≡ Some z → IsVersion (touching touches z guard) m.0.own.seen q)
-      → Allows Rule slots i m (3 + guard) (λ n. 2 * q) (released (step slots (3 + guard) (2 * q) 0 none) m)
+      → Allows Rule slots i m (3 + guard) (λ n. 2 * q) (released author touches (step slots (3 + guard) (2 * q) 0 none) m)
   releases slots i m guard p q stage has reached version s r len at fits =
       let k = r.kept in let c = r.scene in let v = m.0 in let gs = r.guard_words in let kv = k.each i v at in
       let pass : IsPass v.stage = subst IsPass (sym stage) tt in
@@ -187,18 +187,26 @@ module _ {V N O : Type 0} (opening : V → O) (notes : V → List N) (author : N
       let is : IsVersion (touching touches o guard) c.history q = version_whole (touching touches o guard) author v.own.number v.own.seen c.history v.own.mine p q f.seen f.own_seen f.mine reached only (version o opened) in
       let grips : List Grip = without guard v.grips in
       let w : Sight N O = with_grips v grips in
+      let gs' : List ℕ = set gs guard (2 * q) in
+      let locks' : Locks author touches o guards c.history gs' (set s.views i w) = locks_release author touches o guards c.history gs s.views i v w guard p q r.locks at (λ h. h) has is refl refl refl in
+      let shut : ShutBy touches o author v.own.number v.own.seen grips =
+      all_map (λ kk. OnlyBy (touching touches o kk.guard) author v.own.number c.history kk.version) (λ kk. OnlyBy (touching touches o kk.guard) author v.own.number v.own.seen kk.version) grips
+      (λ kk mine. only_shorter (touching touches o kk.guard) author v.own.number v.own.seen c.history kk.version f.seen mine)
+      (shut_by author touches o guards c.history gs' (set s.views i w) i w locks' (set_here s.views i w (at_below s.views i v at))) in
+      let m' : Me (Option V) (Sight N O) = (w, m.1) in
+      let gave : Gave author touches m m' guard = (refl, λ o' opened'. subst (λ (z : O). ShutBy touches z author v.own.number v.own.seen grips) (let z = sym opened ∙ opened' in cc z) shut) in
       let P : List ℕ → ℕ → Type 0 = λ ws z. (w' : Sight N O) × (a : Act (Option V)) × Valid s.homes m.1 a
       × Rule (record { words = set ws z (2 * q); homes = homes_after s.homes m.1 a; views = set s.views i w' })
-      × released (step slots (3 + guard) (2 * q) 0 none) m (get_or ws z 0) (w', carried_after m.1 a) in
+      × released author touches (step slots (3 + guard) (2 * q) 0 none) m (get_or ws z 0) (w', carried_after m.1 a) in
       subst (λ (z : ℕ). P s.words z) (sym (three_more guard)) (subst (λ (ws : List ℕ). P ws (suc (suc (suc guard)))) (sym k.words) (
         w,
         keeps,
         tt,
         record {
           scene = c;
-          guard_words = set gs guard (2 * q);
-          kept = base_grip c gs (set gs guard (2 * q)) s i v grips v.news stage k at;
-          locks = locks_release author touches o guards c.history gs s.views i v w guard p q r.locks at (λ h. h) has is refl refl refl;
+          guard_words = gs';
+          kept = base_grip c gs gs' s i v grips v.news stage k at;
+          locks = locks';
         },
-        λ g e. (let one : guard ≡ g = omega arith in ap (λ (z : ℕ). (with_grips m.0 (without z m.0.grips), m.1)) one),
+        λ g e. (let one : guard ≡ g = omega arith in subst (λ (z : ℕ). Gave author touches m m' z) one gave),
       ))

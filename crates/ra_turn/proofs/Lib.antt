@@ -11,3 +11,4 @@ pub mod Latches
 pub mod Grips
 pub mod Passing
 pub mod Grasping
+pub mod Laws

@@ -1,6 +1,8 @@
 -- Versions of guards in a history and in its beginnings.
-use Rattle.std.proofs.Common.{◌≡◌, ◌⊎◌, ℕ, zero, suc, ◌+◌, ◌-◌, ◌==◌, ◌≤◌, Bool, true, false, cond, List, [], ◌∷◌, ◌++◌, length, slice_get, filter, refl, ap, sym, subst, ◌∙◌, inl, inr, ⊎_elim, eq-eqb, arith, length-append, Some}
+use Rattle.std.proofs.Common.{◌≡◌, ◌⊎◌, ℕ, zero, suc, ◌+◌, ◌-◌, ◌==◌, ◌≤◌, ◌<◌, Bool, true, false, cond, List, [], ◌∷◌, ◌++◌, length, slice_get, slice_index_or, filter, All, refl, ap, sym, subst, ◌∙◌, inl, inr, ⊎_elim, eq-eqb, arith, length-append, Some}
 use Rattle.std.proofs.lemmas.List.Elements.{filter-append}
+use Rattle.std.proofs.lemmas.Bool.{cases_lt}
+use Rattle.std.proofs.lemmas.Option.{slice_get-get_or, slice_get_within}
 use mathlib.Core.List.{IsPrefix}
 use Rattle.ra_turn.specs.Notes.{by, TouchedAt, QuietFrom, OnlyBy, IsVersion}
 
@@ -35,6 +37,23 @@ module _ {A : Type 0} where
   filter_none test [] k x none e pass = cc e
   filter_none test (y ∷ xs) zero x none e pass = kept_some (test y) y (filter test xs) (let same : y ≡ x = cc e in ap test same ∙ pass) none
   filter_none test (y ∷ xs) (suc k) x none e pass = filter_none test xs k x (fewer (test y) y (filter test xs) none) e pass
+
+module _ {N : Type 0} (author : N → ℕ) where
+  -- where what was seen has all notes of the number, the rest has none
+  pub none_later : (number : ℕ) (xs rest mine : List N) → by author number xs ≡ mine → by author number (xs ++ rest) ≡ mine → length (by author number rest) ≡ 0
+  none_later number xs rest mine seen all =
+      let test : N → Bool = λ x. author x == number in
+      let parts : filter test xs ++ filter test rest ≡ mine = sym (filter-append test xs rest) ∙ all in
+      let a = ap length parts in let b = length-append (filter test xs) (filter test rest) in let c = ap length seen in omega arith
+
+  -- where no note is by a number from `given` on, each author is below a bound that isn't below `given`
+  pub all_below : (bound given : ℕ) (xs : List N) → given ≤ bound → ((n : ℕ) → given ≤ n → by author n xs ≡ []) → All (λ x. author x < bound) xs
+  all_below bound given xs le none k d lt =
+      let x : N = slice_index_or xs k d in
+      ⊎_elim
+      (λ h. h)
+      (λ h. absurd (filter_none (λ y. author y == author x) xs k x (ap length (none (author x) (omega arith))) (slice_get-get_or xs k d lt) (eq-eqb (author x) (author x) refl)))
+      (cases_lt (author x) bound)
 
 module _ {N : Type 0} (touched : N → Bool) where
   -- a note that touches the guard does so in a longer history
@@ -100,3 +119,29 @@ module _ {N : Type 0} (touched : N → Bool) where
   only_more author number xs n v its only k x ge e t = ⊎_elim (λ h. only k x ge h t)
       (λ h. (let same : n ≡ x = (get_last n x h.0 h.2).1 in ap author (sym same) ∙ its (ap touched same ∙ t)))
       (get_cases xs (n ∷ []) k x e)
+
+  not_above : (xs : List N) (v w : ℕ) → IsVersion touched xs v → IsVersion touched xs w → v < w → ⊥
+  not_above xs v w is is' lt = let last = is'.last (omega arith) in let f = is.quiet (w - 1) last.0 (omega arith) last.1 in cc (f, last.2)
+
+  -- a guard has one version
+  pub version_one : (xs : List N) (v w : ℕ) → IsVersion touched xs v → IsVersion touched xs w → v ≡ w
+  version_one xs v w is is' = ⊎_elim
+      (λ lt. absurd (not_above xs v w is is' lt))
+      (λ le. ⊎_elim (λ lt. absurd (not_above xs w v is' is lt)) (λ le'. omega arith) (cases_lt w v))
+      (cases_lt v w)
+
+  -- A version past what was seen, whose note is there, is the version where from there on only the number's notes touch the guard and all of its notes were seen
+  pub version_past : (author : N → ℕ) (number : ℕ) (xs ys mine : List N) (v : ℕ) → IsPrefix xs ys → by author number xs ≡ mine → by author number ys ≡ mine
+      → length xs < v → TouchedAt touched ys (v - 1) → OnlyBy touched author number ys v → IsVersion touched ys v
+  version_past author number xs ys mine v p seen all past last only =
+      let rest : List N = p.0 in
+      let none : length (by author number rest) ≡ 0 = none_later author number xs rest mine seen (ap (by author number) p.1 ∙ all) in
+      let below : v - 1 < length ys = slice_get_within ys (v - 1) last.0 last.1 in
+      record {
+        within = omega arith;
+        last = λ more. last;
+        quiet = λ k x ge e. ⊎_elim
+            (λ h. absurd (let lt : k < length xs = slice_get_within xs k x h in omega arith))
+            (λ h. untouched (touched x) (λ t. filter_none (λ y. author y == number) rest h.0 x none h.2 (eq-eqb (author x) number (only k x ge e t))))
+            (get_cases xs rest k x (subst (λ (zs : List N). slice_get zs k ≡ Some x) (sym p.1) e));
+      }

@@ -6,3 +6,4 @@ pub mod Seats
 pub mod Passes
 pub mod Locks
 pub mod Holds
+pub mod Laws

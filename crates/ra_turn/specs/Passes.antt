@@ -87,9 +87,13 @@ module _ {V N O : Type 0} {g : Ghosts V N O} where
   abbrev pub Shut : Turn V N O → Pass V N O g → Type 0
   Shut t p = ShutBy g.touches (opening_of g.opening t) g.author p.number (seen_by p) (grips_of p)
 
-  -- what the pass was told of stands in what it has seen
-  abbrev pub Told : Turn V N O → Pass V N O g → Type 0
-  Told t p = All (IsNews g.touches (opening_of g.opening t) (seen_by p)) (news_of p)
+  -- The next take of the pass shows a note at the place before the version, which touches the guard
+  abbrev pub WillSee : Pass V N O g → ℕ → ℕ → Type 0
+  WillSee p guard version = Contains (news_of p) (grip guard version)
+
+  -- what the pass was told that it will see stands in what it has seen
+  abbrev pub SeesNews : Turn V N O → Pass V N O g → Type 0
+  SeesNews t p = (guard version : ℕ) → WillSee p guard version → IsNews g.touches (opening_of g.opening t) (seen_by p) (grip guard version)
 
   -- the guard has this version in what the pass has seen
   abbrev pub HasVersion : Turn V N O → Pass V N O g → ℕ → ℕ → Type 0
@@ -125,8 +129,22 @@ module _ {V N O : Type 0} {g : Ghosts V N O} where
     pub empty : s.me.0.grips ≡ []
     pub parts : All (λ p. Contains (s.me.0.own ∷ s.me.0.joined) p.seat.me.0.own) ps
 
-  -- What `Turn::hold` tells. Held: the pass holds the guard besides, at a version of at most the one asked for. It is the guard's version
-  -- in the history: in what the pass has seen, where it reaches so far, and the pass is told of it. Newer: the guard had a version above, and the pass is told of it
+  -- Where `Turn::hold` answers Held: the pass holds the guard besides, at a version of at most the one asked for. It is the guard's version in what the pass
+  -- has seen, where that reaches so far, and the next take shows the note before it
+  pub record IsGripped (t : Turn V N O) (p q : Pass V N O g) (guard asked at : ℕ) : Type 0 where
+    pub within : at ≤ asked
+    pub grips : grips_of q ≡ grips_of p ++ grip guard at ∷ []
+    pub shut : Shut t q
+    pub version : at ≤ length (seen_by q) → HasVersion t q guard at
+    pub news : 0 < at → WillSee q guard at
+
+  -- where it answers Newer: the guard's version was above the one asked for, the pass holds what it held, and the next take shows the note before the version
+  pub record IsNewer (p q : Pass V N O g) (guard asked at : ℕ) : Type 0 where
+    pub above : asked < at
+    pub grips : grips_of q ≡ grips_of p
+    pub news : WillSee q guard at
+
+  -- what `Turn::hold` tells
   abbrev pub IsAnswer : Turn V N O → Pass V N O g → Pass V N O g → ℕ → ℕ → Hold → Type 0
-  IsAnswer t p q guard asked (Held at) = (at ≤ asked) × (grips_of q ≡ grips_of p ++ grip guard at ∷ []) × Shut t q × (at ≤ length (seen_by q) → HasVersion t q guard at) × (0 < at → Contains (news_of q) (grip guard at))
-  IsAnswer t p q guard asked (Newer at) = (asked < at) × (grips_of q ≡ grips_of p) × Contains (news_of q) (grip guard at)
+  IsAnswer t p q guard asked (Held at) = IsGripped t p q guard asked at
+  IsAnswer t p q guard asked (Newer at) = IsNewer p q guard asked at

@@ -93,8 +93,12 @@ module _ {V N O : Type 0} where
       ((guard v : ℕ) → s.word ≡ 3 + guard → s.first ≡ 2 * v → Took author touches m m' guard v)
       (m' ≡ m)
 
-  abbrev pub released : Step (Option V) → Me (Option V) (Sight N O) → ℕ → Me (Option V) (Sight N O) → Type 0
-  released s m n m' = (guard : ℕ) → s.word ≡ 3 + guard → m' ≡ (with_grips m.0 (without guard m.0.grips), m.1)
+  -- the seat holds the guard no more
+  abbrev pub Gave : (N → ℕ) → (O → N → ℕ → Bool) → Me (Option V) (Sight N O) → Me (Option V) (Sight N O) → ℕ → Type 0
+  Gave author touches m m' guard = (m' ≡ (with_grips m.0 (without guard m.0.grips), m.1)) × IsShut author touches m'.0
+
+  abbrev pub released : (N → ℕ) → (O → N → ℕ → Bool) → Step (Option V) → Me (Option V) (Sight N O) → ℕ → Me (Option V) (Sight N O) → Type 0
+  released author touches s m n m' = (guard : ℕ) → s.word ≡ 3 + guard → Gave author touches m m' guard
 
 module _ {V N O : Type 0} (opening : V → O) (notes : V → List N) (author : N → ℕ) where
   -- the value in the slot: its opening, and its notes, which begin with those seen and have of the pass's own just those that it made

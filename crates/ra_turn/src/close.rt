@@ -17,6 +17,7 @@ impl<V: Story> Turn<V> {
         requires passes { (length passes.items ≡ passes_of self) × EachAt (IsDone self) passes.items }
         ensures opening { V.opening result ≡ opening_of V.opening self }
         ensures passes { All (IsPartOf (V.notes result)) passes.items }
+        ensures authors { All (λ n. V.author n < passes_of self) (V.notes result) }
     {
         let seat = join_all(&self, passes);
         let Turn { table } = self;

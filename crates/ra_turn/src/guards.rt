@@ -1,9 +1,9 @@
 //! The steps on the guards' words.
 ghost use Rattle.std.specs.Prelude.{◌≡◌, ℕ, ◌+◌, ◌*◌, ◌/◌, ◌%◌, ◌<◌, ◌≤◌, ◌^◌, [], length, Contains, MatchBool, IfSome, IfNone};
 ghost use Rattle.ra_turn.specs.declared.sight.Stage.TheVariants.{Idle};
-ghost use Rattle.ra_turn.specs.Notes.{grip, touching, without, IsVersion};
+ghost use Rattle.ra_turn.specs.Notes.{grip, touching, IsVersion};
 ghost use Rattle.ra_turn.specs.Seats.{IsSized, IsSameSeat};
-ghost use Rattle.ra_turn.specs.Steps.{with_grips, with_news, heard, Took};
+ghost use Rattle.ra_turn.specs.Steps.{with_news, heard, Took, Gave};
 ghost use Rattle.ra_turn.specs.Holds.{OnlyHolds, IsAnswerAt};
 
 use crate::law::{Desk, Place};
@@ -103,7 +103,7 @@ pub(crate) fn release_guard<V: Story>(desk: &Desk<V>, seat: &mut Place<V>, guard
     requires grips { (v : ℕ) × Contains seat.old.me.0.grips (grip guard v) × (v ≤ length seat.old.me.0.own.seen) }
     requires version { (version < 2 ^ 63) × ((o : V.Opening) → seat.old.me.0.opened ≡ Some o → IsVersion (touching V.touches o guard) seat.old.me.0.own.seen version) }
     ensures same { IsSameSeat seat.old seat.new }
-    ensures view { seat.new.me ≡ (with_grips seat.old.me.0 (without guard seat.old.me.0.grips), seat.old.me.1) }
+    ensures view { Gave V.author V.touches seat.old.me seat.new.me guard }
 {
     desk.swap::<Release>(seat, FIRST_GUARD + guard as usize, 2 * version);
 }

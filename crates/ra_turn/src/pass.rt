@@ -1,5 +1,6 @@
 //! A pass, with which one thread takes turns.
 ghost use Rattle.std.specs.Prelude.{◌≡◌, ◌+◌, ◌<◌, ◌^◌, length, All};
+ghost use Rattle.ra_turn.specs.Notes.{by};
 
 use crate::law::Place;
 use crate::story::Story;
@@ -14,6 +15,7 @@ pub struct Pass<V: Story> {
     pub ghost lefts: { seat.me.0.left ≡ left },
     pub ghost seens: { length seat.me.0.own.seen ≡ seen },
     pub ghost alone: { length seat.me.0.joined ≡ 0 },
+    pub ghost owned: { by V.author seat.me.0.own.number seat.me.0.own.seen ≡ seat.me.0.own.mine },
     pub ghost small: { seen < 2 ^ 62 },
     pub ghost within: { All (λ k. 3 + k.guard < seat.table_id.words) seat.me.0.grips },
 }

@@ -58,7 +58,7 @@ impl<V: Story> Play<Option<V>, Sight<V::Note, V::Opening>> for Grasp {
 pub(crate) struct Release;
 
 impl<V: Story> Play<Option<V>, Sight<V::Note, V::Opening>> for Release {
-    ghost then = { released };
+    ghost then = { released V.author V.touches };
 }
 
 /// A pass is cut from the maker's seat.

@@ -64,6 +64,20 @@ fn each_pass_sees_what_was_written_before(rt: HostRuntime) -> Result<(), Fail> {
 }
 
 #[test]
+fn a_turn_comes_after_one_without_a_note(rt: HostRuntime) -> Result<(), Fail> {
+    let alloc: Global = rt.alloc();
+    let (turn, mut first, mut second) = for_two(alloc, 2, 0).ok_or("memory")?;
+    let found = take_turn(&rt, alloc, &turn, &mut first, None).ok_or("memory")?;
+    assert!(rt; found.is_empty());
+    let found = take_turn(&rt, alloc, &turn, &mut second, Some(6)).ok_or("memory")?;
+    assert!(rt; found.is_empty());
+    let found = take_turn(&rt, alloc, &turn, &mut first, None).ok_or("memory")?;
+    assert_eq!(rt; found.as_slice(), [plain(1, 6)].as_slice());
+    assert_eq!(rt; (first.turns_left(), second.turns_left()), (0, 1));
+    Ok(())
+}
+
+#[test]
 fn a_guard_tells_of_a_newer_note(rt: HostRuntime) -> Result<(), Fail> {
     let alloc: Global = rt.alloc();
     let (turn, mut first, mut second) = for_two(alloc, 2, 2).ok_or("memory")?;

@@ -23,7 +23,7 @@ impl<V: Story> Turn<V> {
     ghost use mathlib.Core.List.{IsPrefix};
     ghost use Rattle.ra_turn.specs.Notes.{by, grip, without};
     ghost use Rattle.ra_turn.specs.Holds.{KeepsNews};
-    ghost use Rattle.ra_turn.specs.Passes.{opening_of, guards_of, seen_by, made_by, grips_of, news_of, IsPassOf, IsIdle, IsReady, IsInTurn, IsSamePass, HoldsSame, KnowsSame, MayFollow, Shut, Told, HasVersion, IsAnswer};
+    ghost use Rattle.ra_turn.specs.Passes.{opening_of, guards_of, seen_by, made_by, grips_of, news_of, IsPassOf, IsIdle, IsReady, IsInTurn, IsSamePass, HoldsSame, KnowsSame, MayFollow, Shut, SeesNews, HasVersion, IsAnswer};
 
     /// Waits for the pass's turn, and takes the value. The pass has then seen the whole history.
     pub fn take<R: Wait>(&self, rt: &R, pass: &mut Pass<V>) -> Held<V>
@@ -32,7 +32,7 @@ impl<V: Story> Turn<V> {
         ensures opening { V.opening result.value ≡ opening_of V.opening self.now }
         ensures seen { (seen_by pass.new ≡ V.notes result.value) × IsPrefix (seen_by pass.old) (seen_by pass.new) }
         ensures made { (made_by pass.new ≡ made_by pass.old) × (by V.author pass.new.number (seen_by pass.new) ≡ made_by pass.new) }
-        ensures guards { HoldsSame pass.old pass.new × Shut self.now pass.new × Told self.now pass.new }
+        ensures guards { HoldsSame pass.old pass.new × Shut self.now pass.new × SeesNews self.now pass.new }
     {
         let desk = &self.table.shared;
         let ticket = draw(desk, &mut pass.seat);
@@ -65,7 +65,8 @@ impl<V: Story> Turn<V> {
         }
     }
 
-    /// Takes a guard for the pass, where its version is at most the one given. It waits while another pass holds the guard.
+    /// Takes a guard for the pass, where its version is at most the one given; no note of another pass then touches it.
+    /// Where the version is above, the guard isn't taken, and the pass's next take shows the note that made it so.
     pub fn hold<R: Wait>(&self, rt: &R, pass: &mut Pass<V>, guard: u32, version: u64) -> Hold
         requires pass { IsReady self.now pass.old }
         requires guard { (guard < guards_of self.now) × All (λ k. k.guard < guard) (grips_of pass.old) × (length (grips_of pass.old) < 9) }
@@ -82,6 +83,7 @@ impl<V: Story> Turn<V> {
         requires version { HasVersion self.now pass.old guard version }
         ensures pass { IsIdle pass.new × IsSamePass pass.old pass.new × KnowsSame pass.old pass.new × (news_of pass.new ≡ news_of pass.old) }
         ensures grips { grips_of pass.new ≡ without guard (grips_of pass.old) }
+        ensures shut { Shut self.now pass.new }
     {
         release_guard(&self.table.shared, &mut pass.seat, guard, version);
     }
