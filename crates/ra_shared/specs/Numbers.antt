@@ -1,0 +1,29 @@
+-- The numbers under which the lock knows the guards: the machines first, then the services.
+use Rattle.std.specs.Prelude.{ℕ, ◌+◌, ◌-◌, ◌<◌, Bool, false, List, Option, nat_lt, if◌then◌else◌}
+use Rattle.ra_base.specs.declared.ids.Guard.{Guard}
+use Rattle.ra_base.specs.declared.ids.Guard.TheVariants as guard
+use Rattle.ra_model.specs.declared.raw.Tables.{Tables}
+use Rattle.ra_model.specs.Numbers.{machine_count, service_count}
+use Rattle.ra_moves.specs.declared.steps.Step.{Step}
+use Rattle.ra_guards.specs.Versions.{touches}
+
+-- how many guards an instance has
+unfoldable pub guard_count : Tables → ℕ
+guard_count i = machine_count i + service_count i
+
+-- the guard is of a machine or a service of the instance
+unfoldable pub IsKnown : Tables → Guard → Type 0
+IsKnown i (guard.Machine m) = m.0 < machine_count i
+IsKnown i (guard.Service s) = s.0 < service_count i
+
+-- machine m is guard m, and service s is the machine count plus s
+unfoldable pub number_of : Tables → Guard → ℕ
+number_of i (guard.Machine m) = m.0
+number_of i (guard.Service s) = machine_count i + s.0
+
+-- what an entry makes touches the guard of a number; there is none from the guard count on
+unfoldable pub touches_number : Tables → Option (List Step) → ℕ → Bool
+touches_number i made n =
+    if nat_lt n (machine_count i) then touches i made (guard.Machine (record { 0 = n }))
+    else if nat_lt n (guard_count i) then touches i made (guard.Service (record { 0 = n - machine_count i }))
+    else false
