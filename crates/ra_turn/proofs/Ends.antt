@@ -40,7 +40,7 @@ module _ {V N O : Type 0} (opening : V → O) (notes : V → List N) (author : N
   -- what the maker's seat knows at the start
   first_knows : (c : Scene N) (homes : List (maybe.Option (Option V))) → c.given ≡ 0 → (i : ℕ) (v : Sight N O) → get_elem? (maker passes turns o ∷ []) i ≡ some v → Known c homes i v
   first_knows c homes none_given zero v e = subst (Known c homes 0) (some-injective (maker passes turns o) v e) (record {
-    maker = λ t h. (let same : turns ≡ t = cc h in (refl, sym same, sym none_given, (let z : c.given * t ≡ 0 = ap (λ (g : ℕ). g * t) none_given ∙ omega arith in let all : passes * turns ≡ passes * t = ap (λ (q : ℕ). passes * q) same in omega arith)));
+    maker = λ t h. (let same : turns ≡ t = cc h in record { seat = refl; turns_each = sym same; numbers = sym none_given; left = (let z : c.given * t ≡ 0 = ap (λ (g : ℕ). g * t) none_given ∙ omega arith in let all : passes * turns ≡ passes * t = ap (λ (q : ℕ). passes * q) same in omega arith) });
     opened = λ h. refl;
     parts = λ h. absurd h;
     ticket = λ h. absurd h;
@@ -84,9 +84,9 @@ module _ {V N O : Type 0} (opening : V → O) (notes : V → List N) (author : N
       let left : Sight N O = cut_left v in let right : Sight N O = cut_right v in
       let views' : List (Sight N O) = set s.views i left in
       let gets : turns_of v.stage ≡ turns = ap turns_of stage in
-      let enough : c.given * turns + turns ≤ passes * turns = more_turns c.given passes turns (let e = made.2 in omega arith) in
+      let enough : c.given * turns + turns ≤ passes * turns = more_turns c.given passes turns (let e = made.numbers in omega arith) in
       let next : (c.given + 1) * turns ≡ c.given * turns + turns = ap (λ (g : ℕ). g * turns) (omega arith) ∙ suc-mul c.given turns in
-      let has = made.3 in
+      let has = made.left in
       let none_has : ¬ HasSlot v.stage = subst (λ (x : Stage). ¬ HasSlot x) (sym stage) (λ h. h) in
       let fits : (j : ℕ) (p : Part N) → Fits author c.history c.given c.owner j p → Fits author c.history c'.given c'.owner j p = λ j p f.
       let below = f.below in record {
@@ -97,8 +97,8 @@ module _ {V N O : Type 0} (opening : V → O) (notes : V → List N) (author : N
         own_seen = f.own_seen;
       } in
       let first : Known c' s.homes i left = record {
-        maker = λ t e. (let m = kv.maker t e in let same : t ≡ turns = m.1 in
-            (m.0, m.1, ap (λ (n : ℕ). n + 1) m.2, subst (λ (q : ℕ). (v.left - turns_of v.stage) + (c.given + 1) * q ≡ passes * q) (sym same) (omega arith)));
+        maker = λ t e. (let m = kv.maker t e in let same : t ≡ turns = m.turns_each in
+            record { seat = m.seat; turns_each = m.turns_each; numbers = ap (λ (n : ℕ). n + 1) m.numbers; left = subst (λ (q : ℕ). (v.left - turns_of v.stage) + (c.given + 1) * q ≡ passes * q) (sym same) (omega arith) });
         opened = λ h. kv.opened h;
         parts = λ h. absurd (subst IsPass stage h);
         ticket = λ h. absurd (subst HasTicket stage h);
@@ -106,15 +106,15 @@ module _ {V N O : Type 0} (opening : V → O) (notes : V → List N) (author : N
         whole = λ h. absurd (subst HasSlot stage h);
         away = λ h. absurd (subst HasSlot stage h);
       } in
-      let here : c'.owner v.at ≡ length s.views = ap (λ (b : Bool). cond b (length s.views) (c.owner v.at)) (eq-eqb v.at c.given made.2) in
+      let here : c'.owner v.at ≡ length s.views = ap (λ (b : Bool). cond b (length s.views) (c.owner v.at)) (eq-eqb v.at c.given made.numbers) in
       let newest : Known c' s.homes (length s.views) right = record {
         maker = λ t e. absurd (cc e);
         opened = λ h. kv.opened (subst IsLive (sym stage) tt);
         parts = λ h. all_one (Fits author c.history c'.given c'.owner (length s.views)) right.own [] refl (record {
-          below = (let e = made.2 in omega arith);
+          below = (let e = made.numbers in omega arith);
           owned = here;
           seen = (c.history, refl);
-          mine = k.unheard v.at (let e = made.2 in omega arith);
+          mine = k.unheard v.at (let e = made.numbers in omega arith);
           own_seen = refl;
         });
         ticket = λ h. absurd h;
@@ -123,7 +123,7 @@ module _ {V N O : Type 0} (opening : V → O) (notes : V → List N) (author : N
         away = λ h. absurd h;
       } in
       let others : (j : ℕ) (u : Sight N O) → j ≢ i → get_elem? s.views j ≡ some u → Known c' s.homes j u = λ j u ne e. let ku = k.each j u e in record {
-        maker = λ t h. absurd (ne ((ku.maker t h).0 ∙ sym made.0));
+        maker = λ t h. absurd (ne ((ku.maker t h).seat ∙ sym made.seat));
         opened = ku.opened;
         parts = λ h. all_map (Fits author c.history c.given c.owner j) (Fits author c.history c'.given c'.owner j) (u.own ∷ u.joined) (fits j) (ku.parts h);
         ticket = ku.ticket;
@@ -140,11 +140,11 @@ module _ {V N O : Type 0} (opening : V → O) (notes : V → List N) (author : N
           turns_left = (let a = sum_changes left_of s.views i v left at in let b = sum_by_push left_of views' right in let t = k.turns_left in omega arith);
           waits = λ t from below. (let g = stands_at (AtTicket t) s.views i v left (c.queue t) at (λ h. absurd (subst HasTicket stage h.0)) (k.waits t from below) in
               (g.0, g.1, at_longer views' (right ∷ []) (c.queue t) g.0 g.2));
-          numbers = (let e = made.2 in omega arith);
+          numbers = (let e = made.numbers in omega arith);
           given_out = λ n lt. dite (ℕ_discrete n c.given)
               (λ e. (let turned : c'.owner n ≡ length s.views = ap (λ (b : Bool). cond b (length s.views) (c.owner n)) (eq-eqb n c.given e) in (
                 right,
-                (tt, (right.own, (0, omega arith, refl), made.2 ∙ sym e)),
+                (tt, (right.own, (0, omega arith, refl), made.numbers ∙ sym e)),
                 ap (get_elem? (views' ++ right ∷ [])) turned ∙ at_last views' right (length s.views) (length-set s.views i left),
               )))
               (λ ne. (let kept : c'.owner n ≡ c.owner n = ap (λ (b : Bool). cond b (length s.views) (c.owner n)) (ne_eqb n c.given ne) in

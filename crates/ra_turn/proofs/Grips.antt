@@ -37,7 +37,7 @@ module _ {V N O : Type 0} (opening : V → O) (notes : V → List N) (author : N
       let kv = k.each i v at in
       let w : Sight N O = record v { grips = grips; news = news } in
       let mine : Knows author passes turns o c s.homes i w = record {
-        maker = kv.maker;
+        maker = λ t e. (let m = kv.maker t e in record { seat = m.seat; turns_each = m.turns_each; numbers = m.numbers; left = m.left });
         opened = kv.opened;
         parts = kv.parts;
         ticket = kv.ticket;

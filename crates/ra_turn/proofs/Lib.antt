@@ -12,3 +12,4 @@ pub mod Grips
 pub mod Passing
 pub mod Grasping
 pub mod Laws
+pub mod Refuses

@@ -1,6 +1,7 @@
 -- What an attempt to hold a guard leaves and answers.
 use Rattle.std.specs.Prelude.{◌≡◌, ℕ, ◌≤◌, ◌<◌, Bool, List, [], ◌∷◌, ◌++◌, Contains}
 use Rattle.atomic_table.specs.Table.{Me}
+use Rattle.ra_turn.specs.Views.{view, slots}
 use Rattle.ra_turn.specs.declared.guards.Hold.{Hold}
 use Rattle.ra_turn.specs.declared.guards.Hold.TheVariants.{Held, Newer}
 use Rattle.ra_turn.specs.declared.sight.Grip.{Grip}
@@ -15,7 +16,7 @@ KeepsNews ks ks' = (k : Grip) → Contains ks k → Contains ks' k
 module _ {S N O : Type 0} where
   -- nothing changed but what the seat holds and was told
   abbrev pub OnlyHolds : Me S (Sight N O) → Me S (Sight N O) → Type 0
-  OnlyHolds m m' = (m' ≡ (record m.0 { grips = m'.0.grips; news = m'.0.news }, m.1)) × KeepsNews m.0.news m'.0.news
+  OnlyHolds m m' = (m' ≡ (record (view m) { grips = (view m').grips; news = (view m').news }, slots m)) × KeepsNews (view m).news (view m').news
 
 module _ {N O : Type 0} (author : N → ℕ) (touches : O → N → ℕ → Bool) where
   -- The view v is that after the answer. Held: the guard is grips besides, at a version of at most the one asked for. Newer: the view was told of a version above

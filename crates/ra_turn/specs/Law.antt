@@ -40,10 +40,17 @@ HasNumber {N} n v = IsPass v.stage × ((p : Part N) × Contains (v.own ∷ v.joi
 abbrev pub AtTicket : {N O : Type 0} → ℕ → Sight N O → Type 0
 AtTicket t v = HasTicket v.stage × (v.at ≡ t)
 
+-- the seat i is the first one, and has the turns, t for each, of the numbers that it hasn't given
+pub record IsMakers {N O : Type 0} (passes turns given i t : ℕ) (v : Sight N O) : Type 0 where
+  pub seat : i ≡ 0
+  pub turns_each : t ≡ turns
+  pub numbers : v.at ≡ given
+  pub left : v.left + given * t ≡ passes * t
+
 -- What the seat i knows, where its view is v
 pub record Knows {V N O : Type 0} (author : N → ℕ) (passes turns : ℕ) (o : O) (c : Scene N) (homes : List (maybe.Option (Option V))) (i : ℕ) (v : Sight N O) : Type 0 where
-  -- the maker's seat is the first one. It has the turns of the numbers that it hasn't given
-  pub maker : (t : ℕ) → v.stage ≡ Maker t → (i ≡ 0) × (t ≡ turns) × (v.at ≡ c.given) × (v.left + c.given * t ≡ passes * t)
+  -- where it is the maker's seat
+  pub maker : (t : ℕ) → v.stage ≡ Maker t → IsMakers passes turns c.given i t v
   pub opened : IsLive v.stage → v.opened ≡ Some o
   pub parts : IsPass v.stage → All (Fits author c.history c.given c.owner i) (v.own ∷ v.joined)
   -- a ticket of its own, from serving to ticket less one

@@ -1,3 +1,4 @@
+pub mod Views
 pub mod Notes
 pub mod Stages
 pub mod Law

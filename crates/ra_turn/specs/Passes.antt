@@ -10,6 +10,7 @@ use Rattle.ra_turn.specs.declared.sight.Stage.TheVariants.{Maker, Idle, InTurn}
 use Rattle.ra_turn.specs.declared.sight.Sight.{Sight}
 use Rattle.atomic_table.specs.declared.shared.Seat.{Seat}
 use Rattle.ra_turn.specs.declared.sight.Grip.{Grip}
+use Rattle.ra_turn.specs.Views.{view, slots}
 use Rattle.ra_turn.specs.Notes.{by, grip, touching, IsVersion, IsNews, HoldsAll, ShutBy}
 
 -- P holds of each element, with its place
@@ -34,36 +35,36 @@ guards_of t = t.table.shared.key.guards
 
 -- the seat from which n passes were cut
 abbrev pub IsMaker : {V N O : Type 0} → (V → O) → Turn V N O → ℕ → ℕ → Seat (Option V) (Sight N O) → Type 0
-IsMaker opening t turns n s = (s.table_id ≡ t.table.shared.table_id) × (s.me.0.stage ≡ Maker turns) × (s.me.0.at ≡ n) × (s.me.0.opened ≡ Some (opening_of opening t))
+IsMaker opening t turns n s = (s.table_id ≡ t.table.shared.table_id) × ((view s.me).stage ≡ Maker turns) × ((view s.me).at ≡ n) × ((view s.me).opened ≡ Some (opening_of opening t))
 
 module _ {V N O : Type 0} {g : Ghosts V N O} where
   -- the notes that the pass has seen
   abbrev pub seen_by : Pass V N O g → List N
-  seen_by p = p.seat.me.0.own.seen
+  seen_by p = (view p.seat.me).own.seen
 
   -- the notes that it made
   abbrev pub made_by : Pass V N O g → List N
-  made_by p = p.seat.me.0.own.mine
+  made_by p = (view p.seat.me).own.mine
 
   -- the guards that it holds, each with the version at which it was taken, in ascending order
   abbrev pub grips_of : Pass V N O g → List Grip
-  grips_of p = p.seat.me.0.grips
+  grips_of p = (view p.seat.me).grips
 
   -- the guards of whose versions it was told: at its next take it sees the note before each
   abbrev pub news_of : Pass V N O g → List Grip
-  news_of p = p.seat.me.0.news
+  news_of p = (view p.seat.me).news
 
   -- the pass is one of this lock
   abbrev pub IsPassOf : Turn V N O → Pass V N O g → Type 0
-  IsPassOf t p = (p.seat.table_id ≡ t.table.shared.table_id) × (p.seat.me.0.opened ≡ Some (opening_of g.opening t))
+  IsPassOf t p = (p.seat.table_id ≡ t.table.shared.table_id) × ((view p.seat.me).opened ≡ Some (opening_of g.opening t))
 
   -- the pass has no turn
   abbrev pub IsIdle : Pass V N O g → Type 0
-  IsIdle p = (p.seat.me.0.stage ≡ Idle) × (p.seat.me.1 ≡ [])
+  IsIdle p = ((view p.seat.me).stage ≡ Idle) × (slots p.seat.me ≡ [])
 
   -- the pass has taken the value
   abbrev pub IsInTurn : Pass V N O g → Type 0
-  IsInTurn p = (p.seat.me.0.stage ≡ InTurn) × (p.seat.me.1 ≡ (0, None) ∷ [])
+  IsInTurn p = ((view p.seat.me).stage ≡ InTurn) × (slots p.seat.me ≡ (0, None) ∷ [])
 
   -- the pass is one of this lock, and has no turn
   abbrev pub IsReady : Turn V N O → Pass V N O g → Type 0
@@ -109,7 +110,7 @@ module _ {V N O : Type 0} {g : Ghosts V N O} where
 
   -- the same pass of the same lock
   abbrev pub IsSamePass : Pass V N O g → Pass V N O g → Type 0
-  IsSamePass p q = (q.seat.table_id ≡ p.seat.table_id) × (q.seat.id ≡ p.seat.id) × (q.number ≡ p.number) × (q.seat.me.0.opened ≡ p.seat.me.0.opened)
+  IsSamePass p q = (q.seat.table_id ≡ p.seat.table_id) × (q.seat.id ≡ p.seat.id) × (q.number ≡ p.number) × ((view q.seat.me).opened ≡ (view p.seat.me).opened)
 
   -- as `Turn::close` wants the pass n
   pub record IsDone (t : Turn V N O) (n : ℕ) (p : Pass V N O g) : Type 0 where
@@ -125,9 +126,9 @@ module _ {V N O : Type 0} {g : Ghosts V N O} where
   -- the seat of a pass, to which the passes ps were joined
   pub record IsJoined (t : Turn V N O) (ps : List (Pass V N O g)) (s : Seat (Option V) (Sight N O)) : Type 0 where
     pub table : s.table_id ≡ t.table.shared.table_id
-    pub idle : s.me.0.stage ≡ Idle
-    pub empty : s.me.0.grips ≡ []
-    pub parts : All (λ p. Contains (s.me.0.own ∷ s.me.0.joined) p.seat.me.0.own) ps
+    pub idle : (view s.me).stage ≡ Idle
+    pub empty : (view s.me).grips ≡ []
+    pub parts : All (λ (p : Pass V N O g). Contains ((view s.me).own ∷ (view s.me).joined) (view p.seat.me).own) ps
 
   -- Where `Turn::hold` answers Held: the pass holds the guard besides, at a version of at most the one asked for. It is the guard's version in what the pass
   -- has seen, where that reaches so far, and the next take shows the note before it

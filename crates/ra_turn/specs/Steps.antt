@@ -3,6 +3,7 @@ use Rattle.std.specs.Prelude.{◌≡◌, ℕ, zero, suc, ◌+◌, ◌-◌, ◌*�
 use mathlib.Core.Option.{some}
 use mathlib.Core.List.{IsPrefix}
 use Rattle.atomic_table.specs.Table.{Me, Step}
+use Rattle.ra_turn.specs.Views.{view, slots}
 use Rattle.ra_turn.specs.declared.sight.Sight.{Sight}
 use Rattle.ra_turn.specs.declared.sight.Stage.{Stage}
 use Rattle.ra_turn.specs.declared.sight.Stage.TheVariants.{Maker, Spent, Idle, Drawn, Called, InTurn, Counted}
@@ -70,22 +71,22 @@ module _ {N O : Type 0} where
 module _ {V N O : Type 0} where
   -- its ticket is the word that it found
   abbrev pub drawn : Step (Option V) → Me (Option V) (Sight N O) → ℕ → Me (Option V) (Sight N O) → Type 0
-  drawn s m n m' = m' ≡ (with_ticket m.0 n, m.1)
+  drawn s m n m' = m' ≡ (with_ticket (view m) n, slots m)
 
   -- it is its turn exactly where the word is its ticket
   abbrev pub looked : Step (Option V) → Me (Option V) (Sight N O) → ℕ → Me (Option V) (Sight N O) → Type 0
-  looked s m n m' = MatchBool (n == m.0.at) (m' ≡ (with_stage m.0 Called, m.1)) (m' ≡ m)
+  looked s m n m' = MatchBool (n == (view m).at) (m' ≡ (with_stage (view m) Called, slots m)) (m' ≡ m)
 
   abbrev pub served : (N → ℕ) → (O → N → ℕ → Bool) → Step (Option V) → Me (Option V) (Sight N O) → ℕ → Me (Option V) (Sight N O) → Type 0
-  served author touches s m n m' = (m' ≡ (with_stage m.0 Idle, [])) × IsShut author touches m.0
+  served author touches s m n m' = (m' ≡ (with_stage (view m) Idle, [])) × IsShut author touches (view m)
 
   -- an even word is twice the version of a free guard
   abbrev pub glanced : Step (Option V) → Me (Option V) (Sight N O) → ℕ → Me (Option V) (Sight N O) → Type 0
-  glanced s m n m' = (guard : ℕ) → s.word ≡ 3 + guard → m' ≡ (with_news m.0 (heard guard n m.0.news), m.1)
+  glanced s m n m' = (guard : ℕ) → s.word ≡ 3 + guard → m' ≡ (with_news (view m) (heard guard n (view m).news), slots m)
 
   -- the seat holds the guard at the version besides
   abbrev pub Took : (N → ℕ) → (O → N → ℕ → Bool) → Me (Option V) (Sight N O) → Me (Option V) (Sight N O) → ℕ → ℕ → Type 0
-  Took author touches m m' guard v = (m' ≡ (with_grips m.0 (m.0.grips ++ grip guard v ∷ []), m.1)) × IsShut author touches m'.0 × IsCurrent touches m'.0 guard v
+  Took author touches m m' guard v = (m' ≡ (with_grips (view m) ((view m).grips ++ grip guard v ∷ []), slots m)) × IsShut author touches (view m') × IsCurrent touches (view m') guard v
 
   -- the guard is taken exactly where the word was as expected, which is twice its version
   abbrev pub gripped : (N → ℕ) → (O → N → ℕ → Bool) → Step (Option V) → Me (Option V) (Sight N O) → ℕ → Me (Option V) (Sight N O) → Type 0
@@ -95,7 +96,7 @@ module _ {V N O : Type 0} where
 
   -- the seat holds the guard no more
   abbrev pub Gave : (N → ℕ) → (O → N → ℕ → Bool) → Me (Option V) (Sight N O) → Me (Option V) (Sight N O) → ℕ → Type 0
-  Gave author touches m m' guard = (m' ≡ (with_grips m.0 (without guard m.0.grips), m.1)) × IsShut author touches m'.0
+  Gave author touches m m' guard = (m' ≡ (with_grips (view m) (without guard (view m).grips), slots m)) × IsShut author touches (view m')
 
   abbrev pub released : (N → ℕ) → (O → N → ℕ → Bool) → Step (Option V) → Me (Option V) (Sight N O) → ℕ → Me (Option V) (Sight N O) → Type 0
   released author touches s m n m' = (guard : ℕ) → s.word ≡ 3 + guard → Gave author touches m m' guard
@@ -112,9 +113,9 @@ module _ {V N O : Type 0} (opening : V → O) (notes : V → List N) (author : N
 module _ {V N O : Type 0} (opening : V → O) (notes : V → List N) (author : N → ℕ) (touches : O → N → ℕ → Bool) where
   -- the history is that of the value in the slot, which the pass has then
   abbrev pub saw : Step (Option V) → Me (Option V) (Sight N O) → ℕ → Me (Option V) (Sight N O) → Type 0
-  saw s m n m' = (x : V) × Shows opening notes author m.0 n x × (m' ≡ (with_seen author m.0 InTurn (notes x), (0, Some x) ∷ m.1)) × IsShut author touches m'.0 × IsTold touches m'.0
+  saw s m n m' = (x : V) × Shows opening notes author (view m) n x × (m' ≡ (with_seen author (view m) InTurn (notes x), (0, Some x) ∷ slots m)) × IsShut author touches (view m') × IsTold touches (view m')
 
 module _ {V N O : Type 0} (notes : V → List N) (author : N → ℕ) where
   -- the announced value's notes are the history, and all notes that the pass had made were among those that it had seen
   abbrev pub noted : Step (Option V) → Me (Option V) (Sight N O) → ℕ → Me (Option V) (Sight N O) → Type 0
-  noted s m n m' = (by author m.0.own.number m.0.own.seen ≡ m.0.own.mine) × ((x : V) → s.said ≡ some (Some x) → (m' ≡ (with_seen author m.0 Counted (notes x), m.1)) × (length (notes x) < 2 ^ 62))
+  noted s m n m' = (by author (view m).own.number (view m).own.seen ≡ (view m).own.mine) × ((x : V) → s.said ≡ some (Some x) → (m' ≡ (with_seen author (view m) Counted (notes x), slots m)) × (length (notes x) < 2 ^ 62))

@@ -1,5 +1,6 @@
 //! How a lock is closed.
 ghost use Rattle.std.specs.Prelude.{◌≡◌, ◌<◌, ◌≤◌, [], ◌∷◌, length, All};
+ghost use Rattle.ra_turn.specs.Views.{view};
 ghost use Rattle.ra_turn.specs.declared.sight.Stage.TheVariants.{Idle};
 ghost use Rattle.ra_turn.specs.Passes.{opening_of, passes_of, EachAt, grips_of, IsPassOf, IsIdle, IsDone, IsPartOf, IsJoined};
 ghost use Rattle.ra_turn.specs.Seats.{IsSameSeat};
@@ -45,9 +46,9 @@ fn join_all<V: Story>(turn: &Turn<V>, mut passes: Vec<Pass<V>>) -> Place<V>
 
 /// Joins a pass to the seat.
 fn join<V: Story>(turn: &Turn<V>, seat: &mut Place<V>, pass: Pass<V>)
-    requires seat { (seat.old.table_id ≡ turn.now.table.shared.table_id) × (seat.old.me.0.stage ≡ Idle) × (seat.old.me.0.grips ≡ []) }
+    requires seat { (seat.old.table_id ≡ turn.now.table.shared.table_id) × ((view seat.old.me).stage ≡ Idle) × ((view seat.old.me).grips ≡ []) }
     requires pass { IsPassOf turn.now pass × IsIdle pass × (grips_of pass ≡ []) }
-    ensures { IsSameSeat seat.old seat.new × (seat.new.me.0 ≡ joined seat.old.me.0 pass.seat.me.0) }
+    ensures { IsSameSeat seat.old seat.new × ((view seat.new.me) ≡ joined (view seat.old.me) (view pass.seat.me)) }
 {
     let desk = &turn.table.shared;
     desk.join_seat::<Glue>(seat, pass.into_seat());

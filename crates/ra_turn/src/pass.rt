@@ -1,5 +1,6 @@
 //! A pass, with which one thread takes turns.
 ghost use Rattle.std.specs.Prelude.{◌≡◌, ◌+◌, ◌<◌, ◌^◌, length, All};
+ghost use Rattle.ra_turn.specs.Views.{view};
 ghost use Rattle.ra_turn.specs.Notes.{by};
 
 use crate::law::Place;
@@ -11,13 +12,13 @@ pub struct Pass<V: Story> {
     pub(crate) number: u32,
     pub(crate) left: u64,
     pub(crate) seen: u64,
-    pub ghost numbered: { seat.me.0.own.number ≡ number },
-    pub ghost lefts: { seat.me.0.left ≡ left },
-    pub ghost seens: { length seat.me.0.own.seen ≡ seen },
-    pub ghost alone: { length seat.me.0.joined ≡ 0 },
-    pub ghost owned: { by V.author seat.me.0.own.number seat.me.0.own.seen ≡ seat.me.0.own.mine },
+    pub ghost numbered: { (view seat.me).own.number ≡ number },
+    pub ghost lefts: { (view seat.me).left ≡ left },
+    pub ghost seens: { length (view seat.me).own.seen ≡ seen },
+    pub ghost alone: { length (view seat.me).joined ≡ 0 },
+    pub ghost owned: { by V.author (view seat.me).own.number (view seat.me).own.seen ≡ (view seat.me).own.mine },
     pub ghost small: { seen < 2 ^ 62 },
-    pub ghost within: { All (λ k. 3 + k.guard < seat.table_id.words) seat.me.0.grips },
+    pub ghost within: { All (λ k. 3 + k.guard < seat.table_id.words) (view seat.me).grips },
 }
 
 impl<V: Story> Pass<V> {

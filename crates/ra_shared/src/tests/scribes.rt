@@ -8,10 +8,11 @@ use std::alloc::Global;
 use std::sync::Wait;
 use std::thread::Threads;
 
-// Who wrote a line.
+// Who wrote a line, and a number.
 #[derive(Clone, Copy, Debug, PartialEq, Eq)]
 pub struct Line {
     pub by: u32,
+    pub number: u32,
 }
 
 #[derive(Drop)]
@@ -61,8 +62,8 @@ fn write_all<'a, R: Wait>(rt: &R, turn: &Turn<Pad<'a>>, pass: &mut Pass<Pad<'a>>
     requires { IsReady turn.now pass.old × (lines ≤ pass.old.left) × (grips_of pass.old ≡ []) }
     ensures { IsReady turn.now pass.new × (pass.new.number ≡ pass.old.number) × (grips_of pass.new ≡ []) }
 {
-    for _ in 0..lines {
-        write_line(rt, turn, pass);
+    for number in 0..lines {
+        write_line(rt, turn, pass, number);
     }
 }
 
@@ -74,13 +75,13 @@ fn push(pad: &mut Pad<'_>, line: Line) -> bool
 }
 
 // Takes a turn, and writes a line in it.
-fn write_line<'a, R: Wait>(rt: &R, turn: &Turn<Pad<'a>>, pass: &mut Pass<Pad<'a>>)
+fn write_line<'a, R: Wait>(rt: &R, turn: &Turn<Pad<'a>>, pass: &mut Pass<Pad<'a>>, number: u32)
     requires { IsReady turn.now pass.old × (0 < pass.old.left) × (grips_of pass.old ≡ []) }
     ensures { IsReady turn.now pass.new × (pass.new.number ≡ pass.old.number) × (pass.new.left + 1 ≡ pass.old.left) × (grips_of pass.new ≡ []) }
 {
     let by = pass.number();
     let mut held = turn.take(rt, pass);
-    push(&mut held.value, Line { by });
+    push(&mut held.value, Line { by, number });
     turn.give(pass, held);
 }
 
@@ -105,26 +106,38 @@ fn both<'a>(
     Some(all)
 }
 
-// The passes of both workers, in their order.
-fn passes_of_both<'a>(
-    alloc: Global,
-    turn: &Turn<Pad<'a>>,
-    mut all: Vec<Scribe<'a>>,
-) -> Option<Vec<Pass<Pad<'a>>>>
-    requires { (length all.items ≡ 2) × (passes_of turn.now ≡ 2) × EachAt (λ n s. IsReady turn.now s.pass × (s.pass.number ≡ n) × (grips_of s.pass ≡ [])) all.items }
-    ensures { IfSome result (λ ps. (length ps.items ≡ passes_of turn.now) × EachAt (IsDone turn.now) ps.items) }
+// The two workers.
+fn two<'a>(turn: &Turn<Pad<'a>>, mut all: Vec<Scribe<'a>>) -> Option<(Scribe<'a>, Scribe<'a>)>
+    requires { (length all.items ≡ 2) × EachAt (λ n s. IsReady turn.now s.pass × (s.pass.number ≡ n) × (grips_of s.pass ≡ [])) all.items }
+    ensures first { IfSome result (λ r. IsReady turn.now r.0.pass × (r.0.pass.number ≡ 0) × (grips_of r.0.pass ≡ [])) }
+    ensures second { IfSome result (λ r. IsReady turn.now r.1.pass × (r.1.pass.number ≡ 1) × (grips_of r.1.pass ≡ [])) }
 {
-    let mut passes = Vec::with_capacity(alloc, 2).ok()?;
     let (Some(second), Some(first)) = (all.pop(), all.pop()) else {
         return None;
     };
-    passes.push_reserved(into_pass(first));
-    passes.push_reserved(into_pass(second));
-    Some(passes)
+    Some((first, second))
+}
+
+// Both passes, in their order.
+fn in_order<'a>(
+    alloc: Global,
+    turn: &Turn<Pad<'a>>,
+    first: Pass<Pad<'a>>,
+    second: Pass<Pad<'a>>,
+) -> Option<Vec<Pass<Pad<'a>>>>
+    requires first { IsReady turn.now first × (first.number ≡ 0) × (grips_of first ≡ []) }
+    requires second { IsReady turn.now second × (second.number ≡ 1) × (grips_of second ≡ []) }
+    requires two { passes_of turn.now ≡ 2 }
+    ensures { IfSome result (λ all. (length all.items ≡ passes_of turn.now) × EachAt (IsDone turn.now) all.items) }
+{
+    let mut all = Vec::with_capacity(alloc, 2).ok()?;
+    all.push_reserved(first);
+    all.push_reserved(second);
+    Some(all)
 }
 
 fn into_pass<'a>(scribe: Scribe<'a>) -> Pass<Pad<'a>>
-    ensures { result ≡ scribe.pass }
+    ensures { result ≡ scribe.entry.pass }
 {
     let Scribe { pass, lines: _ } = scribe;
     pass
@@ -149,7 +162,8 @@ pub fn written<'a, R: Threads + Wait + Sync>(
     };
     let mut all = both(alloc, &turn, first, second, lines)?;
     all_labour(rt, &turn, &mut all);
-    let passes = passes_of_both(alloc, &turn, all)?;
+    let (first, second) = two(&turn, all)?;
+    let passes = in_order(alloc, &turn, into_pass(first), into_pass(second))?;
     Some(turn.close(passes))
 }
 

@@ -2,10 +2,10 @@ use Rattle.std.proofs.Common.{◌≡◌, ◌+◌, []}
 use Rattle.ra_turn.specs.Passes.{IsReady, grips_of}
 use Rattle.ra_shared.proofs.tests.scribes.write_all.Given as goal
 
-abbrev pub invariant-loop : goal.invariant-loop
-invariant-loop l = record {
+abbrev pub invariant-loop-number : goal.invariant-loop-number
+invariant-loop-number g l = record {
   ready : IsReady l.turn l.pass;
   number : l.pass.number ≡ l.initial.pass.number;
-  left : l.pass.left + l.done ≡ l.initial.pass.left;
+  left : l.pass.left + l.number ≡ l.initial.pass.left;
   grips : grips_of l.pass ≡ [];
 }
