@@ -19,7 +19,7 @@ module _ {S N O : Type 0} where
   OnlyHolds m m' = (m' ≡ (record (view m) { grips = (view m').grips; news = (view m').news }, slots m)) × KeepsNews (view m).news (view m').news
 
 module _ {N O : Type 0} (author : N → ℕ) (touches : O → N → ℕ → Bool) where
-  -- The view v is that after the answer. Held: the guard is grips besides, at a version of at most the one asked for. Newer: the view was told of a version above
+  -- The view v is that after the answer. Held: the guard is held besides, at a version of at most the one asked for. Newer: the view was told of a version above, and holds what it held
   abbrev pub IsAnswerAt : ℕ → ℕ → List Grip → Sight N O → Hold → Type 0
   IsAnswerAt guard asked grips v (Held at) = (at ≤ asked) × (v.grips ≡ grips ++ grip guard at ∷ []) × IsShut author touches v × IsCurrent touches v guard at × (0 < at → Contains v.news (grip guard at))
   IsAnswerAt guard asked grips v (Newer at) = (asked < at) × (v.grips ≡ grips) × Contains v.news (grip guard at)

@@ -49,7 +49,7 @@ module _ {N O : Type 0} (touches : O → N → ℕ → Bool) (o : O) where
   abbrev pub IsNews : List N → Grip → Type 0
   IsNews xs k = (0 < k.version) × TouchedAt (touching touches o k.guard) xs (k.version - 1)
 
-  -- each guard that the note touches is grips
+  -- each guard that the note touches is held
   abbrev pub HoldsAll : List Grip → N → Type 0
   HoldsAll grips n = (guard : ℕ) → touches o n guard ≡ true → (v : ℕ) × Contains grips (grip guard v)
 

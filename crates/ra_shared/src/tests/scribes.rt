@@ -1,5 +1,5 @@
 // Workers that write lines in a pad behind the lock. The pad borrows, so that the workers' type names a lifetime.
-ghost use Rattle.std.specs.Prelude.{◌≡◌, ◌+◌, ◌<◌, ◌≤◌, ◌^◌, [], ◌++◌, ◌∷◌, false, length, All, IfSome, MatchBool};
+ghost use Rattle.std.specs.Prelude.{◌≡◌, ◌+◌, ◌<◌, ◌≤◌, [], ◌++◌, ◌∷◌, false, length, IfSome, MatchBool};
 ghost use Rattle.ra_turn.specs.Passes.{EachAt, IsDone, IsReady, grips_of, passes_of};
 
 use crate::{Labour, all_labour};
