@@ -1,12 +1,11 @@
 mod plans;
-mod samples;
 
 use super::*;
-use ra_base::{Cause, Drawing, Machine, Process, Resource, Service};
+use ra_base::{Cause, Drawing, Fixed, Machine, Process, Resource, Service};
 use ra_check::{Scratch, parts};
 use ra_model::Instance;
 use ra_moves::{Verdict, options, resolve};
-use samples::{assignment, crossed_pair, list, sample, tight_pair};
+use ra_samples::{assignment, crossed_pair, list, sample, tight_pair};
 use std::alloc::Global;
 use std::process::Abort;
 
@@ -24,6 +23,10 @@ fn done(cost: u128) -> Verdict {
     Verdict::Done { cost }
 }
 
+fn refused(cause: Cause) -> Verdict {
+    Verdict::Refused { cause }
+}
+
 /// The verdict on the first move that words name, at an assignment that is reached from a start.
 fn judged(
     rt: &impl Abort,
@@ -34,8 +37,8 @@ fn judged(
     words: &[u64; 8],
     allowed: u64,
 ) -> Verdict {
-    let a0 = assignment(rt, alloc, start);
-    let mut a = assignment(rt, alloc, now);
+    let a0 = assignment(alloc, start).expect(rt, "no memory");
+    let mut a = assignment(alloc, now).expect(rt, "no memory");
     assert!(rt; inst.is_assignment(&a0));
     assert!(rt; inst.is_assignment(&a));
     let mut scratch = Scratch::make(alloc, inst).expect(rt, "no memory");
@@ -43,143 +46,165 @@ fn judged(
     let _some = options(words, inst.machines(), Drawing::One);
     let mv = resolve(&a, words, inst.machines(), Drawing::One, 0);
     let verdict = judge_plainly(inst, &a0, &mut a, &mut scratch, before, &mv, allowed);
-    assert_eq!(rt; a.as_slice(), assignment(rt, alloc, now).as_slice());
+    let same = assignment(alloc, now).expect(rt, "no memory");
+    assert_eq!(rt; a.as_slice(), same.as_slice());
     verdict
 }
 
 /// Judges the first move that words name at the start of the sample, which costs 4200.
-fn judged_on_sample(rt: &impl Abort, alloc: Global, words: &[u64; 8]) -> Verdict {
-    let inst = sample(rt, alloc);
-    judged(rt, alloc, &inst, &[0, 3, 0], &[0, 3, 0], words, 0)
+fn judged_at_start(rt: &impl Abort, alloc: Global, inst: &Instance, words: &[u64; 8]) -> Verdict {
+    judged(rt, alloc, inst, &[0, 3, 0], &[0, 3, 0], words, 0)
 }
 
-fn refused_on_sample(rt: &impl Abort, alloc: Global, words: &[u64; 8], cause: Cause) {
-    let verdict = judged_on_sample(rt, alloc, words);
-    assert_eq!(rt; verdict, Verdict::Refused { cause });
-}
-
-#[test]
-fn a_move_is_done(rt: HostRuntime) {
-    // Load 1500, balance 1700, process 100, service 10, machine 200.
-    let verdict = judged_on_sample(&rt, rt.alloc(), &shift(1, 2));
+/// Load 1500, balance 1700, process 100, service 10, machine 200.
+fn a_move_is_done(rt: &impl Abort, alloc: Global, inst: &Instance) {
+    let verdict = judged_at_start(rt, alloc, inst, &shift(1, 2));
     assert_eq!(rt; verdict, done(3510));
-    // The load of 10 * 4 goes; process 2, service 1, machine 2 come.
-    let inst = crossed_pair(&rt, rt.alloc());
-    let verdict = judged(&rt, rt.alloc(), &inst, &[0, 1], &[0, 1], &swap(0, 1), 0);
-    assert_eq!(rt; verdict, done(5));
 }
 
-#[test]
-fn a_process_is_named_again(rt: HostRuntime) {
-    // Each first step also leaves process 0 where it is.
-    let cause = Cause::Repeat {
-        process: Process(0),
-    };
-    refused_on_sample(&rt, rt.alloc(), &[7, 0, 0, 2, 1, 0, 0, 0], cause);
-    refused_on_sample(&rt, rt.alloc(), &swap(0, 0), cause);
-    // The first and the third step name process 1.
-    let cause = Cause::Repeat {
-        process: Process(1),
-    };
-    refused_on_sample(&rt, rt.alloc(), &[7, 1, 0, 1, 0, 0, 0, 0], cause);
+/// Process 0 is named by the first two steps, and stays where it is, or by both of a swap; process 1 is named by the
+/// first and the third step of a chain.
+fn a_process_is_named_again(rt: &impl Abort, alloc: Global, inst: &Instance) {
+    let rows = [
+        ([7, 0, 0, 2, 1, 0, 0, 0], 0),
+        (swap(0, 0), 0),
+        ([7, 1, 0, 1, 0, 0, 0, 0], 1),
+    ];
+    for (words, process) in rows {
+        let cause = Cause::Repeat {
+            process: Process(process),
+        };
+        assert_eq!(rt; judged_at_start(rt, alloc, inst, &words), refused(cause));
+    }
 }
 
-#[test]
-fn a_process_stays(rt: HostRuntime) {
-    let cause = Cause::Same {
-        process: Process(1),
-    };
-    refused_on_sample(&rt, rt.alloc(), &shift(1, 3), cause);
-    // Process 1 goes from 3 to 0, and process 2 from 0 to 0.
-    let cause = Cause::Same {
-        process: Process(2),
-    };
-    refused_on_sample(&rt, rt.alloc(), &[7, 1, 2, 0, 3, 0, 0, 0], cause);
+/// Process 1 is shifted to where it is; in a chain it goes from 3 to 0, and process 2 from 0 to 0.
+fn a_process_stays(rt: &impl Abort, alloc: Global, inst: &Instance) {
+    let rows = [(shift(1, 3), 1), ([7, 1, 2, 0, 3, 0, 0, 0], 2)];
+    for (words, process) in rows {
+        let cause = Cause::Same {
+            process: Process(process),
+        };
+        assert_eq!(rt; judged_at_start(rt, alloc, inst, &words), refused(cause));
+    }
 }
 
-#[test]
-fn a_move_breaks_a_capacity(rt: HostRuntime) {
-    // The first process requires 12 of the 10 of machine 1.
-    let cause = Cause::Capacity {
+/// The first process requires 12 of the 10 of machine 1. Process 1 would come to where its service is, and to machine 1,
+/// which is in the location of machine 0 while service 0 wants two. Process 2 would stay alone in neighbourhood 0.
+fn a_move_breaks_a_constraint(rt: &impl Abort, alloc: Global, inst: &Instance) {
+    let capacity = Cause::Capacity {
         machine: Machine(1),
         resource: Resource(0),
         used: 12,
         cap: 10,
     };
-    refused_on_sample(&rt, rt.alloc(), &shift(0, 1), cause);
+    let conflict = Cause::Conflict {
+        service: Service(0),
+        machine: Machine(0),
+    };
+    let spread = Cause::Spread {
+        service: Service(0),
+        has: 1,
+        wants: 2,
+    };
+    let dependency = Cause::Dependency {
+        service: Service(1),
+        needs: Service(0),
+        neighbourhood: 0,
+    };
+    let rows = [
+        (shift(0, 1), capacity),
+        (shift(1, 0), conflict),
+        (shift(1, 1), spread),
+        (shift(0, 2), dependency),
+    ];
+    for (words, cause) in rows {
+        assert_eq!(rt; judged_at_start(rt, alloc, inst, &words), refused(cause));
+    }
+}
+
+/// The way back, from a cost of 3510 to one of 4200.
+fn the_cost_may_rise_by_what_is_allowed(rt: &impl Abort, alloc: Global, inst: &Instance) {
+    let rise = Cause::Rise {
+        before: 3510,
+        after: 4200,
+        allowed: 689,
+    };
+    let rows = [(689, refused(rise)), (690, done(4200))];
+    for (allowed, verdict) in rows {
+        let found = judged(
+            rt,
+            alloc,
+            inst,
+            &[0, 3, 0],
+            &[0, 2, 0],
+            &shift(1, 3),
+            allowed,
+        );
+        assert_eq!(rt; found, verdict);
+    }
 }
 
 #[test]
+fn moves_on_the_sample(rt: HostRuntime) {
+    let inst = sample(rt.alloc()).expect(&rt, "no instance");
+    a_move_is_done(&rt, rt.alloc(), &inst);
+    a_process_is_named_again(&rt, rt.alloc(), &inst);
+    a_process_stays(&rt, rt.alloc(), &inst);
+    a_move_breaks_a_constraint(&rt, rt.alloc(), &inst);
+    the_cost_may_rise_by_what_is_allowed(&rt, rt.alloc(), &inst);
+    drop(inst);
+}
+
+/// The instance with these machines closed.
+fn closing(rt: &impl Abort, inst: Instance, flags: Fixed<bool>) -> Instance {
+    assert!(rt; flags.len() == inst.machines() as usize);
+    inst.closing(flags)
+}
+
+fn nothing_moves_there(rt: &impl Abort, alloc: Global, inst: &Instance) {
+    let cause = Cause::Closed {
+        process: Process(1),
+        machine: Machine(2),
+    };
+    let verdict = judged_at_start(rt, alloc, inst, &shift(1, 2));
+    assert_eq!(rt; verdict, refused(cause));
+}
+
+#[test]
+fn a_move_enters_a_closed_machine(rt: HostRuntime) {
+    let inst = sample(rt.alloc()).expect(&rt, "no instance");
+    let flags = list(rt.alloc(), &[false, false, true, false]).expect(&rt, "no memory");
+    let closed = closing(&rt, inst, flags);
+    nothing_moves_there(&rt, rt.alloc(), &closed);
+    drop(closed);
+}
+
+/// The verdict on a swap of the two processes of a pair, at its start.
+fn swapped(rt: &impl Abort, alloc: Global, inst: &Instance) -> Verdict {
+    judged(rt, alloc, inst, &[0, 1], &[0, 1], &swap(0, 1), 0)
+}
+
+/// The load of 10 * 4 goes; process 2, service 1, machine 2 come.
+#[test]
+fn a_swap_is_done(rt: HostRuntime) {
+    let inst = crossed_pair(rt.alloc()).expect(&rt, "no instance");
+    let verdict = swapped(&rt, rt.alloc(), &inst);
+    drop(inst);
+    assert_eq!(rt; verdict, done(5));
+}
+
+/// Two processes of 6 need 12 of the 10 of machine 0 while they change places.
+#[test]
 fn a_move_breaks_a_capacity_on_the_way(rt: HostRuntime) {
-    // Two processes of 6 need 12 of the 10 of machine 0 while they change places.
     let cause = Cause::Transient {
         machine: Machine(0),
         resource: Resource(0),
         used: 12,
         cap: 10,
     };
-    let inst = tight_pair(&rt, rt.alloc());
-    let verdict = judged(&rt, rt.alloc(), &inst, &[0, 1], &[0, 1], &swap(0, 1), 0);
-    assert_eq!(rt; verdict, Verdict::Refused { cause });
-}
-
-#[test]
-fn a_move_breaks_a_rule_of_services(rt: HostRuntime) {
-    let cause = Cause::Conflict {
-        service: Service(0),
-        machine: Machine(0),
-    };
-    refused_on_sample(&rt, rt.alloc(), &shift(1, 0), cause);
-    // Machines 0 and 1 are in one location, and service 0 wants two.
-    let cause = Cause::Spread {
-        service: Service(0),
-        has: 1,
-        wants: 2,
-    };
-    refused_on_sample(&rt, rt.alloc(), &shift(1, 1), cause);
-    // Process 2 stays alone in neighbourhood 0.
-    let cause = Cause::Dependency {
-        service: Service(1),
-        needs: Service(0),
-        neighbourhood: 0,
-    };
-    refused_on_sample(&rt, rt.alloc(), &shift(0, 2), cause);
-}
-
-#[test]
-fn a_move_enters_a_closed_machine(rt: HostRuntime) {
-    let flags = list(&rt, rt.alloc(), &[false, false, true, false]);
-    let inst = sample(&rt, rt.alloc());
-    assert!(rt; flags.len() == inst.machines() as usize);
-    let closed = inst.closing(flags);
-    let verdict = judged(
-        &rt,
-        rt.alloc(),
-        &closed,
-        &[0, 3, 0],
-        &[0, 3, 0],
-        &shift(1, 2),
-        0,
-    );
-    let cause = Cause::Closed {
-        process: Process(1),
-        machine: Machine(2),
-    };
-    assert_eq!(rt; verdict, Verdict::Refused { cause });
-}
-
-#[test]
-fn the_cost_may_rise_by_what_is_allowed(rt: HostRuntime) {
-    // The way back, from a cost of 3510 to one of 4200.
-    let inst = sample(&rt, rt.alloc());
-    let words = shift(1, 3);
-    let rise = Cause::Rise {
-        before: 3510,
-        after: 4200,
-        allowed: 689,
-    };
-    let less = judged(&rt, rt.alloc(), &inst, &[0, 3, 0], &[0, 2, 0], &words, 689);
-    assert_eq!(rt; less, Verdict::Refused { cause: rise });
-    let enough = judged(&rt, rt.alloc(), &inst, &[0, 3, 0], &[0, 2, 0], &words, 690);
-    assert_eq!(rt; enough, done(4200));
+    let inst = tight_pair(rt.alloc()).expect(&rt, "no instance");
+    let verdict = swapped(&rt, rt.alloc(), &inst);
+    drop(inst);
+    assert_eq!(rt; verdict, refused(cause));
 }
