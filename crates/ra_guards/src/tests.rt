@@ -1,16 +1,13 @@
 //! Moves on an instance of eight machines, four services and six processes.
-mod samples;
-
 ghost use Rattle.std.specs.Prelude.{◌≡◌, IsTrue};
 ghost use Rattle.ra_guards.specs.Guards.{AreKnown};
 
 use super::keeps_apart;
-use ra_base::{Machine, NoMemory, Process};
+use ra_base::{Machine, Process};
 use ra_model::Instance;
 use ra_moves::{Move, Step};
-use samples::instance;
-use std::alloc::Global;
-use std::test::Fail;
+use ra_samples::eight_machines;
+use std::process::Abort;
 
 /// Whether each step of a move is of a process of the instance.
 #[tactic(auto, using(crate::proofs::GuardLemmas::knowing))]
@@ -48,23 +45,16 @@ fn shift(process: u32, from: u32, to: u32) -> Move {
 }
 
 /// Whether a move is apart from a shift of process 0, of the first service, from machine 0 to machine 1.
-fn from_first(alloc: Global, other: &Move) -> Result<Option<bool>, NoMemory> {
-    match instance(alloc)? {
-        Some(inst) => Ok(answer(&inst, &shift(0, 0, 1), other)),
-        None => Ok(None),
-    }
+fn from_first(inst: &Instance, other: &Move) -> Option<bool> {
+    answer(inst, &shift(0, 0, 1), other)
 }
 
 /// The same the other way round.
-fn to_first(alloc: Global, mv: &Move) -> Result<Option<bool>, NoMemory> {
-    match instance(alloc)? {
-        Some(inst) => Ok(answer(&inst, mv, &shift(0, 0, 1))),
-        None => Ok(None),
-    }
+fn to_first(inst: &Instance, mv: &Move) -> Option<bool> {
+    answer(inst, mv, &shift(0, 0, 1))
 }
 
-#[test]
-fn moves_meet_at_machines(rt: HostRuntime) -> Result<(), Fail> {
+fn moves_meet_at_machines(rt: &impl Abort, inst: &Instance) {
     let table = [
         (4, 2, 3, true),
         (4, 1, 3, false),
@@ -75,22 +65,20 @@ fn moves_meet_at_machines(rt: HostRuntime) -> Result<(), Fail> {
     for (process, from, to, apart) in table {
         let other = shift(process, from, to);
         assert_eq!(rt;
-            from_first(rt.alloc(), &other)?,
+            from_first(inst, &other),
             Some(apart),
             "{process} from {from} to {to}"
         );
         assert_eq!(rt;
-            to_first(rt.alloc(), &other)?,
+            to_first(inst, &other),
             Some(apart),
             "{process} from {from} to {to}"
         );
     }
-    Ok(())
 }
 
 /// The second service needs the first, the third itself, and the fourth the second.
-#[test]
-fn moves_meet_at_services(rt: HostRuntime) -> Result<(), Fail> {
+fn moves_meet_at_services(rt: &impl Abort, inst: &Instance) {
     let table = [
         (0, false),
         (1, false),
@@ -101,23 +89,29 @@ fn moves_meet_at_services(rt: HostRuntime) -> Result<(), Fail> {
     ];
     for (process, apart) in table {
         let other = shift(process, 2, 3);
-        assert_eq!(rt; from_first(rt.alloc(), &other)?, Some(apart), "{process}");
-        assert_eq!(rt; to_first(rt.alloc(), &other)?, Some(apart), "{process}");
+        assert_eq!(rt; from_first(inst, &other), Some(apart), "{process}");
+        assert_eq!(rt; to_first(inst, &other), Some(apart), "{process}");
     }
-    Ok(())
+}
+
+fn each_step_counts(rt: &impl Abort, inst: &Instance) {
+    let swap = Move::swap(step(3, 2, 3), step(4, 3, 2));
+    assert_eq!(rt; from_first(inst, &swap), Some(true));
+    let far = Move::chain(step(3, 2, 3), step(4, 3, 4), step(5, 4, 5));
+    assert_eq!(rt; to_first(inst, &far), Some(true));
+    let near = Move::chain(step(3, 2, 3), step(4, 3, 4), step(5, 4, 0));
+    assert_eq!(rt; from_first(inst, &near), Some(false));
+    assert_eq!(rt; to_first(inst, &near), Some(false));
+    let joined = Move::swap(step(3, 2, 3), step(2, 3, 2));
+    assert_eq!(rt; from_first(inst, &joined), Some(false));
+    assert_eq!(rt; to_first(inst, &joined), Some(false));
 }
 
 #[test]
-fn each_step_counts(rt: HostRuntime) -> Result<(), Fail> {
-    let swap = Move::swap(step(3, 2, 3), step(4, 3, 2));
-    assert_eq!(rt; from_first(rt.alloc(), &swap)?, Some(true));
-    let far = Move::chain(step(3, 2, 3), step(4, 3, 4), step(5, 4, 5));
-    assert_eq!(rt; to_first(rt.alloc(), &far)?, Some(true));
-    let near = Move::chain(step(3, 2, 3), step(4, 3, 4), step(5, 4, 0));
-    assert_eq!(rt; from_first(rt.alloc(), &near)?, Some(false));
-    assert_eq!(rt; to_first(rt.alloc(), &near)?, Some(false));
-    let joined = Move::swap(step(3, 2, 3), step(2, 3, 2));
-    assert_eq!(rt; from_first(rt.alloc(), &joined)?, Some(false));
-    assert_eq!(rt; to_first(rt.alloc(), &joined)?, Some(false));
-    Ok(())
+fn moves_that_are_apart(rt: HostRuntime) {
+    let inst = eight_machines(rt.alloc()).expect(&rt, "no instance");
+    moves_meet_at_machines(&rt, &inst);
+    moves_meet_at_services(&rt, &inst);
+    each_step_counts(&rt, &inst);
+    drop(inst);
 }
