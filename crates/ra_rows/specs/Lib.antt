@@ -1,0 +1,3 @@
+pub mod RowTables
+pub mod Rows
+pub mod Changes
