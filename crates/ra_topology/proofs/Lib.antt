@@ -1,0 +1,4 @@
+pub mod NeedLemmas
+pub mod CountLemmas
+pub mod PlaceLemmas
+pub mod DependantLemmas

@@ -1,0 +1,4 @@
+pub mod TopologyLists
+pub mod Lists
+pub mod Fits
+pub mod Places
