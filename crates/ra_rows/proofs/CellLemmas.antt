@@ -1,5 +1,5 @@
 -- One cell is changed: what that says of a column; and a row as it is read.
-use Rattle.std.proofs.Common.{◌≡◌, ◌≢◌, ℕ, ◌+◌, ◌-◌, ◌*◌, ◌<◌, ◌≤◌, inl, inr, ⊎_elim, List, length, get_or, set, refl, sym, ap, ◌∙◌, arith, eq-eqb, ne_eqb, length-set, length-take, length-drop}
+use Rattle.std.proofs.Common.{◌≡◌, ◌≢◌, ℕ, ◌+◌, ◌-◌, ◌*◌, ◌<◌, ◌≤◌, inl, inr, ⊎_elim, List, length, get_or, set, refl, sym, ◌∙◌, arith, eq-eqb, ne_eqb, length-set, length-take, length-drop}
 use Rattle.std.proofs.lemmas.Bool.{cases_eq, cond-true, cond-false}
 use Rattle.std.proofs.lemmas.List.{get_or-take, get_or-drop}
 use Rattle.std.specs.List.{slice_range}

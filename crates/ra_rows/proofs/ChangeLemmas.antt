@@ -1,5 +1,5 @@
 -- Tables changed column by column, and what the whole change is.
-use Rattle.std.proofs.Common.{◌≡◌, ◌≢◌, ℕ, ◌+◌, ◌*◌, ◌^◌, ◌<◌, ◌≤◌, ⊎_elim, List, length, get_or, set, replicate, refl, sym, ap, ◌∙◌, arith, eq-eqb, ne_eqb, eqb, ◌||◌, cond, length-set}
+use Rattle.std.proofs.Common.{◌≡◌, ◌≢◌, ℕ, ◌+◌, ◌*◌, ◌^◌, ◌<◌, ◌≤◌, ⊎_elim, List, length, get_or, replicate, refl, sym, ap, ◌∙◌, arith, eq-eqb, ne_eqb, eqb, ◌||◌}
 use Rattle.std.proofs.lemmas.Bool.{cases_eq, cases_lt, cond-true, cond-false, or_left, or_right, or_from}
 use Rattle.std.proofs.lemmas.List.{length-replicate, get_or-replicate, get_or_past}
 use Rattle.ra_base.specs.Tables.{cell}
@@ -7,9 +7,9 @@ use Rattle.ra_base.proofs.Tables.{cell_is}
 use Rattle.ra_base.specs.declared.ids.Machine.{Machine}
 use Rattle.ra_model.specs.declared.raw.Tables.{Tables}
 use Rattle.ra_model.specs.Limits.{WellFormed, Small}
-use Rattle.ra_model.specs.Numbers.{resource_count, machine_count, process_count, requirement_of}
-use Rattle.ra_model.specs.Assignments.{IsAssignment, machine_at, tally}
-use Rattle.ra_model.specs.Usage.{use_share, use_of, transient_share, transient_of}
+use Rattle.ra_model.specs.Numbers.{resource_count, process_count, requirement_of}
+use Rattle.ra_model.specs.Assignments.{machine_at}
+use Rattle.ra_model.specs.Usage.{use_share, transient_share}
 use Rattle.ra_model.proofs.TallyLemmas.{tally_none, tally_more}
 use Rattle.ra_model.proofs.BoundLemmas.{use_part_under}
 use Rattle.ra_rows.specs.Rows.{IsBelow}

@@ -1,18 +1,17 @@
 -- What rows stand for, when they are made and when a process is put on another machine.
-use Rattle.std.proofs.Common.{◌≡◌, ◌≢◌, ℕ, ◌+◌, ◌*◌, ◌^◌, ◌<◌, ◌≤◌, ⊎_elim, List, length, get_or, set, refl, sym, ap, ◌∙◌, arith, eq-eqb, ne_eqb, eqb, ◌||◌, cond, length-set}
-use Rattle.std.proofs.lemmas.Bool.{cases_eq, cases_lt, cond-true, cond-false, or_left, or_right, or_from}
-use Rattle.std.proofs.lemmas.List.{get_or_past}
+use Rattle.std.proofs.Common.{◌≡◌, ◌≢◌, ℕ, ◌*◌, ◌^◌, ◌<◌, ◌≤◌, ⊎_elim, List, length, set, refl, sym, ap, ◌∙◌, arith, eq-eqb, ne_eqb, eqb}
+use Rattle.std.proofs.lemmas.Bool.{cases_eq, cond-true, cond-false, or_left, or_right, or_from}
 use Rattle.ra_base.specs.Tables.{cell}
 use Rattle.ra_base.specs.declared.ids.Machine.{Machine}
 use Rattle.ra_model.specs.declared.raw.Tables.{Tables}
 use Rattle.ra_model.specs.Limits.{WellFormed, Small}
 use Rattle.ra_model.specs.Numbers.{resource_count, machine_count, process_count, requirement_of}
-use Rattle.ra_model.specs.Assignments.{IsAssignment, machine_at, tally}
+use Rattle.ra_model.specs.Assignments.{IsAssignment, machine_at}
 use Rattle.ra_model.specs.Usage.{use_share, use_of, transient_share, transient_of}
-use Rattle.ra_model.proofs.TallyLemmas.{tally_same, tally_term, use_set, transient_set, fits_set}
+use Rattle.ra_model.proofs.TallyLemmas.{tally_same, tally_term, use_set, transient_set, fits_set, machine_at_set_same}
 use Rattle.ra_model.proofs.BoundLemmas.{use_under, transient_under}
 use Rattle.ra_rows.specs.RowTables.{RowTables}
-use Rattle.ra_rows.specs.Rows.{StandFor, HasAt, IsUsageRow, IsTransientRow, AreBelow, IsBelow, AreRows}
+use Rattle.ra_rows.specs.Rows.{StandFor, HasAt, IsBelow, AreRows}
 use Rattle.ra_rows.specs.Changes.{Shifts, IsTally, HasRoomFor}
 
 -- the rows of these tables
@@ -91,4 +90,12 @@ stand_after i start a p from to used between used_then between_then there within
   fits = fits_set i a p to stands.fits there within;
   usage = λ m r w. omega (arith, use_shifts.each m r w, stands.usage m r w, use_set i a p to m r stands.fits there, ap (use_share i m r p) is);
   transient = λ m r w. omega (arith, transient_shifts.each m r w, stands.transient m r w, transient_set i start a p to m r stands.fits there, ap (transient_share i start m r p) is);
+}
+
+-- then the process is where it was put
+pub has_after : (rows then : RowTables) (p from : ℕ) (to : Machine) → p < process_count rows.tables → HasAt rows p from → ((a : List Machine) → StandFor rows a → machine_at a p ≡ from → StandFor then (set a p to)) → HasAt then p to.0
+has_after rows then p from to there has after = record {
+  assignment = set has.assignment p to;
+  stands = after has.assignment has.stands has.at;
+  at = machine_at_set_same has.assignment p to (omega (arith, has.stands.fits.one_each));
 }

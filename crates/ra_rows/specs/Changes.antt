@@ -3,9 +3,8 @@ use Rattle.std.specs.Prelude.{◌≡◌, ◌≢◌, ℕ, ◌+◌, ◌<◌, ◌�
 use Rattle.ra_base.specs.Tables.{cell}
 use Rattle.ra_base.specs.declared.ids.Machine.{Machine}
 use Rattle.ra_model.specs.declared.raw.Tables.{Tables}
-use Rattle.ra_model.specs.Numbers.{resource_count, process_count, requirement_of}
+use Rattle.ra_model.specs.Numbers.{resource_count, requirement_of}
 use Rattle.ra_model.specs.Assignments.{tally}
-use Rattle.ra_model.specs.Usage.{use_share, transient_share}
 
 -- an amount at row `at` alone
 unfoldable pub at_row : ℕ → ℕ → ℕ → ℕ

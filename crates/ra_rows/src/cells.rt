@@ -39,13 +39,7 @@ pub(crate) fn add_to_cell(table: &mut Fixed<u64>, width: u32, row: u32, column: 
 }
 
 /// Takes from the number of a table at a row and a column.
-pub(crate) fn take_from_cell(
-    table: &mut Fixed<u64>,
-    width: u32,
-    row: u32,
-    column: u32,
-    amount: u32,
-)
+pub(crate) fn take_from_cell(table: &mut Fixed<u64>, width: u32, row: u32, column: u32, amount: u32)
     requires column { column < width }
     requires place { row * width + column < length table.old.items }
     requires enough { amount ≤ cell width table.old.items row column }

@@ -8,5 +8,5 @@ mod sums;
 
 pub use rows::Rows;
 
-
-
+#[cfg(test)]
+mod tests;

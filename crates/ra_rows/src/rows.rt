@@ -39,11 +39,7 @@ impl<'a> Model for Rows<'a> {
 
 impl<'a> Rows<'a> {
     /// The rows of an initial assignment.
-    pub fn make(
-        alloc: Global,
-        inst: &'a Instance,
-        a0: &'a Assignment,
-    ) -> Result<Rows<'a>, NoMemory>
+    pub fn make(alloc: Global, inst: &'a Instance, a0: &'a Assignment) -> Result<Rows<'a>, NoMemory>
         requires { IsAssignment inst.now.tables a0.now.items }
         ensures stands { IfOk result (λ rows. StandFor rows a0.now.items) }
         ensures tables { IfOk result (λ rows. rows.tables ≡ inst.now.tables) }
@@ -107,13 +103,7 @@ impl<'a> Rows<'a> {
     }
 
     /// Puts a process on another machine. The counter rises by the number of resources.
-    pub fn shift<L: Ledger>(
-        &mut self,
-        p: Process,
-        from: Machine,
-        to: Machine,
-        steps: &mut Steps<L>,
-    )
+    pub fn shift<L: Ledger>(&mut self, p: Process, from: Machine, to: Machine, steps: &mut Steps<L>)
         requires process { p.0 < process_count self.old.tables }
         requires to { to.0 < machine_count self.old.tables }
         requires moves { from.0 ≢ to.0 }

@@ -1,6 +1,5 @@
 -- What leaves one row comes to the other.
-use Rattle.std.proofs.Common.{◌≡◌, sym, arith, ◌∙◌}
-use Rattle.ra_rows.proofs.CellLemmas.{moved, at_row_elsewhere}
+use Rattle.ra_rows.proofs.CellLemmas.{moved}
 use Rattle.ra_rows.proofs.cells.move_amount.Goals as goal
 
 pub returns : goal.returns

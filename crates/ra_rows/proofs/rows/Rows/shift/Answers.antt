@@ -1,10 +1,9 @@
 -- What the rows stand for after the shift.
-use Rattle.std.proofs.Common.{◌≡◌, ◌<◌, ◌∙◌, List, set, sym, subst, arith}
+use Rattle.std.proofs.Common.{◌≡◌, ◌<◌, ◌∙◌, List, set, sym, subst}
 use Rattle.ra_base.specs.declared.ids.Machine.{Machine}
 use Rattle.ra_model.specs.Numbers.{process_count, machine_count}
-use Rattle.ra_model.specs.Assignments.{machine_at}
 use Rattle.ra_rows.specs.Rows.{StandFor, HasAt}
-use Rattle.ra_rows.proofs.StandLemmas.{rows_of, used_enough, transient_enough, from_within, stand_after, are_rows}
+use Rattle.ra_rows.proofs.StandLemmas.{rows_of, used_enough, transient_enough, stand_after, are_rows}
 use Rattle.ra_rows.proofs.rows.Rows.shift.Goals as goal
 
 pub shift_rows-requires-clause-used_enough : goal.shift_rows-requires-clause-used_enough
