@@ -9,3 +9,6 @@ mod needs;
 mod topology;
 
 pub use topology::Topology;
+
+#[cfg(test)]
+mod tests;
