@@ -1,0 +1,4 @@
+pub mod GreatestLemmas
+pub mod HeldLemmas
+pub mod SiftLemmas
+pub mod MakingLemmas

@@ -1,0 +1,19 @@
+-- The marks of a machine: its number, and the labels of its location and of its neighbourhood. What is counted of a
+-- service is how many of its processes have a mark.
+use Rattle.std.specs.Prelude.{ℕ, ◌==◌, List}
+use Rattle.ra_base.specs.declared.ids.Machine.{Machine}
+use Rattle.ra_model.specs.declared.raw.Tables.{Tables}
+use Rattle.ra_model.specs.Numbers.{neighbourhood_of, location_of}
+use Rattle.ra_model.specs.Services.{members_at}
+use Rattle.ra_cells.specs.declared.marks.Mark.{Mark}
+use Rattle.ra_cells.specs.declared.marks.Mark.TheVariants.{OnMachine, InLocation, InNeighbourhood}
+
+-- one of the marks of machine m
+unfoldable pub mark_of : Tables → Mark → ℕ → ℕ
+mark_of i OnMachine m = m
+mark_of i InLocation m = location_of i m
+mark_of i InNeighbourhood m = neighbourhood_of i m
+
+-- how many processes of service s are on machines with mark x
+unfoldable pub marked : Tables → Mark → List Machine → ℕ → ℕ → ℕ
+marked i mark a s x = members_at i a s (λ p at. mark_of i mark at == x)

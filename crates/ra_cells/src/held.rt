@@ -1,0 +1,97 @@
+ghost use Rattle.std.specs.Prelude.{◌≡◌, ℕ, ◌+◌, ◌-◌, ◌<◌, ◌≤◌, ◌^◌, true, false, length, slice_index};
+ghost use Rattle.ra_cells.specs.Held.{held, different, Ascends};
+
+use ra_base::Fixed;
+
+/// Up to so many labels are counted one by one.
+const SHORT: usize = 16;
+
+/// How many of the labels from start to end, which ascend, are x.
+pub(crate) fn held_in(labels: &Fixed<u32>, start: usize, end: usize, x: u32) -> u32
+    requires part { start ≤ end }
+    requires there { end ≤ length labels.now.items }
+    requires few { length labels.now.items < 2 ^ 32 }
+    requires ascends { Ascends labels.now.items start end }
+    ensures count { result ≡ held labels.now.items start end x }
+{
+    if end - start <= SHORT {
+        return scan(labels, start, end, x);
+    }
+    let first = first_from(labels, start, end, u64::from(x));
+    let behind = first_from(labels, start, end, u64::from(x) + 1);
+    (behind - first) as u32
+}
+
+/// The same, found by looking at each label.
+#[tactic(auto, using(crate::proofs::HeldLemmas::scanning))]
+fn scan(labels: &Fixed<u32>, start: usize, end: usize, x: u32) -> u32
+    requires part { start ≤ end }
+    requires there { end ≤ length labels.now.items }
+    requires few { length labels.now.items < 2 ^ 32 }
+    ensures count { result ≡ held labels.now.items start end x }
+{
+    let mut count = 0;
+    for k in start..end {
+        if labels.get(k) == x {
+            count += 1;
+        }
+    }
+    count
+}
+
+/// The first place from start to end whose label is x or greater, and the end where there is none, found by halving.
+pub(crate) fn first_from(labels: &Fixed<u32>, start: usize, end: usize, x: u64) -> usize
+    requires part { start ≤ end }
+    requires there { end ≤ length labels.now.items }
+    requires ascends { Ascends labels.now.items start end }
+    ensures from { start ≤ result }
+    ensures within { result ≤ end }
+    ensures below { (k : ℕ) → start ≤ k → k < result → slice_index labels.now.items k < x }
+    ensures above { (k : ℕ) → result ≤ k → k < end → x ≤ slice_index labels.now.items k }
+{
+    let mut low = start;
+    let mut high = end;
+    while low < high {
+        let middle = low + (high - low) / 2;
+        if u64::from(labels.get(middle)) < x {
+            low = middle + 1;
+        } else {
+            high = middle;
+        }
+    }
+    low
+}
+
+/// How many different labels there are from start to end, which ascend.
+#[tactic(auto, using(crate::proofs::HeldLemmas::differing))]
+pub(crate) fn different_in(labels: &Fixed<u32>, start: usize, end: usize) -> u32
+    requires part { start ≤ end }
+    requires there { end ≤ length labels.now.items }
+    requires few { length labels.now.items < 2 ^ 32 }
+    requires ascends { Ascends labels.now.items start end }
+    ensures { result ≡ different labels.now.items start end }
+{
+    let mut count = 0;
+    for k in start..end {
+        if is_new(labels, start, k) {
+            count += 1;
+        }
+    }
+    count
+}
+
+/// Whether the label at a place differs from that before it, or is the first from the start.
+fn is_new(labels: &Fixed<u32>, start: usize, k: usize) -> bool
+    requires from { start ≤ k }
+    requires there { k < length labels.now.items }
+    requires ascends { Ascends labels.now.items start (k + 1) }
+    ensures new { result ≡ true → held labels.now.items start k (slice_index labels.now.items k) ≡ 0 }
+    ensures again { result ≡ false → 0 < held labels.now.items start k (slice_index labels.now.items k) }
+    ensures small { slice_index labels.now.items k < 2 ^ 32 }
+{
+    let label = labels.get(k);
+    if k == start {
+        return true;
+    }
+    labels.get(k - 1) != label
+}
