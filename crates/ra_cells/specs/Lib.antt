@@ -4,3 +4,4 @@ pub mod Counted
 pub mod Marks
 pub mod Held
 pub mod Labels
+pub mod Stands

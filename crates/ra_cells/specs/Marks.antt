@@ -1,6 +1,7 @@
 -- The marks of a machine: its number, and the labels of its location and of its neighbourhood. What is counted of a
 -- service is how many of its processes have a mark.
-use Rattle.std.specs.Prelude.{ℕ, ◌==◌, List}
+use Rattle.std.specs.Prelude.{ℕ, not, ◌==◌, List}
+use Rattle.ra_base.specs.Sums.{one_if}
 use Rattle.ra_base.specs.declared.ids.Machine.{Machine}
 use Rattle.ra_model.specs.declared.raw.Tables.{Tables}
 use Rattle.ra_model.specs.Numbers.{neighbourhood_of, location_of}
@@ -17,3 +18,7 @@ mark_of i InNeighbourhood m = neighbourhood_of i m
 -- how many processes of service s are on machines with mark x
 unfoldable pub marked : Tables → Mark → List Machine → ℕ → ℕ → ℕ
 marked i mark a s x = members_at i a s (λ p at. mark_of i mark at == x)
+
+-- 1 for a process whose initial machine is `home` and whose machine is `at`, where they are two
+unfoldable pub away : ℕ → ℕ → ℕ
+away home at = one_if (not (home == at))

@@ -2,6 +2,7 @@
 //! in a neighbourhood, in how many locations they are, how many have moved, and the greatest number of moved processes.
 #![tactic(auto)]
 
+mod cells;
 mod greatest;
 mod held;
 mod making;
@@ -9,4 +10,5 @@ mod making;
 mod marks;
 mod sifting;
 
+pub use cells::Cells;
 pub use greatest::Greatest;

@@ -1,0 +1,17 @@
+-- No process has moved from the initial assignment.
+use Rattle.std.proofs.Common.{ℕ, ◌∙◌, refl, ap, sym, get_or}
+use Rattle.std.proofs.lemmas.List.{get_or-replicate}
+use Rattle.ra_model.specs.Numbers.{service_count}
+use Rattle.ra_cells.proofs.CellLemmas.{moved_none}
+use Rattle.ra_cells.proofs.cells.Cells.make.Goals as goal
+
+pub returns : goal.returns
+returns c = record {
+  instance = refl;
+  start = refl;
+  fits = c.requires;
+  on_machines = c.in_ok-machines.ensures.marks;
+  in_locations = c.in_ok-locations.ensures.marks;
+  in_neighbourhoods = c.in_ok-neighbourhoods.ensures.marks;
+  moved = λ s within. ap (λ xs. get_or xs s 0) c.in_ok-greatest.ensures.counts ∙ get_or-replicate {A = ℕ} (service_count c.args.inst.now.tables) s 0 0 within ∙ sym (moved_none c.args.inst.now.tables c.args.a0.now.items s);
+}
