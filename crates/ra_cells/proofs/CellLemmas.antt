@@ -1,9 +1,8 @@
 -- What cells tell of the assignments that they stand for, and what a change leaves.
-use Rattle.std.proofs.Common.{◌≡◌, ℕ, ◌+◌, ◌-◌, ◌^◌, ◌<◌, ◌≤◌, ◌≢◌, Bool, true, false, not, eqb, ltb, ◌&&◌, List, length, get_or, set, cond, subst, sym, refl, ap, ◌∙◌, ⊎_elim, arith, eq-eqb, ne_eqb, length-set, get_or-set_other, get_or-set_same}
-use Rattle.std.proofs.Math.ListN.{replicate}
+use Rattle.std.proofs.Common.{◌≡◌, ℕ, ◌+◌, ◌-◌, ◌<◌, ◌≤◌, ◌≢◌, Bool, true, false, not, eqb, ltb, ◌&&◌, List, get_or, set, cond, subst, sym, refl, ap, ◌∙◌, ⊎_elim, arith, eq-eqb, length-set, get_or-set_other, get_or-set_same}
 use Rattle.std.proofs.lemmas.Bool.{cases_lt, cases_eq, and_left, and_right, cond-true}
-use Rattle.std.proofs.lemmas.List.{get_or_read, get_or-replicate}
-use Rattle.ra_base.specs.Sums.{one_if, count}
+use Rattle.std.proofs.lemmas.List.{get_or_read}
+use Rattle.ra_base.specs.Sums.{one_if}
 use Rattle.ra_base.specs.declared.ids.Machine.{Machine}
 use Rattle.ra_base.proofs.Counts.{count_same, one_if_true, one_if_false, one_if_le}
 use Rattle.ra_model.specs.declared.raw.Tables.{Tables}
@@ -22,7 +21,7 @@ use Rattle.ra_cells.specs.Held.{held, different, Ascends, Exchanged}
 use Rattle.ra_cells.specs.Labels.{AreSorted, AreMarks, AreDifferent}
 use Rattle.ra_cells.specs.Stands.{StandFor, HavePlaced}
 use Rattle.ra_cells.proofs.HeldLemmas.{held_same, different_same, different_le}
-use Rattle.ra_cells.proofs.MakingLemmas.{part_ordered, parts_ordered, part_within}
+use Rattle.ra_cells.proofs.MakingLemmas.{parts_ordered, part_within}
 
 on_machine_is : (i : Tables) (a : List Machine) (s m : ℕ) → marked i OnMachine a s m ≡ on_machine i a s m
 unfolding marked mark_of on_machine
@@ -238,3 +237,6 @@ fits_after i0 i a p to same fits within exists = fits_set i a p to fits (subst (
 -- what the one that holds the assignment shows of a change
 pub placed : (cells : Cells) (i : Tables) (a0 a : List Machine) (p m : ℕ) → StandFor cells i a0 a → machine_at a p ≡ m → HavePlaced cells p m
 placed cells i a0 a p m h here = record { tables = i; initial = a0; assignment = a; stand = h; here = here }
+
+-- what the one that holds the assignment needs
+pub ruleset standing = (placed)

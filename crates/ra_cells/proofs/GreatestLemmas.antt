@@ -1,12 +1,12 @@
 -- The greatest of the counts, from how many services have each, where up to three counts change.
-use Rattle.std.proofs.Common.{◌≡◌, ℕ, ◌+◌, ◌-◌, ◌<◌, ◌≤◌, ◌≢◌, max, true, false, cond, eqb, List, length, get_or, set, Option, Some, None, sym, refl, ap, ◌∙◌, ⊎_elim, arith, eq-eqb, ne_eqb, length-set, get_or-set_other, get_or-set_same}
+use Rattle.std.proofs.Common.{◌≡◌, ℕ, ◌+◌, ◌-◌, ◌<◌, ◌≤◌, ◌≢◌, max, true, false, eqb, List, length, get_or, set, Option, Some, None, sym, refl, ap, ◌∙◌, ⊎_elim, arith, eq-eqb, ne_eqb, length-set, get_or-set_other, get_or-set_same}
 use Rattle.std.specs.Prelude.{IfSome}
 use Rattle.std.proofs.Math.ListN.{replicate}
 use Rattle.std.proofs.lemmas.List.{get_or_read, length-replicate, get_or-replicate}
 use Rattle.std.proofs.lemmas.Bool.{cases_eq, eqb-true, cond-true, cond-false, both_ways}
 use Rattle.ra_base.specs.Sums.{one_if, count, greatest}
 use Rattle.ra_base.specs.declared.costs.MovedCount.{MovedCount}
-use Rattle.ra_base.proofs.Counts.{count_change, count_some, count_le, count_zero, count_all, one_if_true, one_if_false, one_if_le}
+use Rattle.ra_base.proofs.Counts.{count_change, count_some, count_le, count_zero, count_all, one_if_true, one_if_false}
 use Rattle.ra_base.proofs.Greatest.{greatest_at, greatest_least, greatest_by_counts}
 use Rattle.ra_cells.specs.MovedCounts.{MovedCounts}
 use Rattle.ra_cells.specs.Replaced.{counted_after, greatest_with, IsChange, AreApart, lost_at, gained_at, after_in, is_free}

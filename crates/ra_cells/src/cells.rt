@@ -77,7 +77,7 @@ impl<'a> Cells<'a> {
     }
 
     /// How many processes of a service are on a machine.
-    
+
     pub fn on_machine(&self, s: Service, m: Machine) -> u32
         requires { s.0 < service_count self.now.inst.now.tables }
         ensures count { (i : Tables) (a0 a : List Place) → StandFor self.now i a0 a → result ≡ on_machine i a s.0 m.0 }
@@ -87,7 +87,7 @@ impl<'a> Cells<'a> {
     }
 
     /// How many processes of a service are in a location, given by its label; 0 at a label that no machine has.
-    
+
     pub fn in_location(&self, s: Service, label: u32) -> u32
         requires { s.0 < service_count self.now.inst.now.tables }
         ensures count { (i : Tables) (a0 a : List Place) → StandFor self.now i a0 a → result ≡ in_location i a s.0 label }
@@ -97,7 +97,7 @@ impl<'a> Cells<'a> {
     }
 
     /// How many processes of a service are in a neighbourhood, given by its label; 0 at a label that no machine has.
-    
+
     pub fn in_neighbourhood(&self, s: Service, label: u32) -> u32
         requires { s.0 < service_count self.now.inst.now.tables }
         ensures count { (i : Tables) (a0 a : List Place) → StandFor self.now i a0 a → result ≡ in_neighbourhood i a s.0 label }
@@ -107,7 +107,7 @@ impl<'a> Cells<'a> {
     }
 
     /// In how many different locations the processes of a service are.
-    
+
     pub fn locations(&self, s: Service) -> u32
         requires { s.0 < service_count self.now.inst.now.tables }
         ensures count { (i : Tables) (a0 a : List Place) → StandFor self.now i a0 a → result ≡ locations_of i a s.0 }
@@ -117,7 +117,7 @@ impl<'a> Cells<'a> {
     }
 
     /// How many processes of a service aren't on their initial machine.
-    
+
     pub fn moved(&self, s: Service) -> u32
         requires { s.0 < service_count self.now.inst.now.tables }
         ensures count { (i : Tables) (a0 a : List Place) → StandFor self.now i a0 a → result ≡ moved_of i a0 a s.0 }

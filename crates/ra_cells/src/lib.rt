@@ -6,7 +6,6 @@ mod cells;
 mod greatest;
 mod held;
 mod making;
-
 mod marks;
 mod sifting;
 

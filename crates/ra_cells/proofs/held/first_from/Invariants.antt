@@ -1,5 +1,5 @@
 -- The labels before the lower place are less, and those from the higher one on are not.
-use Rattle.std.proofs.Common.{◌≡◌, ℕ, ◌-◌, ◌<◌, ◌≤◌, get_or}
+use Rattle.std.proofs.Common.{ℕ, ◌-◌, ◌<◌, ◌≤◌, get_or}
 use Rattle.ra_cells.proofs.held.first_from.Given as goal
 
 abbrev pub invariant-loop-low : goal.invariant-loop-low

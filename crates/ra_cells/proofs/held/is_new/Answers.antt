@@ -1,8 +1,7 @@
 -- The first label is new, and a later one where that before it is another.
-use Rattle.std.proofs.Common.{◌≡◌, ◌-◌, ◌≢◌, ◌∙◌, ◌<◌, sym, subst, ap, eqb, get_or, arith, eq-eqb, ℕ}
+use Rattle.std.proofs.Common.{◌-◌, ◌∙◌, sym, arith, eq-eqb}
 use Rattle.std.proofs.lemmas.Bool.{both_ways, not-true, not-false, eqb-true}
 use Rattle.std.proofs.lemmas.List.{get_or_read}
-use Rattle.ra_cells.specs.Held.{held}
 use Rattle.ra_cells.proofs.HeldLemmas.{held_none, new_at, again_at}
 use Rattle.ra_cells.proofs.held.is_new.Goals as goal
 

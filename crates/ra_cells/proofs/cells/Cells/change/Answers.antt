@@ -1,11 +1,8 @@
 -- The tables of the process's service follow its marks, and its moved count follows too.
-use Rattle.std.proofs.Common.{◌≡◌, ◌+◌, ◌-◌, ◌<◌, ◌≤◌, ◌∙◌, length, get_or, set, sym, refl, ap, arith, length-set, ℕ, List}
-use Rattle.ra_base.specs.declared.ids.Machine.{Machine}
-use Rattle.ra_model.specs.Numbers.{service_count, process_count, service_of, location_of, neighbourhood_of}
+use Rattle.std.proofs.Common.{◌≡◌, ◌<◌, ◌∙◌, length, sym, ap, arith, length-set, ℕ}
+use Rattle.ra_model.specs.Numbers.{service_count}
 use Rattle.ra_model.specs.Assignments.{machine_at}
-use Rattle.ra_model.specs.Sorting.{start_of}
 use Rattle.ra_model.proofs.TallyLemmas.{machine_at_read}
-use Rattle.ra_cells.specs.Marks.{mark_of, away}
 use Rattle.ra_cells.specs.declared.marks.Mark.TheVariants.{OnMachine, InLocation, InNeighbourhood}
 use Rattle.ra_cells.proofs.MakingLemmas.{part_ordered, part_there, labels_few}
 use Rattle.ra_cells.proofs.CellLemmas.{held_placed, recount_some, recount_room, sorted_after, different_after_change, marks_after, moved_after, fits_after, machine_mark, location_mark, neighbourhood_mark}

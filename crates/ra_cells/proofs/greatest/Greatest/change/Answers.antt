@@ -1,7 +1,7 @@
 -- The tallies follow the count, and the highest number that isn't free is the greatest.
-use Rattle.std.proofs.Common.{◌<◌, ◌≤◌, length, ap, arith}
+use Rattle.std.proofs.Common.{length, ap, arith}
 use Rattle.ra_cells.specs.MovedCounts.{MovedCounts}
-use Rattle.ra_cells.proofs.GreatestLemmas.{count_within, count_held, tally_few, most_within, counted_set}
+use Rattle.ra_cells.proofs.GreatestLemmas.{count_held, tally_few, most_within, counted_set}
 use Rattle.ra_cells.proofs.greatest.Greatest.change.Goals as goal
 
 pub retally-requires-clause-some : goal.retally-requires-clause-some

@@ -1,5 +1,5 @@
 -- The highest number up to the most and each new count that isn't free.
-use Rattle.std.proofs.Common.{◌<◌, ◌≤◌, subst, ap, arith}
+use Rattle.std.proofs.Common.{◌≤◌, subst, ap, arith}
 use Rattle.ra_cells.specs.MovedCounts.{MovedCounts}
 use Rattle.ra_cells.specs.Counted.{AreCounted}
 use Rattle.ra_cells.proofs.GreatestLemmas.{after_is, after_within, most_within}
