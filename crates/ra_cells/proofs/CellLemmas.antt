@@ -238,5 +238,14 @@ fits_after i0 i a p to same fits within exists = fits_set i a p to fits (subst (
 pub placed : (cells : Cells) (i : Tables) (a0 a : List Machine) (p m : ℕ) → StandFor cells i a0 a → machine_at a p ≡ m → HavePlaced cells p m
 placed cells i a0 a p m h here = record { tables = i; initial = a0; assignment = a; stand = h; here = here }
 
+pub service_there : (cells : Cells) (i : Tables) (a0 a : List Machine) (s : ℕ) → StandFor cells i a0 a → s < service_count i → s < service_count cells.inst.now.tables
+service_there cells i a0 a s h within = subst (λ (j : Tables). s < service_count j) (sym h.instance) within
+
+pub process_there : (cells : Cells) (i : Tables) (a0 a : List Machine) (p : ℕ) → StandFor cells i a0 a → p < process_count i → p < process_count cells.inst.now.tables
+process_there cells i a0 a p h within = subst (λ (j : Tables). p < process_count j) (sym h.instance) within
+
+pub machine_there : (cells : Cells) (i : Tables) (a0 a : List Machine) (m : ℕ) → StandFor cells i a0 a → m < machine_count i → m < machine_count cells.inst.now.tables
+machine_there cells i a0 a m h within = subst (λ (j : Tables). m < machine_count j) (sym h.instance) within
+
 -- what the one that holds the assignment needs
-pub ruleset standing = (placed)
+pub ruleset standing = (placed, service_there, process_there, machine_there)

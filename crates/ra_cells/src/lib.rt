@@ -11,3 +11,6 @@ mod sifting;
 
 pub use cells::Cells;
 pub use greatest::Greatest;
+
+#[cfg(test)]
+mod tests;
