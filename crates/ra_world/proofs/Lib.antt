@@ -1,0 +1,4 @@
+pub mod CostLaws
+pub mod RenewalLaws
+pub mod StepLaws
+pub mod FollowLaws

@@ -1,0 +1,27 @@
+-- What is kept of an assignment, and that it is what the definitions give.
+use Rattle.std.specs.Prelude.{◌≡◌, List}
+use Rattle.ra_base.specs.declared.ids.Machine.{Machine}
+use Rattle.ra_model.specs.declared.raw.Tables.{Tables}
+use Rattle.ra_model.specs.Numbers.{machine_count}
+use Rattle.ra_model.specs.Assignments.{IsAssignment}
+use Rattle.ra_model.specs.Costs.{parts_of}
+use Rattle.ra_model.specs.MachineCosts.{machine_load, machine_balance}
+use Rattle.ra_rows.specs.Rows as rows
+use Rattle.ra_cells.specs.Stands as cells
+use Rattle.ra_world.specs.declared.kept.Kept.{Kept}
+use Rattle.ra_world.specs.Costs.{AreCosts}
+
+-- rows and counters of an instance and an initial assignment stand for an assignment
+pub record Stand (kept : Kept) (i : Tables) (a0 a : List Machine) : Type 0 where
+  pub fits : IsAssignment i a
+  pub instance : kept.rows.tables ≡ i
+  pub start : kept.rows.start ≡ a0
+  pub rows : rows.StandFor kept.rows a
+  pub cells : cells.StandFor kept.cells i a0 a
+
+-- all that is kept is that of the kept assignment, reached from a0
+pub record Keeps (kept : Kept) (i : Tables) (a0 : List Machine) : Type 0 where
+  pub stand : Stand kept i a0 kept.assignment.items
+  pub loads : AreCosts kept.loads.items (machine_count i) (machine_load i kept.assignment.items)
+  pub balances : AreCosts kept.balances.items (machine_count i) (machine_balance i kept.assignment.items)
+  pub parts : kept.parts ≡ parts_of i a0 kept.assignment.items

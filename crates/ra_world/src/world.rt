@@ -1,0 +1,172 @@
+ghost use Rattle.std.specs.Prelude.{◌≡◌, ℕ, ◌+◌, ◌*◌, ◌<◌, ◌≤◌, length, None, IfOk};
+ghost use Rattle.ra_model.specs.Numbers.{resource_count, machine_count};
+ghost use Rattle.ra_model.specs.Assignments.{IsAssignment};
+ghost use Rattle.ra_model.specs.Broken.{first_broken};
+ghost use Rattle.ra_model.specs.Costs.{parts_of};
+ghost use Rattle.ra_model.specs.MachineCosts.{machine_load, machine_balance};
+ghost use Rattle.ra_topology.specs.Fits.{IsTopologyOf};
+ghost use Rattle.ra_moves.specs.Steps.{StandsAt, from_in, to_in};
+ghost use Rattle.ra_moves.specs.Replacing.{applied};
+ghost use Rattle.ra_moves.specs.Judging.{broken_by};
+ghost use Rattle.ra_world.specs.Keeping.{Keeps};
+
+use crate::following::follow;
+use crate::kept::Kept;
+use crate::renewal::{balances_of, loads_of};
+use ra_base::{Assignment, Fixed, Machine, NoMemory, Parts, Steps};
+use ra_cells::Cells;
+use ra_model::Instance;
+use ra_moves::Move;
+use ra_rows::Rows;
+use ra_topology::Topology;
+use std::alloc::Global;
+use std::sync::ledger::Ledger;
+
+/// The replica of a feasible assignment of an instance, reached from an initial one: the assignment itself, its use
+/// and its counters, the cost of each machine and the parts of its cost. `apply` changes all of them by a move, and
+/// what a world tells is at all times what the definitions give for its assignment. Only `make` takes memory.
+#[derive(Drop)]
+pub struct World<'a> {
+    inst: &'a Instance,
+    topo: &'a Topology,
+    start: &'a Assignment,
+    kept: Kept<'a>,
+    pub ghost fits: { IsAssignment inst.now.tables start.now.items },
+    pub ghost topology: { IsTopologyOf topo.now inst.now.tables },
+    pub ghost keeps: { Keeps kept inst.now.tables start.now.items },
+    pub ghost unbroken: { first_broken inst.now.tables start.now.items kept.assignment.items ≡ None },
+}
+
+impl<'a> World<'a> {
+    /// The world of an initial assignment that is feasible, whose cost has these parts.
+    pub fn make(
+        alloc: Global,
+        inst: &'a Instance,
+        topo: &'a Topology,
+        a0: &'a Assignment,
+        start: Parts,
+    ) -> Result<World<'a>, NoMemory>
+        requires fits { IsAssignment inst.now.tables a0.now.items }
+        requires topology { IsTopologyOf topo.now inst.now.tables }
+        requires unbroken { first_broken inst.now.tables a0.now.items a0.now.items ≡ None }
+        requires parts { start ≡ parts_of inst.now.tables a0.now.items a0.now.items }
+        ensures instance { IfOk result (λ world. world.inst.now ≡ inst.now) }
+        ensures topology { IfOk result (λ world. world.topo.now ≡ topo.now) }
+        ensures initial { IfOk result (λ world. world.start.now ≡ a0.now) }
+        ensures assignment { IfOk result (λ world. world.kept.assignment.items ≡ a0.now.items) }
+    {
+        let assignment = copy_of(alloc, a0)?;
+        let rows = Rows::make(alloc, inst, a0)?;
+        let cells = Cells::make(alloc, inst, a0)?;
+        let loads = loads_of(alloc, inst, &rows)?;
+        let balances = balances_of(alloc, inst, &rows)?;
+        let kept = Kept {
+            assignment,
+            rows,
+            cells,
+            loads,
+            balances,
+            parts: start,
+        };
+        Ok(World {
+            inst,
+            topo,
+            start: a0,
+            kept,
+        })
+    }
+
+    /// The assignment that the world stands for.
+    pub fn assignment(&self) -> &Assignment
+        ensures { result.now ≡ self.now.kept.assignment }
+    {
+        &self.kept.assignment
+    }
+
+    /// The parts of its cost.
+    pub fn parts(&self) -> Parts
+        ensures { result ≡ parts_of self.now.inst.now.tables self.now.start.now.items self.now.kept.assignment.items }
+    {
+        self.kept.parts
+    }
+
+    /// The initial assignment.
+    pub fn initial(&self) -> &'a Assignment
+        ensures { result.now ≡ self.now.start.now }
+    {
+        self.start
+    }
+
+    /// The rows of its use and of its transient use.
+    pub fn rows(&self) -> &Rows<'a>
+        ensures { result.now ≡ self.now.kept.rows }
+    {
+        &self.kept.rows
+    }
+
+    /// The counters of its services.
+    pub fn cells(&self) -> &Cells<'a>
+        ensures { result.now ≡ self.now.kept.cells }
+    {
+        &self.kept.cells
+    }
+
+    /// The instance.
+    pub fn instance(&self) -> &'a Instance
+        ensures { result.now ≡ self.now.inst.now }
+    {
+        self.inst
+    }
+
+    /// The topology of the instance.
+    pub fn topology(&self) -> &'a Topology
+        ensures { result.now ≡ self.now.topo.now }
+    {
+        self.topo
+    }
+
+    /// What a machine adds to the load cost.
+    #[tactic(auto, using(crate::proofs::RenewalLaws::kept_cost))]
+    pub fn machine_load(&self, m: Machine) -> u128
+        requires { m.0 < machine_count self.now.inst.now.tables }
+        ensures { result ≡ machine_load self.now.inst.now.tables self.now.kept.assignment.items m.0 }
+    {
+        self.kept.loads.get(m.0 as usize)
+    }
+
+    /// What a machine adds to the balance cost.
+    #[tactic(auto, using(crate::proofs::RenewalLaws::kept_cost))]
+    pub fn machine_balance(&self, m: Machine) -> u128
+        requires { m.0 < machine_count self.now.inst.now.tables }
+        ensures { result ≡ machine_balance self.now.inst.now.tables self.now.kept.assignment.items m.0 }
+    {
+        self.kept.balances.get(m.0 as usize)
+    }
+
+    /// Follows a move that the judge refuses for no cause other than a rise of the cost. It reads the requirements of
+    /// its processes, each once, whatever the number of all processes is.
+    pub fn apply<L: Ledger>(&mut self, mv: &Move, steps: &mut Steps<L>)
+        requires at_from { StandsAt from_in mv.now.steps self.old.kept.assignment.items }
+        requires to { (j : ℕ) → j < length mv.now.steps → to_in mv.now.steps j < machine_count self.old.inst.now.tables }
+        requires unbroken { broken_by self.old.inst.now.tables self.old.start.now.items self.old.kept.assignment.items mv.now.steps ≡ None }
+        ensures assignment { self.new.kept.assignment.items ≡ applied self.old.kept.assignment.items mv.now.steps }
+        ensures instance { self.new.inst.now ≡ self.old.inst.now }
+        ensures topology { self.new.topo.now ≡ self.old.topo.now }
+        ensures initial { self.new.start.now ≡ self.old.start.now }
+        ensures counted { steps.new ≡ steps.old + length mv.now.steps * resource_count self.old.inst.now.tables }
+        ensures at_most { steps.new ≤ steps.old + 3 * resource_count self.old.inst.now.tables }
+    {
+        let inst = self.inst;
+        let start = self.start;
+        follow(inst, start, &mut self.kept, mv, steps);
+    }
+}
+
+/// A copy of an assignment.
+fn copy_of(alloc: Global, a: &Assignment) -> Result<Assignment, NoMemory>
+    ensures { IfOk result (λ copy. copy.items ≡ a.now.items) }
+{
+    let mut copy = Fixed::make(alloc, a.len())?;
+    copy.extend_from_slice(a.as_slice());
+    Ok(copy)
+}
