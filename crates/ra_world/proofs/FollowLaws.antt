@@ -75,7 +75,7 @@ pub loads_renewed : (kept : Kept) (i : Tables) (a0 : List Machine) (p : ℕ) (fr
 loads_renewed kept i a0 p from to loads keeps within here there is =
     let fits = keeps.stand.fits in
     renewed kept.loads.items loads (machine_count i) from.0 to.0 (machine_load i kept.assignment.items) (machine_load i (set kept.assignment.items p to)) keeps.loads is (omega (arith, here, fits.in_range p within)) there
-        (λ m not_left not_entered. load_stays i kept.assignment.items p to m fits within (λ e. not_left (sym here ∙ e)) not_entered)
+    (λ m not_left not_entered. load_stays i kept.assignment.items p to m fits within (λ e. not_left (sym here ∙ e)) not_entered)
 
 pub balances_renewed : (kept : Kept) (i : Tables) (a0 : List Machine) (p : ℕ) (from to : Machine) (balances : List ℕ) → WellFormed i → Keeps kept i a0 → p < process_count i → machine_at kept.assignment.items p ≡ from.0 → to.0 < machine_count i
     → balances ≡ set (set kept.balances.items from.0 (machine_balance i (set kept.assignment.items p to) from.0)) to.0 (machine_balance i (set kept.assignment.items p to) to.0)
@@ -83,7 +83,7 @@ pub balances_renewed : (kept : Kept) (i : Tables) (a0 : List Machine) (p : ℕ) 
 balances_renewed kept i a0 p from to balances limits keeps within here there is =
     let fits = keeps.stand.fits in
     renewed kept.balances.items balances (machine_count i) from.0 to.0 (machine_balance i kept.assignment.items) (machine_balance i (set kept.assignment.items p to)) keeps.balances is (omega (arith, here, fits.in_range p within)) there
-        (λ m not_left not_entered. balance_stays i kept.assignment.items p to m limits fits within (λ e. not_left (sym here ∙ e)) not_entered)
+    (λ m not_left not_entered. balance_stays i kept.assignment.items p to m limits fits within (λ e. not_left (sym here ∙ e)) not_entered)
 
 -- the sum over the renewed costs
 pub sum_renewed : (old new : List ℕ) (n : ℕ) (f g : ℕ → ℕ) (sum : ℕ) → AreCosts old n f → AreCosts new n g → sum ≡ total (length old) (slice_index new) → sum ≡ total n g

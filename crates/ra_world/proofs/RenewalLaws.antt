@@ -61,14 +61,14 @@ renewed old new n from to f g are is from_in to_in same = record {
   one_each = ap length is ∙ length-set (set old from (g from)) to (g to) ∙ length-set old from (g from) ∙ are.one_each;
   each = λ m within. ap (λ xs. slice_index xs m) is ∙ ⊎_elim
       (λ (entered : m ≡ to). ap (slice_index (set (set old from (g from)) to (g to))) entered
-          ∙ get_or-set_same (set old from (g from)) to (g to) 0 (omega (arith, length-set old from (g from), are.one_each))
-          ∙ ap g (sym entered))
+      ∙ get_or-set_same (set old from (g from)) to (g to) 0 (omega (arith, length-set old from (g from), are.one_each))
+      ∙ ap g (sym entered))
       (λ (not_entered : m ≢ to). get_or-set_other (set old from (g from)) to m (g to) 0 not_entered ∙ ⊎_elim
-          (λ (left : m ≡ from). ap (slice_index (set old from (g from))) left
-              ∙ get_or-set_same old from (g from) 0 (omega (arith, are.one_each))
-              ∙ ap g (sym left))
-          (λ (not_left : m ≢ from). get_or-set_other old from m (g from) 0 not_left ∙ are.each m within ∙ same m (λ e. not_left (sym e)) (λ e. not_entered (sym e)))
-          (cases_eq m from))
+      (λ (left : m ≡ from). ap (slice_index (set old from (g from))) left
+      ∙ get_or-set_same old from (g from) 0 (omega (arith, are.one_each))
+      ∙ ap g (sym left))
+      (λ (not_left : m ≢ from). get_or-set_other old from m (g from) 0 not_left ∙ are.each m within ∙ same m (λ e. not_left (sym e)) (λ e. not_entered (sym e)))
+      (cases_eq m from))
       (cases_eq m to);
 }
 

@@ -13,12 +13,7 @@ use ra_moves::Step;
 
 /// The process cost after a step.
 #[tactic(auto, using(crate::proofs::CostLaws::product_small))]
-pub(crate) fn process_after(
-    inst: &Instance,
-    start: &Assignment,
-    step: Step,
-    before: u128,
-) -> u128
+pub(crate) fn process_after(inst: &Instance, start: &Assignment, step: Step, before: u128) -> u128
     requires process { step.process.0 < process_count inst.now.tables }
     requires start { IsAssignment inst.now.tables start.now.items }
     requires fits { before < 2 ^ 120 }
@@ -34,12 +29,7 @@ pub(crate) fn process_after(
 
 /// The machine cost after a step.
 #[tactic(auto, using(crate::proofs::CostLaws::product_small))]
-pub(crate) fn machine_after(
-    inst: &Instance,
-    start: &Assignment,
-    step: Step,
-    before: u128,
-) -> u128
+pub(crate) fn machine_after(inst: &Instance, start: &Assignment, step: Step, before: u128) -> u128
     requires process { step.process.0 < process_count inst.now.tables }
     requires from { step.from.0 < machine_count inst.now.tables }
     requires to { step.to.0 < machine_count inst.now.tables }

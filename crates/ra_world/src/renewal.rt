@@ -121,6 +121,11 @@ pub(crate) fn renew_balances(
         ≡ slice_set (slice_set balances.old.items step.from.0 (machine_balance inst.now.tables a step.from.0)) step.to.0 (machine_balance inst.now.tables a step.to.0) }
     ensures sum { result ≡ total (length balances.old.items) (slice_index balances.new.items) }
 {
-    let balance = replace_cost(balances, before, step.from, balance_of(inst, rows, step.from));
+    let balance = replace_cost(
+        balances,
+        before,
+        step.from,
+        balance_of(inst, rows, step.from),
+    );
     replace_cost(balances, balance, step.to, balance_of(inst, rows, step.to))
 }

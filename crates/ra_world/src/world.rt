@@ -8,6 +8,8 @@ ghost use Rattle.ra_topology.specs.Fits.{IsTopologyOf};
 ghost use Rattle.ra_moves.specs.Steps.{StandsAt, from_in, to_in};
 ghost use Rattle.ra_moves.specs.Replacing.{applied};
 ghost use Rattle.ra_moves.specs.Judging.{broken_by};
+ghost use Rattle.ra_rows.specs.Rows as rows;
+ghost use Rattle.ra_cells.specs.Stands as cells;
 ghost use Rattle.ra_world.specs.Keeping.{Keeps};
 
 use crate::following::follow;
@@ -78,7 +80,8 @@ impl<'a> World<'a> {
 
     /// The assignment that the world stands for.
     pub fn assignment(&self) -> &Assignment
-        ensures { result.now ≡ self.now.kept.assignment }
+        ensures value { result.now ≡ self.now.kept.assignment }
+        ensures fits { IsAssignment self.now.inst.now.tables result.now.items }
     {
         &self.kept.assignment
     }
@@ -99,14 +102,19 @@ impl<'a> World<'a> {
 
     /// The rows of its use and of its transient use.
     pub fn rows(&self) -> &Rows<'a>
-        ensures { result.now ≡ self.now.kept.rows }
+        ensures value { result.now ≡ self.now.kept.rows }
+        ensures instance { result.now.tables ≡ self.now.inst.now.tables }
+        ensures initial { result.now.start ≡ self.now.start.now.items }
+        ensures stand { rows.StandFor result.now self.now.kept.assignment.items }
     {
         &self.kept.rows
     }
 
     /// The counters of its services.
     pub fn cells(&self) -> &Cells<'a>
-        ensures { result.now ≡ self.now.kept.cells }
+        ensures value { result.now ≡ self.now.kept.cells }
+        ensures instance { result.now.inst.now.tables ≡ self.now.inst.now.tables }
+        ensures stand { cells.StandFor result.now self.now.inst.now.tables self.now.start.now.items self.now.kept.assignment.items }
     {
         &self.kept.cells
     }
@@ -163,7 +171,7 @@ impl<'a> World<'a> {
 }
 
 /// A copy of an assignment.
-fn copy_of(alloc: Global, a: &Assignment) -> Result<Assignment, NoMemory>
+pub(crate) fn copy_of(alloc: Global, a: &Assignment) -> Result<Assignment, NoMemory>
     ensures { IfOk result (λ copy. copy.items ≡ a.now.items) }
 {
     let mut copy = Fixed::make(alloc, a.len())?;

@@ -63,7 +63,7 @@ returns-clause-keeps g c =
     let balances_are = c.renew_balances-balance.ensures.costs b rows_stand in
     let parts = all_parts kept i a0 p from to _ _ _ _ _ _ _ c.args.inst.now.well_formed keeps c.requires.process c.requires.at_from c.requires.to loads_are c.renew_loads-load.ensures.sum balances_are c.renew_balances-balance.ensures.sum c.process_after-process.ensures (c.service_cost-service.ensures a0 b cells_stand) c.machine_after-machine.ensures in
     keeps_on _ i a0 b c.set.ensures.items (fits_set i a p to keeps.stand.fits c.requires.process c.requires.to)
-        (c.shift.ensures.tables ∙ keeps.stand.instance) (c.shift.ensures.start ∙ keeps.stand.start) rows_stand cells_stand
-        (loads_renewed kept i a0 p from to _ keeps c.requires.process c.requires.at_from c.requires.to loads_are)
-        (balances_renewed kept i a0 p from to _ c.args.inst.now.well_formed keeps c.requires.process c.requires.at_from c.requires.to balances_are)
-        (parts_summed i a0 b _ _ _ _ _ _ parts c.summed-kept.ensures)
+    (c.shift.ensures.tables ∙ keeps.stand.instance) (c.shift.ensures.start ∙ keeps.stand.start) rows_stand cells_stand
+    (loads_renewed kept i a0 p from to _ keeps c.requires.process c.requires.at_from c.requires.to loads_are)
+    (balances_renewed kept i a0 p from to _ c.args.inst.now.well_formed keeps c.requires.process c.requires.at_from c.requires.to balances_are)
+    (parts_summed i a0 b _ _ _ _ _ _ parts c.summed-kept.ensures)
