@@ -1,23 +1,30 @@
+ghost use Rattle.std.specs.Prelude.{◌<◌};
+
 use super::*;
 use ra_base::{Fixed, Machine, Process, Resource, Service};
 use ra_io::{MemoryFiles, SteadyFiles};
 use ra_model::Instance;
 use std::alloc::Global;
-use std::test::Fail;
+use std::process::Abort;
 
 /// The sample instance: two resources, four machines, two services and three processes.
 const SAMPLE: &[u8; 184] =
     b"2\n1 100\n0 10\n4\n0 0 30 400 16 80 0 1 4 5\n0 0 10 240 8 160 1 0 3 4\n1 1 15 100 12 80 4 3 0 2\n1 2 10 100 8 80 5 4 2 0\n2\n2 0\n1 1 0\n3\n0 12 10 1000\n0 10 20 100\n1 6 200 1\n1\n0 1 20\n10\n1 10 100\n";
 
 /// What is read of a file that has these bytes.
-fn read(alloc: Global, bytes: &[u8]) -> Result<Result<Instance, ModelFault>, Fail> {
-    let mut files = SteadyFiles::make(alloc)?;
-    files.add(alloc, "model", bytes)?;
-    Ok(read_model(alloc, &mut files, "model"))
+fn read(rt: &impl Abort, alloc: Global, bytes: &[u8]) -> Result<Instance, ModelFault> {
+    let mut files = SteadyFiles::make(alloc).expect(rt, "no memory");
+    files.add(alloc, "model", bytes).expect(rt, "no memory");
+    read_model(alloc, &mut files, "model")
+}
+
+/// Why a file that has these bytes is refused.
+fn fault(rt: &impl Abort, alloc: Global, bytes: &[u8]) -> Option<ModelFault> {
+    read(rt, alloc, bytes).err()
 }
 
 /// Files that mean no instance, with what is wrong with each first.
-const REFUSED: [(&str, ModelFault); 22] = [
+const REFUSED: &[(&str, ModelFault)] = &[
     (
         "0",
         ModelFault::Range {
@@ -187,7 +194,7 @@ const REFUSED: [(&str, ModelFault); 22] = [
 ];
 
 /// The sample cut off before each of the last three fields.
-const CUT: [(usize, ModelFault); 3] = [
+const CUT: &[(usize, ModelFault)] = &[
     (
         175,
         ModelFault::Missing {
@@ -211,14 +218,17 @@ const CUT: [(usize, ModelFault); 3] = [
     ),
 ];
 
-#[test]
-fn the_numbers_of_the_sample_are_read(rt: HostRuntime) -> Result<(), Fail> {
-    let inst = read(rt.alloc(), SAMPLE)??;
+fn counts_are_read(rt: &impl Abort, inst: &Instance) {
     assert_eq!(rt; inst.resources(), 2);
     assert_eq!(rt; inst.machines(), 4);
     assert_eq!(rt; inst.services(), 2);
     assert_eq!(rt; inst.processes(), 3);
     assert_eq!(rt; inst.balances(), 1);
+}
+
+fn numbers_are_read(rt: &impl Abort, inst: &Instance) {
+    assert_eq!(rt; inst.resources(), 2);
+    assert_eq!(rt; inst.machines(), 4);
     assert!(rt; inst.transient(Resource(0)));
     assert_eq!(rt; inst.load_weight(Resource(1)), 10);
     assert_eq!(rt; inst.neighbourhood(Machine(3)), 1);
@@ -226,16 +236,18 @@ fn the_numbers_of_the_sample_are_read(rt: HostRuntime) -> Result<(), Fail> {
     assert_eq!(rt; inst.capacity(Machine(1), Resource(1)), 240);
     assert_eq!(rt; inst.safety(Machine(2), Resource(0)), 12);
     assert_eq!(rt; inst.move_cost(Machine(3), Machine(0)), 5);
+}
+
+fn services_are_read(rt: &impl Abort, inst: &Instance) {
+    assert_eq!(rt; inst.services(), 2);
+    assert_eq!(rt; inst.processes(), 3);
     assert_eq!(rt; inst.spread_min(Service(0)), 2);
     assert_eq!(rt; inst.depends(Service(1)), [Service(0)].as_slice());
     assert_eq!(rt; inst.service_of(Process(2)), Service(1));
     assert_eq!(rt; inst.process_cost(Process(0)), 1000);
-    Ok(())
 }
 
-#[test]
-fn the_weights_of_the_sample_are_read(rt: HostRuntime) -> Result<(), Fail> {
-    let inst = read(rt.alloc(), SAMPLE)??;
+fn weights_are_read(rt: &impl Abort, inst: &Instance) {
     assert_eq!(rt; inst.balances(), 1);
     let row = inst.balance(0);
     assert_eq!(rt; (row.first, row.second), (Resource(0), Resource(1)));
@@ -243,57 +255,59 @@ fn the_weights_of_the_sample_are_read(rt: HostRuntime) -> Result<(), Fail> {
     assert_eq!(rt; inst.process_weight(), 1);
     assert_eq!(rt; inst.service_weight(), 10);
     assert_eq!(rt; inst.machine_weight(), 100);
-    Ok(())
 }
 
 #[test]
-fn the_first_thing_that_is_wrong_is_told(rt: HostRuntime) -> Result<(), Fail> {
-    for (text, fault) in REFUSED {
-        assert_eq!(rt;
-            read(rt.alloc(), text.as_bytes())?.err(),
-            Some(fault),
-            "at {text}"
-        );
+fn the_sample_is_read(rt: HostRuntime) {
+    let inst = read(&rt, rt.alloc(), SAMPLE).expect(&rt, "the sample is an instance");
+    counts_are_read(&rt, &inst);
+    numbers_are_read(&rt, &inst);
+    services_are_read(&rt, &inst);
+    weights_are_read(&rt, &inst);
+    drop(inst);
+}
+
+#[test]
+fn the_first_thing_that_is_wrong_is_told(rt: HostRuntime) {
+    for row in REFUSED {
+        let found = fault(&rt, rt.alloc(), row.0.as_bytes());
+        assert_eq!(rt; found, Some(row.1), "at {}", row.0);
     }
-    Ok(())
 }
 
 #[test]
-fn a_weight_that_is_missing_is_named(rt: HostRuntime) -> Result<(), Fail> {
-    for (end, fault) in CUT {
-        let front = SAMPLE.get(..end).ok_or("too long")?;
-        assert_eq!(rt; read(rt.alloc(), front)?.err(), Some(fault), "at {end}");
+fn a_weight_that_is_missing_is_named(rt: HostRuntime) {
+    for row in CUT {
+        let front = SAMPLE.get(..row.0).expect(&rt, "too long");
+        assert_eq!(rt; fault(&rt, rt.alloc(), front), Some(row.1), "at {}", row.0);
     }
-    Ok(())
 }
 
 #[test]
-fn the_file_is_read_to_its_end(rt: HostRuntime) -> Result<(), Fail> {
-    let mut longer = Vec::from_slice(rt.alloc(), SAMPLE)?;
-    longer.push(b'7')?;
-    assert_eq!(rt;
-        read(rt.alloc(), &longer)?.err(),
-        Some(ModelFault::Extra { at: 184 })
-    );
-    longer.push(b'-')?;
-    assert_eq!(rt;
-        read(rt.alloc(), &longer)?.err(),
-        Some(ModelFault::Extra { at: 184 })
-    );
-    Ok(())
+fn the_file_is_read_to_its_end(rt: HostRuntime) {
+    let extra = Some(ModelFault::Extra { at: 184 });
+    let mut longer = Vec::from_slice(rt.alloc(), SAMPLE).expect(&rt, "no memory");
+    longer.push(b'7').expect(&rt, "no memory");
+    assert_eq!(rt; fault(&rt, rt.alloc(), &longer), extra);
+    longer.push(b'-').expect(&rt, "no memory");
+    assert_eq!(rt; fault(&rt, rt.alloc(), &longer), extra);
+}
+
+/// The sample's file, of which the third fetch fails, read twice: whether the second time it is an instance.
+fn read_again(rt: &impl Abort, alloc: Global, each: usize) -> bool
+    requires { 0 < each }
+{
+    let mut fails = Fixed::make(alloc, 1).expect(rt, "no memory");
+    fails.extend_from_slice(&[3]);
+    let mut files = MemoryFiles::make(alloc, each, fails).expect(rt, "no memory");
+    files.add(alloc, "model", SAMPLE).expect(rt, "no memory");
+    let first = read_model(alloc, &mut files, "model").err();
+    assert_eq!(rt; first, Some(ModelFault::ReadFault));
+    read_model(alloc, &mut files, "model").is_ok()
 }
 
 #[test]
-fn a_failed_fetch_in_mid_file_is_a_read_fault(rt: HostRuntime) -> Result<(), Fail> {
-    for each in [1, 40] {
-        let mut fails = Fixed::make(rt.alloc(), 1)?;
-        fails.extend_from_slice(&[3]);
-        let mut files = MemoryFiles::make(rt.alloc(), each, fails)?;
-        files.add(rt.alloc(), "model", SAMPLE)?;
-        let first = read_model(rt.alloc(), &mut files, "model");
-        assert_eq!(rt; first.err(), Some(ModelFault::ReadFault));
-        let second = read_model(rt.alloc(), &mut files, "model");
-        assert!(rt; second.is_ok());
-    }
-    Ok(())
+fn a_failed_fetch_in_mid_file_is_a_read_fault(rt: HostRuntime) {
+    assert!(rt; read_again(&rt, rt.alloc(), 1));
+    assert!(rt; read_again(&rt, rt.alloc(), 40));
 }
