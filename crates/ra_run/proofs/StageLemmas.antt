@@ -1,0 +1,218 @@
+-- What the stages of a job say where they refuse, from what the readers say.
+use Rattle.std.proofs.Common.{◌≡◌, ℕ, ◌<◌, ◌≤◌, ◌-◌, ◌^◌, ◌≢◌, List, Option, Some, None, IfSome, IsSome, refl, sym, inl, inr, ⊎_elim, subst, arith}
+use Rattle.std.specs.Prelude.{IsTrue}
+use Rattle.ra_base.specs.declared.costs.Parts.{Parts}
+use Rattle.ra_base.specs.declared.ids.Machine.{Machine}
+use Rattle.ra_bounds.specs.declared.costs.Bound.{Bound}
+use Rattle.ra_bounds.specs.Bounds.{bound_of}
+use Rattle.ra_io.specs.Faults.{Rose}
+use Rattle.ra_model.specs.declared.raw.Tables.{Tables}
+use Rattle.ra_model_read.specs.declared.faults.ModelFault.{ModelFault}
+use Rattle.ra_model_read.specs.declared.faults.ModelFault.TheVariants as reader
+use Rattle.ra_model_read.specs.ModelText.{model_refusal}
+use Rattle.ra_model_read.specs.Reading.{is_by_content}
+use Rattle.ra_report.specs.JournalTexts.{bound_text}
+use Rattle.ra_report.specs.Texts.{parts_text}
+use Rattle.ra_run.specs.declared.refusals.File.TheVariants as file
+use Rattle.ra_run.specs.declared.refusals.Refusal.{Refusal}
+use Rattle.ra_run.specs.declared.refusals.Refusal.TheVariants.{Read, Model, Closed, Initial, Changed, InitialBroken, ChangedBroken, Write, Memory}
+use Rattle.ra_run.specs.Files.{Held, Faults, Names, name_of, check_names, solve_names, bound_names, ModelIs, InstanceIs, Accepts}
+use Rattle.ra_run.specs.Outputs.{Printed, BoundPrinted}
+use Rattle.ra_run.specs.Refusals.{Says, CanTell}
+use Rattle.ra_run.specs.Stages.{model_as, ModelSays, ClosedSays, SourceSays, InitialSays, ListsSay, JudgeSays, StartSays, IsClosing, ReadsLists, Passed, Judged}
+
+pub model_says : (held : Held) (name : List ℕ) (before now : Faults) (fault : ModelFault) → (fault ≡ reader.ReadFault → Rose (before name) (now name)) → (IsTrue (is_by_content fault) → IfSome (held name) (λ bytes. model_refusal bytes ≡ Some fault)) → ModelSays held name before now (model_as fault)
+unfolding is_by_content
+model_says held name before now reader.ReadFault rose told = rose refl
+model_says held name before now (reader.BadByte at byte) rose told = told refl
+model_says held name before now (reader.TooLarge at) rose told = told refl
+model_says held name before now reader.TooLong rose told = told refl
+model_says held name before now (reader.Missing what item) rose told = told refl
+model_says held name before now (reader.Range what at value least most) rose told = told refl
+model_says held name before now (reader.Flag at value) rose told = told refl
+model_says held name before now (reader.Extra at) rose told = told refl
+model_says held name before now reader.NoMemory rose told = tt
+
+-- a count that rose later rose
+rose_later : (a b c : ℕ) → a ≤ b → Rose b c → Rose a c
+rose_later a b c never_fell rose = ⊎_elim (λ (more : b < c). let h : a < c = omega arith in inl h) (λ (last : c ≡ 2 ^ 64 - 1). inr last) rose
+
+-- the instance
+
+pub instance_open : (held : Held) (name : List ℕ) (closed : Option (List ℕ)) (i : Tables) → ModelIs held name i → closed ≡ None → InstanceIs held name closed i
+instance_open held name closed i read none = record { model = i; read = read; closed = rw none refl }
+
+pub instance_closed : (held later : Held) (name : List ℕ) (closed : Option (List ℕ)) (list : List ℕ) (model i : Tables) → ((other : List ℕ) → later other ≡ held other) → closed ≡ Some list → ModelIs held name model → IsClosing later list model i → InstanceIs held name closed i
+instance_closed held later name closed list model i same named read closing = record {
+  model = model;
+  read = read;
+  closed = rw named (closing.0, closing.1, rw (sym (same list)) closing.2);
+}
+
+pub source_model : (held : Held) (name : List ℕ) (closed : Option (List ℕ)) (before now : Faults) (refusal : Refusal) → ModelSays held name before now refusal → SourceSays held name closed before now refusal
+source_model held name closed before now (Read file.Model) says = says
+source_model held name closed before now (Read file.Closed) says = absurd says
+source_model held name closed before now (Read file.Initial) says = absurd says
+source_model held name closed before now (Read file.Changed) says = absurd says
+source_model held name closed before now (Model fault) says = says
+source_model held name closed before now (Closed fault) says = absurd says
+source_model held name closed before now (Initial fault) says = absurd says
+source_model held name closed before now (Changed fault) says = absurd says
+source_model held name closed before now (InitialBroken cause) says = absurd says
+source_model held name closed before now (ChangedBroken cause) says = absurd says
+source_model held name closed before now Write says = absurd says
+source_model held name closed before now Memory says = tt
+
+pub source_closed : (held later : Held) (name : List ℕ) (closed : Option (List ℕ)) (list : List ℕ) (model : Tables) (first before now : Faults) → ((other : List ℕ) → later other ≡ held other) → ((other : List ℕ) → first other ≤ before other) → closed ≡ Some list → ModelIs held name model → (refusal : Refusal) → ClosedSays later list model before now refusal → SourceSays held name closed first now refusal
+source_closed held later name closed list model first before now same never_fell named read (Read file.Model) says = absurd says
+source_closed held later name closed list model first before now same never_fell named read (Read file.Closed) says = (list, named, rose_later (first list) (before list) (now list) (never_fell list) says)
+source_closed held later name closed list model first before now same never_fell named read (Read file.Initial) says = absurd says
+source_closed held later name closed list model first before now same never_fell named read (Read file.Changed) says = absurd says
+source_closed held later name closed list model first before now same never_fell named read (Model fault) says = absurd says
+source_closed held later name closed list model first before now same never_fell named read (Closed fault) says = record { model = model; read = read; name = list; named = named; refused = rw (sym (same list)) says }
+source_closed held later name closed list model first before now same never_fell named read (Initial fault) says = absurd says
+source_closed held later name closed list model first before now same never_fell named read (Changed fault) says = absurd says
+source_closed held later name closed list model first before now same never_fell named read (InitialBroken cause) says = absurd says
+source_closed held later name closed list model first before now same never_fell named read (ChangedBroken cause) says = absurd says
+source_closed held later name closed list model first before now same never_fell named read Write says = absurd says
+source_closed held later name closed list model first before now same never_fell named read Memory says = tt
+
+pub says_source : (held : Held) (names : Names) (before now : Faults) (written : Type 0) → (refusal : Refusal) → SourceSays held names.model names.closed before now refusal → Says held names before now written refusal
+unfolding name_of
+says_source held names before now written (Read file.Model) says = record { named = tt; rose = says }
+says_source held names before now written (Read file.Closed) says = record { named = rw says.1 refl; rose = rw says.1 says.2 }
+says_source held names before now written (Read file.Initial) says = absurd says
+says_source held names before now written (Read file.Changed) says = absurd says
+says_source held names before now written (Model fault) says = says
+says_source held names before now written (Closed fault) says = says
+says_source held names before now written (Initial fault) says = absurd says
+says_source held names before now written (Changed fault) says = absurd says
+says_source held names before now written (InitialBroken cause) says = absurd says
+says_source held names before now written (ChangedBroken cause) says = absurd says
+says_source held names before now written Write says = absurd says
+says_source held names before now written Memory says = tt
+
+-- the model file alone
+pub says_model : (held : Held) (names : Names) (before now : Faults) (written : Type 0) (refusal : Refusal) → ModelSays held names.model before now refusal → Says held names before now written refusal
+says_model held names before now written refusal says = says_source held names before now written refusal (source_model held names.model names.closed before now refusal says)
+
+-- the text of a bound went this way
+pub bound_printed : (held : Held) (name : List ℕ) (i : Tables) (b : Bound) (way : List ℕ → Type 0) → ModelIs held name i → b ≡ bound_of i → way (bound_text b) → BoundPrinted held (bound_names name) way
+bound_printed held name i b way read is text = record { tables = i; read = read; text = subst (λ x. way (bound_text x)) is text }
+
+-- the lists of a check
+
+pub says_lists : (held later : Held) (model : List ℕ) (closed : Option (List ℕ)) (initial changed : List ℕ) (i : Tables) (first before now : Faults) (written : Type 0) → ((other : List ℕ) → later other ≡ held other) → ((other : List ℕ) → first other ≤ before other) → InstanceIs held model closed i → (refusal : Refusal) → ListsSay later initial changed i before now refusal → Says held (check_names model closed initial changed) first now written refusal
+unfolding name_of
+says_lists held later model closed initial changed i first before now written same never_fell instance (Read file.Model) says = absurd says
+says_lists held later model closed initial changed i first before now written same never_fell instance (Read file.Closed) says = absurd says
+says_lists held later model closed initial changed i first before now written same never_fell instance (Read file.Initial) says = record { named = refl; rose = rose_later (first initial) (before initial) (now initial) (never_fell initial) says }
+says_lists held later model closed initial changed i first before now written same never_fell instance (Read file.Changed) says = record { named = refl; rose = rose_later (first changed) (before changed) (now changed) (never_fell changed) says }
+says_lists held later model closed initial changed i first before now written same never_fell instance (Model fault) says = absurd says
+says_lists held later model closed initial changed i first before now written same never_fell instance (Closed fault) says = absurd says
+says_lists held later model closed initial changed i first before now written same never_fell instance (Initial fault) says = record { tables = i; instance = instance; name = initial; named = refl; refused = rw (sym (same initial)) says }
+says_lists held later model closed initial changed i first before now written same never_fell instance (Changed fault) says = record { tables = i; a0 = says.0; instance = instance; initial = rw (sym (same initial)) says.1; name = changed; named = refl; refused = rw (sym (same changed)) says.2 }
+says_lists held later model closed initial changed i first before now written same never_fell instance (InitialBroken cause) says = absurd says
+says_lists held later model closed initial changed i first before now written same never_fell instance (ChangedBroken cause) says = absurd says
+says_lists held later model closed initial changed i first before now written same never_fell instance Write says = absurd says
+says_lists held later model closed initial changed i first before now written same never_fell instance Memory says = tt
+
+pub says_judge : (held : Held) (names : Names) (i : Tables) (a0 a : List Machine) (first now : Faults) (written : Type 0) → IsSome names.initial → IsSome names.changed → Accepts held names i a0 a → (refusal : Refusal) → JudgeSays i a0 a refusal → Says held names first now written refusal
+says_judge held names i a0 a first now written has_initial has_changed accepts (Read file.Model) says = absurd says
+says_judge held names i a0 a first now written has_initial has_changed accepts (Read file.Closed) says = absurd says
+says_judge held names i a0 a first now written has_initial has_changed accepts (Read file.Initial) says = absurd says
+says_judge held names i a0 a first now written has_initial has_changed accepts (Read file.Changed) says = absurd says
+says_judge held names i a0 a first now written has_initial has_changed accepts (Model fault) says = absurd says
+says_judge held names i a0 a first now written has_initial has_changed accepts (Closed fault) says = absurd says
+says_judge held names i a0 a first now written has_initial has_changed accepts (Initial fault) says = absurd says
+says_judge held names i a0 a first now written has_initial has_changed accepts (Changed fault) says = absurd says
+says_judge held names i a0 a first now written has_initial has_changed accepts (InitialBroken cause) says = record { tables = i; a0 = a0; a = a; named = has_initial; accepts = accepts; broken = says }
+says_judge held names i a0 a first now written has_initial has_changed accepts (ChangedBroken cause) says = record { tables = i; a0 = a0; a = a; named = has_changed; accepts = accepts; initial = says.0; broken = says.1 }
+says_judge held names i a0 a first now written has_initial has_changed accepts Write says = absurd says
+says_judge held names i a0 a first now written has_initial has_changed accepts Memory says = tt
+
+-- all files of a check were accepted
+pub accepts_all : (held later : Held) (model : List ℕ) (closed : Option (List ℕ)) (initial changed : List ℕ) (i : Tables) (a0 a : List Machine) → ((other : List ℕ) → later other ≡ held other) → InstanceIs held model closed i → ReadsLists later initial changed i a0 a → Accepts held (check_names model closed initial changed) i a0 a
+accepts_all held later model closed initial changed i a0 a same instance lists = record {
+  instance = instance;
+  initial = rw (sym (same initial)) lists.initial;
+  changed = rw (sym (same changed)) lists.changed;
+}
+
+pub passed_all : (held : Held) (names : Names) (i : Tables) (a0 a : List Machine) (parts : Parts) → Accepts held names i a0 a → Judged i a0 a parts → Passed held names parts
+passed_all held names i a0 a parts accepts judged = record { tables = i; a0 = a0; a = a; passes = record { accepts = accepts; initial = judged.initial; changed = judged.changed }; are = judged.are }
+
+-- the text of the parts went this way
+pub printed : (held : Held) (names : Names) (parts : Parts) (way : List ℕ → Type 0) → Passed held names parts → way (parts_text parts) → Printed held names way
+printed held names parts way passed text = record { tables = passed.tables; a0 = passed.a0; a = passed.a; passes = passed.passes; text = rw (sym passed.are) text }
+
+-- the initial list of a run
+
+pub says_initial : (held later : Held) (model : List ℕ) (closed : Option (List ℕ)) (initial : List ℕ) (i : Tables) (first before now : Faults) (written : Type 0) → ((other : List ℕ) → later other ≡ held other) → ((other : List ℕ) → first other ≤ before other) → InstanceIs held model closed i → (refusal : Refusal) → InitialSays later initial i before now refusal → Says held (solve_names model closed initial) first now written refusal
+unfolding name_of
+says_initial held later model closed initial i first before now written same never_fell instance (Read file.Model) says = absurd says
+says_initial held later model closed initial i first before now written same never_fell instance (Read file.Closed) says = absurd says
+says_initial held later model closed initial i first before now written same never_fell instance (Read file.Initial) says = record { named = refl; rose = rose_later (first initial) (before initial) (now initial) (never_fell initial) says }
+says_initial held later model closed initial i first before now written same never_fell instance (Read file.Changed) says = absurd says
+says_initial held later model closed initial i first before now written same never_fell instance (Model fault) says = absurd says
+says_initial held later model closed initial i first before now written same never_fell instance (Closed fault) says = absurd says
+says_initial held later model closed initial i first before now written same never_fell instance (Initial fault) says = record { tables = i; instance = instance; name = initial; named = refl; refused = rw (sym (same initial)) says }
+says_initial held later model closed initial i first before now written same never_fell instance (Changed fault) says = absurd says
+says_initial held later model closed initial i first before now written same never_fell instance (InitialBroken cause) says = absurd says
+says_initial held later model closed initial i first before now written same never_fell instance (ChangedBroken cause) says = absurd says
+says_initial held later model closed initial i first before now written same never_fell instance Write says = absurd says
+says_initial held later model closed initial i first before now written same never_fell instance Memory says = tt
+
+pub says_start : (held : Held) (names : Names) (i : Tables) (a0 : List Machine) (first now : Faults) (written : Type 0) → IsSome names.initial → Accepts held names i a0 a0 → (refusal : Refusal) → StartSays i a0 refusal → Says held names first now written refusal
+says_start held names i a0 first now written has_initial accepts (Read file.Model) says = absurd says
+says_start held names i a0 first now written has_initial accepts (Read file.Closed) says = absurd says
+says_start held names i a0 first now written has_initial accepts (Read file.Initial) says = absurd says
+says_start held names i a0 first now written has_initial accepts (Read file.Changed) says = absurd says
+says_start held names i a0 first now written has_initial accepts (Model fault) says = absurd says
+says_start held names i a0 first now written has_initial accepts (Closed fault) says = absurd says
+says_start held names i a0 first now written has_initial accepts (Initial fault) says = absurd says
+says_start held names i a0 first now written has_initial accepts (Changed fault) says = absurd says
+says_start held names i a0 first now written has_initial accepts (InitialBroken cause) says = record { tables = i; a0 = a0; a = a0; named = has_initial; accepts = accepts; broken = says }
+says_start held names i a0 first now written has_initial accepts (ChangedBroken cause) says = absurd says
+says_start held names i a0 first now written has_initial accepts Write says = absurd says
+says_start held names i a0 first now written has_initial accepts Memory says = tt
+
+-- a refusal before anything was written
+
+pub says_anywhere : (held : Held) (names : Names) (before now : Faults) (written : Type 0) (refusal : Refusal) → Says held names before now ⊥ refusal → Says held names before now written refusal
+says_anywhere held names before now written (Read f) says = says
+says_anywhere held names before now written (Model fault) says = says
+says_anywhere held names before now written (Closed fault) says = says
+says_anywhere held names before now written (Initial fault) says = says
+says_anywhere held names before now written (Changed fault) says = says
+says_anywhere held names before now written (InitialBroken cause) says = says
+says_anywhere held names before now written (ChangedBroken cause) says = says
+says_anywhere held names before now written Write says = absurd says
+says_anywhere held names before now written Memory says = says
+
+pub not_write : (held : Held) (names : Names) (before now : Faults) (refusal : Refusal) → Says held names before now ⊥ refusal → refusal ≢ Write
+not_write held names before now (Read f) says = λ e. cc
+not_write held names before now (Model fault) says = λ e. cc
+not_write held names before now (Closed fault) says = λ e. cc
+not_write held names before now (Initial fault) says = λ e. cc
+not_write held names before now (Changed fault) says = λ e. cc
+not_write held names before now (InitialBroken cause) says = λ e. cc
+not_write held names before now (ChangedBroken cause) says = λ e. cc
+not_write held names before now Write says = absurd says
+not_write held names before now Memory says = λ e. cc
+
+-- what refuses can be told
+
+some_of : (name : Option (List ℕ)) (list : List ℕ) → name ≡ Some list → IsSome name
+some_of name list is = rw is refl
+
+pub can_tell : (held : Held) (names : Names) (before now : Faults) (written : Type 0) (refusal : Refusal) → Says held names before now written refusal → CanTell names refusal
+can_tell held names before now written (Read f) says = says.named
+can_tell held names before now written (Model fault) says = tt
+can_tell held names before now written (Closed fault) says = some_of names.closed says.name says.named
+can_tell held names before now written (Initial fault) says = some_of names.initial says.name says.named
+can_tell held names before now written (Changed fault) says = some_of names.changed says.name says.named
+can_tell held names before now written (InitialBroken cause) says = says.named
+can_tell held names before now written (ChangedBroken cause) says = says.named
+can_tell held names before now written Write says = tt
+can_tell held names before now written Memory says = tt

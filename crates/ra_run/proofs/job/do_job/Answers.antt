@@ -1,0 +1,35 @@
+use Rattle.std.proofs.Common.{◌≡◌, List, ℕ, refl, subst}
+use Rattle.std.specs.Io.KnownBytes.{Appends}
+use Rattle.ra_report.specs.Pieces.{Breaks, Puts}
+use Rattle.ra_words.specs.declared.jobs.Job.{Job}
+use Rattle.ra_words.specs.declared.jobs.Job.TheVariants.{Solve}
+use Rattle.ra_words.specs.Said.{said}
+use Rattle.ra_run.specs.Files.{solve_names}
+use Rattle.ra_run.specs.Outputs.{Solved}
+use Rattle.ra_run.specs.Commands.{OutputOf}
+use Rattle.ra_run.specs.Served.{IsServed}
+use Rattle.ra_run.proofs.RunLemmas.{ends_more, one_worker}
+use Rattle.ra_run.proofs.job.do_job.Goals as goal
+
+pub solve_run-requires : goal.solve_run-requires
+solve_run-requires g c = (c.type_bounds.sync-R, (c.type_bounds.sync-G, one_worker c.in-Solve.lots (subst (λ (j : Job). IsServed (said j)) c.in-Solve.is c.requires)))
+
+pub returns-in-Check-clause-ends : goal.returns-in-Check-clause-ends
+returns-in-Check-clause-ends g c = rw c.in-Check.is (rw c.as_ref.ensures.value at c.check_run.ensures.ends)
+
+pub returns-in-Solve-clause-ends : goal.returns-in-Solve-clause-ends
+returns-in-Solve-clause-ends g c =
+    let held = g.F.Files.held c.args.files.now in
+    let lots = c.in-Solve.lots in
+    let names = solve_names c.in-Solve.model c.in-Solve.closed c.in-Solve.initial in
+    let says = said (Solve c.in-Solve.model c.in-Solve.initial c.in-Solve.closed lots) in
+    let prints : List ℕ → Type 0 = Appends (g.O.Sink.taken c.args.out.now) (g.O.Sink.taken c.solve_run.new.out) in
+    let breaks : List ℕ → Type 0 = Breaks (g.O.Sink.taken c.args.out.now) (g.O.Sink.taken c.solve_run.new.out) (g.O.Sink.faults c.args.out.now) (g.O.Sink.faults c.solve_run.new.out) in
+    let ends = rw c.as_ref-in-Solve.ensures.value at c.solve_run.ensures.ends in
+    rw c.in-Solve.is (ends_more held names (g.F.Files.faults c.args.files.now) (g.F.Files.faults c.solve_run.new.files)
+    (Solved held names lots prints) (Solved held names lots breaks) (OutputOf held says prints) (OutputOf held says breaks)
+    (Puts (g.E.Sink.taken c.args.err.now) (g.E.Sink.taken c.solve_run.new.err) (g.E.Sink.faults c.args.err.now) (g.E.Sink.faults c.solve_run.new.err))
+    (c.solve_run.new.out ≡ c.args.out.now) (c.solve_run.new.err ≡ c.args.err.now) c.solve_run.result
+    (λ s. (lots, record { slack_is = refl; drawing_is = refl; lots_are = refl }, s))
+    (λ s. (lots, record { slack_is = refl; drawing_is = refl; lots_are = refl }, s))
+    ends)

@@ -1,0 +1,53 @@
+-- What a job that is done has printed. A way says where a text went: to the output, whole or in part.
+use Rattle.std.specs.Prelude.{◌≡◌, ℕ, ◌≤◌, List, length}
+use Rattle.ra_base.specs.declared.ids.Machine.{Machine}
+use Rattle.ra_model.specs.declared.raw.Tables.{Tables}
+use Rattle.ra_model.specs.Assignments.{IsAssignment}
+use Rattle.ra_model.specs.Costs.{parts_of, objective}
+use Rattle.ra_model.specs.Feasible.{Feasible}
+use Rattle.ra_bounds.specs.Bounds.{bound_of}
+use Rattle.ra_draws.specs.declared.budgets.Lots.{Lots}
+use Rattle.ra_journal.specs.declared.entries.Entry.{Entry}
+use Rattle.ra_journal.specs.Laws.{IsSound}
+use Rattle.ra_journal.specs.Legal.{Legal, Whole}
+use Rattle.ra_report.specs.JournalTexts.{bound_text, report_text, IsJournalOf}
+use Rattle.ra_report.specs.Texts.{parts_text}
+use Rattle.ra_run.specs.Files.{Held, Names, ModelIs, Accepts, Passes}
+
+-- `check`: all files passed, and the six lines of the parts of the new list went this way
+pub record Printed (held : Held) (names : Names) (way : List ℕ → Type 0) : Type 0 where
+  pub tables : Tables
+  pub a0 : List Machine
+  pub a : List Machine
+  pub passes : Passes held names tables a0 a
+  pub text : way (parts_text (parts_of tables a0 a))
+
+-- `bound`: the model file means an instance, and the three lines of its bound went this way
+pub record BoundPrinted (held : Held) (names : Names) (way : List ℕ → Type 0) : Type 0 where
+  pub tables : Tables
+  pub read : ModelIs held names.model tables
+  pub text : way (bound_text (bound_of tables))
+
+-- `solve`, the headline: the printed journal is one legal history in which every proposal of every worker stands exactly
+-- once; every state in it meets all constraints, and its kept cost is the challenge's objective computed afresh; the
+-- printed assignment is the first of least cost among those states, its parts are exact, and no feasible assignment
+-- costs less than the printed bound
+pub record Solved (held : Held) (names : Names) (l : Lots) (way : List ℕ → Type 0) : Type 0 where
+  pub tables : Tables
+  pub a0 : List Machine
+  pub journal : List Entry
+  pub bytes : List ℕ
+  -- the files mean an instance and an initial assignment, which is feasible
+  pub accepts : Accepts held names tables a0 a0
+  pub start : Feasible tables a0 a0
+  -- these bytes went this way: they are the report of the journal, which is the one that they tell, and it is legal and
+  -- whole
+  pub text : way bytes
+  pub report : bytes ≡ report_text tables a0 l journal
+  pub told : IsJournalOf bytes journal
+  pub legal : Legal tables a0 l journal
+  pub whole : Whole l journal
+  -- every state is a feasible assignment, and the kept cost there is its objective
+  pub sound : (j : ℕ) → j ≤ length journal → IsSound tables a0 journal j
+  -- no feasible assignment costs less than the bound
+  pub least : (a : List Machine) → IsAssignment tables a → Feasible tables a0 a → (bound_of tables).total ≤ objective tables a0 a

@@ -1,0 +1,117 @@
+ghost use Rattle.std.specs.Prelude.{◌≡◌, ◌≢◌, ◌↔◌, ◌⊎◌, ℕ, ◌≤◌, List, [], ◌∷◌, None, IfSome};
+ghost use Rattle.std.specs.Io.KnownBytes.{Appends};
+ghost use Rattle.ra_io.specs.Faults.{Rose};
+ghost use Rattle.ra_report.specs.FaultTexts.{usage_line};
+ghost use Rattle.ra_report.specs.Pieces.{Breaks, Puts, joined};
+ghost use Rattle.ra_report.specs.Texts.{line_end};
+ghost use Rattle.ra_words.specs.Jobs.{job_of};
+ghost use Rattle.ra_words.specs.Said.{said};
+ghost use Rattle.ra_words.specs.Words.{texts};
+ghost use Rattle.ra_run.specs.Commands.{names_in, OutputOf};
+ghost use Rattle.ra_run.specs.Complete.{AreValid, NoFault};
+ghost use Rattle.ra_run.specs.Ends.{Ends};
+ghost use Rattle.ra_run.specs.Served.{IsServed};
+
+use crate::bound::bound_run;
+use crate::check::check_run;
+use crate::refusing::{refuse_memory, refuse_words};
+use crate::solve::solve_run;
+use crate::status::Status;
+use ra_io::{Files, Gate, Sink};
+use ra_words::{Job, WordsFault, read_words};
+use std::alloc::Global;
+use std::marker::Sync;
+use std::sync::Wait;
+use std::thread::Threads;
+
+/// Does the job of the command words, which leave out the program's name: `check`, `bound`, or `solve` with one lot. All
+/// other words are a usage fault. On `solve` that is done the output is the report of one legal journal: see `Solved`.
+pub fn run<R: Threads + Wait + Sync, F: Files, O: Sink, E: Sink, G: Gate>(
+    rt: &R,
+    alloc: Global,
+    words: &[String],
+    files: &mut F,
+    out: &mut O,
+    err: &mut E,
+    gate: &G,
+) -> Status
+    ensures usage { (result ≡ Status.Usage) ↔ (job_of (texts words.now) ≡ None) }
+    ensures usage_line { result ≡ Status.Usage → Puts (E.taken err.old) (E.taken err.new) (E.faults err.old) (E.faults err.new) (joined (usage_line ∷ line_end ∷ [])) }
+    ensures usage_quiet { result ≡ Status.Usage → out.new ≡ out.old }
+    ensures ends { IfSome (job_of (texts words.now)) (λ says. Ends (F.held files.old) (names_in says) (F.faults files.old) (F.faults files.new)
+        (OutputOf (F.held files.old) says (Appends (O.taken out.old) (O.taken out.new)))
+        (OutputOf (F.held files.old) says (Breaks (O.taken out.old) (O.taken out.new) (O.faults out.old) (O.faults out.new)))
+        (Puts (E.taken err.old) (E.taken err.new) (E.faults err.old) (E.faults err.new))
+        (out.new ≡ out.old) (err.new ≡ err.old) result) }
+    ensures complete { IfSome (job_of (texts words.now)) (λ says. AreValid (F.held files.old) (names_in says)
+        → NoFault (names_in says) (F.faults files.old) (F.faults files.new) → (Rose (O.faults out.old) (O.faults out.new) → ⊥)
+        → (result ≡ Status.Done) ⊎ (result ≡ Status.NoMemory)) }
+    ensures kept { (other : List ℕ) → F.held files.new other ≡ F.held files.old other }
+    ensures never_fall { (other : List ℕ) → F.faults files.old other ≤ F.faults files.new other }
+{
+    match read_words(alloc, words) {
+        Ok(job) => do_job(rt, alloc, &job, files, out, err, gate),
+        Err(WordsFault::Usage) => refuse_words(err),
+        Err(WordsFault::NoMemory) => refuse_memory(err),
+    }
+}
+
+/// Does a job.
+fn do_job<R: Threads + Wait + Sync, F: Files, O: Sink, E: Sink, G: Gate>(
+    rt: &R,
+    alloc: Global,
+    job: &Job,
+    files: &mut F,
+    out: &mut O,
+    err: &mut E,
+    gate: &G,
+) -> Status
+    requires { IsServed (said job.now) }
+    ensures ends { Ends (F.held files.old) (names_in (said job.now)) (F.faults files.old) (F.faults files.new)
+        (OutputOf (F.held files.old) (said job.now) (Appends (O.taken out.old) (O.taken out.new)))
+        (OutputOf (F.held files.old) (said job.now) (Breaks (O.taken out.old) (O.taken out.new) (O.faults out.old) (O.faults out.new)))
+        (Puts (E.taken err.old) (E.taken err.new) (E.faults err.old) (E.faults err.new))
+        (out.new ≡ out.old) (err.new ≡ err.old) result }
+    ensures not_usage { result ≢ Status.Usage }
+    ensures complete { AreValid (F.held files.old) (names_in (said job.now))
+        → NoFault (names_in (said job.now)) (F.faults files.old) (F.faults files.new) → (Rose (O.faults out.old) (O.faults out.new) → ⊥)
+        → (result ≡ Status.Done) ⊎ (result ≡ Status.NoMemory) }
+    ensures kept { (other : List ℕ) → F.held files.new other ≡ F.held files.old other }
+    ensures never_fall { (other : List ℕ) → F.faults files.old other ≤ F.faults files.new other }
+{
+    match job {
+        Job::Check {
+            model,
+            initial,
+            changed,
+            closed,
+        } => check_run(
+            alloc,
+            model,
+            initial,
+            changed,
+            closed.as_ref(),
+            files,
+            out,
+            err,
+        ),
+        Job::Bound { model } => bound_run(alloc, model, files, out, err),
+        Job::Solve {
+            model,
+            initial,
+            closed,
+            lots,
+        } => solve_run(
+            rt,
+            alloc,
+            model,
+            initial,
+            closed.as_ref(),
+            lots,
+            files,
+            out,
+            err,
+            gate,
+        ),
+    }
+}

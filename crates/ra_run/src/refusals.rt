@@ -1,0 +1,67 @@
+ghost use Rattle.std.specs.Prelude.{◌≡◌};
+ghost use Rattle.ra_run.specs.Files.{name_of, names_of, IsNamed};
+
+use ra_assign::{AssignFault, ClosedFault};
+use ra_base::{Cause, Name};
+use ra_model_read::ModelFault;
+
+/// A file of a job.
+#[derive(Clone, Copy, Debug, PartialEq, Eq)]
+pub enum File {
+    Model,
+    Closed,
+    Initial,
+    Changed,
+}
+
+/// Why a job was not done, in the order in which it is found.
+#[derive(Clone, Copy, Debug, PartialEq, Eq)]
+pub enum Refusal {
+    /// Reading a file failed.
+    Read(File),
+    /// The model file is no model.
+    Model(ModelFault),
+    /// The closed list is none for the model.
+    Closed(ClosedFault),
+    /// The initial list is no assignment for the model.
+    Initial(AssignFault),
+    /// The new list is no assignment for the model.
+    Changed(AssignFault),
+    /// The initial list breaks a constraint.
+    InitialBroken(Cause),
+    /// The new list breaks a constraint.
+    ChangedBroken(Cause),
+    /// Writing the output failed.
+    Write,
+    /// Memory was refused.
+    Memory,
+}
+
+/// The names of a job's files, lent from it. Those that it doesn't have are not there.
+#[derive(Clone, Copy)]
+pub struct JobFiles<'n> {
+    pub model: &'n Name,
+    pub closed: Option<&'n Name>,
+    pub initial: Option<&'n Name>,
+    pub changed: Option<&'n Name>,
+}
+
+impl<'n> JobFiles<'n> {
+    /// The name of a file that the job has.
+    #[tactic(auto, unfolding(crate::specs::Files::name_of))]
+    pub(crate) fn name(&self, file: File) -> &'n Name
+        requires { IsNamed (names_of self.now) file }
+        ensures { result.now ≡ name_of (names_of self.now) file }
+    {
+        let named = match file {
+            File::Model => Some(self.model),
+            File::Closed => self.closed,
+            File::Initial => self.initial,
+            File::Changed => self.changed,
+        };
+        match named {
+            Some(name) => name,
+            None => unreachable!(),
+        }
+    }
+}

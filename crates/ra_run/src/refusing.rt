@@ -1,0 +1,137 @@
+ghost use Rattle.std.specs.Prelude.{◌≡◌, ◌≢◌, ◌↔◌, ◌⊎◌, [], ◌∷◌, Ok, IfErr};
+ghost use Rattle.std.specs.IoError.{error_kind};
+ghost use Rattle.ra_report.specs.FaultTexts.{fault_text, usage_line};
+ghost use Rattle.ra_report.specs.Pieces.{Puts, joined};
+ghost use Rattle.ra_report.specs.Texts.{line_end};
+ghost use Rattle.ra_run.specs.Files.{Names, names_of};
+ghost use Rattle.ra_run.specs.Lines.{refusal_line};
+ghost use Rattle.ra_run.specs.Refusals.{CanTell};
+ghost use Rattle.ra_run.specs.Statuses.{status_of};
+ghost use Rattle.ra_run.specs.declared.refusals.Refusal.TheVariants.{Memory};
+
+use crate::refusals::{File, JobFiles, Refusal};
+use crate::status::Status;
+use ra_io::Sink;
+use ra_report::{Fault, write_fault};
+use std::io;
+use std::io::ErrorKind;
+
+/// How a job ends: it is done, or its refusal is told, with its status, which a failing put doesn't change.
+pub(crate) fn finish<E: Sink>(
+    err: &mut E,
+    names: &JobFiles<'_>,
+    ended: Result<(), Refusal>,
+) -> Status
+    requires { IfErr ended (CanTell (names_of names.now)) }
+    ensures done { ended ≡ Ok tt → result ≡ Status.Done }
+    ensures quiet { ended ≡ Ok tt → err.new ≡ err.old }
+    ensures status { IfErr ended (λ refusal. result ≡ status_of refusal) }
+    ensures line { IfErr ended (λ refusal. Puts (E.taken err.old) (E.taken err.new) (E.faults err.old) (E.faults err.new) (refusal_line (names_of names.now) refusal)) }
+{
+    match ended {
+        Ok(()) => Status::Done,
+        Err(refusal) => {
+            tell(err, names, refusal);
+            status(refusal)
+        }
+    }
+}
+
+/// The status of a refusal.
+#[tactic(auto, unfolding(crate::specs::Statuses::status_of))]
+fn status(refusal: Refusal) -> Status
+    ensures { result ≡ status_of refusal }
+{
+    match refusal {
+        Refusal::Read(_) => Status::ReadFault,
+        Refusal::Model(_) => Status::BadModel,
+        Refusal::Closed(_) => Status::BadClosed,
+        Refusal::Initial(_) => Status::BadAssignment,
+        Refusal::Changed(_) => Status::BadAssignment,
+        Refusal::InitialBroken(_) => Status::Infeasible,
+        Refusal::ChangedBroken(_) => Status::Infeasible,
+        Refusal::Write => Status::WriteFault,
+        Refusal::Memory => Status::NoMemory,
+    }
+}
+
+/// Puts the line of a refusal.
+#[tactic(auto, unfolding(crate::specs::Lines::refusal_line, ra_report::specs::FaultTexts::fault_text))]
+fn tell<E: Sink>(err: &mut E, names: &JobFiles<'_>, refusal: Refusal)
+    requires { CanTell (names_of names.now) refusal }
+    ensures { Puts (E.taken err.old) (E.taken err.new) (E.faults err.old) (E.faults err.new) (refusal_line (names_of names.now) refusal) }
+{
+    match refusal {
+        Refusal::Read(file) => {
+            let name = names.name(file);
+            put_line(err, &Fault::Read { name })
+        }
+        Refusal::Model(fault) => put_line(err, &Fault::Model { fault }),
+        Refusal::Closed(fault) => {
+            let name = names.name(File::Closed);
+            put_line(err, &Fault::Closed { name, fault })
+        }
+        Refusal::Initial(fault) => {
+            let name = names.name(File::Initial);
+            put_line(err, &Fault::Assign { name, fault })
+        }
+        Refusal::Changed(fault) => {
+            let name = names.name(File::Changed);
+            put_line(err, &Fault::Assign { name, fault })
+        }
+        Refusal::InitialBroken(cause) => {
+            let name = names.name(File::Initial);
+            put_line(err, &Fault::Infeasible { name, cause })
+        }
+        Refusal::ChangedBroken(cause) => {
+            let name = names.name(File::Changed);
+            put_line(err, &Fault::Infeasible { name, cause })
+        }
+        Refusal::Write => put_line(err, &Fault::Write),
+        Refusal::Memory => put_line(err, &Fault::Memory),
+    }
+}
+
+/// Puts the line of a fault, or a front of it where a put fails.
+fn put_line<E: Sink>(err: &mut E, fault: &Fault<'_>)
+    ensures { Puts (E.taken err.old) (E.taken err.new) (E.faults err.old) (E.faults err.new) (fault_text fault.now) }
+{
+    match write_fault(err, fault) {
+        Ok(()) => {}
+        Err(_) => {}
+    }
+}
+
+/// Puts the usage line.
+#[tactic(auto, unfolding(ra_report::specs::FaultTexts::fault_text))]
+pub(crate) fn refuse_words<E: Sink>(err: &mut E) -> Status
+    ensures status { result ≡ Status.Usage }
+    ensures line { Puts (E.taken err.old) (E.taken err.new) (E.faults err.old) (E.faults err.new) (joined (usage_line ∷ line_end ∷ [])) }
+{
+    put_line(err, &Fault::Usage);
+    Status::Usage
+}
+
+/// Puts the line of refused memory.
+#[tactic(auto, unfolding(ra_report::specs::FaultTexts::fault_text, crate::specs::Lines::refusal_line))]
+pub(crate) fn refuse_memory<E: Sink>(err: &mut E) -> Status
+    ensures status { result ≡ Status.NoMemory }
+    ensures line { (names : Names) → Puts (E.taken err.old) (E.taken err.new) (E.faults err.old) (E.faults err.new) (refusal_line names Memory) }
+{
+    put_line(err, &Fault::Memory);
+    Status::NoMemory
+}
+
+/// Refuses a command line that was not read: for want of memory, or since a word is no text.
+pub fn refuse_unread<E: Sink>(err: &mut E, error: &io::Error) -> Status
+    ensures status { (result ≡ Status.NoMemory) ⊎ (result ≡ Status.Usage) }
+    ensures memory { (result ≡ Status.NoMemory) ↔ (error_kind error.now ≡ ErrorKind.OutOfMemory) }
+    ensures memory_line { result ≡ Status.NoMemory → (names : Names) → Puts (E.taken err.old) (E.taken err.new) (E.faults err.old) (E.faults err.new) (refusal_line names Refusal.Memory) }
+    ensures usage_line { result ≡ Status.Usage → Puts (E.taken err.old) (E.taken err.new) (E.faults err.old) (E.faults err.new) (joined (usage_line ∷ line_end ∷ [])) }
+{
+    if error.kind() == ErrorKind::OutOfMemory {
+        refuse_memory(err)
+    } else {
+        refuse_words(err)
+    }
+}

@@ -1,0 +1,45 @@
+ghost use Rattle.std.specs.Prelude.{◌≡◌};
+ghost use Rattle.ra_run.specs.Statuses.{number_of};
+
+/// How a job ended.
+#[derive(Clone, Copy, Debug, PartialEq, Eq)]
+pub enum Status {
+    /// The output was taken whole.
+    Done,
+    /// The words are no job.
+    Usage,
+    /// Reading a file failed.
+    ReadFault,
+    /// The model file is no model.
+    BadModel,
+    /// A file is no assignment for the model.
+    BadAssignment,
+    /// A list breaks a constraint.
+    Infeasible,
+    /// Writing the output failed.
+    WriteFault,
+    /// Memory was refused.
+    NoMemory,
+    /// The closed list is none for the model.
+    BadClosed,
+}
+
+impl Status {
+    /// The exit status of the program.
+    #[tactic(auto, unfolding(crate::specs::Statuses::number_of))]
+    pub fn number(self) -> u8
+        ensures { result ≡ number_of self }
+    {
+        match self {
+            Status::Done => 0,
+            Status::Usage => 2,
+            Status::ReadFault => 3,
+            Status::BadModel => 4,
+            Status::BadAssignment => 5,
+            Status::Infeasible => 6,
+            Status::WriteFault => 7,
+            Status::NoMemory => 8,
+            Status::BadClosed => 10,
+        }
+    }
+}
