@@ -1,4 +1,3 @@
-pub mod Checking
 pub mod Commands
 pub mod Complete
 pub mod Ends

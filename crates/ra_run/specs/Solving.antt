@@ -1,6 +1,5 @@
 -- The stages of `solve`.
 use Rattle.std.specs.Prelude.{List}
-use Rattle.std.specs.Option.{option_copied}
 use Rattle.ra_base.specs.declared.ids.Machine.{Machine}
 use Rattle.ra_draws.specs.declared.budgets.Lots.{Lots}
 use Rattle.ra_model.specs.declared.raw.Tables.{Tables}
@@ -8,12 +7,7 @@ use Rattle.ra_model.specs.Assignments.{IsAssignment}
 use Rattle.ra_model.specs.Feasible.{Feasible}
 use Rattle.ra_solo.specs.declared.run.Run.{Run}
 use Rattle.ra_solo.specs.Runs.{IsRun}
-use Rattle.ra_run.specs.declared.solve.SolveFiles.{SolveFiles}
-use Rattle.ra_run.specs.Files.{Held, Names, Accepts, solve_names}
-
--- the files of `solve`
-abbrev pub solved_names : SolveFiles → Names
-solved_names files = solve_names files.model.now (option_copied files.closed) files.initial.now
+use Rattle.ra_run.specs.Files.{Held, Names, Accepts}
 
 -- all files were accepted, and the initial list fits the instance
 pub record IsStart (held : Held) (names : Names) (i : Tables) (a0 : List Machine) : Type 0 where

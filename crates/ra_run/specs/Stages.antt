@@ -13,7 +13,11 @@ use Rattle.ra_model.specs.Numbers.{with_closed}
 use Rattle.ra_model_read.specs.declared.faults.ModelFault.{ModelFault}
 use Rattle.ra_model_read.specs.declared.faults.ModelFault.TheVariants as reader
 use Rattle.ra_model_read.specs.ModelText.{model_refusal}
+use Rattle.ra_assign.specs.declared.faults.AssignFault.{AssignFault}
 use Rattle.ra_assign.specs.ClosedLists.{IsClosedOf, closed_refusal}
+use Rattle.ra_run.specs.declared.lists.Which.{Which}
+use Rattle.ra_run.specs.declared.lists.Which.TheVariants as which
+use Rattle.ra_run.specs.declared.refusals.File.{File}
 use Rattle.ra_run.specs.declared.refusals.File.TheVariants as file
 use Rattle.ra_run.specs.declared.refusals.Refusal.{Refusal}
 use Rattle.ra_run.specs.declared.refusals.Refusal.TheVariants.{Read, Model, Closed, Initial, Changed, InitialBroken, ChangedBroken, Memory}
@@ -66,6 +70,19 @@ ChangedSays held name i before now (Read file.Changed) = Rose (before name) (now
 ChangedSays held name i before now (Changed fault) = ListRefused held name i fault
 ChangedSays held name i before now Memory = Unit {0}
 ChangedSays held name i before now refusal = ⊥
+
+-- the file of a list, and a list that is none, as a refusal of a job
+abbrev pub file_as : Which → File
+file_as which.Initial = file.Initial
+file_as which.Changed = file.Changed
+
+abbrev pub list_as : Which → AssignFault → Refusal
+list_as which.Initial fault = Initial fault
+list_as which.Changed fault = Changed fault
+
+abbrev pub ListSays : Which → Held → List ℕ → Tables → Faults → Faults → Refusal → Type 0
+ListSays which.Initial held name i before now refusal = InitialSays held name i before now refusal
+ListSays which.Changed held name i before now refusal = ChangedSays held name i before now refusal
 
 abbrev pub JudgeSays : Tables → List Machine → List Machine → Refusal → Type 0
 JudgeSays i a0 a (InitialBroken cause) = first_broken i a0 a0 ≡ Some cause

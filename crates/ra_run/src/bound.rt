@@ -8,7 +8,7 @@ ghost use Rattle.ra_run.specs.Files.{bound_names};
 ghost use Rattle.ra_run.specs.Outputs.{BoundPrinted};
 ghost use Rattle.ra_run.specs.Refusals.{Says};
 
-use crate::checks::read_open;
+use crate::reading::read_open;
 use crate::refusals::{JobFiles, Refusal};
 use crate::refusing::finish;
 use crate::status::Status;
@@ -18,7 +18,8 @@ use ra_io::{Files, Sink};
 use ra_report::write_bound;
 use std::alloc::Global;
 
-/// Prints the lower bound of a model, or puts one line that says why not. It returns, and waits for nobody.
+/// Prints the lower bound of a model, or puts one line that says why not. It returns, and waits for
+/// nobody.
 pub fn bound_run<F: Files, O: Sink, E: Sink>(
     alloc: Global,
     model: &Name,
@@ -29,14 +30,16 @@ pub fn bound_run<F: Files, O: Sink, E: Sink>(
     ensures ends { let names = bound_names model.now in
         Ends (F.held files.old) names (F.faults files.old) (F.faults files.new)
         (BoundPrinted (F.held files.old) names (Appends (O.taken out.old) (O.taken out.new)))
-        (BoundPrinted (F.held files.old) names (Breaks (O.taken out.old) (O.taken out.new) (O.faults out.old) (O.faults out.new)))
+        (BoundPrinted (F.held files.old) names
+        (Breaks (O.taken out.old) (O.taken out.new) (O.faults out.old) (O.faults out.new)))
         (Puts (E.taken err.old) (E.taken err.new) (E.faults err.old) (E.faults err.new))
         (out.new ≡ out.old) (err.new ≡ err.old) result }
     ensures not_usage { result ≢ Status.Usage }
 
     // Over a valid model file, and where no fault of it or of the output was counted, the bound is printed.
     ensures complete { let names = bound_names model.now in
-        AreValid (F.held files.old) names → NoFault names (F.faults files.old) (F.faults files.new) → (Rose (O.faults out.old) (O.faults out.new) → ⊥)
+        AreValid (F.held files.old) names → NoFault names (F.faults files.old) (F.faults files.new)
+        → (Rose (O.faults out.old) (O.faults out.new) → ⊥)
         → (result ≡ Status.Done) ⊎ (result ≡ Status.NoMemory) }
     ensures kept { (other : List ℕ) → F.held files.new other ≡ F.held files.old other }
     ensures never_fall { (other : List ℕ) → F.faults files.old other ≤ F.faults files.new other }
@@ -58,9 +61,12 @@ fn print_bound<F: Files, O: Sink>(
     files: &mut F,
     out: &mut O,
 ) -> Result<(), Refusal>
-    ensures printed { OnOk result (BoundPrinted (F.held files.old) (bound_names model.now) (Appends (O.taken out.old) (O.taken out.new))) }
-    ensures refused { IfErr result (Says (F.held files.old) (bound_names model.now) (F.faults files.old) (F.faults files.new)
-        (BoundPrinted (F.held files.old) (bound_names model.now) (Breaks (O.taken out.old) (O.taken out.new) (O.faults out.old) (O.faults out.new)))) }
+    ensures printed { OnOk result (BoundPrinted (F.held files.old) (bound_names model.now)
+        (Appends (O.taken out.old) (O.taken out.new))) }
+    ensures refused { IfErr result (Says (F.held files.old) (bound_names model.now)
+        (F.faults files.old) (F.faults files.new)
+        (BoundPrinted (F.held files.old) (bound_names model.now)
+        (Breaks (O.taken out.old) (O.taken out.new) (O.faults out.old) (O.faults out.new)))) }
     ensures untouched { IfErr result (λ refusal. refusal ≢ Refusal.Write → out.new ≡ out.old) }
     ensures kept { (other : List ℕ) → F.held files.new other ≡ F.held files.old other }
     ensures never_fall { (other : List ℕ) → F.faults files.old other ≤ F.faults files.new other }

@@ -24,8 +24,9 @@ use std::marker::Sync;
 use std::sync::Wait;
 use std::thread::Threads;
 
-/// Does the job of the command words, which leave out the program's name: `check`, `bound`, or `solve` with one lot. All
-/// other words are a usage fault. On `solve` that is done the output is the report of one legal journal: see `Solved`.
+/// Does the job of the command words, which leave out the program's name: `check`, `bound`, or
+/// `solve` with one lot. All other words are a usage fault. On `solve` that is done the output is
+/// the report of one legal journal: see `Solved`.
 pub fn run<R: Threads + Wait + Sync, F: Files, O: Sink, E: Sink, G: Gate>(
     rt: &R,
     alloc: Global,
@@ -36,15 +37,20 @@ pub fn run<R: Threads + Wait + Sync, F: Files, O: Sink, E: Sink, G: Gate>(
     gate: &G,
 ) -> Status
     ensures usage { (result ≡ Status.Usage) ↔ (job_of (texts words.now) ≡ None) }
-    ensures usage_line { result ≡ Status.Usage → Puts (E.taken err.old) (E.taken err.new) (E.faults err.old) (E.faults err.new) (joined (usage_line ∷ line_end ∷ [])) }
+    ensures usage_line { result ≡ Status.Usage → Puts (E.taken err.old) (E.taken err.new)
+        (E.faults err.old) (E.faults err.new) (joined (usage_line ∷ line_end ∷ [])) }
     ensures usage_quiet { result ≡ Status.Usage → out.new ≡ out.old }
-    ensures ends { IfSome (job_of (texts words.now)) (λ says. Ends (F.held files.old) (names_in says) (F.faults files.old) (F.faults files.new)
+    ensures ends { IfSome (job_of (texts words.now))
+        (λ says. Ends (F.held files.old) (names_in says) (F.faults files.old) (F.faults files.new)
         (OutputOf (F.held files.old) says (Appends (O.taken out.old) (O.taken out.new)))
-        (OutputOf (F.held files.old) says (Breaks (O.taken out.old) (O.taken out.new) (O.faults out.old) (O.faults out.new)))
+        (OutputOf (F.held files.old) says
+        (Breaks (O.taken out.old) (O.taken out.new) (O.faults out.old) (O.faults out.new)))
         (Puts (E.taken err.old) (E.taken err.new) (E.faults err.old) (E.faults err.new))
         (out.new ≡ out.old) (err.new ≡ err.old) result) }
-    ensures complete { IfSome (job_of (texts words.now)) (λ says. AreValid (F.held files.old) (names_in says)
-        → NoFault (names_in says) (F.faults files.old) (F.faults files.new) → (Rose (O.faults out.old) (O.faults out.new) → ⊥)
+    ensures complete { IfSome (job_of (texts words.now))
+        (λ says. AreValid (F.held files.old) (names_in says)
+        → NoFault (names_in says) (F.faults files.old) (F.faults files.new) →
+        (Rose (O.faults out.old) (O.faults out.new) → ⊥)
         → (result ≡ Status.Done) ⊎ (result ≡ Status.NoMemory)) }
     ensures kept { (other : List ℕ) → F.held files.new other ≡ F.held files.old other }
     ensures never_fall { (other : List ℕ) → F.faults files.old other ≤ F.faults files.new other }
@@ -67,14 +73,17 @@ fn do_job<R: Threads + Wait + Sync, F: Files, O: Sink, E: Sink, G: Gate>(
     gate: &G,
 ) -> Status
     requires { IsServed (said job.now) }
-    ensures ends { Ends (F.held files.old) (names_in (said job.now)) (F.faults files.old) (F.faults files.new)
+    ensures ends { Ends (F.held files.old) (names_in (said job.now)) (F.faults files.old)
+        (F.faults files.new)
         (OutputOf (F.held files.old) (said job.now) (Appends (O.taken out.old) (O.taken out.new)))
-        (OutputOf (F.held files.old) (said job.now) (Breaks (O.taken out.old) (O.taken out.new) (O.faults out.old) (O.faults out.new)))
+        (OutputOf (F.held files.old) (said job.now)
+        (Breaks (O.taken out.old) (O.taken out.new) (O.faults out.old) (O.faults out.new)))
         (Puts (E.taken err.old) (E.taken err.new) (E.faults err.old) (E.faults err.new))
         (out.new ≡ out.old) (err.new ≡ err.old) result }
     ensures not_usage { result ≢ Status.Usage }
     ensures complete { AreValid (F.held files.old) (names_in (said job.now))
-        → NoFault (names_in (said job.now)) (F.faults files.old) (F.faults files.new) → (Rose (O.faults out.old) (O.faults out.new) → ⊥)
+        → NoFault (names_in (said job.now)) (F.faults files.old) (F.faults files.new) →
+        (Rose (O.faults out.old) (O.faults out.new) → ⊥)
         → (result ≡ Status.Done) ⊎ (result ≡ Status.NoMemory) }
     ensures kept { (other : List ℕ) → F.held files.new other ≡ F.held files.old other }
     ensures never_fall { (other : List ℕ) → F.faults files.old other ≤ F.faults files.new other }

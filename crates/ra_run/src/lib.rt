@@ -1,24 +1,26 @@
-//! The top call: `run` does the one job that the words of the command line name, over files and sinks that are handed in.
-//! Two programs stand on it: `reassign` hands in those of the system, `cases` those in memory.
+//! The top call: `run` does the one job that the words of the command line name, over files and
+//! sinks that are handed in. Two programs stand on it: `reassign` hands in those of the system,
+//! `cases` those in memory.
 #![tactic(auto)]
 
 mod bound;
 mod check;
-mod checks;
 mod job;
+mod judging;
+mod lists;
+mod reading;
 mod refusals;
 mod refusing;
 mod solve;
-mod stages;
 mod status;
 mod steady;
 
 pub use bound::bound_run;
-pub use check::{CheckFiles, check_run};
+pub use check::check_run;
 pub use job::run;
 pub use refusals::{File, JobFiles, Refusal};
 pub use refusing::refuse_unread;
-pub use solve::{SolveFiles, solve_run};
+pub use solve::solve_run;
 pub use status::Status;
 pub use steady::check_steady;
 

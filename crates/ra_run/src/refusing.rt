@@ -16,7 +16,8 @@ use ra_report::{Fault, write_fault};
 use std::io;
 use std::io::ErrorKind;
 
-/// How a job ends: it is done, or its refusal is told, with its status, which a failing put doesn't change.
+/// How a job ends: it is done, or its refusal is told, with its status, which a failing put doesn't
+/// change.
 pub(crate) fn finish<E: Sink>(
     err: &mut E,
     names: &JobFiles<'_>,
@@ -26,7 +27,8 @@ pub(crate) fn finish<E: Sink>(
     ensures done { ended ≡ Ok tt → result ≡ Status.Done }
     ensures quiet { ended ≡ Ok tt → err.new ≡ err.old }
     ensures status { IfErr ended (λ refusal. result ≡ status_of refusal) }
-    ensures line { IfErr ended (λ refusal. Puts (E.taken err.old) (E.taken err.new) (E.faults err.old) (E.faults err.new) (refusal_line (names_of names.now) refusal)) }
+    ensures line { IfErr ended (λ refusal. Puts (E.taken err.old) (E.taken err.new)
+        (E.faults err.old) (E.faults err.new) (refusal_line (names_of names.now) refusal)) }
 {
     match ended {
         Ok(()) => Status::Done,
@@ -59,7 +61,8 @@ fn status(refusal: Refusal) -> Status
 #[tactic(auto, unfolding(crate::specs::Lines::refusal_line, ra_report::specs::FaultTexts::fault_text))]
 fn tell<E: Sink>(err: &mut E, names: &JobFiles<'_>, refusal: Refusal)
     requires { CanTell (names_of names.now) refusal }
-    ensures { Puts (E.taken err.old) (E.taken err.new) (E.faults err.old) (E.faults err.new) (refusal_line (names_of names.now) refusal) }
+    ensures { Puts (E.taken err.old) (E.taken err.new) (E.faults err.old) (E.faults err.new)
+        (refusal_line (names_of names.now) refusal) }
 {
     match refusal {
         Refusal::Read(file) => {
@@ -94,7 +97,8 @@ fn tell<E: Sink>(err: &mut E, names: &JobFiles<'_>, refusal: Refusal)
 
 /// Puts the line of a fault, or a front of it where a put fails.
 fn put_line<E: Sink>(err: &mut E, fault: &Fault<'_>)
-    ensures { Puts (E.taken err.old) (E.taken err.new) (E.faults err.old) (E.faults err.new) (fault_text fault.now) }
+    ensures { Puts (E.taken err.old) (E.taken err.new) (E.faults err.old) (E.faults err.new)
+        (fault_text fault.now) }
 {
     match write_fault(err, fault) {
         Ok(()) => {}
@@ -106,7 +110,8 @@ fn put_line<E: Sink>(err: &mut E, fault: &Fault<'_>)
 #[tactic(auto, unfolding(ra_report::specs::FaultTexts::fault_text))]
 pub(crate) fn refuse_words<E: Sink>(err: &mut E) -> Status
     ensures status { result ≡ Status.Usage }
-    ensures line { Puts (E.taken err.old) (E.taken err.new) (E.faults err.old) (E.faults err.new) (joined (usage_line ∷ line_end ∷ [])) }
+    ensures line { Puts (E.taken err.old) (E.taken err.new) (E.faults err.old) (E.faults err.new)
+        (joined (usage_line ∷ line_end ∷ [])) }
 {
     put_line(err, &Fault::Usage);
     Status::Usage
@@ -116,7 +121,8 @@ pub(crate) fn refuse_words<E: Sink>(err: &mut E) -> Status
 #[tactic(auto, unfolding(ra_report::specs::FaultTexts::fault_text, crate::specs::Lines::refusal_line))]
 pub(crate) fn refuse_memory<E: Sink>(err: &mut E) -> Status
     ensures status { result ≡ Status.NoMemory }
-    ensures line { (names : Names) → Puts (E.taken err.old) (E.taken err.new) (E.faults err.old) (E.faults err.new) (refusal_line names Memory) }
+    ensures line { (names : Names) → Puts (E.taken err.old) (E.taken err.new) (E.faults err.old)
+        (E.faults err.new) (refusal_line names Memory) }
 {
     put_line(err, &Fault::Memory);
     Status::NoMemory
@@ -126,8 +132,11 @@ pub(crate) fn refuse_memory<E: Sink>(err: &mut E) -> Status
 pub fn refuse_unread<E: Sink>(err: &mut E, error: &io::Error) -> Status
     ensures status { (result ≡ Status.NoMemory) ⊎ (result ≡ Status.Usage) }
     ensures memory { (result ≡ Status.NoMemory) ↔ (error_kind error.now ≡ ErrorKind.OutOfMemory) }
-    ensures memory_line { result ≡ Status.NoMemory → (names : Names) → Puts (E.taken err.old) (E.taken err.new) (E.faults err.old) (E.faults err.new) (refusal_line names Refusal.Memory) }
-    ensures usage_line { result ≡ Status.Usage → Puts (E.taken err.old) (E.taken err.new) (E.faults err.old) (E.faults err.new) (joined (usage_line ∷ line_end ∷ [])) }
+    ensures memory_line { result ≡ Status.NoMemory → (names : Names) → Puts (E.taken err.old)
+        (E.taken err.new) (E.faults err.old) (E.faults err.new)
+        (refusal_line names Refusal.Memory) }
+    ensures usage_line { result ≡ Status.Usage → Puts (E.taken err.old) (E.taken err.new)
+        (E.faults err.old) (E.faults err.new) (joined (usage_line ∷ line_end ∷ [])) }
 {
     if error.kind() == ErrorKind::OutOfMemory {
         refuse_memory(err)

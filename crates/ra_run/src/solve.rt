@@ -9,16 +9,17 @@ ghost use Rattle.ra_report.specs.JournalTexts.{report_lines};
 ghost use Rattle.ra_report.specs.Pieces.{Breaks, Puts};
 ghost use Rattle.ra_run.specs.Complete.{AreValid, NoFault};
 ghost use Rattle.ra_run.specs.Ends.{Ends};
-ghost use Rattle.ra_run.specs.Files.{names_of, solve_names};
+ghost use Rattle.ra_run.specs.Files.{solve_names};
 ghost use Rattle.ra_run.specs.Outputs.{Solved};
 ghost use Rattle.ra_run.specs.Refusals.{Says};
-ghost use Rattle.ra_run.specs.Solving.{solved_names, IsStart, HasRun};
+ghost use Rattle.ra_run.specs.Solving.{IsStart, HasRun};
 ghost use Rattle.ra_run.specs.Stages.{StartSays};
 
-use crate::checks::{judge_start, read_initial};
+use crate::judging::judge_start;
+use crate::lists::{Which, read_list};
+use crate::reading::read_instance;
 use crate::refusals::{JobFiles, Refusal};
 use crate::refusing::finish;
-use crate::stages::read_instance;
 use crate::status::Status;
 use ra_base::{Assignment, Name};
 use ra_bounds::bound;
@@ -32,31 +33,9 @@ use std::marker::Sync;
 use std::sync::Wait;
 use std::thread::Threads;
 
-/// The names of the files of `solve`, lent from its job.
-#[derive(Clone, Copy)]
-pub struct SolveFiles<'n> {
-    pub model: &'n Name,
-    pub closed: Option<&'n Name>,
-    pub initial: &'n Name,
-}
-
-impl<'n> SolveFiles<'n> {
-    /// The same as those of any job.
-    pub(crate) fn files(&self) -> JobFiles<'n>
-        ensures { names_of result ≡ solved_names self.now }
-    {
-        JobFiles {
-            model: self.model,
-            closed: self.closed,
-            initial: Some(self.initial),
-            changed: None,
-        }
-    }
-}
-
-/// Improves the list `initial` of a model by the proposals of a lot: prints a report of the journal, or puts one line
-/// that says why not. Today a run has one lot, whose proposals are made in turn on the calling thread: the runtime and
-/// the gate are those of runs of several workers.
+/// Improves the list `initial` of a model by the proposals of a lot: prints a report of the
+/// journal, or puts one line that says why not. Today a run has one lot, whose proposals are made
+/// in turn on the calling thread: the runtime and the gate are those of runs of several workers.
 pub fn solve_run<'n, R: Threads + Wait + Sync, F: Files, O: Sink, E: Sink, G: Gate>(
     _rt: &R,
     alloc: Global,
@@ -73,44 +52,55 @@ pub fn solve_run<'n, R: Threads + Wait + Sync, F: Files, O: Sink, E: Sink, G: Ga
     ensures ends { let names = solve_names model.now (option_copied closed.entry) initial.now in
         Ends (F.held files.old) names (F.faults files.old) (F.faults files.new)
         (Solved (F.held files.old) names lots.now (Appends (O.taken out.old) (O.taken out.new)))
-        (Solved (F.held files.old) names lots.now (Breaks (O.taken out.old) (O.taken out.new) (O.faults out.old) (O.faults out.new)))
+        (Solved (F.held files.old) names lots.now
+        (Breaks (O.taken out.old) (O.taken out.new) (O.faults out.old) (O.faults out.new)))
         (Puts (E.taken err.old) (E.taken err.new) (E.faults err.old) (E.faults err.new))
         (out.new ≡ out.old) (err.new ≡ err.old) result }
     ensures not_usage { result ≢ Status.Usage }
 
     // Over valid files, and where no fault of a file of the job or of the output was counted, the report is printed.
     ensures complete { let names = solve_names model.now (option_copied closed.entry) initial.now in
-        AreValid (F.held files.old) names → NoFault names (F.faults files.old) (F.faults files.new) → (Rose (O.faults out.old) (O.faults out.new) → ⊥)
+        AreValid (F.held files.old) names → NoFault names (F.faults files.old) (F.faults files.new)
+        → (Rose (O.faults out.old) (O.faults out.new) → ⊥)
         → (result ≡ Status.Done) ⊎ (result ≡ Status.NoMemory) }
     ensures kept { (other : List ℕ) → F.held files.new other ≡ F.held files.old other }
     ensures never_fall { (other : List ℕ) → F.faults files.old other ≤ F.faults files.new other }
 {
-    let names = SolveFiles {
+    let names = JobFiles {
         model,
         closed,
-        initial,
+        initial: Some(initial),
+        changed: None,
     };
-    let ended = solve(alloc, &names, lots, files, out);
-    finish(err, &names.files(), ended)
+    let ended = solve(alloc, model, initial, closed, lots, files, out);
+    finish(err, &names, ended)
 }
 
 /// The same but for the line of its refusal.
 fn solve<F: Files, O: Sink>(
     alloc: Global,
-    names: &SolveFiles<'_>,
+    model: &Name,
+    initial: &Name,
+    closed: Option<&Name>,
     lots: &Lots,
     files: &mut F,
     out: &mut O,
 ) -> Result<(), Refusal>
     requires one { worker_count lots.now ≡ 1 }
-    ensures printed { OnOk result (Solved (F.held files.old) (solved_names names.now) lots.now (Appends (O.taken out.old) (O.taken out.new))) }
-    ensures refused { IfErr result (Says (F.held files.old) (solved_names names.now) (F.faults files.old) (F.faults files.new)
-        (Solved (F.held files.old) (solved_names names.now) lots.now (Breaks (O.taken out.old) (O.taken out.new) (O.faults out.old) (O.faults out.new)))) }
+    ensures printed { OnOk result (Solved (F.held files.old)
+        (solve_names model.now (option_copied closed.entry) initial.now) lots.now
+        (Appends (O.taken out.old) (O.taken out.new))) }
+    ensures refused { IfErr result (Says (F.held files.old)
+        (solve_names model.now (option_copied closed.entry) initial.now) (F.faults files.old)
+        (F.faults files.new)
+        (Solved (F.held files.old) (solve_names model.now
+        (option_copied closed.entry) initial.now) lots.now
+        (Breaks (O.taken out.old) (O.taken out.new) (O.faults out.old) (O.faults out.new)))) }
     ensures untouched { IfErr result (λ refusal. refusal ≢ Refusal.Write → out.new ≡ out.old) }
     ensures kept { (other : List ℕ) → F.held files.new other ≡ F.held files.old other }
     ensures never_fall { (other : List ℕ) → F.faults files.old other ≤ F.faults files.new other }
 {
-    match read_start(alloc, files, names) {
+    match read_start(alloc, model, initial, closed, files) {
         Ok(start) => match run_from(alloc, &start.inst, &start.initial, lots) {
             Ok(run) => match report(out, &start.inst, lots, &run) {
                 Ok(()) => Ok(()),
@@ -132,17 +122,21 @@ pub(crate) struct Start {
 /// The instance and the initial list, where all files are accepted.
 fn read_start<F: Files>(
     alloc: Global,
+    model: &Name,
+    initial: &Name,
+    closed: Option<&Name>,
     files: &mut F,
-    names: &SolveFiles<'_>,
 ) -> Result<Start, Refusal>
-    ensures read { IfOk result (λ s. IsStart (F.held files.old) (solved_names names.now) s.inst.tables s.initial.items) }
-    ensures refused { IfErr result (Says (F.held files.old) (solved_names names.now) (F.faults files.old) (F.faults files.new) ⊥) }
+    ensures read { IfOk result (λ s. IsStart (F.held files.old)
+        (solve_names model.now (option_copied closed.entry) initial.now) s.inst.tables s.initial.items) }
+    ensures refused { IfErr result (Says (F.held files.old)
+        (solve_names model.now (option_copied closed.entry) initial.now) (F.faults files.old)
+        (F.faults files.new) ⊥) }
     ensures kept { (other : List ℕ) → F.held files.new other ≡ F.held files.old other }
     ensures never_fall { (other : List ℕ) → F.faults files.old other ≤ F.faults files.new other }
 {
-    let initial = names.initial;
-    match read_instance(alloc, files, names.model, names.closed) {
-        Ok(inst) => match read_initial(alloc, files, initial, &inst) {
+    match read_instance(alloc, files, model, closed) {
+        Ok(inst) => match read_list(alloc, files, Which::Initial, initial, &inst) {
             Ok(initial) => Ok(Start { inst, initial }),
             Err(refusal) => Err(refusal),
         },
@@ -175,7 +169,8 @@ fn run_from(
 fn report<O: Sink>(out: &mut O, inst: &Instance, lots: &Lots, run: &Run) -> Result<(), WriteFault>
     ensures whole { OnOk result (Appends (O.taken out.old) (O.taken out.new)
         (report_lines run.now.parts (bound_of inst.now.tables).total run.now.best_at run.now.best.items lots.now.drawing run.now.entries.items)) }
-    ensures part { OnErr result (Breaks (O.taken out.old) (O.taken out.new) (O.faults out.old) (O.faults out.new)
+    ensures part { OnErr result (Breaks (O.taken out.old) (O.taken out.new) (O.faults out.old)
+        (O.faults out.new)
         (report_lines run.now.parts (bound_of inst.now.tables).total run.now.best_at run.now.best.items lots.now.drawing run.now.entries.items)) }
 {
     write_report(

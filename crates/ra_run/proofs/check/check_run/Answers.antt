@@ -15,7 +15,7 @@ returns-clause-ends g c = ends_so (g.F.Files.held c.args.files.now) (check_names
     (Printed (g.F.Files.held c.args.files.now) (check_names c.args.model.now (option_copied c.args.closed) c.args.initial.now c.args.changed.now) (Breaks (g.O.Sink.taken c.args.out.now) (g.O.Sink.taken c.check-ended.new.out) (g.O.Sink.faults c.args.out.now) (g.O.Sink.faults c.check-ended.new.out)))
     (Puts (g.E.Sink.taken c.args.err.now) (g.E.Sink.taken c.finish.new.err) (g.E.Sink.faults c.args.err.now) (g.E.Sink.faults c.finish.new.err))
     (c.check-ended.new.out ≡ c.args.out.now) (c.finish.new.err ≡ c.args.err.now)
-    c.check-ended.result c.finish.result c.check-ended.ensures.printed c.check-ended.ensures.refused c.check-ended.ensures.untouched c.finish.ensures.done c.finish.ensures.quiet c.finish.ensures.status (rw c.files.ensures at c.finish.ensures.line)
+    c.check-ended.result c.finish.result c.check-ended.ensures.printed c.check-ended.ensures.refused c.check-ended.ensures.untouched c.finish.ensures.done c.finish.ensures.quiet c.finish.ensures.status c.finish.ensures.line
 
 pub returns-clause-not_usage : goal.returns-clause-not_usage
 returns-clause-not_usage g c = ends_otherwise (g.F.Files.held c.args.files.now) (check_names c.args.model.now (option_copied c.args.closed) c.args.initial.now c.args.changed.now) (g.F.Files.faults c.args.files.now) (g.F.Files.faults c.check-ended.new.files)

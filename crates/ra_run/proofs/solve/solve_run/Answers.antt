@@ -15,7 +15,7 @@ returns-clause-ends g c = ends_so (g.F.Files.held c.args.files.now) (solve_names
     (Solved (g.F.Files.held c.args.files.now) (solve_names c.args.model.now (option_copied c.args.closed) c.args.initial.now) c.args.lots.now (Breaks (g.O.Sink.taken c.args.out.now) (g.O.Sink.taken c.solve-ended.new.out) (g.O.Sink.faults c.args.out.now) (g.O.Sink.faults c.solve-ended.new.out)))
     (Puts (g.E.Sink.taken c.args.err.now) (g.E.Sink.taken c.finish.new.err) (g.E.Sink.faults c.args.err.now) (g.E.Sink.faults c.finish.new.err))
     (c.solve-ended.new.out ≡ c.args.out.now) (c.finish.new.err ≡ c.args.err.now)
-    c.solve-ended.result c.finish.result c.solve-ended.ensures.printed c.solve-ended.ensures.refused c.solve-ended.ensures.untouched c.finish.ensures.done c.finish.ensures.quiet c.finish.ensures.status (rw c.files.ensures at c.finish.ensures.line)
+    c.solve-ended.result c.finish.result c.solve-ended.ensures.printed c.solve-ended.ensures.refused c.solve-ended.ensures.untouched c.finish.ensures.done c.finish.ensures.quiet c.finish.ensures.status c.finish.ensures.line
 
 pub returns-clause-not_usage : goal.returns-clause-not_usage
 returns-clause-not_usage g c = ends_otherwise (g.F.Files.held c.args.files.now) (solve_names c.args.model.now (option_copied c.args.closed) c.args.initial.now) (g.F.Files.faults c.args.files.now) (g.F.Files.faults c.solve-ended.new.files)

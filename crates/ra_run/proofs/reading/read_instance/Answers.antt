@@ -2,7 +2,7 @@ use Rattle.std.proofs.Common.{refl}
 use Rattle.std.proofs.lemmas.Result.{MatchResult-weaker}
 use Rattle.std.specs.Option.{option_copied}
 use Rattle.ra_run.proofs.StageLemmas.{instance_open, instance_closed, source_model, source_closed}
-use Rattle.ra_run.proofs.stages.read_instance.Goals as goal
+use Rattle.ra_run.proofs.reading.read_instance.Goals as goal
 
 pub returns-in-None-clause-read : goal.returns-in-None-clause-read
 returns-in-None-clause-read g c = instance_open (g.F.Files.held c.args.files.now) c.args.model.now (option_copied c.args.closed) c.in-Ok.inst.tables c.in-Ok.ensures.read (rw c.in-None.is refl)

@@ -2,7 +2,7 @@ use Rattle.std.proofs.Common.{◌≡◌, Err, ap}
 use Rattle.ra_model_read.specs.declared.faults.ModelFault.{ModelFault}
 use Rattle.ra_model_read.specs.declared.faults.ModelFault.TheVariants.{ReadFault}
 use Rattle.ra_run.proofs.StageLemmas.{model_says}
-use Rattle.ra_run.proofs.checks.read_open.Goals as goal
+use Rattle.ra_run.proofs.reading.read_open.Goals as goal
 
 pub returns-in-Err-clause-refused : goal.returns-in-Err-clause-refused
 returns-in-Err-clause-refused g c = rw (c.model_refused.ensures, ← c.as_str.ensures)

@@ -1,0 +1,90 @@
+ghost use Rattle.std.specs.Prelude.{◌≡◌, ℕ, ◌≤◌, List, IfOk, IfErr};
+ghost use Rattle.ra_run.specs.Stages.{file_as, list_as, ListSays, IsList, ReadsLists, ListsSay};
+
+use crate::refusals::{File, Refusal};
+use ra_assign::{AssignFault, read_assignment};
+use ra_base::{Assignment, Name};
+use ra_io::Files;
+use ra_model::Instance;
+use std::alloc::Global;
+
+/// One of the two lists of a job.
+#[derive(Clone, Copy)]
+pub(crate) enum Which {
+    Initial,
+    Changed,
+}
+
+/// A list of a job.
+pub(crate) fn read_list<F: Files>(
+    alloc: Global,
+    files: &mut F,
+    which: Which,
+    name: &Name,
+    inst: &Instance,
+) -> Result<Assignment, Refusal>
+    ensures read { IfOk result (λ a. IsList (F.held files.old) name.now inst.now.tables a.items) }
+    ensures refused { IfErr result (ListSays which (F.held files.old) name.now inst.now.tables
+        (F.faults files.old) (F.faults files.new)) }
+    ensures kept { (other : List ℕ) → F.held files.new other ≡ F.held files.old other }
+    ensures never_fall { (other : List ℕ) → F.faults files.old other ≤ F.faults files.new other }
+{
+    match read_assignment(alloc, files, name.as_str(), inst) {
+        Ok(list) => Ok(list),
+        Err(AssignFault::ReadFault) => Err(Refusal::Read(file_of(which))),
+        Err(AssignFault::NoMemory) => Err(Refusal::Memory),
+        Err(fault) => Err(refused(which, fault)),
+    }
+}
+
+/// The file of a list.
+fn file_of(which: Which) -> File
+    ensures { result ≡ file_as which }
+{
+    match which {
+        Which::Initial => File::Initial,
+        Which::Changed => File::Changed,
+    }
+}
+
+/// A list that is none, as a refusal of a job.
+fn refused(which: Which, fault: AssignFault) -> Refusal
+    ensures { result ≡ list_as which fault }
+{
+    match which {
+        Which::Initial => Refusal::Initial(fault),
+        Which::Changed => Refusal::Changed(fault),
+    }
+}
+
+/// The two lists of a check.
+#[derive(Drop)]
+pub(crate) struct Lists {
+    pub(crate) initial: Assignment,
+    pub(crate) changed: Assignment,
+}
+
+/// The initial list, and then the new one.
+pub(crate) fn read_lists<F: Files>(
+    alloc: Global,
+    files: &mut F,
+    initial: &Name,
+    changed: &Name,
+    inst: &Instance,
+) -> Result<Lists, Refusal>
+    ensures read { IfOk result (λ l. ReadsLists
+        (F.held files.old) initial.now changed.now inst.now.tables l.initial.items l.changed.items) }
+    ensures refused { IfErr result (ListsSay
+        (F.held files.old) initial.now changed.now inst.now.tables (F.faults files.old)
+        (F.faults files.new)) }
+    ensures kept { (other : List ℕ) → F.held files.new other ≡ F.held files.old other }
+    ensures never_fall { (other : List ℕ) → F.faults files.old other ≤ F.faults files.new other }
+{
+    match read_list(alloc, files, Which::Initial, initial, inst) {
+        Ok(initial) => match read_list(alloc, files, Which::Changed, changed, inst) {
+            Ok(changed) => Ok(Lists { initial, changed }),
+            Err(refusal) => Err(refusal),
+        },
+        Err(refusal) => Err(refusal),
+    }
+}
