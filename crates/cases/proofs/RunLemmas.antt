@@ -1,0 +1,91 @@
+-- An ending that came is one that the top call promises, and so is the wanted one where they are the same.
+use Rattle.std.proofs.Common.{◌≡◌, ◌↔◌, ℕ, List, [], ◌++◌, Option, Some, None, IfSome, refl, sym, ◌∙◌, subst}
+use Rattle.std.specs.Io.KnownBytes.{Appends}
+use Rattle.ra_words.specs.Jobs.{JobSays, Checks, Bounds, Solves, job_of}
+use Rattle.ra_draws.specs.declared.budgets.Lots.{Lots}
+use Rattle.ra_run.specs.declared.status.Status.{Status}
+use Rattle.ra_run.specs.declared.status.Status.TheVariants.{Done, Usage, ReadFault, BadModel, BadAssignment, Infeasible, WriteFault, NoMemory, BadClosed}
+use Rattle.ra_run.specs.Commands.{names_in, OutputOf}
+use Rattle.ra_run.specs.Ends.{Ends}
+use Rattle.ra_run.specs.Files.{Held, Faults, Names}
+use Rattle.ra_run.specs.Outputs.{Printed, BoundPrinted, Solved}
+use Rattle.ra_run.specs.Statuses.{number_of}
+use Rattle.cases.specs.declared.endings.Ending.{Ending}
+use Rattle.cases.specs.Endings.{Same}
+use Rattle.cases.specs.Runs.{Runs}
+
+-- a status by its number
+
+usage_of : (status : Status) → number_of status ≡ 2 → status ≡ Usage
+unfolding number_of
+usage_of Done e = cc
+usage_of Usage e = refl
+usage_of ReadFault e = cc
+usage_of BadModel e = cc
+usage_of BadAssignment e = cc
+usage_of Infeasible e = cc
+usage_of WriteFault e = cc
+usage_of NoMemory e = cc
+usage_of BadClosed e = cc
+
+of_usage : (status : Status) → status ≡ Usage → number_of status ≡ 2
+unfolding number_of
+of_usage status e = rw e refl
+
+done_of : (status : Status) → number_of status ≡ 0 → status ≡ Done
+unfolding number_of
+done_of Done e = refl
+done_of Usage e = cc
+done_of ReadFault e = cc
+done_of BadModel e = cc
+done_of BadAssignment e = cc
+done_of Infeasible e = cc
+done_of WriteFault e = cc
+done_of NoMemory e = cc
+done_of BadClosed e = cc
+
+-- an output that went one way went another, where each text did
+
+printed_more : (held : Held) (names : Names) (way more : List ℕ → Type 0) → ((text : List ℕ) → way text → more text) → Printed held names way → Printed held names more
+printed_more held names way more step p = record { tables = p.tables; a0 = p.a0; a = p.a; passes = p.passes; text = step _ p.text }
+
+bound_more : (held : Held) (names : Names) (way more : List ℕ → Type 0) → ((text : List ℕ) → way text → more text) → BoundPrinted held names way → BoundPrinted held names more
+bound_more held names way more step p = record { tables = p.tables; read = p.read; text = step _ p.text }
+
+solved_more : (held : Held) (names : Names) (l : Lots) (way more : List ℕ → Type 0) → ((text : List ℕ) → way text → more text) → Solved held names l way → Solved held names l more
+solved_more held names l way more step p = record {
+  tables = p.tables;
+  a0 = p.a0;
+  journal = p.journal;
+  bytes = p.bytes;
+  accepts = p.accepts;
+  start = p.start;
+  text = step _ p.text;
+  report = p.report;
+  told = p.told;
+  legal = p.legal;
+  whole = p.whole;
+  sound = p.sound;
+  least = p.least;
+}
+
+output_more : (held : Held) (says : JobSays) (way more : List ℕ → Type 0) → ((text : List ℕ) → way text → more text) → OutputOf held says way → OutputOf held says more
+output_more held (Checks model initial changed closed) way more step p = printed_more held _ way more step p
+output_more held (Bounds model) way more step p = bound_more held _ way more step p
+output_more held (Solves model initial closed slack drawing lots) way more step p = (p.0, p.1, solved_more held _ p.0 way more step p.2)
+
+-- a job that is done has put its output
+
+output_of : (job : Option JobSays) (held : Held) (before now : Faults) (out taken : List ℕ) (breaks tells : List ℕ → Type 0) (out_same err_same : Type 0) (status : Status) → status ≡ Done → out ≡ [] → IfSome job (λ says. Ends held (names_in says) before now (OutputOf held says (Appends (Some out) (Some taken))) (OutputOf held says breaks) tells out_same err_same status) → IfSome job (λ says. OutputOf held says (λ text. taken ≡ text))
+output_of None held before now out taken breaks tells out_same err_same status done empty ends = tt
+output_of (Some says) held before now out taken breaks tells out_same err_same status done empty ends =
+    output_more held says (Appends (Some out) (Some taken)) (λ text. taken ≡ text)
+    (λ text (put : taken ≡ out ++ text). put ∙ (rw empty refl))
+    (ends.printed done)
+
+pub runs : (words : List (List ℕ)) (held : Held) (before now : Faults) (out : List ℕ) (breaks tells : List ℕ → Type 0) (out_same err_same : Type 0) (status : Status) (came wanted : Ending) → out ≡ [] → ((status ≡ Usage) ↔ (job_of words ≡ None)) → IfSome (job_of words) (λ says. Ends held (names_in says) before now (OutputOf held says (Appends (Some out) (Some came.out.now))) (OutputOf held says breaks) tells out_same err_same status) → came.status ≡ number_of status → Same came wanted → Runs words held wanted
+runs words held before now out breaks tells out_same err_same status came wanted empty usage ends number same = record {
+  usage = (λ two. usage.0 (usage_of status (sym number ∙ same.status ∙ two)), λ none. sym same.status ∙ number ∙ of_usage status (usage.1 none));
+  done = λ zero. subst (λ x. IfSome (job_of words) (λ says. OutputOf held says (λ text. x ≡ text))) same.out
+      (output_of (job_of words) held before now out came.out.now breaks tells out_same err_same status (done_of status (sym number ∙ same.status ∙ zero)) empty ends);
+}

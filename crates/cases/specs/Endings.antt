@@ -1,0 +1,24 @@
+-- How a run ended, and what is said of it.
+use Rattle.std.specs.Prelude.{◌≡◌, ℕ, List, [], ◌∷◌, ◌++◌, Bool, true, false, Option, codes}
+use Rattle.std.specs.Io.KnownBytes.{Appends}
+use Rattle.ra_report.specs.Pieces.{joined}
+use Rattle.cases.specs.declared.endings.Ending.{Ending}
+
+-- two endings have the same status, the same output and the same error line
+pub record Same (came wanted : Ending) : Type 0 where
+  pub status : came.status ≡ wanted.status
+  pub out : came.out.now ≡ wanted.out.now
+  pub err : came.err.now ≡ wanted.err.now
+
+-- the line of a case: its name, and whether it ended as it has to
+unfoldable pub verdict_text : List ℕ → Bool → List ℕ
+verdict_text name true = joined (name ∷ codes ": ok\n" ∷ [])
+verdict_text name false = joined (name ∷ codes ": FAILED\n" ∷ [])
+
+-- a sink took more, or nothing
+abbrev pub Grows : Option (List ℕ) → Option (List ℕ) → Type 0
+Grows old new = (text : List ℕ) × Appends old new text
+
+-- a sink took the line of a case that failed, and before it what shows why
+abbrev pub TellsFailure : Option (List ℕ) → Option (List ℕ) → List ℕ → Type 0
+TellsFailure old new name = (shown : List ℕ) × Appends old new (shown ++ verdict_text name false)

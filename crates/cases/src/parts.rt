@@ -1,0 +1,135 @@
+ghost use Rattle.std.specs.Prelude.{◌≡◌, ◌<◌, [], IfOk};
+ghost use Rattle.ra_io.specs.MemorySink as taken;
+
+use crate::texts::{Text, text_of};
+use crate::tokens::{Token, filled};
+use crate::trouble::Trouble;
+use ra_base::Fixed;
+use ra_io::{MemoryFiles, MemorySink};
+use std::alloc::Global;
+
+/// The most bytes of an output, and of an error line, of a case.
+const ROOM: usize = 100_000;
+
+/// A case: its lines below the name, with the pieces of one of its rows, and the texts that it
+/// shares.
+#[derive(Clone, Copy)]
+pub(crate) struct Case<'c> {
+    pub(crate) lines: &'c [&'c str],
+    pub(crate) row: &'c [Token<'c>],
+    pub(crate) texts: &'c [Text<'c>],
+}
+
+/// What stands behind a word at the head of a line.
+pub(crate) fn behind<'t>(line: &'t str, word: &str) -> Option<&'t str> {
+    match line.strip_prefix(word) {
+        Some("") => Some(""),
+        Some(rest) => rest.strip_prefix(" "),
+        None => None,
+    }
+}
+
+/// What stands behind a word at the head of the first line that begins with it, and the lines below
+/// that.
+pub(crate) fn part<'c>(lines: &'c [&'c str], word: &str) -> Option<(&'c str, &'c [&'c str])> {
+    let mut rest = lines;
+    while let [line, below @ ..] = rest {
+        if let Some(text) = behind(line, word) {
+            return Some((text, below));
+        }
+        rest = below;
+    }
+    None
+}
+
+/// The command words of a case.
+pub(crate) fn words_of(alloc: Global, case: &Case<'_>) -> Result<Vec<String>, Trouble> {
+    let Some((rest, _)) = part(case.lines, "words") else {
+        return Err(Trouble::Unclear);
+    };
+    let mut words = Vec::new(alloc);
+    for token in filled(alloc, rest, case.row)? {
+        words.push(String::from_str(alloc, token.text)?)?;
+    }
+    Ok(words)
+}
+
+/// The text behind a word, and nothing where no line begins with it.
+pub(crate) fn wanted(alloc: Global, case: &Case<'_>, word: &str) -> Result<Vec<u8>, Trouble> {
+    match part(case.lines, word) {
+        Some((rest, below)) => text_of(alloc, case.texts, rest, below, case.row),
+        None => Ok(Vec::new(alloc)),
+    }
+}
+
+/// The one number behind a word, where a line begins with it.
+pub(crate) fn number(alloc: Global, case: &Case<'_>, word: &str) -> Result<Option<u64>, Trouble> {
+    let numbers = numbers(alloc, case, word)?;
+    Ok(numbers.as_slice().first().copied())
+}
+
+/// The numbers behind a word, and none where no line begins with it.
+fn numbers(alloc: Global, case: &Case<'_>, word: &str) -> Result<Fixed<u64>, Trouble> {
+    let rest = match part(case.lines, word) {
+        Some((rest, _)) => rest,
+        None => "",
+    };
+    let pieces = filled(alloc, rest, case.row)?;
+    let mut numbers = Fixed::make(alloc, pieces.len())?;
+    for piece in pieces.as_slice() {
+        let Ok(value) = piece.text.parse::<u64>() else {
+            return Err(Trouble::Unclear);
+        };
+        if numbers.len() < numbers.room() {
+            numbers.push(value);
+        }
+    }
+    Ok(numbers)
+}
+
+/// The files of a case, which give at most `each` bytes at once.
+pub(crate) fn files_of(alloc: Global, case: &Case<'_>, each: usize) -> Result<MemoryFiles, Trouble>
+    requires { 0 < each }
+{
+    let mut files = MemoryFiles::make(alloc, each, numbers(alloc, case, "fetch-fails")?)?;
+    let mut rest = case.lines;
+    while let [line, below @ ..] = rest {
+        if let Some(file) = behind(line, "file") {
+            add_file(alloc, case, &mut files, file, below)?;
+        }
+        rest = below;
+    }
+    Ok(files)
+}
+
+/// Adds a file: its name and its text stand in this rest of a line and below it.
+fn add_file(
+    alloc: Global,
+    case: &Case<'_>,
+    files: &mut MemoryFiles,
+    file: &str,
+    below: &[&str],
+) -> Result<(), Trouble> {
+    let (name, rest) = file.split_once(' ').unwrap_or((file, ""));
+    let bytes = text_of(alloc, case.texts, rest, below, case.row)?;
+    files.add(alloc, name, bytes.as_slice())?;
+    Ok(())
+}
+
+/// A sink of a case: how much it takes at once, and which of its puts fail, stand behind these
+/// words.
+pub(crate) fn sink_of(
+    alloc: Global,
+    case: &Case<'_>,
+    takes: &str,
+    fails: &str,
+) -> Result<MemorySink, Trouble>
+    ensures { IfOk result (λ s. taken.bytes s ≡ []) }
+{
+    let each = number(alloc, case, takes)?.unwrap_or(ROOM as u64) as usize;
+    if each == 0 {
+        return Err(Trouble::Unclear);
+    }
+    let fails = numbers(alloc, case, fails)?;
+    Ok(MemorySink::make(alloc, ROOM, each, fails)?)
+}

@@ -1,0 +1,174 @@
+use crate::parts::{Case, behind, part};
+use crate::texts::{Text, text_of};
+use crate::tokens::{Token, tokens};
+use crate::trouble::Trouble;
+use crate::trying::try_case;
+use crate::verdicts::put_line;
+use ra_io::Sink;
+use std::alloc::Global;
+use std::marker::Sync;
+use std::sync::Wait;
+use std::thread::Threads;
+
+/// The words that begin the lines of a case.
+const HEADS: [&str; 12] = [
+    "words",
+    "rows",
+    "file",
+    "fetch-gives",
+    "fetch-fails",
+    "out-takes",
+    "out-fails",
+    "err-takes",
+    "err-fails",
+    "status",
+    "out",
+    "err",
+];
+
+/// How many cases were tried, and how many of them didn't end as they have to.
+#[derive(Clone, Copy)]
+pub(crate) struct Tally {
+    pub(crate) tried: u64,
+    pub(crate) failed: u64,
+}
+
+impl Tally {
+    /// None was tried.
+    pub(crate) fn none() -> Tally {
+        Tally {
+            tried: 0,
+            failed: 0,
+        }
+    }
+
+    /// Counts one more.
+    fn add(&mut self, same: bool) {
+        self.tried = self.tried.saturating_add(1);
+        if !same {
+            self.failed = self.failed.saturating_add(1);
+        }
+    }
+}
+
+/// Tries all cases of a text, and puts a line for each, and last how many there were.
+pub(crate) fn try_all<R: Threads + Wait + Sync, O: Sink>(
+    rt: &R,
+    alloc: Global,
+    text: &str,
+    sink: &mut O,
+) -> Result<Tally, Trouble> {
+    let mut lines = Vec::new(alloc);
+    for line in text.lines() {
+        if !line.starts_with('#') {
+            lines.push(line)?;
+        }
+    }
+    let mut texts = Vec::new(alloc);
+    let mut tally = Tally::none();
+    for paragraph in lines.as_slice().split(|line| line.is_empty()) {
+        if let [head, below @ ..] = paragraph {
+            match try_paragraph(rt, alloc, head, below, &mut texts, &mut tally, sink) {
+                Err(Trouble::Unclear) => {
+                    tally.add(false);
+                    put_line(sink, head, ": NOT UNDERSTOOD")?;
+                }
+                tried => tried?,
+            }
+        }
+    }
+    let count = format!(in alloc; "{} cases, {} failed", tally.tried, tally.failed)?;
+    put_line(sink, count.as_str(), "")?;
+    Ok(tally)
+}
+
+/// Keeps a shared text, or tries a case, whose head and lines these are.
+fn try_paragraph<'t, R: Threads + Wait + Sync, O: Sink>(
+    rt: &R,
+    alloc: Global,
+    head: &'t str,
+    below: &[&'t str],
+    texts: &mut Vec<Text<'t>>,
+    tally: &mut Tally,
+    sink: &mut O,
+) -> Result<(), Trouble> {
+    if let Some(rest) = behind(head, "text") {
+        let (name, pieces) = rest.split_once(' ').unwrap_or((rest, ""));
+        let bytes = text_of(alloc, texts.as_slice(), pieces, below, &[])?;
+        texts.push(Text { name, bytes })?;
+        return Ok(());
+    }
+    let Some(name) = behind(head, "case") else {
+        return Err(Trouble::Unclear);
+    };
+    if !are_known(below) {
+        return Err(Trouble::Unclear);
+    }
+    try_rows(rt, alloc, name, below, texts.as_slice(), tally, sink)
+}
+
+/// Whether each line begins with a word of cases, or with four spaces.
+fn are_known(lines: &[&str]) -> bool {
+    lines.iter().all(|line| line.starts_with("    ")
+        || HEADS.iter().any(|head| behind(line, head).is_some()))
+}
+
+/// Tries a case once for each of its rows, or once where it has none.
+fn try_rows<R: Threads + Wait + Sync, O: Sink>(
+    rt: &R,
+    alloc: Global,
+    name: &str,
+    lines: &[&str],
+    texts: &[Text<'_>],
+    tally: &mut Tally,
+    sink: &mut O,
+) -> Result<(), Trouble> {
+    let Some((rest, below)) = part(lines, "rows") else {
+        let case = Case {
+            lines,
+            row: &[],
+            texts,
+        };
+        tally.add(try_case(rt, alloc, &case, name, sink)?);
+        return Ok(());
+    };
+    let Some((first, last)) = rest.split_once(" to ") else {
+        for line in below {
+            let Some(row) = line.strip_prefix("    ") else {
+                break;
+            };
+            try_row(rt, alloc, name, lines, texts, row, tally, sink)?;
+        }
+        return Ok(());
+    };
+    let (Ok(first), Ok(last)) = (first.parse::<u32>(), last.parse::<u32>()) else {
+        return Err(Trouble::Unclear);
+    };
+    for number in first..=last {
+        let row = format!(in alloc; "{number}")?;
+        try_row(rt, alloc, name, lines, texts, row.as_str(), tally, sink)?;
+    }
+    Ok(())
+}
+
+/// Tries a case with one of its rows.
+fn try_row<R: Threads + Wait + Sync, O: Sink>(
+    rt: &R,
+    alloc: Global,
+    name: &str,
+    lines: &[&str],
+    texts: &[Text<'_>],
+    row: &str,
+    tally: &mut Tally,
+    sink: &mut O,
+) -> Result<(), Trouble> {
+    let label = format!(in alloc; "{name} [{row}]")?;
+    let pieces = tokens(alloc, row)?;
+    let case = Case {
+        lines,
+        row: pieces.as_slice(),
+        texts,
+    };
+    tally.add(try_case(rt, alloc, &case, label.as_str(), sink)?);
+    Ok(())
+}

@@ -1,0 +1,145 @@
+ghost use Rattle.std.specs.Prelude.{◌<◌, ◌≤◌, length, IfOk};
+
+use crate::tokens::{Token, filled};
+use crate::trouble::Trouble;
+use std::alloc::Global;
+
+/// A shared text, with its name.
+#[derive(Drop)]
+pub(crate) struct Text<'t> {
+    pub(crate) name: &'t str,
+    pub(crate) bytes: Vec<u8>,
+}
+
+/// The text that stands behind a word of a line: the pieces of the rest of the line, then the lines
+/// that follow it and begin with four spaces, each with a line feed.
+pub(crate) fn text_of(
+    alloc: Global,
+    texts: &[Text<'_>],
+    rest: &str,
+    below: &[&str],
+    row: &[Token<'_>],
+) -> Result<Vec<u8>, Trouble> {
+    let mut bytes = Vec::new(alloc);
+    let pieces = filled(alloc, rest, row)?;
+    push_pieces(texts, pieces.as_slice(), &mut bytes)?;
+    push_block(below, &mut bytes)?;
+    Ok(bytes)
+}
+
+/// Adds the lines that begin with four spaces, up to the first that doesn't.
+fn push_block(below: &[&str], bytes: &mut Vec<u8>) -> Result<(), Trouble> {
+    for line in below {
+        let Some(text) = line.strip_prefix("    ") else {
+            break;
+        };
+        bytes.extend_from_slice(text.as_bytes())?;
+        bytes.push(b'\n')?;
+    }
+    Ok(())
+}
+
+/// Adds the texts of pieces, one after another.
+fn push_pieces(
+    texts: &[Text<'_>],
+    pieces: &[Token<'_>],
+    bytes: &mut Vec<u8>,
+) -> Result<(), Trouble> {
+    let mut at = 0;
+    while at < pieces.len() {
+        at += push_piece(texts, &pieces[at..], bytes)?;
+    }
+    Ok(())
+}
+
+/// Adds the text at the head of pieces, and gives how many of them it is.
+fn push_piece(
+    texts: &[Text<'_>],
+    pieces: &[Token<'_>],
+    bytes: &mut Vec<u8>,
+) -> Result<usize, Trouble>
+    ensures some { IfOk result (λ n. 0 < n) }
+    ensures bound { IfOk result (λ n. n ≤ length pieces.now) }
+{
+    match pieces {
+        [] => Err(Trouble::Unclear),
+        [first, ..] if first.quoted => {
+            bytes.extend_from_slice(first.text.as_bytes())?;
+            Ok(1)
+        }
+        [first, number, ..] if first.text == "byte" => {
+            push_byte(number.text, bytes)?;
+            Ok(2)
+        }
+        [first, number, ..] if first.text == "blanks" => {
+            push_blanks(number.text, bytes)?;
+            Ok(2)
+        }
+        [first, number, name, ..] if first.text == "front" => {
+            push_front(shared_text(texts, name.text)?, number.text, bytes)?;
+            Ok(3)
+        }
+        [first, old, new, name, ..] if first.text == "swap" => {
+            push_swapped(shared_text(texts, name.text)?, old.text, new.text, bytes)?;
+            Ok(4)
+        }
+        [first, ..] => {
+            bytes.extend_from_slice(shared_text(texts, first.text)?)?;
+            Ok(1)
+        }
+    }
+}
+
+/// Adds the byte of this number.
+fn push_byte(number: &str, bytes: &mut Vec<u8>) -> Result<(), Trouble> {
+    let Ok(byte) = number.parse::<u8>() else {
+        return Err(Trouble::Unclear);
+    };
+    bytes.push(byte)?;
+    Ok(())
+}
+
+/// Adds the first bytes of a text, so many.
+fn push_front(text: &[u8], number: &str, bytes: &mut Vec<u8>) -> Result<(), Trouble> {
+    let Ok(length) = number.parse::<usize>() else {
+        return Err(Trouble::Unclear);
+    };
+    bytes.extend_from_slice(text.get(..length).unwrap_or(text))?;
+    Ok(())
+}
+
+/// Adds so many spaces.
+fn push_blanks(number: &str, bytes: &mut Vec<u8>) -> Result<(), Trouble> {
+    let Ok(number) = number.parse::<u32>() else {
+        return Err(Trouble::Unclear);
+    };
+    for _ in 0..number {
+        bytes.push(b' ')?;
+    }
+    Ok(())
+}
+
+/// Adds a text in which what stands for `old`, once, is `new`.
+fn push_swapped(text: &[u8], old: &str, new: &str, bytes: &mut Vec<u8>) -> Result<(), Trouble> {
+    let mut rest = text;
+    while let [first, after @ ..] = rest {
+        if let Some(behind) = rest.strip_prefix(old.as_bytes()) {
+            bytes.extend_from_slice(new.as_bytes())?;
+            bytes.extend_from_slice(behind)?;
+            return Ok(());
+        }
+        bytes.push(*first)?;
+        rest = after;
+    }
+    Err(Trouble::Unclear)
+}
+
+/// The shared text of a name.
+fn shared_text<'b>(texts: &'b [Text<'_>], name: &str) -> Result<&'b [u8], Trouble> {
+    for text in texts {
+        if text.name == name {
+            return Ok(text.bytes.as_slice());
+        }
+    }
+    Err(Trouble::Unclear)
+}
