@@ -23,8 +23,12 @@ pub(crate) fn read_balances<F: Files>(
     requires some { 0 < resource_count }
     ensures few { IfOk result (λ rows. length rows.items ≤ 10) }
     ensures among { IfOk result (λ rows. AreBalances resource_count rows.items) }
-    ensures gives { IfOk result (λ rows. Gives (balances resource_count) (here (F.held files.old) (F.faults files.old) tokens.old) (here (F.held files.new) (F.faults files.new) tokens.new) (map of_balance rows.items)) }
-    ensures refuses { IfErr result (Refuses (balances resource_count) (here (F.held files.old) (F.faults files.old) tokens.old) (here (F.held files.new) (F.faults files.new) tokens.new)) }
+    ensures gives { IfOk result (λ rows.
+        Gives (balances resource_count) (here (F.held files.old) (F.faults files.old) tokens.old)
+        (here (F.held files.new) (F.faults files.new) tokens.new) (map of_balance rows.items)) }
+    ensures refuses { IfErr result
+        (Refuses (balances resource_count) (here (F.held files.old) (F.faults files.old) tokens.old)
+        (here (F.held files.new) (F.faults files.new) tokens.new)) }
 {
     let count = read_field(files, tokens, Field::BalanceCount, 0, 0, 10)?;
     let mut rows = Fixed::make(alloc, count as usize)?;
@@ -46,11 +50,16 @@ fn read_balance<F: Files>(
     requires some { 0 < resource_count }
     requires room { length rows.old.items < rows.old.room }
     requires among { AreBalances resource_count rows.old.items }
-    ensures gives { OnOk result (Gives (balance resource_count b (map of_balance rows.old.items)) (here (F.held files.old) (F.faults files.old) tokens.old) (here (F.held files.new) (F.faults files.new) tokens.new) (map of_balance rows.new.items)) }
+    ensures gives { OnOk result (Gives (balance resource_count b (map of_balance rows.old.items))
+        (here (F.held files.old) (F.faults files.old) tokens.old)
+        (here (F.held files.new) (F.faults files.new) tokens.new) (map of_balance rows.new.items)) }
     ensures length { OnOk result (length rows.new.items ≡ length rows.old.items + 1) }
     ensures room { rows.new.room ≡ rows.old.room }
     ensures among { OnOk result (AreBalances resource_count rows.new.items) }
-    ensures refuses { IfErr result (Refuses (balance resource_count b (map of_balance rows.old.items)) (here (F.held files.old) (F.faults files.old) tokens.old) (here (F.held files.new) (F.faults files.new) tokens.new)) }
+    ensures refuses { IfErr result
+        (Refuses (balance resource_count b (map of_balance rows.old.items))
+        (here (F.held files.old) (F.faults files.old) tokens.old)
+        (here (F.held files.new) (F.faults files.new) tokens.new)) }
 {
     let first = read_field(
         files,

@@ -30,8 +30,12 @@ pub(crate) fn read_token<F: Files>(
     item: u64,
 ) -> Result<Token, ModelFault>
     requires { Stands (here (F.held files.old) (F.faults files.old) tokens.old) }
-    ensures gives { IfOk result (Gives (next_token what item) (here (F.held files.old) (F.faults files.old) tokens.old) (here (F.held files.new) (F.faults files.new) tokens.new)) }
-    ensures refuses { IfErr result (Refuses (next_token what item) (here (F.held files.old) (F.faults files.old) tokens.old) (here (F.held files.new) (F.faults files.new) tokens.new)) }
+    ensures gives { IfOk result (Gives (next_token what item)
+        (here (F.held files.old) (F.faults files.old) tokens.old)
+        (here (F.held files.new) (F.faults files.new) tokens.new)) }
+    ensures refuses { IfErr result
+        (Refuses (next_token what item) (here (F.held files.old) (F.faults files.old) tokens.old)
+        (here (F.held files.new) (F.faults files.new) tokens.new)) }
 {
     match tokens.next(files) {
         Ok(Some(token)) => Ok(token),
@@ -49,8 +53,12 @@ pub(crate) fn read_any<F: Files>(
     item: u64,
 ) -> Result<u32, ModelFault>
     requires { Stands (here (F.held files.old) (F.faults files.old) tokens.old) }
-    ensures gives { IfOk result (Gives (any what item) (here (F.held files.old) (F.faults files.old) tokens.old) (here (F.held files.new) (F.faults files.new) tokens.new)) }
-    ensures refuses { IfErr result (Refuses (any what item) (here (F.held files.old) (F.faults files.old) tokens.old) (here (F.held files.new) (F.faults files.new) tokens.new)) }
+    ensures gives { IfOk result (Gives (any what item)
+        (here (F.held files.old) (F.faults files.old) tokens.old)
+        (here (F.held files.new) (F.faults files.new) tokens.new)) }
+    ensures refuses { IfErr result
+        (Refuses (any what item) (here (F.held files.old) (F.faults files.old) tokens.old)
+        (here (F.held files.new) (F.faults files.new) tokens.new)) }
 {
     let token = read_token(files, tokens, what, item)?;
     Ok(token.value)
@@ -68,8 +76,12 @@ pub(crate) fn read_field<F: Files>(
     requires { Stands (here (F.held files.old) (F.faults files.old) tokens.old) }
     ensures low { IfOk result (λ value. least ≤ value) }
     ensures high { IfOk result (λ value. value ≤ most) }
-    ensures gives { IfOk result (Gives (field what item least most) (here (F.held files.old) (F.faults files.old) tokens.old) (here (F.held files.new) (F.faults files.new) tokens.new)) }
-    ensures refuses { IfErr result (Refuses (field what item least most) (here (F.held files.old) (F.faults files.old) tokens.old) (here (F.held files.new) (F.faults files.new) tokens.new)) }
+    ensures gives { IfOk result (Gives (field what item least most)
+        (here (F.held files.old) (F.faults files.old) tokens.old)
+        (here (F.held files.new) (F.faults files.new) tokens.new)) }
+    ensures refuses { IfErr result (Refuses (field what item least most)
+        (here (F.held files.old) (F.faults files.old) tokens.old)
+        (here (F.held files.new) (F.faults files.new) tokens.new)) }
 {
     let token = read_token(files, tokens, what, item)?;
     if token.value < least || most < token.value {
@@ -91,8 +103,12 @@ pub(crate) fn read_flag<F: Files>(
     r: u64,
 ) -> Result<bool, ModelFault>
     requires { Stands (here (F.held files.old) (F.faults files.old) tokens.old) }
-    ensures gives { IfOk result (Gives (flag r) (here (F.held files.old) (F.faults files.old) tokens.old) (here (F.held files.new) (F.faults files.new) tokens.new)) }
-    ensures refuses { IfErr result (Refuses (flag r) (here (F.held files.old) (F.faults files.old) tokens.old) (here (F.held files.new) (F.faults files.new) tokens.new)) }
+    ensures gives { IfOk result (Gives (flag r)
+        (here (F.held files.old) (F.faults files.old) tokens.old)
+        (here (F.held files.new) (F.faults files.new) tokens.new)) }
+    ensures refuses { IfErr result
+        (Refuses (flag r) (here (F.held files.old) (F.faults files.old) tokens.old)
+        (here (F.held files.new) (F.faults files.new) tokens.new)) }
 {
     let token = read_token(files, tokens, Field::Transient, r)?;
     match token.value {
@@ -117,10 +133,14 @@ pub(crate) fn read_numbers<F: Files>(
     requires stands { Stands (here (F.held files.old) (F.faults files.old) tokens.old) }
     requires room { length table.old.items + count ≤ table.old.room }
     requires fits { first + count < 2 ^ 64 }
-    ensures gives { OnOk result (Gives (numbers what first count table.old.items) (here (F.held files.old) (F.faults files.old) tokens.old) (here (F.held files.new) (F.faults files.new) tokens.new) table.new.items) }
+    ensures gives { OnOk result (Gives (numbers what first count table.old.items)
+        (here (F.held files.old) (F.faults files.old) tokens.old)
+        (here (F.held files.new) (F.faults files.new) tokens.new) table.new.items) }
     ensures length { OnOk result (length table.new.items ≡ length table.old.items + count) }
     ensures room { table.new.room ≡ table.old.room }
-    ensures refuses { IfErr result (Refuses (numbers what first count table.old.items) (here (F.held files.old) (F.faults files.old) tokens.old) (here (F.held files.new) (F.faults files.new) tokens.new)) }
+    ensures refuses { IfErr result (Refuses (numbers what first count table.old.items)
+        (here (F.held files.old) (F.faults files.old) tokens.old)
+        (here (F.held files.new) (F.faults files.new) tokens.new)) }
 {
     match tokens.next_values(files, count, table) {
         Ok(taken) if taken < count => Err(ModelFault::Missing {
@@ -135,8 +155,12 @@ pub(crate) fn read_numbers<F: Files>(
 /// The end of the file.
 pub(crate) fn read_end<F: Files>(files: &mut F, tokens: &mut Tokens) -> Result<(), ModelFault>
     requires { Stands (here (F.held files.old) (F.faults files.old) tokens.old) }
-    ensures gives { OnOk result (Gives ends (here (F.held files.old) (F.faults files.old) tokens.old) (here (F.held files.new) (F.faults files.new) tokens.new) tt) }
-    ensures refuses { IfErr result (Refuses ends (here (F.held files.old) (F.faults files.old) tokens.old) (here (F.held files.new) (F.faults files.new) tokens.new)) }
+    ensures gives { OnOk result (Gives ends
+        (here (F.held files.old) (F.faults files.old) tokens.old)
+        (here (F.held files.new) (F.faults files.new) tokens.new) tt) }
+    ensures refuses { IfErr result
+        (Refuses ends (here (F.held files.old) (F.faults files.old) tokens.old)
+        (here (F.held files.new) (F.faults files.new) tokens.new)) }
 {
     match tokens.next(files) {
         Ok(Some(token)) => Err(ModelFault::Extra { at: token.at }),

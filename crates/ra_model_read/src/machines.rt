@@ -22,8 +22,12 @@ pub(crate) fn read_machines<F: Files>(
     requires stands { Stands (here (F.held files.old) (F.faults files.old) tokens.old) }
     requires few { resource_count ≤ 20 }
     ensures shape { IfOk result (IsMachines resource_count) }
-    ensures gives { IfOk result (λ tables. Gives (machines resource_count) (here (F.held files.old) (F.faults files.old) tokens.old) (here (F.held files.new) (F.faults files.new) tokens.new) (machine_lists tables)) }
-    ensures refuses { IfErr result (Refuses (machines resource_count) (here (F.held files.old) (F.faults files.old) tokens.old) (here (F.held files.new) (F.faults files.new) tokens.new)) }
+    ensures gives { IfOk result (λ tables.
+        Gives (machines resource_count) (here (F.held files.old) (F.faults files.old) tokens.old)
+        (here (F.held files.new) (F.faults files.new) tokens.new) (machine_lists tables)) }
+    ensures refuses { IfErr result
+        (Refuses (machines resource_count) (here (F.held files.old) (F.faults files.old) tokens.old)
+        (here (F.held files.new) (F.faults files.new) tokens.new)) }
 {
     let count = read_field(files, tokens, Field::MachineCount, 0, 1, 5000)?;
     let mut tables = machine_tables(alloc, resource_count, count)?;
@@ -70,9 +74,14 @@ fn read_machine<F: Files>(
     requires below { m < machine_count }
     requires few { resource_count ≤ 20 }
     requires within { machine_count ≤ 5000 }
-    ensures gives { OnOk result (Gives (machine resource_count machine_count m (machine_lists tables.old)) (here (F.held files.old) (F.faults files.old) tokens.old) (here (F.held files.new) (F.faults files.new) tokens.new) (machine_lists tables.new)) }
+    ensures gives { OnOk result (Gives (machine resource_count machine_count m
+        (machine_lists tables.old)) (here (F.held files.old) (F.faults files.old) tokens.old)
+        (here (F.held files.new) (F.faults files.new) tokens.new) (machine_lists tables.new)) }
     ensures has { OnOk result (HasMachines resource_count machine_count (m + 1) tables.new) }
-    ensures refuses { IfErr result (Refuses (machine resource_count machine_count m (machine_lists tables.old)) (here (F.held files.old) (F.faults files.old) tokens.old) (here (F.held files.new) (F.faults files.new) tokens.new)) }
+    ensures refuses { IfErr result
+        (Refuses (machine resource_count machine_count m (machine_lists tables.old))
+        (here (F.held files.old) (F.faults files.old) tokens.old)
+        (here (F.held files.new) (F.faults files.new) tokens.new)) }
 {
     let neighbourhood = read_any(files, tokens, Field::Neighbourhood, m as u64)?;
     let location = read_any(files, tokens, Field::Location, m as u64)?;

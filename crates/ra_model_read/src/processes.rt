@@ -24,8 +24,12 @@ pub(crate) fn read_processes<F: Files>(
     requires some { 0 < service_count }
     requires few { resource_count ≤ 20 }
     ensures shape { IfOk result (IsProcesses service_count resource_count) }
-    ensures gives { IfOk result (λ tables. Gives (processes service_count resource_count) (here (F.held files.old) (F.faults files.old) tokens.old) (here (F.held files.new) (F.faults files.new) tokens.new) (process_lists tables)) }
-    ensures refuses { IfErr result (Refuses (processes service_count resource_count) (here (F.held files.old) (F.faults files.old) tokens.old) (here (F.held files.new) (F.faults files.new) tokens.new)) }
+    ensures gives { IfOk result (λ tables. Gives (processes service_count resource_count)
+        (here (F.held files.old) (F.faults files.old) tokens.old)
+        (here (F.held files.new) (F.faults files.new) tokens.new) (process_lists tables)) }
+    ensures refuses { IfErr result (Refuses (processes service_count resource_count)
+        (here (F.held files.old) (F.faults files.old) tokens.old)
+        (here (F.held files.new) (F.faults files.new) tokens.new)) }
 {
     let count = read_field(files, tokens, Field::ProcessCount, 0, 1, 50_000)?;
     let mut tables = process_tables(alloc, service_count, resource_count, count)?;
@@ -76,9 +80,15 @@ fn read_process<F: Files>(
     requires some { 0 < service_count }
     requires few { resource_count ≤ 20 }
     requires within { process_count ≤ 50000 }
-    ensures gives { OnOk result (Gives (process service_count resource_count p (process_lists tables.old)) (here (F.held files.old) (F.faults files.old) tokens.old) (here (F.held files.new) (F.faults files.new) tokens.new) (process_lists tables.new)) }
-    ensures has { OnOk result (HasProcesses service_count resource_count process_count (p + 1) tables.new) }
-    ensures refuses { IfErr result (Refuses (process service_count resource_count p (process_lists tables.old)) (here (F.held files.old) (F.faults files.old) tokens.old) (here (F.held files.new) (F.faults files.new) tokens.new)) }
+    ensures gives { OnOk result (Gives (process service_count resource_count p
+        (process_lists tables.old)) (here (F.held files.old) (F.faults files.old) tokens.old)
+        (here (F.held files.new) (F.faults files.new) tokens.new) (process_lists tables.new)) }
+    ensures has { OnOk result (HasProcesses service_count resource_count process_count
+        (p + 1) tables.new) }
+    ensures refuses { IfErr result
+        (Refuses (process service_count resource_count p (process_lists tables.old))
+        (here (F.held files.old) (F.faults files.old) tokens.old)
+        (here (F.held files.new) (F.faults files.new) tokens.new)) }
 {
     let service = read_field(
         files,

@@ -33,17 +33,20 @@ pub fn read_model<F: Files>(
     name: &str,
 ) -> Result<Instance, ModelFault>
     // Where the bytes are told, they mean this instance, or this is what is wrong with them first.
-    ensures model { IfOk result (λ inst. IfSome (F.held files.old name.now) (λ bytes. IsModel bytes inst.tables)) }
+    ensures model { IfOk result (λ inst. IfSome (F.held files.old name.now) (λ bytes.
+        IsModel bytes inst.tables)) }
     ensures refused { IfErr result (λ fault. IsTrue (is_by_content fault) →
         IfSome (F.held files.old name.now) (λ bytes. model_refusal bytes ≡ Some fault)) }
 
     // The told bytes have no fault, and their tokens are the numbers of the instance, no more and no fewer. Whatever
     // instance has such a text is meant by it.
-    ensures text { IfOk result (λ inst. IfSome (F.held files.old name.now) (λ bytes. IsTextOf bytes inst.tables)) }
+    ensures text { IfOk result (λ inst. IfSome (F.held files.old name.now) (λ bytes.
+        IsTextOf bytes inst.tables)) }
     ensures every_text { IfSome (F.held files.old name.now) TextsAreModels }
 
     // A failed fetch is counted.
-    ensures fault { result ≡ Err ModelFault.ReadFault → Rose (F.faults files.old name.now) (F.faults files.new name.now) }
+    ensures fault { result ≡ Err ModelFault.ReadFault →
+        Rose (F.faults files.old name.now) (F.faults files.new name.now) }
     ensures kept { (other : List ℕ) → F.held files.new other ≡ F.held files.old other }
     ensures never_fall { (other : List ℕ) → F.faults files.old other ≤ F.faults files.new other }
 {
@@ -62,8 +65,12 @@ fn read_raw<F: Files>(
 ) -> Result<RawInstance, ModelFault>
     requires { Stands (here (F.held files.old) (F.faults files.old) tokens.old) }
     ensures well_formed { IfOk result (λ raw. WellFormed (all_open raw)) }
-    ensures gives { IfOk result (λ raw. Gives model (here (F.held files.old) (F.faults files.old) tokens.old) (here (F.held files.new) (F.faults files.new) tokens.new) (lists_of raw)) }
-    ensures refuses { IfErr result (Refuses model (here (F.held files.old) (F.faults files.old) tokens.old) (here (F.held files.new) (F.faults files.new) tokens.new)) }
+    ensures gives { IfOk result (λ raw.
+        Gives model (here (F.held files.old) (F.faults files.old) tokens.old)
+        (here (F.held files.new) (F.faults files.new) tokens.new) (lists_of raw)) }
+    ensures refuses { IfErr result
+        (Refuses model (here (F.held files.old) (F.faults files.old) tokens.old)
+        (here (F.held files.new) (F.faults files.new) tokens.new)) }
 {
     let resources = read_resources(alloc, files, tokens)?;
     let resource_count = resources.len() as u32;
@@ -94,8 +101,12 @@ fn read_raw<F: Files>(
 /// The three weights of moves.
 fn read_weights<F: Files>(files: &mut F, tokens: &mut Tokens) -> Result<WeightNumbers, ModelFault>
     requires { Stands (here (F.held files.old) (F.faults files.old) tokens.old) }
-    ensures gives { IfOk result (λ read. Gives weights (here (F.held files.old) (F.faults files.old) tokens.old) (here (F.held files.new) (F.faults files.new) tokens.new) (weight_numbers read)) }
-    ensures refuses { IfErr result (Refuses weights (here (F.held files.old) (F.faults files.old) tokens.old) (here (F.held files.new) (F.faults files.new) tokens.new)) }
+    ensures gives { IfOk result (λ read.
+        Gives weights (here (F.held files.old) (F.faults files.old) tokens.old)
+        (here (F.held files.new) (F.faults files.new) tokens.new) (weight_numbers read)) }
+    ensures refuses { IfErr result
+        (Refuses weights (here (F.held files.old) (F.faults files.old) tokens.old)
+        (here (F.held files.new) (F.faults files.new) tokens.new)) }
 {
     let process = read_any(files, tokens, Field::ProcessWeight, 0)?;
     let service = read_any(files, tokens, Field::ServiceWeight, 0)?;

@@ -20,8 +20,12 @@ pub(crate) fn read_resources<F: Files>(
     requires { Stands (here (F.held files.old) (F.faults files.old) tokens.old) }
     ensures some { IfOk result (λ rows. 1 ≤ length rows.items) }
     ensures few { IfOk result (λ rows. length rows.items ≤ 20) }
-    ensures gives { IfOk result (λ rows. Gives resources (here (F.held files.old) (F.faults files.old) tokens.old) (here (F.held files.new) (F.faults files.new) tokens.new) (map of_resource rows.items)) }
-    ensures refuses { IfErr result (Refuses resources (here (F.held files.old) (F.faults files.old) tokens.old) (here (F.held files.new) (F.faults files.new) tokens.new)) }
+    ensures gives { IfOk result (λ rows.
+        Gives resources (here (F.held files.old) (F.faults files.old) tokens.old)
+        (here (F.held files.new) (F.faults files.new) tokens.new) (map of_resource rows.items)) }
+    ensures refuses { IfErr result
+        (Refuses resources (here (F.held files.old) (F.faults files.old) tokens.old)
+        (here (F.held files.new) (F.faults files.new) tokens.new)) }
 {
     let count = read_field(files, tokens, Field::ResourceCount, 0, 1, 20)?;
     let mut rows = Fixed::make(alloc, count as usize)?;
@@ -40,10 +44,15 @@ fn read_resource<F: Files>(
 ) -> Result<(), ModelFault>
     requires stands { Stands (here (F.held files.old) (F.faults files.old) tokens.old) }
     requires room { length rows.old.items < rows.old.room }
-    ensures gives { OnOk result (Gives (resource r (map of_resource rows.old.items)) (here (F.held files.old) (F.faults files.old) tokens.old) (here (F.held files.new) (F.faults files.new) tokens.new) (map of_resource rows.new.items)) }
+    ensures gives { OnOk result (Gives (resource r (map of_resource rows.old.items))
+        (here (F.held files.old) (F.faults files.old) tokens.old)
+        (here (F.held files.new) (F.faults files.new) tokens.new)
+        (map of_resource rows.new.items)) }
     ensures length { OnOk result (length rows.new.items ≡ length rows.old.items + 1) }
     ensures room { rows.new.room ≡ rows.old.room }
-    ensures refuses { IfErr result (Refuses (resource r (map of_resource rows.old.items)) (here (F.held files.old) (F.faults files.old) tokens.old) (here (F.held files.new) (F.faults files.new) tokens.new)) }
+    ensures refuses { IfErr result (Refuses (resource r (map of_resource rows.old.items))
+        (here (F.held files.old) (F.faults files.old) tokens.old)
+        (here (F.held files.new) (F.faults files.new) tokens.new)) }
 {
     let transient = read_flag(files, tokens, r as u64)?;
     let load_weight = read_any(files, tokens, Field::LoadWeight, r as u64)?;

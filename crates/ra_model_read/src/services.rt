@@ -24,8 +24,12 @@ pub(crate) fn read_services<F: Files>(
 ) -> Result<ServiceTables, ModelFault>
     requires { Stands (here (F.held files.old) (F.faults files.old) tokens.old) }
     ensures shape { IfOk result IsServices }
-    ensures gives { IfOk result (λ tables. Gives services (here (F.held files.old) (F.faults files.old) tokens.old) (here (F.held files.new) (F.faults files.new) tokens.new) (service_lists tables)) }
-    ensures refuses { IfErr result (Refuses services (here (F.held files.old) (F.faults files.old) tokens.old) (here (F.held files.new) (F.faults files.new) tokens.new)) }
+    ensures gives { IfOk result (λ tables.
+        Gives services (here (F.held files.old) (F.faults files.old) tokens.old)
+        (here (F.held files.new) (F.faults files.new) tokens.new) (service_lists tables)) }
+    ensures refuses { IfErr result
+        (Refuses services (here (F.held files.old) (F.faults files.old) tokens.old)
+        (here (F.held files.new) (F.faults files.new) tokens.new)) }
 {
     let count = read_field(files, tokens, Field::ServiceCount, 0, 1, 50_000)?;
     let mut tables = service_tables(alloc, count)?;
@@ -56,9 +60,13 @@ fn read_service<F: Files>(
     requires stands { Stands (here (F.held files.old) (F.faults files.old) tokens.old) }
     requires has { HasServices service_count s tables.old }
     requires below { s < service_count }
-    ensures gives { OnOk result (Gives (service service_count s (service_lists tables.old)) (here (F.held files.old) (F.faults files.old) tokens.old) (here (F.held files.new) (F.faults files.new) tokens.new) (service_lists tables.new)) }
+    ensures gives { OnOk result (Gives (service service_count s (service_lists tables.old))
+        (here (F.held files.old) (F.faults files.old) tokens.old)
+        (here (F.held files.new) (F.faults files.new) tokens.new) (service_lists tables.new)) }
     ensures has { OnOk result (HasServices service_count (s + 1) tables.new) }
-    ensures refuses { IfErr result (Refuses (service service_count s (service_lists tables.old)) (here (F.held files.old) (F.faults files.old) tokens.old) (here (F.held files.new) (F.faults files.new) tokens.new)) }
+    ensures refuses { IfErr result (Refuses (service service_count s (service_lists tables.old))
+        (here (F.held files.old) (F.faults files.old) tokens.old)
+        (here (F.held files.new) (F.faults files.new) tokens.new)) }
 {
     let spread_min = read_any(files, tokens, Field::SpreadMin, s as u64)?;
     let most = MOST_DEPENDENCIES - tables.dependencies.len() as u32;
@@ -91,11 +99,20 @@ fn read_dependencies<F: Files>(
     requires room { length dependencies.old.items + count ≤ dependencies.old.room }
     requires few { dependencies.old.room ≤ 100000 }
     requires needs { AreServices service_count dependencies.old.items }
-    ensures gives { OnOk result (Gives (along count (dependency service_count (length dependencies.old.items)) dependencies.old.items) (here (F.held files.old) (F.faults files.old) tokens.old) (here (F.held files.new) (F.faults files.new) tokens.new) dependencies.new.items) }
+    ensures gives { OnOk result (Gives
+        (along count (dependency service_count
+        (length dependencies.old.items)) dependencies.old.items)
+        (here (F.held files.old) (F.faults files.old) tokens.old)
+        (here (F.held files.new) (F.faults files.new) tokens.new) dependencies.new.items) }
     ensures needs { OnOk result (AreServices service_count dependencies.new.items) }
-    ensures length { OnOk result (length dependencies.new.items ≡ length dependencies.old.items + count) }
+    ensures length { OnOk result (length dependencies.new.items ≡
+        length dependencies.old.items + count) }
     ensures room { dependencies.new.room ≡ dependencies.old.room }
-    ensures refuses { IfErr result (Refuses (along count (dependency service_count (length dependencies.old.items)) dependencies.old.items) (here (F.held files.old) (F.faults files.old) tokens.old) (here (F.held files.new) (F.faults files.new) tokens.new)) }
+    ensures refuses { IfErr result
+        (Refuses (along count (dependency service_count
+        (length dependencies.old.items)) dependencies.old.items)
+        (here (F.held files.old) (F.faults files.old) tokens.old)
+        (here (F.held files.new) (F.faults files.new) tokens.new)) }
 {
     let first = dependencies.len() as u64;
     for k in 0..count {

@@ -27,7 +27,8 @@ pub(crate) fn add_line<O: Sink, D: Detail>(
     before: &[Piece<'_>],
     detail: &D,
 )
-    ensures { Adds O.taken O.faults text.old text.new (line_of (bytes_of before.now) (D.says detail.now)) }
+    ensures { Adds O.taken O.faults text.old text.new
+        (line_of (bytes_of before.now) (D.says detail.now)) }
 {
     add_pieces(text, before);
     detail.add(text);
@@ -41,7 +42,8 @@ pub(crate) fn add_about<'x, O: Sink, D: Detail>(
     name: &'x Name,
     detail: &D,
 )
-    ensures { Adds O.taken O.faults text.old text.new (about words.now name.now (D.says detail.now)) }
+    ensures { Adds O.taken O.faults text.old text.new
+        (about words.now name.now (D.says detail.now)) }
 {
     let before = [
         Piece::Text(words),

@@ -82,7 +82,8 @@ impl<'a, O: Sink> Gathered<'a, O> {
 
 /// Puts a text, unless a put has failed before, and says whether one has.
 fn put_unless<O: Sink>(failed: bool, to: &mut O, text: &[u8]) -> bool
-    ensures moves { Moves failed result (O.taken to.old) (O.taken to.new) (O.faults to.old) (O.faults to.new) [] [] text.now }
+    ensures moves { Moves failed result (O.taken to.old) (O.taken to.new) (O.faults to.old)
+        (O.faults to.new) [] [] text.now }
     ensures never_falls { O.faults to.old ≤ O.faults to.new }
 {
     failed || put_all(to, text).is_err()

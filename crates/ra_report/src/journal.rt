@@ -12,7 +12,8 @@ use ra_moves::{Move, MoveKind, Step, Verdict};
 
 /// Adds a line for each entry, in order.
 pub(crate) fn add_entries<O: Sink>(text: &mut Gathered<'_, O>, entries: &[Entry])
-    ensures { Adds O.taken O.faults text.old text.new (entries_text entries.now (length entries.now)) }
+    ensures { Adds O.taken O.faults text.old text.new
+        (entries_text entries.now (length entries.now)) }
 {
     for place in 0..entries.len() {
         add_entry(text, place as u64, &entries[place]);

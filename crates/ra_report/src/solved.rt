@@ -23,7 +23,8 @@ pub(crate) fn add_report<O: Sink>(
     drawing: Drawing,
     entries: &[Entry],
 )
-    ensures { Adds O.taken O.faults text.old text.new (report_lines parts.now bound.now.total best_at best.now.items drawing entries.now) }
+    ensures { Adds O.taken O.faults text.old text.new
+        (report_lines parts.now bound.now.total best_at best.now.items drawing entries.now) }
 {
     add_head(text, best, parts, bound.total, best_at, drawing);
     add_entries(text, entries)
@@ -38,7 +39,8 @@ fn add_head<O: Sink>(
     best_at: u64,
     drawing: Drawing,
 )
-    ensures { Adds O.taken O.faults text.old text.new (head_text parts.now bound_total best_at best.now.items drawing) }
+    ensures { Adds O.taken O.faults text.old text.new
+        (head_text parts.now bound_total best_at best.now.items drawing) }
 {
     add_parts(text, parts);
     add_number(text, "bound", bound_total);

@@ -16,8 +16,10 @@ use ra_journal::Entry;
 
 /// Writes the six lines of the parts: `cost`, `load`, `balance`, `process`, `service`, `machine`.
 pub fn write_parts<O: Sink>(sink: &mut O, parts: &Parts) -> Result<(), WriteFault>
-    ensures whole { OnOk result (Appends (O.taken sink.old) (O.taken sink.new) (parts_text parts.now)) }
-    ensures part { OnErr result (Breaks (O.taken sink.old) (O.taken sink.new) (O.faults sink.old) (O.faults sink.new) (parts_text parts.now)) }
+    ensures whole { OnOk result (Appends (O.taken sink.old) (O.taken sink.new)
+        (parts_text parts.now)) }
+    ensures part { OnErr result (Breaks (O.taken sink.old) (O.taken sink.new) (O.faults sink.old)
+        (O.faults sink.new) (parts_text parts.now)) }
     ensures never_falls { O.faults sink.old ≤ O.faults sink.new }
 {
     let mut text = Gathered::make(sink);
@@ -27,8 +29,10 @@ pub fn write_parts<O: Sink>(sink: &mut O, parts: &Parts) -> Result<(), WriteFaul
 
 /// Writes a cause: its name and its numbers, with no end of the line.
 pub fn write_cause<O: Sink>(sink: &mut O, cause: &Cause) -> Result<(), WriteFault>
-    ensures whole { OnOk result (Appends (O.taken sink.old) (O.taken sink.new) (cause_text cause.now)) }
-    ensures part { OnErr result (Breaks (O.taken sink.old) (O.taken sink.new) (O.faults sink.old) (O.faults sink.new) (cause_text cause.now)) }
+    ensures whole { OnOk result (Appends (O.taken sink.old) (O.taken sink.new)
+        (cause_text cause.now)) }
+    ensures part { OnErr result (Breaks (O.taken sink.old) (O.taken sink.new) (O.faults sink.old)
+        (O.faults sink.new) (cause_text cause.now)) }
     ensures never_falls { O.faults sink.old ≤ O.faults sink.new }
 {
     let mut text = Gathered::make(sink);
@@ -47,8 +51,10 @@ pub fn write_report<O: Sink>(
     drawing: Drawing,
     entries: &[Entry],
 ) -> Result<(), WriteFault>
-    ensures whole { OnOk result (Appends (O.taken sink.old) (O.taken sink.new) (report_lines parts.now bound.now.total best_at best.now.items drawing entries.now)) }
-    ensures part { OnErr result (Breaks (O.taken sink.old) (O.taken sink.new) (O.faults sink.old) (O.faults sink.new) (report_lines parts.now bound.now.total best_at best.now.items drawing entries.now)) }
+    ensures whole { OnOk result (Appends (O.taken sink.old) (O.taken sink.new)
+        (report_lines parts.now bound.now.total best_at best.now.items drawing entries.now)) }
+    ensures part { OnErr result (Breaks (O.taken sink.old) (O.taken sink.new) (O.faults sink.old)
+        (O.faults sink.new) (report_lines parts.now bound.now.total best_at best.now.items drawing entries.now)) }
     ensures never_falls { O.faults sink.old ≤ O.faults sink.new }
 {
     let mut text = Gathered::make(sink);
@@ -58,8 +64,10 @@ pub fn write_report<O: Sink>(
 
 /// Writes the three lines of a bound: its total, its load and its balance.
 pub fn write_bound<O: Sink>(sink: &mut O, bound: &Bound) -> Result<(), WriteFault>
-    ensures whole { OnOk result (Appends (O.taken sink.old) (O.taken sink.new) (bound_text bound.now)) }
-    ensures part { OnErr result (Breaks (O.taken sink.old) (O.taken sink.new) (O.faults sink.old) (O.faults sink.new) (bound_text bound.now)) }
+    ensures whole { OnOk result (Appends (O.taken sink.old) (O.taken sink.new)
+        (bound_text bound.now)) }
+    ensures part { OnErr result (Breaks (O.taken sink.old) (O.taken sink.new) (O.faults sink.old)
+        (O.faults sink.new) (bound_text bound.now)) }
     ensures never_falls { O.faults sink.old ≤ O.faults sink.new }
 {
     let mut text = Gathered::make(sink);
@@ -69,8 +77,10 @@ pub fn write_bound<O: Sink>(sink: &mut O, bound: &Bound) -> Result<(), WriteFaul
 
 /// Writes the line of a fault. A reader's `ReadFault` and `NoMemory` have variants of their own, and no detail.
 pub fn write_fault<E: Sink>(sink: &mut E, fault: &Fault<'_>) -> Result<(), WriteFault>
-    ensures whole { OnOk result (Appends (E.taken sink.old) (E.taken sink.new) (fault_text fault.now)) }
-    ensures part { OnErr result (Breaks (E.taken sink.old) (E.taken sink.new) (E.faults sink.old) (E.faults sink.new) (fault_text fault.now)) }
+    ensures whole { OnOk result (Appends (E.taken sink.old) (E.taken sink.new)
+        (fault_text fault.now)) }
+    ensures part { OnErr result (Breaks (E.taken sink.old) (E.taken sink.new) (E.faults sink.old)
+        (E.faults sink.new) (fault_text fault.now)) }
     ensures never_falls { E.faults sink.old ≤ E.faults sink.new }
 {
     let mut text = Gathered::make(sink);

@@ -19,7 +19,8 @@ pub(crate) fn read_cell(table: &Fixed<u64>, width: u32, row: u32, column: u32) -
 pub(crate) fn read_row(table: &Fixed<u64>, width: u32, row: u32) -> &[u64]
     requires { row * width + width ≤ length table.now.items }
     ensures one_each { length result.now ≡ width }
-    ensures each { (r : ℕ) → r < width → slice_index_or result.now r 0 ≡ cell width table.now.items row r }
+    ensures each { (r : ℕ) → r < width → slice_index_or result.now r 0 ≡
+        cell width table.now.items row r }
 {
     let _within = table.len();
     let start = row as usize * width as usize;
@@ -65,7 +66,8 @@ pub(crate) fn move_amount(
     requires apart { from.0 ≢ to.0 }
     requires enough { amount ≤ cell width table.old.items from.0 column }
     requires fits { cell width table.old.items to.0 column + amount < 2 ^ 64 }
-    ensures { Moves width column (at_row from.0 amount) (at_row to.0 amount) table.old.items table.new.items }
+    ensures { Moves width column (at_row from.0 amount)
+        (at_row to.0 amount) table.old.items table.new.items }
 {
     take_from_cell(table, width, from.0, column, amount);
     add_to_cell(table, width, to.0, column, amount);
@@ -87,7 +89,8 @@ pub(crate) fn move_beside_home(
     requires apart { from.0 ≢ to.0 }
     requires enough { amount ≤ cell width table.old.items from.0 column }
     requires fits { cell width table.old.items to.0 column + amount < 2 ^ 64 }
-    ensures { Moves width column (away_row home.0 from.0 amount) (away_row home.0 to.0 amount) table.old.items table.new.items }
+    ensures { Moves width column (away_row home.0 from.0 amount)
+        (away_row home.0 to.0 amount) table.old.items table.new.items }
 {
     leave_row(table, width, column, home, from, amount);
     enter_row(table, width, column, home, to, amount);

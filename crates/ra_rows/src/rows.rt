@@ -61,7 +61,8 @@ impl<'a> Rows<'a> {
     pub fn usage(&self, m: Machine, r: Resource) -> u64
         requires machine { m.0 < machine_count self.now.tables }
         requires resource { r.0 < resource_count self.now.tables }
-        ensures value { (a : List Machine) → StandFor self.now a → result ≡ use_of self.now.tables a m.0 r.0 }
+        ensures value { (a : List Machine) → StandFor self.now a →
+            result ≡ use_of self.now.tables a m.0 r.0 }
         ensures below { result < 2 ^ 48 }
     {
         let inst = self.inst;
@@ -73,7 +74,8 @@ impl<'a> Rows<'a> {
     pub fn transient_use(&self, m: Machine, r: Resource) -> u64
         requires machine { m.0 < machine_count self.now.tables }
         requires resource { r.0 < resource_count self.now.tables }
-        ensures value { (a : List Machine) → StandFor self.now a → result ≡ transient_of self.now.tables self.now.start a m.0 r.0 }
+        ensures value { (a : List Machine) → StandFor self.now a →
+            result ≡ transient_of self.now.tables self.now.start a m.0 r.0 }
         ensures below { result < 2 ^ 48 }
     {
         let inst = self.inst;
@@ -84,7 +86,8 @@ impl<'a> Rows<'a> {
     pub fn usage_row(&self, m: Machine) -> &[u64]
         requires { m.0 < machine_count self.now.tables }
         ensures one_each { length result.now ≡ resource_count self.now.tables }
-        ensures values { (a : List Machine) → StandFor self.now a → IsUsageRow self.now.tables a m.0 result.now }
+        ensures values { (a : List Machine) → StandFor self.now a →
+            IsUsageRow self.now.tables a m.0 result.now }
         ensures below { AreBelow (2 ^ 48) result.now }
     {
         let inst = self.inst;
@@ -95,7 +98,8 @@ impl<'a> Rows<'a> {
     pub fn transient_row(&self, m: Machine) -> &[u64]
         requires { m.0 < machine_count self.now.tables }
         ensures one_each { length result.now ≡ resource_count self.now.tables }
-        ensures values { (a : List Machine) → StandFor self.now a → IsTransientRow self.now.tables self.now.start a m.0 result.now }
+        ensures values { (a : List Machine) → StandFor self.now a →
+            IsTransientRow self.now.tables self.now.start a m.0 result.now }
         ensures below { AreBelow (2 ^ 48) result.now }
     {
         let inst = self.inst;
@@ -108,7 +112,8 @@ impl<'a> Rows<'a> {
         requires to { to.0 < machine_count self.old.tables }
         requires moves { from.0 ≢ to.0 }
         requires stands { HasAt self.old p.0 from.0 }
-        ensures stands { (a : List Machine) → StandFor self.old a → machine_at a p.0 ≡ from.0 → StandFor self.new (slice_set a p.0 to) }
+        ensures stands { (a : List Machine) → StandFor self.old a → machine_at a p.0 ≡ from.0 →
+            StandFor self.new (slice_set a p.0 to) }
         ensures tables { self.new.tables ≡ self.old.tables }
         ensures start { self.new.start ≡ self.old.start }
         ensures counted { steps.new ≡ steps.old + resource_count self.old.tables }

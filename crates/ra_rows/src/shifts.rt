@@ -27,14 +27,19 @@ pub(crate) fn shift_rows<L: Ledger>(
     requires from { from.0 < machine_count inst.now.tables }
     requires to { to.0 < machine_count inst.now.tables }
     requires apart { from.0 ≢ to.0 }
-    requires used_grid { length used.old.items ≡ machine_count inst.now.tables * resource_count inst.now.tables }
-    requires between_grid { length between.old.items ≡ machine_count inst.now.tables * resource_count inst.now.tables }
+    requires used_grid { length used.old.items ≡
+        machine_count inst.now.tables * resource_count inst.now.tables }
+    requires between_grid { length between.old.items ≡
+        machine_count inst.now.tables * resource_count inst.now.tables }
     requires used_below { IsBelow (resource_count inst.now.tables) (2 ^ 48) used.old.items }
     requires between_below { IsBelow (resource_count inst.now.tables) (2 ^ 48) between.old.items }
     requires used_enough { HasRoomFor inst.now.tables p.0 from.0 used.old.items }
     requires between_enough { HasRoomFor inst.now.tables p.0 from.0 between.old.items }
-    ensures used { Shifts (resource_count inst.now.tables) (use_share inst.now.tables) p.0 from.0 to.0 used.old.items used.new.items }
-    ensures between { (a0 : List Machine) → machine_at a0 p.0 ≡ home.0 → Shifts (resource_count inst.now.tables) (transient_share inst.now.tables a0) p.0 from.0 to.0 between.old.items between.new.items }
+    ensures used { Shifts (resource_count inst.now.tables)
+        (use_share inst.now.tables) p.0 from.0 to.0 used.old.items used.new.items }
+    ensures between { (a0 : List Machine) → machine_at a0 p.0 ≡ home.0 →
+        Shifts (resource_count inst.now.tables)
+        (transient_share inst.now.tables a0) p.0 from.0 to.0 between.old.items between.new.items }
     ensures counted { steps.new ≡ steps.old + resource_count inst.now.tables }
 {
     let width = inst.resources();

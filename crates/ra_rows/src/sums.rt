@@ -21,9 +21,12 @@ pub(crate) fn sum_usage<L: Ledger>(
     requires parts { blank.parts ≡ L.parts }
     requires some { 0 < blank.parts }
     requires fits { IsAssignment inst.now.tables a.now.items }
-    requires zeros { table.old.items ≡ replicate (machine_count inst.now.tables * resource_count inst.now.tables) 0 }
-    ensures sums { IsTally (resource_count inst.now.tables) (process_count inst.now.tables) (use_share inst.now.tables) a.now.items table.new.items }
-    ensures grid { length table.new.items ≡ machine_count inst.now.tables * resource_count inst.now.tables }
+    requires zeros { table.old.items ≡
+        replicate (machine_count inst.now.tables * resource_count inst.now.tables) 0 }
+    ensures sums { IsTally (resource_count inst.now.tables) (process_count inst.now.tables)
+        (use_share inst.now.tables) a.now.items table.new.items }
+    ensures grid { length table.new.items ≡
+        machine_count inst.now.tables * resource_count inst.now.tables }
 {
     let mut steps = Steps::<L>::make(blank);
     for p in 0..inst.processes() {
@@ -52,9 +55,11 @@ fn add_row<L: Ledger>(
 )
     requires process { p.0 < process_count inst.now.tables }
     requires at { at.0 < machine_count inst.now.tables }
-    requires grid { length table.old.items ≡ machine_count inst.now.tables * resource_count inst.now.tables }
+    requires grid { length table.old.items ≡
+        machine_count inst.now.tables * resource_count inst.now.tables }
     requires below { IsBelow (resource_count inst.now.tables) (2 ^ 48) table.old.items }
-    ensures { Adds (resource_count inst.now.tables) (use_share inst.now.tables) p.0 at.0 table.old.items table.new.items }
+    ensures { Adds (resource_count inst.now.tables)
+        (use_share inst.now.tables) p.0 at.0 table.old.items table.new.items }
 {
     let width = inst.resources();
     for r in 0..width {

@@ -38,7 +38,8 @@ pub(crate) fn judge_start(
     initial: &Assignment,
 ) -> Result<Scratch, Refusal>
     requires { IsAssignment inst.now.tables initial.now.items }
-    ensures feasible { IfOk result (λ _. Feasible inst.now.tables initial.now.items initial.now.items) }
+    ensures feasible { IfOk result (λ _.
+        Feasible inst.now.tables initial.now.items initial.now.items) }
     ensures made { IfOk result (λ scratch. IsMadeFor scratch inst.now.tables) }
     ensures refused { IfErr result (StartSays inst.now.tables initial.now.items) }
 {

@@ -40,7 +40,8 @@ pub fn check_steady<'n>(
         (out.new ≡ out.old) (err.new ≡ err.old) result }
     ensures no_read_fault { result ≢ Status.ReadFault }
     ensures no_write_fault { result ≢ Status.WriteFault }
-    ensures kept { (other : List ℕ) → ⟦<SteadyFiles as Files>⟧.held files.new other ≡ ⟦<SteadyFiles as Files>⟧.held files.old other }
+    ensures kept { (other : List ℕ) → ⟦<SteadyFiles as Files>⟧.held files.new other ≡
+        ⟦<SteadyFiles as Files>⟧.held files.old other }
     ensures complete { AreValid (⟦<SteadyFiles as Files>⟧.held files.old)
         (check_names model.now (option_copied closed.entry) initial.now changed.now)
         → (result ≡ Status.Done) ⊎ (result ≡ Status.NoMemory) }

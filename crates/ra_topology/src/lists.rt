@@ -41,7 +41,8 @@ impl ServiceLists {
 fn part<'a>(all: &'a Fixed<Service>, ends: &Fixed<u32>, k: u32) -> &'a [Service]
     requires there { k < length ends.now.items }
     requires ascend { Ascend ends.now.items (length all.now.items) }
-    ensures { result.now ≡ slice_range all.now.items (part_start 0 ends.now.items k) (slice_index ends.now.items k) }
+    ensures { result.now ≡ slice_range all.now.items (part_start 0 ends.now.items k)
+        (slice_index ends.now.items k) }
 {
     let start = start_in(ends, k);
     let end = ends.get(k as usize);
