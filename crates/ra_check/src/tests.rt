@@ -1,49 +1,53 @@
 mod services;
 
+ghost use Rattle.ra_model.specs.Assignments.{IsAssignment};
+
 use super::*;
 use crate::capacity::broken_capacity;
 use crate::closed::broken_closed;
 use crate::transient::broken_transient;
-use ra_base::{Cause, Fixed, Machine, Parts, Process, Resource};
+use ra_base::{Assignment, Cause, Fixed, Machine, Parts, Process, Resource};
 use ra_model::Instance;
 use ra_samples::{assignment, list, pair_at_limits, sample};
 use std::alloc::Global;
 use std::process::Abort;
 
+/// The assignment to these machines, which has to fit the instance.
+fn fitting(rt: &impl Abort, alloc: Global, inst: &Instance, machines: &[u32]) -> Assignment
+    ensures { IsAssignment inst.now.tables result.items }
+{
+    let a = assignment(alloc, machines).expect(rt, "no memory");
+    assert!(rt; inst.is_assignment(&a));
+    a
+}
+
 /// The parts of an assignment beside an initial one.
 fn costs(rt: &impl Abort, alloc: Global, inst: &Instance, start: &[u32], new: &[u32]) -> Parts {
-    let a0 = assignment(alloc, start).expect(rt, "no memory");
-    let a = assignment(alloc, new).expect(rt, "no memory");
-    assert!(rt; inst.is_assignment(&a0));
-    assert!(rt; inst.is_assignment(&a));
+    let a0 = fitting(rt, alloc, inst, start);
+    let a = fitting(rt, alloc, inst, new);
     let mut scratch = Scratch::make(alloc, inst).expect(rt, "no memory");
     parts(inst, &a0, &a, &mut scratch)
 }
 
 /// The first use above a capacity.
 fn over_capacity(rt: &impl Abort, alloc: Global, inst: &Instance, new: &[u32]) -> Option<Cause> {
-    let a = assignment(alloc, new).expect(rt, "no memory");
-    assert!(rt; inst.is_assignment(&a));
+    let a = fitting(rt, alloc, inst, new);
     let mut scratch = Scratch::make(alloc, inst).expect(rt, "no memory");
     broken_capacity(inst, &a, &mut scratch)
 }
 
 /// The first transient use above a capacity, on the way from the sample's start.
 fn over_between(rt: &impl Abort, alloc: Global, inst: &Instance, new: &[u32]) -> Option<Cause> {
-    let a0 = assignment(alloc, &[0, 3, 0]).expect(rt, "no memory");
-    let a = assignment(alloc, new).expect(rt, "no memory");
-    assert!(rt; inst.is_assignment(&a0));
-    assert!(rt; inst.is_assignment(&a));
+    let a0 = fitting(rt, alloc, inst, &[0, 3, 0]);
+    let a = fitting(rt, alloc, inst, new);
     let mut scratch = Scratch::make(alloc, inst).expect(rt, "no memory");
     broken_transient(inst, &a0, &a, &mut scratch)
 }
 
 /// The first process that is put on a closed machine, on the way from the sample's start.
 fn shut_out(rt: &impl Abort, alloc: Global, inst: &Instance, new: &[u32]) -> Option<Cause> {
-    let a0 = assignment(alloc, &[0, 3, 0]).expect(rt, "no memory");
-    let a = assignment(alloc, new).expect(rt, "no memory");
-    assert!(rt; inst.is_assignment(&a0));
-    assert!(rt; inst.is_assignment(&a));
+    let a0 = fitting(rt, alloc, inst, &[0, 3, 0]);
+    let a = fitting(rt, alloc, inst, new);
     broken_closed(inst, &a0, &a)
 }
 

@@ -1,11 +1,12 @@
 //! The checks of services on an instance of five machines, four services and seven processes.
+use super::fitting;
 use crate::conflict::broken_conflict;
 use crate::dependency::broken_dependency;
 use crate::services::Services;
 use crate::spread::broken_spread;
 use ra_base::{Cause, Machine, Process, Service};
 use ra_model::Instance;
-use ra_samples::{assignment, seven_processes};
+use ra_samples::seven_processes;
 use std::alloc::Global;
 use std::process::Abort;
 
@@ -19,8 +20,7 @@ fn causes(
     inst: &Instance,
     machines: &[u32],
 ) -> (Option<Cause>, Option<Cause>, Option<Cause>) {
-    let a = assignment(alloc, machines).expect(rt, "no memory");
-    assert!(rt; inst.is_assignment(&a));
+    let a = fitting(rt, alloc, inst, machines);
     let mut checks = Services::make(alloc, inst).expect(rt, "no memory");
     let dependency = broken_dependency(inst, &a, &mut checks);
     let spread = broken_spread(inst, &a, &mut checks);
@@ -74,15 +74,22 @@ fn a_process_far_from_what_it_needs(rt: &impl Abort, alloc: Global, inst: &Insta
 }
 
 fn members_and_places(rt: &impl Abort, alloc: Global, inst: &Instance) {
-    let checks = Services::make(alloc, inst).expect(rt, "no memory");
     assert!(rt; inst.services() == 4);
     assert!(rt; inst.machines() == 5);
+    let checks = Services::make(alloc, inst).expect(rt, "no memory");
     let first = [Process(1), Process(3), Process(5), Process(6)];
-    assert_eq!(rt; checks.members.of(Service(0)), first.as_slice());
-    assert_eq!(rt; checks.members.of(Service(2)).len(), 0);
-    assert_eq!(rt; checks.places.location(Machine(2)), Machine(0));
-    assert_eq!(rt; checks.places.neighbourhood(Machine(2)), Machine(2));
-    assert_eq!(rt; checks.places.neighbourhood(Machine(4)), Machine(3));
+    let are_first = checks.members.of(Service(0)) == first.as_slice();
+    let third = checks.members.of(Service(2)).len();
+    let location = checks.places.location(Machine(2));
+    let neighbourhoods = (
+        checks.places.neighbourhood(Machine(2)),
+        checks.places.neighbourhood(Machine(4)),
+    );
+    drop(checks);
+    assert!(rt; are_first);
+    assert_eq!(rt; third, 0);
+    assert_eq!(rt; location, Machine(0));
+    assert_eq!(rt; neighbourhoods, (Machine(2), Machine(3)));
 }
 
 #[test]
