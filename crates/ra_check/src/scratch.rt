@@ -8,12 +8,24 @@ use std::alloc::Global;
 
 /// Tables that the checks of one instance write into, so that a check takes no memory. What stands in them between
 /// two calls says nothing.
-#[derive(Debug, Drop)]
+#[derive(Debug)]
 pub struct Scratch {
     pub(crate) used: Fixed<u64>,
     pub(crate) transient: Fixed<u64>,
     pub(crate) moved: Fixed<u32>,
     pub(crate) services: Services,
+}
+
+/// Lets all tables go in one call, so that the end of an owner is short to prove.
+impl Drop for Scratch {
+    fn drop(self) {
+        let Scratch {
+            used: _,
+            transient: _,
+            moved: _,
+            services: _,
+        } = self;
+    }
 }
 
 impl Scratch {

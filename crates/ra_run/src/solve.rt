@@ -168,10 +168,12 @@ fn run_from(
 /// Writes the report of a run.
 fn report<O: Sink>(out: &mut O, inst: &Instance, lots: &Lots, run: &Run) -> Result<(), WriteFault>
     ensures whole { OnOk result (Appends (O.taken out.old) (O.taken out.new)
-        (report_lines run.now.parts (bound_of inst.now.tables).total run.now.best_at run.now.best.items lots.now.drawing run.now.entries.items)) }
+        (report_lines run.now.parts (bound_of inst.now.tables).total run.now.best_at
+        run.now.best.items lots.now.drawing run.now.entries.items)) }
     ensures part { OnErr result (Breaks (O.taken out.old) (O.taken out.new) (O.faults out.old)
         (O.faults out.new)
-        (report_lines run.now.parts (bound_of inst.now.tables).total run.now.best_at run.now.best.items lots.now.drawing run.now.entries.items)) }
+        (report_lines run.now.parts (bound_of inst.now.tables).total run.now.best_at
+        run.now.best.items lots.now.drawing run.now.entries.items)) }
 {
     write_report(
         out,
