@@ -1,6 +1,6 @@
 -- One seat's view changes, and the rule is kept.
 use Rattle.std.proofs.Common.{◌≡◌, ◌≢◌, ℕ, ◌+◌, ◌<◌, ◌≤◌, List, [], ◌∷◌, length, set, ap, sym, subst, ◌∙◌, inl, inr, ⊎_elim, arith, Option}
-use mathlib.Core.Option.{none, some, some-injective}
+use mathlib.Core.Option.{some, some-injective}
 use mathlib.Core.Option as maybe
 use lib.ListN.{get_elem?}
 use Rattle.atomic_table.specs.Table.{State}

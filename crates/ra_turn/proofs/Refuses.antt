@@ -1,5 +1,5 @@
 -- What the rule of the table refuses, whatever a step tells its seat: a guard that stays taken without a holder, and a turn that isn't passed on.
-use Rattle.std.proofs.Common.{◌≡◌, ◌≢◌, ℕ, ◌+◌, ◌*◌, ◌==◌, ◌<◌, Bool, true, not, List, set, slice_index, All, Contains, refl, ap, sym, subst, ◌∙◌, ⊎_elim, eq-eqb, arith, Option}
+use Rattle.std.proofs.Common.{◌≡◌, ℕ, ◌+◌, ◌*◌, ◌==◌, ◌<◌, Bool, true, not, List, set, slice_index, All, Contains, refl, ap, sym, subst, ◌∙◌, ⊎_elim, eq-eqb, arith, Option}
 use Rattle.std.proofs.lemmas.List.Elements.{All-contains}
 use mathlib.Core.Option.{some}
 use lib.ListN.{get_elem?}
@@ -11,7 +11,7 @@ use Rattle.ra_turn.specs.Stages.{HasTicket, IsServed}
 use Rattle.ra_turn.specs.Notes.{grip, without, touching}
 use Rattle.ra_turn.specs.Locks.{Latch, Latched, HasGrip}
 use Rattle.ra_turn.specs.Locks.Latch.{free, taken}
-use Rattle.ra_turn.specs.Law.{AtTicket, Ruled}
+use Rattle.ra_turn.specs.Law.{Ruled}
 use Rattle.ra_turn.proofs.Stages.{served_ticket}
 use Rattle.ra_turn.proofs.Latches.{all_filter, latch_free}
 
