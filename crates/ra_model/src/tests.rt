@@ -1,23 +1,22 @@
-ghost use Rattle.std.specs.Prelude.{◌≡◌, ◌<◌, IfOk};
+ghost use Rattle.std.specs.Prelude.{◌≡◌, ◌<◌};
 
 use super::*;
-use ra_base::{Fixed, Machine, NoMemory, Process, Resource, Service, Steps};
+use ra_base::{Fixed, Machine, Process, Resource, Service, Steps};
 use std::alloc::Global;
 use std::marker::Brand;
 use std::process::Abort;
 use std::sync::ledger::{Blank, Ledger};
-use std::test::Fail;
 
 /// The list of these items.
-fn listed<T: Copy>(alloc: Global, items: &[T]) -> Result<Fixed<T>, NoMemory>
-    ensures { IfOk result (λ list. list.items ≡ items.now) }
+fn listed<T: Copy>(rt: &impl Abort, alloc: Global, items: &[T]) -> Fixed<T>
+    ensures { result.items ≡ items.now }
 {
-    let mut list = Fixed::make(alloc, items.len())?;
+    let mut list = Fixed::make(alloc, items.len()).expect(rt, "no memory");
     list.extend_from_slice(items);
-    Ok(list)
+    list
 }
 
-fn service_rows(alloc: Global) -> Result<Fixed<ServiceRow>, NoMemory> {
+fn service_rows(rt: &impl Abort, alloc: Global) -> Fixed<ServiceRow> {
     let first = ServiceRow {
         spread_min: 2,
         dependency_end: 0,
@@ -26,10 +25,10 @@ fn service_rows(alloc: Global) -> Result<Fixed<ServiceRow>, NoMemory> {
         spread_min: 1,
         dependency_end: 1,
     };
-    listed(alloc, &[first, second])
+    listed(rt, alloc, &[first, second])
 }
 
-fn process_rows(alloc: Global) -> Result<Fixed<ProcessRow>, NoMemory> {
+fn process_rows(rt: &impl Abort, alloc: Global) -> Fixed<ProcessRow> {
     let first = ProcessRow {
         service: Service(0),
         move_cost: 1000,
@@ -42,10 +41,10 @@ fn process_rows(alloc: Global) -> Result<Fixed<ProcessRow>, NoMemory> {
         service: Service(1),
         move_cost: 1,
     };
-    listed(alloc, &[first, second, third])
+    listed(rt, alloc, &[first, second, third])
 }
 
-fn machine_rows(alloc: Global) -> Result<Fixed<MachineRow>, NoMemory> {
+fn machine_rows(rt: &impl Abort, alloc: Global) -> Fixed<MachineRow> {
     let first = MachineRow {
         neighbourhood: 0,
         location: 0,
@@ -58,10 +57,10 @@ fn machine_rows(alloc: Global) -> Result<Fixed<MachineRow>, NoMemory> {
         neighbourhood: 1,
         location: 2,
     };
-    listed(alloc, &[first, first, third, fourth])
+    listed(rt, alloc, &[first, first, third, fourth])
 }
 
-fn resource_rows(alloc: Global) -> Result<Fixed<ResourceRow>, NoMemory> {
+fn resource_rows(rt: &impl Abort, alloc: Global) -> Fixed<ResourceRow> {
     let first = ResourceRow {
         transient: true,
         load_weight: 100,
@@ -70,32 +69,32 @@ fn resource_rows(alloc: Global) -> Result<Fixed<ResourceRow>, NoMemory> {
         transient: false,
         load_weight: 10,
     };
-    listed(alloc, &[first, second])
+    listed(rt, alloc, &[first, second])
 }
 
-fn balance_rows(alloc: Global) -> Result<Fixed<BalanceRow>, NoMemory> {
+fn balance_rows(rt: &impl Abort, alloc: Global) -> Fixed<BalanceRow> {
     let only = BalanceRow {
         first: Resource(0),
         second: Resource(1),
         target: 20,
         weight: 10,
     };
-    listed(alloc, &[only])
+    listed(rt, alloc, &[only])
 }
 
 /// Two resources, four machines, two services and three processes.
-fn sample_lists(alloc: Global) -> Result<RawInstance, NoMemory> {
-    let resources = resource_rows(alloc)?;
-    let machines = machine_rows(alloc)?;
-    let capacities = listed(alloc, &[30, 400, 10, 240, 15, 100, 10, 100])?;
-    let safeties = listed(alloc, &[16, 80, 8, 160, 12, 80, 8, 80])?;
-    let move_costs = listed(alloc, &[0, 1, 4, 5, 1, 0, 3, 4, 4, 3, 0, 2, 5, 4, 2, 0])?;
-    let services = service_rows(alloc)?;
-    let dependencies = listed(alloc, &[Service(0)])?;
-    let processes = process_rows(alloc)?;
-    let requirements = listed(alloc, &[12, 10, 10, 20, 6, 200])?;
-    let balances = balance_rows(alloc)?;
-    Ok(RawInstance {
+fn sample_lists(rt: &impl Abort, alloc: Global) -> RawInstance {
+    let resources = resource_rows(rt, alloc);
+    let machines = machine_rows(rt, alloc);
+    let capacities = listed(rt, alloc, &[30, 400, 10, 240, 15, 100, 10, 100]);
+    let safeties = listed(rt, alloc, &[16, 80, 8, 160, 12, 80, 8, 80]);
+    let move_costs = listed(rt, alloc, &[0, 1, 4, 5, 1, 0, 3, 4, 4, 3, 0, 2, 5, 4, 2, 0]);
+    let services = service_rows(rt, alloc);
+    let dependencies = listed(rt, alloc, &[Service(0)]);
+    let processes = process_rows(rt, alloc);
+    let requirements = listed(rt, alloc, &[12, 10, 10, 20, 6, 200]);
+    let balances = balance_rows(rt, alloc);
+    RawInstance {
         resources,
         machines,
         capacities,
@@ -109,14 +108,14 @@ fn sample_lists(alloc: Global) -> Result<RawInstance, NoMemory> {
         process_weight: 1,
         service_weight: 10,
         machine_weight: 100,
-    })
+    }
 }
 
 /// Their instance.
-fn sample(rt: &impl Abort, alloc: Global) -> Result<Instance, NoMemory> {
-    let raw = sample_lists(alloc)?;
+fn sample(rt: &impl Abort, alloc: Global) -> Instance {
+    let raw = sample_lists(rt, alloc);
     assert!(rt; raw.is_instance());
-    Ok(Instance::of(raw))
+    Instance::of(raw)
 }
 
 fn counts(instance: &Instance) -> [u32; 5] {
@@ -190,41 +189,49 @@ fn target(instance: &Instance, b: u32) -> u32 {
 }
 
 /// The instance with the third machine closed, if it has four.
-fn without_third(alloc: Global, instance: Instance) -> Result<Instance, NoMemory> {
-    let flags = listed(alloc, &[false, false, true, false])?;
-    if instance.machines() == 4 {
-        Ok(instance.closing(flags))
-    } else {
-        Ok(instance)
-    }
+fn without_third(rt: &impl Abort, alloc: Global, instance: Instance) -> Instance {
+    let flags = listed(rt, alloc, &[false, false, true, false]);
+    assert!(rt; instance.machines() == 4);
+    instance.closing(flags)
+}
+
+fn rows_are_read_back(rt: &impl Abort, instance: &Instance) {
+    assert_eq!(rt; counts(instance), [2, 4, 2, 3, 1]);
+    assert_eq!(rt; weights(instance), [1, 10, 100]);
+    let last = of_machine(instance, Machine(3), Resource(1));
+    assert_eq!(rt; last, [1, 2, 100, 80, 10, 5]);
+    assert_eq!(rt; of_service(instance, Service(0)), [2, 0]);
+    assert_eq!(rt; of_service(instance, Service(1)), [1, 1]);
+    assert_eq!(rt; target(instance, 0), 20);
+    assert!(rt; is_transient(instance, Resource(0)));
 }
 
 #[test]
-fn the_sample_is_read_back(rt: HostRuntime) -> Result<(), Fail> {
-    let instance = sample(&rt, rt.alloc())?;
-    assert_eq!(rt; counts(&instance), [2, 4, 2, 3, 1]);
-    assert_eq!(rt; weights(&instance), [1, 10, 100]);
-    assert_eq!(rt;
-        of_machine(&instance, Machine(3), Resource(1)),
-        [1, 2, 100, 80, 10, 5]
-    );
+fn the_sample_is_read_back(rt: HostRuntime) {
+    let instance = sample(&rt, rt.alloc());
+    rows_are_read_back(&rt, &instance);
     let last = of_process::<Brand>(Blank::new(1), &instance, Process(2), Resource(1));
+    drop(instance);
     assert_eq!(rt; last, [1, 1, 200]);
-    assert_eq!(rt; of_service(&instance, Service(0)), [2, 0]);
-    assert_eq!(rt; of_service(&instance, Service(1)), [1, 1]);
-    assert_eq!(rt; target(&instance, 0), 20);
-    assert!(rt; is_transient(&instance, Resource(0)));
-    Ok(())
+}
+
+/// Whether the third and the fourth machine are closed.
+fn are_closed(instance: &Instance) -> [bool; 2] {
+    [
+        is_closed(instance, Machine(2)),
+        is_closed(instance, Machine(3)),
+    ]
 }
 
 #[test]
-fn closed_machines_are_those_flagged(rt: HostRuntime) -> Result<(), Fail> {
-    let open = sample(&rt, rt.alloc())?;
-    assert!(rt; !is_closed(&open, Machine(2)));
-    let closing = without_third(rt.alloc(), open)?;
-    assert!(rt; is_closed(&closing, Machine(2)));
-    assert!(rt; !is_closed(&closing, Machine(3)));
-    Ok(())
+fn closed_machines_are_those_flagged(rt: HostRuntime) {
+    let instance = sample(&rt, rt.alloc());
+    let before = are_closed(&instance);
+    let instance = without_third(&rt, rt.alloc(), instance);
+    let after = are_closed(&instance);
+    drop(instance);
+    assert_eq!(rt; before, [false, false]);
+    assert_eq!(rt; after, [true, false]);
 }
 
 /// Lengths of lists and tables, and what is named in them.
@@ -255,7 +262,7 @@ const SAMPLE: Shape = Shape {
 };
 
 /// The sample's lists with such a shape.
-fn shaped(alloc: Global, shape: &Shape) -> Result<RawInstance, NoMemory> {
+fn shaped(rt: &impl Abort, alloc: Global, shape: &Shape) -> RawInstance {
     let first = ServiceRow {
         spread_min: 2,
         dependency_end: shape.first_end,
@@ -274,22 +281,30 @@ fn shaped(alloc: Global, shape: &Shape) -> Result<RawInstance, NoMemory> {
         target: 20,
         weight: 10,
     };
-    let mut raw = sample_lists(alloc)?;
-    raw.capacities = listed(alloc, shape.capacities)?;
-    raw.safeties = listed(alloc, shape.safeties)?;
-    raw.move_costs = listed(alloc, shape.move_costs)?;
-    raw.requirements = listed(alloc, shape.requirements)?;
-    raw.services = listed(alloc, &[first, second])?;
-    raw.dependencies = listed(alloc, &[Service(shape.needs)])?;
-    raw.processes = listed(alloc, &[process, process, process])?;
-    raw.balances = listed(alloc, &[balance])?;
-    Ok(raw)
+    let mut raw = sample_lists(rt, alloc);
+    raw.capacities = listed(rt, alloc, shape.capacities);
+    raw.safeties = listed(rt, alloc, shape.safeties);
+    raw.move_costs = listed(rt, alloc, shape.move_costs);
+    raw.requirements = listed(rt, alloc, shape.requirements);
+    raw.services = listed(rt, alloc, &[first, second]);
+    raw.dependencies = listed(rt, alloc, &[Service(shape.needs)]);
+    raw.processes = listed(rt, alloc, &[process, process, process]);
+    raw.balances = listed(rt, alloc, &[balance]);
+    raw
+}
+
+/// Whether the lists of a shape are an instance.
+fn is_instance(rt: &impl Abort, alloc: Global, shape: &Shape) -> bool {
+    let raw = shaped(rt, alloc, shape);
+    let answer = raw.is_instance();
+    drop(raw);
+    answer
 }
 
 #[test]
-fn lists_that_fit_one_another_are_an_instance(rt: HostRuntime) -> Result<(), Fail> {
-    assert!(rt; shaped(rt.alloc(), &SAMPLE)?.is_instance());
-    let misshapen = [
+fn lists_that_fit_one_another_are_an_instance(rt: HostRuntime) {
+    assert!(rt; is_instance(&rt, rt.alloc(), &SAMPLE));
+    let misshapen: &[Shape] = &[
         Shape {
             capacities: &[0; 7],
             ..SAMPLE
@@ -328,23 +343,28 @@ fn lists_that_fit_one_another_are_an_instance(rt: HostRuntime) -> Result<(), Fai
             ..SAMPLE
         },
     ];
-    for shape in &misshapen {
-        assert!(rt; !shaped(rt.alloc(), shape)?.is_instance());
+    for shape in misshapen {
+        assert!(rt; !is_instance(&rt, rt.alloc(), shape));
     }
-    Ok(())
+}
+
+/// Whether an instance takes a list of machines as an assignment.
+fn takes(rt: &impl Abort, alloc: Global, instance: &Instance, machines: &[Machine]) -> bool {
+    let a = listed(rt, alloc, machines);
+    instance.is_assignment(&a)
+}
+
+fn fitting_lists_are_taken(rt: &impl Abort, alloc: Global, instance: &Instance) {
+    let (first, last) = (Machine(0), Machine(3));
+    assert!(rt; takes(rt, alloc, instance, &[first, last, first]));
+    assert!(rt; !takes(rt, alloc, instance, &[first, Machine(4), first]));
+    assert!(rt; !takes(rt, alloc, instance, &[first, last]));
+    assert!(rt; !takes(rt, alloc, instance, &[first, last, first, first]));
 }
 
 #[test]
-fn each_process_has_one_machine_of_the_instance(rt: HostRuntime) -> Result<(), Fail> {
-    let instance = sample(&rt, rt.alloc())?;
-    let (first, last) = (Machine(0), Machine(3));
-    let fitting = listed(rt.alloc(), &[first, last, first])?;
-    assert!(rt; instance.is_assignment(&fitting));
-    let past_last = listed(rt.alloc(), &[first, Machine(4), first])?;
-    assert!(rt; !instance.is_assignment(&past_last));
-    let one_few = listed(rt.alloc(), &[first, last])?;
-    assert!(rt; !instance.is_assignment(&one_few));
-    let one_more = listed(rt.alloc(), &[first, last, first, first])?;
-    assert!(rt; !instance.is_assignment(&one_more));
-    Ok(())
+fn each_process_has_one_machine_of_the_instance(rt: HostRuntime) {
+    let instance = sample(&rt, rt.alloc());
+    fitting_lists_are_taken(&rt, rt.alloc(), &instance);
+    drop(instance);
 }
