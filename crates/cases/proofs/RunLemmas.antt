@@ -83,9 +83,9 @@ output_of (Some says) held before now out taken breaks tells out_same err_same s
     (λ text (put : taken ≡ out ++ text). put ∙ (rw empty refl))
     (ends.printed done)
 
-pub runs : (words : List (List ℕ)) (held : Held) (before now : Faults) (out : List ℕ) (breaks tells : List ℕ → Type 0) (out_same err_same : Type 0) (status : Status) (came wanted : Ending) → out ≡ [] → ((status ≡ Usage) ↔ (job_of words ≡ None)) → IfSome (job_of words) (λ says. Ends held (names_in says) before now (OutputOf held says (Appends (Some out) (Some came.out.now))) (OutputOf held says breaks) tells out_same err_same status) → came.status ≡ number_of status → Same came wanted → Runs words held wanted
-runs words held before now out breaks tells out_same err_same status came wanted empty usage ends number same = record {
+pub runs : (words : List (List ℕ)) (held : Held) (before now : Faults) (out taken : List ℕ) (breaks tells : List ℕ → Type 0) (out_same err_same : Type 0) (status : Status) (came wanted : Ending) → out ≡ [] → ((status ≡ Usage) ↔ (job_of words ≡ None)) → IfSome (job_of words) (λ says. Ends held (names_in says) before now (OutputOf held says (Appends (Some out) (Some taken))) (OutputOf held says breaks) tells out_same err_same status) → came.out.now ≡ taken → came.status ≡ number_of status → Same came wanted → Runs words held wanted
+runs words held before now out taken breaks tells out_same err_same status came wanted empty usage ends took number same = record {
   usage = (λ two. usage.0 (usage_of status (sym number ∙ same.status ∙ two)), λ none. sym same.status ∙ number ∙ of_usage status (usage.1 none));
-  done = λ zero. subst (λ x. IfSome (job_of words) (λ says. OutputOf held says (λ text. x ≡ text))) same.out
-      (output_of (job_of words) held before now out came.out.now breaks tells out_same err_same status (done_of status (sym number ∙ same.status ∙ zero)) empty ends);
+  done = λ zero. subst (λ (x : List ℕ). IfSome (job_of words) (λ says. OutputOf held says (λ text. x ≡ text))) (sym took ∙ same.out)
+      (output_of (job_of words) held before now out taken breaks tells out_same err_same status (done_of status (sym number ∙ same.status ∙ zero)) empty ends);
 }

@@ -1,0 +1,14 @@
+use Rattle.std.proofs.Common.{List, subst}
+use Rattle.std.specs.declared.alloc.Global.{Global}
+use Rattle.std.specs.Prelude.{String}
+use Rattle.ra_io.specs.MemoryFiles as files
+use Rattle.ra_io.specs.MemorySink as sinks
+use Rattle.ra_words.specs.Words.{texts}
+use Rattle.cases.specs.Runs.{Runs}
+use Rattle.cases.proofs.RunLemmas.{runs}
+use Rattle.cases.proofs.trying.try_stage.Goals as goal
+
+pub returns-then-is_same-clause-ok : goal.returns-then-is_same-clause-ok
+returns-then-is_same-clause-ok g c = λ _. subst (λ (w : List (String Global)). Runs (texts w) (files.held c.args.stage.now.files) c.args.wanted.now) c.as_slice.ensures.value
+    (runs (texts c.as_slice.result.now) (files.held c.args.stage.now.files) _ _ (sinks.bytes c.args.stage.now.out) (sinks.bytes c.run-status.new.out) _ _ _ _ c.run-status.result _ c.args.wanted.now
+    c.requires.empty c.run-status.ensures.usage c.run-status.ensures.ends c.bytes.ensures c.number.ensures (c.is_same.ensures.0 c.if-is_same.true))
