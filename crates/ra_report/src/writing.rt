@@ -54,7 +54,8 @@ pub fn write_report<O: Sink>(
     ensures whole { OnOk result (Appends (O.taken sink.old) (O.taken sink.new)
         (report_lines parts.now bound.now.total best_at best.now.items drawing entries.now)) }
     ensures part { OnErr result (Breaks (O.taken sink.old) (O.taken sink.new) (O.faults sink.old)
-        (O.faults sink.new) (report_lines parts.now bound.now.total best_at best.now.items drawing entries.now)) }
+        (O.faults sink.new)
+        (report_lines parts.now bound.now.total best_at best.now.items drawing entries.now)) }
     ensures never_falls { O.faults sink.old ≤ O.faults sink.new }
 {
     let mut text = Gathered::make(sink);
