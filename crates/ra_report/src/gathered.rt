@@ -38,6 +38,7 @@ impl<'a, O: Sink> Gathered<'a, O> {
     }
 
     /// Adds a piece.
+    #[inline(always)]
     pub(crate) fn add(&mut self, piece: &[u8])
         ensures { Adds O.taken O.faults self.old self.new piece.now }
     {
@@ -63,6 +64,8 @@ impl<'a, O: Sink> Gathered<'a, O> {
     }
 
     /// Puts what waits.
+    #[cold]
+    #[inline(never)]
     fn put_waiting(&mut self)
         ensures adds { Adds O.taken O.faults self.old self.new [] }
         ensures none { self.new.waiting.items ≡ [] }
@@ -72,6 +75,8 @@ impl<'a, O: Sink> Gathered<'a, O> {
     }
 
     /// Puts a piece, where nothing waits.
+    #[cold]
+    #[inline(never)]
     fn put(&mut self, piece: &[u8])
         requires { self.old.waiting.items ≡ [] }
         ensures { Adds O.taken O.faults self.old self.new piece.now }

@@ -17,6 +17,7 @@ pub(crate) enum Piece<'a> {
 
 /// Adds one piece.
 #[tactic(auto, using(crate::proofs::NumberTexts::decimal_number))]
+#[inline(always)]
 fn add_piece<O: Sink>(text: &mut Gathered<'_, O>, piece: Piece<'_>)
     ensures { Adds O.taken O.faults text.old text.new (piece_bytes piece.entry) }
 {
@@ -27,6 +28,7 @@ fn add_piece<O: Sink>(text: &mut Gathered<'_, O>, piece: Piece<'_>)
 }
 
 /// Adds pieces one after another.
+#[inline(always)]
 pub(crate) fn add_pieces<O: Sink>(text: &mut Gathered<'_, O>, pieces: &[Piece<'_>])
     ensures { Adds O.taken O.faults text.old text.new (bytes_of pieces.now) }
 {
