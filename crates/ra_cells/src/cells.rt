@@ -80,7 +80,8 @@ impl<'a> Cells<'a> {
 
     pub fn on_machine(&self, s: Service, m: Machine) -> u32
         requires { s.0 < service_count self.now.inst.now.tables }
-        ensures count { (i : Tables) (a0 a : List Place) → StandFor self.now i a0 a → result ≡ on_machine i a s.0 m.0 }
+        ensures count { (i : Tables) (a0 a : List Place) → StandFor self.now i a0 a →
+            result ≡ on_machine i a s.0 m.0 }
         ensures within { result ≤ process_count self.now.inst.now.tables }
     {
         held_of(self.inst, &self.starts, &self.machines, s, m.0)
@@ -90,7 +91,8 @@ impl<'a> Cells<'a> {
 
     pub fn in_location(&self, s: Service, label: u32) -> u32
         requires { s.0 < service_count self.now.inst.now.tables }
-        ensures count { (i : Tables) (a0 a : List Place) → StandFor self.now i a0 a → result ≡ in_location i a s.0 label }
+        ensures count { (i : Tables) (a0 a : List Place) → StandFor self.now i a0 a →
+            result ≡ in_location i a s.0 label }
         ensures within { result ≤ process_count self.now.inst.now.tables }
     {
         held_of(self.inst, &self.starts, &self.locations, s, label)
@@ -100,7 +102,8 @@ impl<'a> Cells<'a> {
 
     pub fn in_neighbourhood(&self, s: Service, label: u32) -> u32
         requires { s.0 < service_count self.now.inst.now.tables }
-        ensures count { (i : Tables) (a0 a : List Place) → StandFor self.now i a0 a → result ≡ in_neighbourhood i a s.0 label }
+        ensures count { (i : Tables) (a0 a : List Place) → StandFor self.now i a0 a →
+            result ≡ in_neighbourhood i a s.0 label }
         ensures within { result ≤ process_count self.now.inst.now.tables }
     {
         held_of(self.inst, &self.starts, &self.neighbourhoods, s, label)
@@ -110,7 +113,8 @@ impl<'a> Cells<'a> {
 
     pub fn locations(&self, s: Service) -> u32
         requires { s.0 < service_count self.now.inst.now.tables }
-        ensures count { (i : Tables) (a0 a : List Place) → StandFor self.now i a0 a → result ≡ locations_of i a s.0 }
+        ensures count { (i : Tables) (a0 a : List Place) → StandFor self.now i a0 a →
+            result ≡ locations_of i a s.0 }
         ensures within { result ≤ process_count self.now.inst.now.tables }
     {
         self.spreads.get(s.0 as usize)
@@ -120,7 +124,8 @@ impl<'a> Cells<'a> {
 
     pub fn moved(&self, s: Service) -> u32
         requires { s.0 < service_count self.now.inst.now.tables }
-        ensures count { (i : Tables) (a0 a : List Place) → StandFor self.now i a0 a → result ≡ moved_of i a0 a s.0 }
+        ensures count { (i : Tables) (a0 a : List Place) → StandFor self.now i a0 a →
+            result ≡ moved_of i a0 a s.0 }
         ensures within { result ≤ process_count self.now.inst.now.tables }
     {
         self.greatest.count(s)
@@ -139,7 +144,8 @@ impl<'a> Cells<'a> {
         requires machine { to.0 < machine_count self.old.inst.now.tables }
         requires apart { from.0 ≢ to.0 }
         requires here { HavePlaced self.old p.0 from.0 }
-        ensures stand { (i : Tables) (a0 a : List Place) → StandFor self.old i a0 a → machine_at a p.0 ≡ from.0 → StandFor self.new i a0 (slice_set a p.0 to) }
+        ensures stand { (i : Tables) (a0 a : List Place) → StandFor self.old i a0 a →
+            machine_at a p.0 ≡ from.0 → StandFor self.new i a0 (slice_set a p.0 to) }
     {
         let inst = self.inst;
         let s = inst.service_of(p);
@@ -162,9 +168,11 @@ impl<'a> Cells<'a> {
 #[tactic(auto, using(crate::proofs::MakingLemmas::sizing, crate::proofs::HeldLemmas::held_le))]
 fn held_of(inst: &Instance, starts: &Fixed<u32>, labels: &Fixed<u32>, s: Service, x: u32) -> u32
     requires service { s.0 < service_count inst.now.tables }
-    requires starts { AreStarts inst.now.tables (service_count inst.now.tables + 1) starts.now.items }
+    requires starts { AreStarts inst.now.tables
+        (service_count inst.now.tables + 1) starts.now.items }
     requires sorted { AreSorted inst.now.tables (service_count inst.now.tables) labels.now.items }
-    ensures count { result ≡ held labels.now.items (start_of inst.now.tables s.0) (start_of inst.now.tables (s.0 + 1)) x }
+    ensures count { result ≡ held labels.now.items (start_of inst.now.tables s.0)
+        (start_of inst.now.tables (s.0 + 1)) x }
     ensures within { result ≤ process_count inst.now.tables }
 {
     let start = start_at(inst, starts, s.0);
@@ -176,9 +184,11 @@ fn held_of(inst: &Instance, starts: &Fixed<u32>, labels: &Fixed<u32>, s: Service
 fn recount(greatest: &mut Greatest, s: Service, home: Machine, from: Machine, to: Machine)
     requires there { s.0 < length greatest.old.counts }
     requires some { away home.0 from.0 ≤ slice_index greatest.old.counts s.0 }
-    requires room { slice_index greatest.old.counts s.0 + away home.0 to.0 ≤ greatest.old.limit + away home.0 from.0 }
+    requires room { slice_index greatest.old.counts s.0 + away home.0 to.0 ≤ greatest.old.limit
+        + away home.0 from.0 }
     requires few { greatest.old.limit ≤ 50000 }
-    ensures counts { greatest.new.counts ≡ slice_set greatest.old.counts s.0 (slice_index greatest.old.counts s.0 + away home.0 to.0 - away home.0 from.0) }
+    ensures counts { greatest.new.counts ≡ slice_set greatest.old.counts s.0
+        (slice_index greatest.old.counts s.0 + away home.0 to.0 - away home.0 from.0) }
     ensures limit { greatest.new.limit ≡ greatest.old.limit }
 {
     let before = greatest.count(s);

@@ -128,7 +128,8 @@ fn highest(
 ) -> u32
     requires { top < length tallies.now.items }
     ensures within { result ≤ top }
-    ensures none { (v : ℕ) → result < v → v ≤ top → is_free tallies.now.items first second third v ≡ true }
+    ensures none { (v : ℕ) → result < v → v ≤ top → is_free tallies.now.items first second third v ≡
+        true }
     ensures some { 0 < result → is_free tallies.now.items first second third result ≡ false }
 {
     let mut v = top;

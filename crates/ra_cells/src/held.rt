@@ -85,8 +85,10 @@ fn is_new(labels: &Fixed<u32>, start: usize, k: usize) -> bool
     requires from { start ≤ k }
     requires there { k < length labels.now.items }
     requires ascends { Ascends labels.now.items start (k + 1) }
-    ensures new { result ≡ true → held labels.now.items start k (slice_index labels.now.items k) ≡ 0 }
-    ensures again { result ≡ false → 0 < held labels.now.items start k (slice_index labels.now.items k) }
+    ensures new { result ≡ true → held labels.now.items start k (slice_index labels.now.items k) ≡
+        0 }
+    ensures again { result ≡ false →
+        0 < held labels.now.items start k (slice_index labels.now.items k) }
     ensures small { slice_index labels.now.items k < 2 ^ 32 }
 {
     let label = labels.get(k);

@@ -70,7 +70,8 @@ fn count_process(
     requires fits { IsAssignment inst.now.tables a.now.items }
     requires slots { length counts.old.items ≡ service_count inst.now.tables }
     requires below { AreBelow 50000 counts.old.items }
-    ensures counted { AddsMoved inst.now.tables a0.now.items a.now.items p.0 counts.old.items counts.new.items }
+    ensures counted { AddsMoved inst.now.tables a0.now.items a.now.items p.0 counts.old.items
+        counts.new.items }
     ensures slots { length counts.new.items ≡ length counts.old.items }
 {
     if machine_of(a0, p.0) != machine_of(a, p.0) {

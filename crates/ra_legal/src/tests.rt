@@ -1,13 +1,13 @@
 mod lots;
-mod samples;
 
 use super::*;
 use lots::{one_lot, two_lots};
 use ra_base::{Cause, Machine, Process, Resource};
 use ra_draws::Lots;
 use ra_journal::Entry;
+use ra_model::Instance;
 use ra_moves::{Move, Step, Verdict};
-use samples::{assignment, sample};
+use ra_samples::{assignment, sample};
 use std::alloc::Global;
 use std::process::Abort;
 
@@ -16,12 +16,25 @@ const THREE: [u64; 24] = [
     0, 1, 2, 1, 0, 3, 0, 0, 0, 1, 3, 3, 3, 3, 0, 0, 0, 1, 2, 2, 2, 2, 0, 0,
 ];
 
-/// What is told of a journal on the sample instance, from the start `0 3 0`, which costs 4200.
-fn told(rt: &impl Abort, alloc: Global, lots: &Lots, entries: &[Entry]) -> Option<usize> {
-    let inst = sample(rt, alloc);
-    let a0 = assignment(rt, alloc, &[0, 3, 0]);
+/// What is told of a journal on an instance, from the start `0 3 0`.
+fn told_on(
+    rt: &impl Abort,
+    alloc: Global,
+    inst: &Instance,
+    lots: &Lots,
+    entries: &[Entry],
+) -> Option<usize> {
+    let a0 = assignment(alloc, &[0, 3, 0]).expect(rt, "no memory");
     assert!(rt; inst.is_assignment(&a0));
-    first_illegal(alloc, &inst, &a0, lots, entries).expect(rt, "no memory")
+    first_illegal(alloc, inst, &a0, lots, entries).expect(rt, "no memory")
+}
+
+/// What is told of a journal on the sample instance, whose start costs 4200.
+fn told(rt: &impl Abort, alloc: Global, lots: &Lots, entries: &[Entry]) -> Option<usize> {
+    let inst = sample(alloc).expect(rt, "no instance");
+    let found = told_on(rt, alloc, &inst, lots, entries);
+    drop(inst);
+    found
 }
 
 /// What is told of a journal of the one worker with three proposals.

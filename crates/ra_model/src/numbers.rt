@@ -284,8 +284,10 @@ impl Instance {
     fn dependency_start(&self, s: Service) -> u32
         requires { s.0 < service_count self.now.tables }
         ensures value { result ≡ dependency_start self.now.tables s.0 }
-        ensures ordered { dependency_start self.now.tables s.0 ≤ dependency_end self.now.tables s.0 }
-        ensures within { dependency_end self.now.tables s.0 ≤ length self.now.tables.raw.dependencies.items }
+        ensures ordered { dependency_start self.now.tables s.0
+            ≤ dependency_end self.now.tables s.0 }
+        ensures within { dependency_end self.now.tables s.0
+            ≤ length self.now.tables.raw.dependencies.items }
     {
         if s.0 == 0 {
             0

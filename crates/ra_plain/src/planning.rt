@@ -42,7 +42,8 @@ pub fn plan_plainly(
     requires same { other.old.items ≡ a.now.items }
     requires made { IsMadeFor scratch.old inst.now.tables }
     requires before { before ≡ objective inst.now.tables a0.now.items a.now.items }
-    ensures planned { result.mv ≡ plan_of inst.now.tables a0.now.items a.now.items words.now drawing allowed }
+    ensures planned { result.mv ≡
+        plan_of inst.now.tables a0.now.items a.now.items words.now drawing allowed }
     ensures judged { result.verdict ≡
         judge inst.now.tables a0.now.items a.now.items result.mv.steps allowed }
     ensures stands { StandsAt from_in result.mv.steps a.now.items }

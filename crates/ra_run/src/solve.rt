@@ -128,7 +128,8 @@ fn read_start<F: Files>(
     files: &mut F,
 ) -> Result<Start, Refusal>
     ensures read { IfOk result (λ s. IsStart (F.held files.old)
-        (solve_names model.now (option_copied closed.entry) initial.now) s.inst.tables s.initial.items) }
+        (solve_names model.now
+        (option_copied closed.entry) initial.now) s.inst.tables s.initial.items) }
     ensures refused { IfErr result (Says (F.held files.old)
         (solve_names model.now (option_copied closed.entry) initial.now) (F.faults files.old)
         (F.faults files.new) ⊥) }

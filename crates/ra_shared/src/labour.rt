@@ -28,7 +28,8 @@ pub fn all_labour<C: Sync, T: Labour<C> + Send, R: Threads + Wait + Sync>(
 )
     requires { All (λ t. T.able with.now t) all.old.items }
     ensures count { length all.new.items ≡ length all.old.items }
-    ensures each { (n : ℕ) (d : T) → n < length all.old.items → T.done with.now (slice_index_or all.old.items n d) (slice_index_or all.new.items n d) }
+    ensures each { (n : ℕ) (d : T) → n < length all.old.items →
+        T.done with.now (slice_index_or all.old.items n d) (slice_index_or all.new.items n d) }
 {
     let count = all.len().max(1);
     thread::for_each_mut(

@@ -65,19 +65,23 @@ impl Tokens {
         ensures reads { Reads (F.held files.new self.new.name) self.new }
 
         // Where the bytes are told, token number n comes after n tokens, and then the end or the first fault.
-        ensures answer { IfSome (F.held files.old self.old.name) (λ bytes. IsAnswer bytes (tokens_before bytes self.old.place) result) }
-        ensures one_more { IfSome (F.held files.old self.old.name) (λ bytes. IfOk result (λ next. OnSome next
+        ensures answer { IfSome (F.held files.old self.old.name) (λ bytes.
+            IsAnswer bytes (tokens_before bytes self.old.place) result) }
+        ensures one_more { IfSome (F.held files.old self.old.name) (λ bytes.
+            IfOk result (λ next. OnSome next
             (tokens_before bytes self.new.place ≡ tokens_before bytes self.old.place + 1))) }
         ensures ended { result ≡ Ok None → self.new.place ≡ self.old.place }
         ensures refused { OnErr result (self.new.place ≡ self.old.place) }
 
         // A failed fetch is counted, and memory is no cause.
-        ensures fault { result ≡ Err TokenFault.ReadFault → Rose (F.faults files.old self.old.name) (F.faults files.new self.old.name) }
+        ensures fault { result ≡ Err TokenFault.ReadFault →
+            Rose (F.faults files.old self.old.name) (F.faults files.new self.old.name) }
         ensures memory { result ≡ Err TokenFault.NoMemory → ⊥ }
 
         ensures name { self.new.name ≡ self.old.name }
         ensures kept { (other : List ℕ) → F.held files.new other ≡ F.held files.old other }
-        ensures never_fall { (other : List ℕ) → F.faults files.old other ≤ F.faults files.new other }
+        ensures never_fall { (other : List ℕ) →
+            F.faults files.old other ≤ F.faults files.new other }
     {
         let name = self.name.as_str();
         let Some((first, run)) = self.window.next_run(files, name, self.place)? else {
@@ -108,7 +112,8 @@ impl Tokens {
         ensures reads { Reads (F.held files.new self.new.name) self.new }
 
         // Where the bytes are told, what was added are the values of the next tokens, and as many were passed.
-        ensures adds { IfSome (F.held files.old self.old.name) (λ bytes. AddsValues bytes self.old.place self.new.place
+        ensures adds { IfSome (F.held files.old self.old.name) (λ bytes.
+            AddsValues bytes self.old.place self.new.place
             (length values.new.items - length values.old.items) values.old.items values.new.items) }
         ensures number { IfOk result (λ n. length values.new.items ≡ length values.old.items + n) }
         ensures most { length values.new.items ≤ length values.old.items + count }
@@ -116,19 +121,22 @@ impl Tokens {
         ensures room { values.new.room ≡ values.old.room }
 
         // It stops before `count` at the end alone, or at the first fault.
-        ensures ended { IfSome (F.held files.old self.old.name) (λ bytes. IfOk result (λ n. n < count
+        ensures ended { IfSome (F.held files.old self.old.name) (λ bytes.
+            IfOk result (λ n. n < count
             → IsAnswer bytes (tokens_before bytes self.new.place) (Ok None))) }
         ensures refused { IfSome (F.held files.old self.old.name) (λ bytes. IfErr result (λ fault.
             IsAnswer bytes (tokens_before bytes self.new.place) (Err fault))) }
         ensures short { OnErr result (length values.new.items < length values.old.items + count) }
 
         // A failed fetch is counted, and memory is no cause.
-        ensures fault { result ≡ Err TokenFault.ReadFault → Rose (F.faults files.old self.old.name) (F.faults files.new self.old.name) }
+        ensures fault { result ≡ Err TokenFault.ReadFault →
+            Rose (F.faults files.old self.old.name) (F.faults files.new self.old.name) }
         ensures memory { result ≡ Err TokenFault.NoMemory → ⊥ }
 
         ensures name { self.new.name ≡ self.old.name }
         ensures kept { (other : List ℕ) → F.held files.new other ≡ F.held files.old other }
-        ensures never_fall { (other : List ℕ) → F.faults files.old other ≤ F.faults files.new other }
+        ensures never_fall { (other : List ℕ) →
+            F.faults files.old other ≤ F.faults files.new other }
     {
         let before = values.len();
         let mut taken = 0;
@@ -146,7 +154,8 @@ impl Tokens {
     /// Adds the values of the next tokens to a list, at most `most` of them, as far as the bytes are ready.
     fn take_ready(&mut self, most: usize, values: &mut Fixed<u32>)
         requires room { length values.old.items + most ≤ values.old.room }
-        ensures adds { (told : Option (List ℕ)) → Reads told self.old → IfSome told (λ bytes. AddsValues bytes self.old.place self.new.place
+        ensures adds { (told : Option (List ℕ)) → Reads told self.old →
+            IfSome told (λ bytes. AddsValues bytes self.old.place self.new.place
             (length values.new.items - length values.old.items) values.old.items values.new.items) }
         ensures reads { (told : Option (List ℕ)) → Reads told self.old → Reads told self.new }
         ensures most { length values.new.items ≤ length values.old.items + most }

@@ -49,10 +49,13 @@ pub fn gather(bytes: &[u8], from: usize, carried: u64) -> Stretch
     ensures high { result.end ≤ length bytes.now }
     ensures moves { from < length bytes.now → digit_at bytes.now from ≡ true → from < result.end }
     ensures moved { from < result.end → digit_at bytes.now from ≡ true }
-    ensures stops { result.value ≤ LARGEST → result.end < length bytes.now → digit_at bytes.now result.end ≡ false }
-    ensures goes_on { (all : List ℕ) (start first : ℕ) → start + length bytes.now ≤ PLACE_LIMIT → IsPiece all start bytes.now → InRun all first (start + from) carried
+    ensures stops { result.value ≤ LARGEST → result.end < length bytes.now →
+        digit_at bytes.now result.end ≡ false }
+    ensures goes_on { (all : List ℕ) (start first : ℕ) → start + length bytes.now ≤ PLACE_LIMIT →
+        IsPiece all start bytes.now → InRun all first (start + from) carried
         → result.value ≤ LARGEST → InRun all first (start + result.end) result.value }
-    ensures too_large { (all : List ℕ) (start first : ℕ) → start + length bytes.now ≤ PLACE_LIMIT → IsPiece all start bytes.now → InRun all first (start + from) carried
+    ensures too_large { (all : List ℕ) (start first : ℕ) → start + length bytes.now ≤ PLACE_LIMIT →
+        IsPiece all start bytes.now → InRun all first (start + from) carried
         → LARGEST < result.value → FaultsAt all first (TokenFault.TooLarge first) }
 {
     let mut value = carried;
@@ -80,8 +83,10 @@ pub fn whole_run(bytes: &[u8], from: usize) -> Option<(usize, Stretch)>
     ensures low { IfSome result (λ run. from ≤ run.0) }
     ensures some { IfSome result (λ run. run.0 < run.1.end) }
     ensures small { IfSome result (λ run. run.1.value ≤ LARGEST) }
-    ensures next { (all : List ℕ) (start : ℕ) → start + length bytes.now ≤ PLACE_LIMIT → IsPiece all start bytes.now → IsBetween all (start + from)
-        → IfSome result (λ run. IsNext all (start + from) (start + run.0) (start + run.1.end) run.1.value) }
+    ensures next { (all : List ℕ) (start : ℕ) → start + length bytes.now ≤ PLACE_LIMIT →
+        IsPiece all start bytes.now → IsBetween all (start + from)
+        → IfSome result (λ run. IsNext all (start + from) (start + run.0)
+        (start + run.1.end) run.1.value) }
 {
     let first = skip_blanks(bytes, from);
     let stretch = gather(bytes, first, 0);
@@ -104,7 +109,8 @@ pub fn near_digits(bytes: &[u8], from: usize) -> Option<Stretch>
     ensures small { IfSome result (λ run. run.value ≤ LARGEST) }
     ensures moved { IfSome result (λ run. from < run.end → digit_at bytes.now from ≡ true) }
     ensures stops { IfSome result (λ run. digit_at bytes.now run.end ≡ false) }
-    ensures goes_on { IfSome result (λ run. (all : List ℕ) (start first : ℕ) → start + length bytes.now ≤ PLACE_LIMIT → IsPiece all start bytes.now
+    ensures goes_on { IfSome result (λ run. (all : List ℕ) (start first : ℕ) →
+        start + length bytes.now ≤ PLACE_LIMIT → IsPiece all start bytes.now
         → InRun all first (start + from) 0 → InRun all first (start + run.end) run.value) }
 {
     let mut value = 0;
@@ -127,8 +133,10 @@ pub fn near_run(bytes: &[u8], from: usize) -> Option<Stretch>
     requires { from ≤ length bytes.now }
     ensures within { IfSome result (λ run. run.end < length bytes.now) }
     ensures small { IfSome result (λ run. run.value ≤ LARGEST) }
-    ensures next { (all : List ℕ) (start : ℕ) → start + length bytes.now ≤ PLACE_LIMIT → IsPiece all start bytes.now → IsBetween all (start + from)
-        → IfSome result (λ run. IsNext all (start + from) (start + (from + 1)) (start + run.end) run.value) }
+    ensures next { (all : List ℕ) (start : ℕ) → start + length bytes.now ≤ PLACE_LIMIT →
+        IsPiece all start bytes.now → IsBetween all (start + from)
+        → IfSome result (λ run. IsNext all (start + from) (start + (from + 1))
+        (start + run.end) run.value) }
 {
     if bytes.len() - from <= NEAR || !is_blank(bytes[from]) {
         return None;
@@ -150,8 +158,10 @@ pub fn take_runs(bytes: &[u8], from: usize, most: usize, values: &mut Fixed<u32>
     ensures grows { length values.old.items ≤ length values.new.items }
     ensures most { length values.new.items ≤ length values.old.items + most }
     ensures room { values.new.room ≡ values.old.room }
-    ensures adds { (all : List ℕ) (start : ℕ) → start + length bytes.now ≤ PLACE_LIMIT → IsPiece all start bytes.now → IsBetween all (start + from)
-        → AddsValues all (start + from) (start + result) (length values.new.items - length values.old.items) values.old.items values.new.items }
+    ensures adds { (all : List ℕ) (start : ℕ) → start + length bytes.now ≤ PLACE_LIMIT →
+        IsPiece all start bytes.now → IsBetween all (start + from)
+        → AddsValues all (start + from) (start + result)
+        (length values.new.items - length values.old.items) values.old.items values.new.items }
 {
     let mut at = from;
     for k in 0..most {

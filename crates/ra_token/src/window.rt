@@ -68,15 +68,22 @@ impl Window {
         requires shows { Shows (F.held files.old name.now) self.old }
         requires between { IfSome (F.held files.old name.now) (λ bytes. IsBetween bytes place) }
         ensures shows { Shows (F.held files.new name.now) self.new }
-        ensures next { IfSome (F.held files.old name.now) (λ bytes. IfOk result (λ found. IfSome found (λ run. IsNext bytes place run.0 run.1.end run.1.value))) }
-        ensures ended { IfSome (F.held files.old name.now) (λ bytes. IfOk result (λ found. IfNone found (IsAnswer bytes (tokens_before bytes place) (Ok None)))) }
-        ensures refused { IfSome (F.held files.old name.now) (λ bytes. IfErr result (FaultsAt bytes place)) }
+        ensures next { IfSome (F.held files.old name.now) (λ bytes.
+            IfOk result (λ found. IfSome found (λ run.
+            IsNext bytes place run.0 run.1.end run.1.value))) }
+        ensures ended { IfSome (F.held files.old name.now) (λ bytes.
+            IfOk result (λ found. IfNone found (IsAnswer bytes (tokens_before bytes place)
+            (Ok None)))) }
+        ensures refused { IfSome (F.held files.old name.now) (λ bytes.
+            IfErr result (FaultsAt bytes place)) }
         ensures place { IfOk result (λ found. IfSome found (λ run. run.1.end ≤ PLACE_LIMIT)) }
         ensures small { IfOk result (λ found. IfSome found (λ run. run.1.value ≤ LARGEST)) }
         ensures memory { result ≡ Err TokenFault.NoMemory → ⊥ }
-        ensures fault { result ≡ Err TokenFault.ReadFault → Rose (F.faults files.old name.now) (F.faults files.new name.now) }
+        ensures fault { result ≡ Err TokenFault.ReadFault →
+            Rose (F.faults files.old name.now) (F.faults files.new name.now) }
         ensures kept { (other : List ℕ) → F.held files.new other ≡ F.held files.old other }
-        ensures never_fall { (other : List ℕ) → F.faults files.old other ≤ F.faults files.new other }
+        ensures never_fall { (other : List ℕ) →
+            F.faults files.old other ≤ F.faults files.new other }
     {
         match self.ready_run(place) {
             Some(found) => Ok(Some(found)),
@@ -86,7 +93,8 @@ impl Window {
 
     /// The next run, where it, the blanks before it and the byte behind it are ready, and it is not too large.
     fn ready_run(&self, place: u64) -> Option<(u64, Run)>
-        ensures next { (told : Option (List ℕ)) → Shows told self.now → IfSome told (λ bytes. IsBetween bytes place
+        ensures next { (told : Option (List ℕ)) → Shows told self.now →
+            IfSome told (λ bytes. IsBetween bytes place
             → IfSome result (λ run. IsNext bytes place run.0 run.1.end run.1.value)) }
         ensures place { IfSome result (λ run. run.1.end ≤ PLACE_LIMIT) }
         ensures small { IfSome result (λ run. run.1.value ≤ LARGEST) }
@@ -111,8 +119,10 @@ impl Window {
     pub fn ready_values(&self, place: u64, most: usize, values: &mut Fixed<u32>) -> u64
         requires place { place ≤ PLACE_LIMIT }
         requires room { length values.old.items + most ≤ values.old.room }
-        ensures adds { (told : Option (List ℕ)) → Shows told self.now → IfSome told (λ bytes. IsBetween bytes place
-            → AddsValues bytes place result (length values.new.items - length values.old.items) values.old.items values.new.items) }
+        ensures adds { (told : Option (List ℕ)) → Shows told self.now →
+            IfSome told (λ bytes. IsBetween bytes place
+            → AddsValues bytes place result
+            (length values.new.items - length values.old.items) values.old.items values.new.items) }
         ensures place { result ≤ PLACE_LIMIT }
         ensures grows { length values.old.items ≤ length values.new.items }
         ensures most { length values.new.items ≤ length values.old.items + most }
@@ -139,15 +149,22 @@ impl Window {
         requires shows { Shows (F.held files.old name.now) self.old }
         requires between { IfSome (F.held files.old name.now) (λ bytes. IsBetween bytes place) }
         ensures shows { Shows (F.held files.new name.now) self.new }
-        ensures next { IfSome (F.held files.old name.now) (λ bytes. IfOk result (λ found. IfSome found (λ run. IsNext bytes place run.0 run.1.end run.1.value))) }
-        ensures ended { IfSome (F.held files.old name.now) (λ bytes. IfOk result (λ found. IfNone found (IsAnswer bytes (tokens_before bytes place) (Ok None)))) }
-        ensures refused { IfSome (F.held files.old name.now) (λ bytes. IfErr result (FaultsAt bytes place)) }
+        ensures next { IfSome (F.held files.old name.now) (λ bytes.
+            IfOk result (λ found. IfSome found (λ run.
+            IsNext bytes place run.0 run.1.end run.1.value))) }
+        ensures ended { IfSome (F.held files.old name.now) (λ bytes.
+            IfOk result (λ found. IfNone found (IsAnswer bytes (tokens_before bytes place)
+            (Ok None)))) }
+        ensures refused { IfSome (F.held files.old name.now) (λ bytes.
+            IfErr result (FaultsAt bytes place)) }
         ensures place { IfOk result (λ found. IfSome found (λ run. run.1.end ≤ PLACE_LIMIT)) }
         ensures small { IfOk result (λ found. IfSome found (λ run. run.1.value ≤ LARGEST)) }
         ensures memory { result ≡ Err TokenFault.NoMemory → ⊥ }
-        ensures fault { result ≡ Err TokenFault.ReadFault → Rose (F.faults files.old name.now) (F.faults files.new name.now) }
+        ensures fault { result ≡ Err TokenFault.ReadFault →
+            Rose (F.faults files.old name.now) (F.faults files.new name.now) }
         ensures kept { (other : List ℕ) → F.held files.new other ≡ F.held files.old other }
-        ensures never_fall { (other : List ℕ) → F.faults files.old other ≤ F.faults files.new other }
+        ensures never_fall { (other : List ℕ) →
+            F.faults files.old other ≤ F.faults files.new other }
     {
         let Some(first) = self.first_digit(files, name, place)? else {
             return Ok(None);
@@ -167,13 +184,18 @@ impl Window {
         requires place { at ≤ PLACE_LIMIT }
         requires shows { Shows (F.held files.old name.now) self.old }
         ensures shows { Shows (F.held files.new name.now) self.new }
-        ensures byte { IfSome (F.held files.old name.now) (λ bytes. IfOk result (λ byte. byte ≡ slice_get bytes at)) }
-        ensures covers { IfOk result (λ byte. IfSome byte (λ _. at < PLACE_LIMIT → Covers self.new at)) }
-        ensures ready { IfOk result (λ byte. IfSome byte (λ x. at < PLACE_LIMIT → ready_byte self.new at ≡ x)) }
+        ensures byte { IfSome (F.held files.old name.now) (λ bytes.
+            IfOk result (λ byte. byte ≡ slice_get bytes at)) }
+        ensures covers { IfOk result (λ byte. IfSome byte (λ _. at < PLACE_LIMIT →
+            Covers self.new at)) }
+        ensures ready { IfOk result (λ byte. IfSome byte (λ x. at < PLACE_LIMIT →
+            ready_byte self.new at ≡ x)) }
         ensures cause { IfErr result (λ fault. fault ≡ TokenFault.ReadFault) }
-        ensures fault { OnErr result (Rose (F.faults files.old name.now) (F.faults files.new name.now)) }
+        ensures fault { OnErr result (Rose (F.faults files.old name.now)
+            (F.faults files.new name.now)) }
         ensures kept { (other : List ℕ) → F.held files.new other ≡ F.held files.old other }
-        ensures never_fall { (other : List ℕ) → F.faults files.old other ≤ F.faults files.new other }
+        ensures never_fall { (other : List ℕ) →
+            F.faults files.old other ≤ F.faults files.new other }
     {
         if self.start <= at && at - self.start < self.filled as u64 {
             return Ok(Some(self.buffer[(at - self.start) as usize]));
@@ -190,13 +212,18 @@ impl Window {
     ) -> Result<Option<u8>, TokenFault>
         requires place { at ≤ PLACE_LIMIT }
         ensures shows { Shows (F.held files.new name.now) self.new }
-        ensures byte { IfSome (F.held files.old name.now) (λ bytes. IfOk result (λ byte. byte ≡ slice_get bytes at)) }
-        ensures covers { IfOk result (λ byte. IfSome byte (λ _. at < PLACE_LIMIT → Covers self.new at)) }
-        ensures ready { IfOk result (λ byte. IfSome byte (λ x. at < PLACE_LIMIT → ready_byte self.new at ≡ x)) }
+        ensures byte { IfSome (F.held files.old name.now) (λ bytes.
+            IfOk result (λ byte. byte ≡ slice_get bytes at)) }
+        ensures covers { IfOk result (λ byte. IfSome byte (λ _. at < PLACE_LIMIT →
+            Covers self.new at)) }
+        ensures ready { IfOk result (λ byte. IfSome byte (λ x. at < PLACE_LIMIT →
+            ready_byte self.new at ≡ x)) }
         ensures cause { IfErr result (λ fault. fault ≡ TokenFault.ReadFault) }
-        ensures fault { OnErr result (Rose (F.faults files.old name.now) (F.faults files.new name.now)) }
+        ensures fault { OnErr result (Rose (F.faults files.old name.now)
+            (F.faults files.new name.now)) }
         ensures kept { (other : List ℕ) → F.held files.new other ≡ F.held files.old other }
-        ensures never_fall { (other : List ℕ) → F.faults files.old other ≤ F.faults files.new other }
+        ensures never_fall { (other : List ℕ) →
+            F.faults files.old other ≤ F.faults files.new other }
     {
         self.filled = 0;
         let Ok(number) = files.fetch(name, at, self.buffer.as_mut_slice()) else {
@@ -216,7 +243,8 @@ impl Window {
         ensures low { place ≤ result }
         ensures high { result ≤ self.now.start + self.now.filled }
         ensures moves { is_blank (ready_byte self.now place) ≡ true → place < result }
-        ensures reached { (told : Option (List ℕ)) → Shows told self.now → IfSome told (λ bytes. IsBetween bytes place → IsReached bytes place result) }
+        ensures reached { (told : Option (List ℕ)) → Shows told self.now →
+            IfSome told (λ bytes. IsBetween bytes place → IsReached bytes place result) }
     {
         let index = skip_blanks(&self.buffer[..self.filled], (place - self.start) as usize);
         self.start + index as u64
@@ -233,14 +261,20 @@ impl Window {
         requires shows { Shows (F.held files.old name.now) self.old }
         requires between { IfSome (F.held files.old name.now) (λ bytes. IsBetween bytes place) }
         ensures shows { Shows (F.held files.new name.now) self.new }
-        ensures begins { IfSome (F.held files.old name.now) (λ bytes. IfOk result (λ found. IfSome found (λ at. Begins bytes place at))) }
-        ensures ended { IfSome (F.held files.old name.now) (λ bytes. IfOk result (λ found. IfNone found (IsAnswer bytes (tokens_before bytes place) (Ok None)))) }
-        ensures refused { IfSome (F.held files.old name.now) (λ bytes. IfErr result (FaultsAt bytes place)) }
+        ensures begins { IfSome (F.held files.old name.now) (λ bytes.
+            IfOk result (λ found. IfSome found (λ at. Begins bytes place at))) }
+        ensures ended { IfSome (F.held files.old name.now) (λ bytes.
+            IfOk result (λ found. IfNone found (IsAnswer bytes (tokens_before bytes place)
+            (Ok None)))) }
+        ensures refused { IfSome (F.held files.old name.now) (λ bytes.
+            IfErr result (FaultsAt bytes place)) }
         ensures low { IfOk result (λ found. IfSome found (λ at. at < PLACE_LIMIT)) }
         ensures memory { result ≡ Err TokenFault.NoMemory → ⊥ }
-        ensures fault { result ≡ Err TokenFault.ReadFault → Rose (F.faults files.old name.now) (F.faults files.new name.now) }
+        ensures fault { result ≡ Err TokenFault.ReadFault →
+            Rose (F.faults files.old name.now) (F.faults files.new name.now) }
         ensures kept { (other : List ℕ) → F.held files.new other ≡ F.held files.old other }
-        ensures never_fall { (other : List ℕ) → F.faults files.old other ≤ F.faults files.new other }
+        ensures never_fall { (other : List ℕ) →
+            F.faults files.old other ≤ F.faults files.new other }
     {
         let mut at = place;
         while let Some(byte) = self.byte(files, name, at)? {
@@ -269,14 +303,18 @@ impl Window {
         requires shows { Shows (F.held files.old name.now) self.old }
         requires begins { IfSome (F.held files.old name.now) (λ bytes. Begins bytes first first) }
         ensures shows { Shows (F.held files.new name.now) self.new }
-        ensures taken { IfSome (F.held files.old name.now) (λ bytes. IfOk result (λ run. IsTaken bytes first run.end run.value)) }
-        ensures refused { IfSome (F.held files.old name.now) (λ bytes. IfErr result (FaultsAt bytes first)) }
+        ensures taken { IfSome (F.held files.old name.now) (λ bytes.
+            IfOk result (λ run. IsTaken bytes first run.end run.value)) }
+        ensures refused { IfSome (F.held files.old name.now) (λ bytes.
+            IfErr result (FaultsAt bytes first)) }
         ensures place { IfOk result (λ run. run.end ≤ PLACE_LIMIT) }
         ensures small { IfOk result (λ run. run.value ≤ LARGEST) }
         ensures memory { result ≡ Err TokenFault.NoMemory → ⊥ }
-        ensures fault { result ≡ Err TokenFault.ReadFault → Rose (F.faults files.old name.now) (F.faults files.new name.now) }
+        ensures fault { result ≡ Err TokenFault.ReadFault →
+            Rose (F.faults files.old name.now) (F.faults files.new name.now) }
         ensures kept { (other : List ℕ) → F.held files.new other ≡ F.held files.old other }
-        ensures never_fall { (other : List ℕ) → F.faults files.old other ≤ F.faults files.new other }
+        ensures never_fall { (other : List ℕ) →
+            F.faults files.old other ≤ F.faults files.new other }
     {
         let mut end = first;
         let mut value = 0;
@@ -305,9 +343,11 @@ impl Window {
         ensures low { place ≤ result.end }
         ensures high { result.end ≤ self.now.start + self.now.filled }
         ensures moves { is_ascii_digit (ready_byte self.now place) ≡ true → place < result.end }
-        ensures goes_on { (told : Option (List ℕ)) → Shows told self.now → IfSome told (λ bytes. (first : ℕ) → InRun bytes first place carried
+        ensures goes_on { (told : Option (List ℕ)) → Shows told self.now →
+            IfSome told (λ bytes. (first : ℕ) → InRun bytes first place carried
             → result.value ≤ LARGEST → InRun bytes first result.end result.value) }
-        ensures too_large { (told : Option (List ℕ)) → Shows told self.now → IfSome told (λ bytes. (first : ℕ) → InRun bytes first place carried
+        ensures too_large { (told : Option (List ℕ)) → Shows told self.now →
+            IfSome told (λ bytes. (first : ℕ) → InRun bytes first place carried
             → LARGEST < result.value → FaultsAt bytes first (TokenFault.TooLarge first)) }
     {
         let stretch = gather(

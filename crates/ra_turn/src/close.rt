@@ -15,7 +15,8 @@ use crate::turn::Turn;
 impl<V: Story> Turn<V> {
     /// Ends the lock, and gives the value. It takes all passes, in order and idle.
     pub fn close(self, passes: Vec<Pass<V>>) -> V
-        requires passes { (length passes.items ≡ passes_of self) × EachAt (IsDone self) passes.items }
+        requires passes { (length passes.items ≡ passes_of self) ×
+            EachAt (IsDone self) passes.items }
         ensures opening { V.opening result ≡ opening_of V.opening self }
         ensures passes { All (IsPartOf (V.notes result)) passes.items }
         ensures authors { All (λ n. V.author n < passes_of self) (V.notes result) }
@@ -31,7 +32,8 @@ impl<V: Story> Turn<V> {
 
 /// One seat, which knows what all the passes knew.
 fn join_all<V: Story>(turn: &Turn<V>, mut passes: Vec<Pass<V>>) -> Place<V>
-    requires passes { (length passes.items ≡ passes_of turn.now) × EachAt (IsDone turn.now) passes.items }
+    requires passes { (length passes.items ≡ passes_of turn.now) ×
+        EachAt (IsDone turn.now) passes.items }
     ensures { IsJoined turn.now passes.items result }
 {
     let Some(last) = passes.pop() else {
@@ -46,9 +48,11 @@ fn join_all<V: Story>(turn: &Turn<V>, mut passes: Vec<Pass<V>>) -> Place<V>
 
 /// Joins a pass to the seat.
 fn join<V: Story>(turn: &Turn<V>, seat: &mut Place<V>, pass: Pass<V>)
-    requires seat { (seat.old.table_id ≡ turn.now.table.shared.table_id) × ((view seat.old.me).stage ≡ Idle) × ((view seat.old.me).grips ≡ []) }
+    requires seat { (seat.old.table_id ≡ turn.now.table.shared.table_id) ×
+        ((view seat.old.me).stage ≡ Idle) × ((view seat.old.me).grips ≡ []) }
     requires pass { IsPassOf turn.now pass × IsIdle pass × (grips_of pass ≡ []) }
-    ensures { IsSameSeat seat.old seat.new × ((view seat.new.me) ≡ joined (view seat.old.me) (view pass.seat.me)) }
+    ensures { IsSameSeat seat.old seat.new ×
+        ((view seat.new.me) ≡ joined (view seat.old.me) (view pass.seat.me)) }
 {
     let desk = &turn.table.shared;
     desk.join_seat::<Glue>(seat, pass.into_seat());

@@ -32,21 +32,28 @@ pub enum Hold {
 
 /// Looks at a guard's word.
 fn look<V: Story>(desk: &Desk<V>, seat: &mut Place<V>, guard: u32) -> u64
-    requires table { (seat.old.table_id ≡ desk.now.table_id) × IsSized desk.now.table_id desk.now.key }
+    requires table { (seat.old.table_id ≡ desk.now.table_id) ×
+        IsSized desk.now.table_id desk.now.key }
     requires guard { ((view seat.old.me).stage ≡ Idle) × (guard < desk.now.key.guards) }
     ensures same { IsSameSeat seat.old seat.new }
-    ensures view { seat.new.me ≡ (with_news (view seat.old.me) (heard guard result (view seat.old.me).news), slots seat.old.me) }
+    ensures view { seat.new.me ≡ (
+      with_news (view seat.old.me)
+          (heard guard result (view seat.old.me).news),
+      slots seat.old.me,
+    ) }
 {
     desk.load::<Glance>(seat, FIRST_GUARD + guard as usize)
 }
 
 /// Takes the guard where its word is still that of a free one, and says whether it did.
 fn grasp<V: Story>(desk: &Desk<V>, seat: &mut Place<V>, guard: u32, word: u64) -> bool
-    requires table { (seat.old.table_id ≡ desk.now.table_id) × IsSized desk.now.table_id desk.now.key }
+    requires table { (seat.old.table_id ≡ desk.now.table_id) ×
+        IsSized desk.now.table_id desk.now.key }
     requires guard { ((view seat.old.me).stage ≡ Idle) × (guard < desk.now.key.guards) }
     requires even { word % 2 ≡ 0 }
     ensures same { IsSameSeat seat.old seat.new }
-    ensures view { MatchBool result (Took V.author V.touches seat.old.me seat.new.me guard (word / 2)) (seat.new.me ≡ seat.old.me) }
+    ensures view { MatchBool result (Took V.author V.touches seat.old.me seat.new.me guard
+        (word / 2)) (seat.new.me ≡ seat.old.me) }
 {
     let free = word;
     let place = FIRST_GUARD + guard as usize;
@@ -55,10 +62,12 @@ fn grasp<V: Story>(desk: &Desk<V>, seat: &mut Place<V>, guard: u32, word: u64) -
 
 /// Looks once, and takes the guard where it is free and has at most the version. `None` where another pass has it.
 fn try_hold<V: Story>(desk: &Desk<V>, seat: &mut Place<V>, guard: u32, version: u64) -> Option<Hold>
-    requires table { (seat.old.table_id ≡ desk.now.table_id) × IsSized desk.now.table_id desk.now.key }
+    requires table { (seat.old.table_id ≡ desk.now.table_id) ×
+        IsSized desk.now.table_id desk.now.key }
     requires guard { ((view seat.old.me).stage ≡ Idle) × (guard < desk.now.key.guards) }
     ensures same { IsSameSeat seat.old seat.new × OnlyHolds seat.old.me seat.new.me }
-    ensures some { IfSome result (IsAnswerAt V.author V.touches guard version (view seat.old.me).grips (view seat.new.me)) }
+    ensures some { IfSome result (IsAnswerAt V.author V.touches guard version
+        (view seat.old.me).grips (view seat.new.me)) }
     ensures none { IfNone result ((view seat.new.me).grips ≡ (view seat.old.me).grips) }
 {
     let word = look(desk, seat, guard);
@@ -84,10 +93,12 @@ pub(crate) fn hold_guard<V: Story, R: Wait>(
     guard: u32,
     version: u64,
 ) -> Hold
-    requires table { (seat.old.table_id ≡ desk.now.table_id) × IsSized desk.now.table_id desk.now.key }
+    requires table { (seat.old.table_id ≡ desk.now.table_id) ×
+        IsSized desk.now.table_id desk.now.key }
     requires guard { ((view seat.old.me).stage ≡ Idle) × (guard < desk.now.key.guards) }
     ensures same { IsSameSeat seat.old seat.new × OnlyHolds seat.old.me seat.new.me }
-    ensures answer { IsAnswerAt V.author V.touches guard version (view seat.old.me).grips (view seat.new.me) result }
+    ensures answer { IsAnswerAt V.author V.touches guard version (view seat.old.me).grips
+        (view seat.new.me) result }
 {
     for _ in rt.forever() {
         if let Some(answer) = try_hold(desk, seat, guard, version) {
@@ -100,9 +111,12 @@ pub(crate) fn hold_guard<V: Story, R: Wait>(
 
 /// Gives a guard back at its version.
 pub(crate) fn release_guard<V: Story>(desk: &Desk<V>, seat: &mut Place<V>, guard: u32, version: u64)
-    requires table { (seat.old.table_id ≡ desk.now.table_id) × (3 + guard < desk.now.table_id.words) × ((view seat.old.me).stage ≡ Idle) }
-    requires grips { (v : ℕ) × Contains (view seat.old.me).grips (grip guard v) × (v ≤ length (view seat.old.me).own.seen) }
-    requires version { (version < 2 ^ 63) × ((o : V.Opening) → (view seat.old.me).opened ≡ Some o → IsVersion (touching V.touches o guard) (view seat.old.me).own.seen version) }
+    requires table { (seat.old.table_id ≡ desk.now.table_id) ×
+        (3 + guard < desk.now.table_id.words) × ((view seat.old.me).stage ≡ Idle) }
+    requires grips { (v : ℕ) × Contains (view seat.old.me).grips (grip guard v) ×
+        (v ≤ length (view seat.old.me).own.seen) }
+    requires version { (version < 2 ^ 63) × ((o : V.Opening) → (view seat.old.me).opened ≡ Some o →
+        IsVersion (touching V.touches o guard) (view seat.old.me).own.seen version) }
     ensures same { IsSameSeat seat.old seat.new }
     ensures view { Gave V.author V.touches seat.old.me seat.new.me guard }
 {

@@ -28,8 +28,10 @@ impl<V: Story> Turn<V> {
         V: Drop,
         requires passes { (1 ≤ passes) × (passes * turns < 2 ^ 62) }
         requires value { V.notes value ≡ [] }
-        ensures turn { IfOk result (λ r. (opening_of V.opening r.0 ≡ V.opening value) × (passes_of r.0 ≡ passes) × (guards_of r.0 ≡ guards)) }
-        ensures passes { IfOk result (λ r. (length r.1.items ≡ passes) × EachAt (IsFresh r.0 turns) r.1.items) }
+        ensures turn { IfOk result (λ r. (opening_of V.opening r.0 ≡ V.opening value) ×
+            (passes_of r.0 ≡ passes) × (guards_of r.0 ≡ guards)) }
+        ensures passes { IfOk result (λ r. (length r.1.items ≡ passes) ×
+            EachAt (IsFresh r.0 turns) r.1.items) }
     {
         let Ok(mut all) = Vec::with_capacity(alloc, passes as usize) else {
             return Err(NoMemory);
@@ -53,9 +55,12 @@ fn lay<V: Story + Drop>(
     value: V,
     key: &Key<V>,
 ) -> Result<(Board<V>, Place<V>), NoMemory>
-    requires key { (1 ≤ key.now.passes) × (key.now.passes * key.now.turns < 2 ^ 62) × (key.now.start.value ≡ value) }
+    requires key { (1 ≤ key.now.passes) × (key.now.passes * key.now.turns < 2 ^ 62) ×
+        (key.now.start.value ≡ value) }
     requires value { V.notes value ≡ [] }
-    ensures { IfOk result (λ r. IsSized r.0.shared.table_id r.0.shared.key × (r.0.shared.key ≡ key.now) × (r.1.table_id ≡ r.0.shared.table_id) × (r.1.me ≡ (first_view key.now.passes key.now.turns (V.opening value), []))) }
+    ensures { IfOk result (λ r. IsSized r.0.shared.table_id r.0.shared.key ×
+        (r.0.shared.key ≡ key.now) × (r.1.table_id ≡ r.0.shared.table_id) ×
+        (r.1.me ≡ (first_view key.now.passes key.now.turns (V.opening value), []))) }
 {
     let Ok(words) = Vec::from_elem(alloc, 0u64, 3 + key.guards as usize) else {
         return Err(NoMemory);

@@ -21,7 +21,8 @@ const COUNT: usize = 2;
 
 /// Draws a ticket, and returns it.
 pub(crate) fn draw<V: Story>(desk: &Desk<V>, seat: &mut Place<V>) -> u64
-    requires table { (seat.old.table_id ≡ desk.now.table_id) × IsSized desk.now.table_id desk.now.key }
+    requires table { (seat.old.table_id ≡ desk.now.table_id) ×
+        IsSized desk.now.table_id desk.now.key }
     requires idle { ((view seat.old.me).stage ≡ Idle) × (0 < (view seat.old.me).left) }
     ensures same { IsSameSeat seat.old seat.new }
     ensures view { seat.new.me ≡ (with_ticket (view seat.old.me) result, slots seat.old.me) }
@@ -31,7 +32,8 @@ pub(crate) fn draw<V: Story>(desk: &Desk<V>, seat: &mut Place<V>) -> u64
 
 /// Waits until the ticket is served.
 pub(crate) fn wait<V: Story, R: Wait>(rt: &R, desk: &Desk<V>, seat: &mut Place<V>, ticket: u64)
-    requires table { (seat.old.table_id ≡ desk.now.table_id) × IsSized desk.now.table_id desk.now.key }
+    requires table { (seat.old.table_id ≡ desk.now.table_id) ×
+        IsSized desk.now.table_id desk.now.key }
     requires drawn { ((view seat.old.me).stage ≡ Drawn) × ((view seat.old.me).at ≡ ticket) }
     ensures same { IsSameSeat seat.old seat.new }
     ensures view { seat.new.me ≡ (with_stage (view seat.old.me) Called, slots seat.old.me) }
@@ -47,12 +49,17 @@ pub(crate) fn wait<V: Story, R: Wait>(rt: &R, desk: &Desk<V>, seat: &mut Place<V
 
 /// Sees the whole history, whose length comes first, and takes the value.
 pub(crate) fn see<V: Story>(desk: &Desk<V>, seat: &mut Place<V>) -> (u64, V)
-    requires table { (seat.old.table_id ≡ desk.now.table_id) × IsSized desk.now.table_id desk.now.key }
+    requires table { (seat.old.table_id ≡ desk.now.table_id) ×
+        IsSized desk.now.table_id desk.now.key }
     requires called { ((view seat.old.me).stage ≡ Called) × (slots seat.old.me ≡ []) }
     ensures same { IsSameSeat seat.old seat.new }
     ensures shows { Shows V.opening V.notes V.author (view seat.old.me) result.0 result.1 }
-    ensures view { seat.new.me ≡ (with_seen V.author (view seat.old.me) InTurn (V.notes result.1), (0, None) ∷ []) }
-    ensures guards { IsShut V.author V.touches (view seat.new.me) × IsTold V.touches (view seat.new.me) }
+    ensures view { seat.new.me ≡ (
+      with_seen V.author (view seat.old.me) InTurn (V.notes result.1),
+      (0, None) ∷ [],
+    ) }
+    ensures guards { IsShut V.author V.touches (view seat.new.me) ×
+        IsTold V.touches (view seat.new.me) }
 {
     let count = desk.fetch_add::<See>(seat, COUNT, 0);
     let value = desk.exchange(seat, 0, None);
@@ -61,22 +68,36 @@ pub(crate) fn see<V: Story>(desk: &Desk<V>, seat: &mut Place<V>) -> (u64, V)
 
 /// Counts the note that the value has beyond the `seen` notes that were counted.
 fn note<V: Story>(desk: &Desk<V>, seat: &mut Place<V>, seen: u64, value: &Option<V>)
-    requires table { (seat.old.table_id ≡ desk.now.table_id) × IsSized desk.now.table_id desk.now.key }
+    requires table { (seat.old.table_id ≡ desk.now.table_id) ×
+        IsSized desk.now.table_id desk.now.key }
     requires small { seen + 1 < 2 ^ 64 }
-    requires holding { ((view seat.old.me).stage ≡ InTurn) × (length (view seat.old.me).joined ≡ 0) × (length (view seat.old.me).own.seen ≡ seen) }
-    requires one_more { (x : V) × (n : V.Note) × (value.now ≡ Some x) × (V.notes x ≡ (view seat.old.me).own.seen ++ n ∷ []) × (V.author n ≡ (view seat.old.me).own.number) × ((view seat.old.me).opened ≡ Some (V.opening x)) × HoldsAll V.touches (V.opening x) (view seat.old.me).grips n }
+    requires holding { ((view seat.old.me).stage ≡ InTurn) ×
+        (length (view seat.old.me).joined ≡ 0) × (length (view seat.old.me).own.seen ≡ seen) }
+    requires one_more { (x : V) × (n : V.Note) × (value.now ≡ Some x) ×
+        (V.notes x ≡ (view seat.old.me).own.seen ++ n ∷ []) ×
+        (V.author n ≡ (view seat.old.me).own.number) ×
+        ((view seat.old.me).opened ≡ Some (V.opening x)) ×
+        HoldsAll V.touches (V.opening x) (view seat.old.me).grips n }
     ensures same { IsSameSeat seat.old seat.new }
-    ensures view { (x : V) → value.now ≡ Some x → (seat.new.me ≡ (with_seen V.author (view seat.old.me) Counted (V.notes x), slots seat.old.me)) × (length (V.notes x) < 2 ^ 62) }
-    ensures made { by V.author (view seat.old.me).own.number (view seat.old.me).own.seen ≡ (view seat.old.me).own.mine }
+    ensures view { (x : V) → value.now ≡ Some x →
+        (seat.new.me ≡ (
+          with_seen V.author (view seat.old.me) Counted
+              (V.notes x),
+          slots seat.old.me,
+        )) × (length (V.notes x) < 2 ^ 62) }
+    ensures made { by V.author (view seat.old.me).own.number (view seat.old.me).own.seen ≡
+        (view seat.old.me).own.mine }
 {
     desk.compare_exchange_with::<Count>(seat, COUNT, seen, seen + 1, value);
 }
 
 /// Puts the value back, and serves the next ticket.
 fn put_back<V: Story>(desk: &Desk<V>, seat: &mut Place<V>, value: Option<V>)
-    requires table { (seat.old.table_id ≡ desk.now.table_id) × IsSized desk.now.table_id desk.now.key }
+    requires table { (seat.old.table_id ≡ desk.now.table_id) ×
+        IsSized desk.now.table_id desk.now.key }
     requires has { HasSlot (view seat.old.me).stage × (slots seat.old.me ≡ (0, None) ∷ []) }
-    requires value { (x : V) × (value ≡ Some x) × (V.notes x ≡ (view seat.old.me).own.seen) × ((view seat.old.me).opened ≡ Some (V.opening x)) }
+    requires value { (x : V) × (value ≡ Some x) × (V.notes x ≡ (view seat.old.me).own.seen) ×
+        ((view seat.old.me).opened ≡ Some (V.opening x)) }
     ensures same { IsSameSeat seat.old seat.new }
     ensures view { seat.new.me ≡ (with_stage (view seat.old.me) Idle, []) }
     ensures guards { IsShut V.author V.touches (view seat.new.me) }
@@ -88,9 +109,11 @@ fn put_back<V: Story>(desk: &Desk<V>, seat: &mut Place<V>, value: Option<V>)
 
 /// Gives back a value whose notes are those that were seen.
 pub(crate) fn hand_back<V: Story>(desk: &Desk<V>, seat: &mut Place<V>, value: V)
-    requires table { (seat.old.table_id ≡ desk.now.table_id) × IsSized desk.now.table_id desk.now.key }
+    requires table { (seat.old.table_id ≡ desk.now.table_id) ×
+        IsSized desk.now.table_id desk.now.key }
     requires holding { ((view seat.old.me).stage ≡ InTurn) × (slots seat.old.me ≡ (0, None) ∷ []) }
-    requires value { (V.notes value ≡ (view seat.old.me).own.seen) × ((view seat.old.me).opened ≡ Some (V.opening value)) }
+    requires value { (V.notes value ≡ (view seat.old.me).own.seen) ×
+        ((view seat.old.me).opened ≡ Some (V.opening value)) }
     ensures same { IsSameSeat seat.old seat.new }
     ensures view { seat.new.me ≡ (with_stage (view seat.old.me) Idle, []) }
     ensures guards { IsShut V.author V.touches (view seat.new.me) }
@@ -100,15 +123,21 @@ pub(crate) fn hand_back<V: Story>(desk: &Desk<V>, seat: &mut Place<V>, value: V)
 
 /// Gives back a value that has one note more than the `seen` ones.
 pub(crate) fn hand_on<V: Story>(desk: &Desk<V>, seat: &mut Place<V>, seen: u64, value: V)
-    requires table { (seat.old.table_id ≡ desk.now.table_id) × IsSized desk.now.table_id desk.now.key }
+    requires table { (seat.old.table_id ≡ desk.now.table_id) ×
+        IsSized desk.now.table_id desk.now.key }
     requires small { seen + 1 < 2 ^ 64 }
-    requires holding { ((view seat.old.me).stage ≡ InTurn) × (length (view seat.old.me).joined ≡ 0) × (length (view seat.old.me).own.seen ≡ seen) × (slots seat.old.me ≡ (0, None) ∷ []) }
-    requires one_more { (n : V.Note) × (V.notes value ≡ (view seat.old.me).own.seen ++ n ∷ []) × (V.author n ≡ (view seat.old.me).own.number) × HoldsAll V.touches (V.opening value) (view seat.old.me).grips n }
+    requires holding { ((view seat.old.me).stage ≡ InTurn) ×
+        (length (view seat.old.me).joined ≡ 0) × (length (view seat.old.me).own.seen ≡ seen) ×
+        (slots seat.old.me ≡ (0, None) ∷ []) }
+    requires one_more { (n : V.Note) × (V.notes value ≡ (view seat.old.me).own.seen ++ n ∷ []) ×
+        (V.author n ≡ (view seat.old.me).own.number) ×
+        HoldsAll V.touches (V.opening value) (view seat.old.me).grips n }
     requires opened { (view seat.old.me).opened ≡ Some (V.opening value) }
     ensures same { IsSameSeat seat.old seat.new }
     ensures view { seat.new.me ≡ (with_seen V.author (view seat.old.me) Idle (V.notes value), []) }
     ensures guards { IsShut V.author V.touches (view seat.new.me) }
-    ensures made { (by V.author (view seat.old.me).own.number (view seat.old.me).own.seen ≡ (view seat.old.me).own.mine) × (length (V.notes value) < 2 ^ 62) }
+    ensures made { (by V.author (view seat.old.me).own.number (view seat.old.me).own.seen ≡
+        (view seat.old.me).own.mine) × (length (V.notes value) < 2 ^ 62) }
 {
     let value = Some(value);
     note(desk, seat, seen, &value);

@@ -28,11 +28,15 @@ impl<V: Story> Turn<V> {
     /// Waits for the pass's turn, and takes the value. The pass has then seen the whole history.
     pub fn take<R: Wait>(&self, rt: &R, pass: &mut Pass<V>) -> Held<V>
         requires pass { IsPassOf self.now pass.old × IsIdle pass.old × (0 < pass.old.left) }
-        ensures pass { IsInTurn pass.new × IsSamePass pass.old pass.new × (pass.new.left + 1 ≡ pass.old.left) }
+        ensures pass { IsInTurn pass.new × IsSamePass pass.old pass.new ×
+            (pass.new.left + 1 ≡ pass.old.left) }
         ensures opening { V.opening result.value ≡ opening_of V.opening self.now }
-        ensures seen { (seen_by pass.new ≡ V.notes result.value) × IsPrefix (seen_by pass.old) (seen_by pass.new) }
-        ensures made { (made_by pass.new ≡ made_by pass.old) × (by V.author pass.new.number (seen_by pass.new) ≡ made_by pass.new) }
-        ensures guards { HoldsSame pass.old pass.new × Shut self.now pass.new × SeesNews self.now pass.new }
+        ensures seen { (seen_by pass.new ≡ V.notes result.value) ×
+            IsPrefix (seen_by pass.old) (seen_by pass.new) }
+        ensures made { (made_by pass.new ≡ made_by pass.old) ×
+            (by V.author pass.new.number (seen_by pass.new) ≡ made_by pass.new) }
+        ensures guards { HoldsSame pass.old pass.new × Shut self.now pass.new ×
+            SeesNews self.now pass.new }
     {
         let desk = &self.table.shared;
         let ticket = draw(desk, &mut pass.seat);
@@ -49,9 +53,11 @@ impl<V: Story> Turn<V> {
         requires pass { IsPassOf self.now pass.old × IsInTurn pass.old }
         requires opening { V.opening held.value ≡ opening_of V.opening self.now }
         requires notes { MayFollow (opening_of V.opening self.now) pass.old (V.notes held.value) }
-        ensures pass { IsIdle pass.new × IsSamePass pass.old pass.new × (pass.new.left ≡ pass.old.left) }
+        ensures pass { IsIdle pass.new × IsSamePass pass.old pass.new ×
+            (pass.new.left ≡ pass.old.left) }
         ensures seen { seen_by pass.new ≡ V.notes held.value }
-        ensures made { made_by pass.new ≡ made_by pass.old ++ drop (length (seen_by pass.old)) (V.notes held.value) }
+        ensures made { made_by pass.new ≡ made_by pass.old ++ drop (length (seen_by pass.old))
+            (V.notes held.value) }
         ensures guards { HoldsSame pass.old pass.new × Shut self.now pass.new }
     {
         let Held { value, taken: () } = held;
@@ -69,8 +75,10 @@ impl<V: Story> Turn<V> {
     /// Where the version is above, the guard isn't taken, and the pass's next take shows the note that made it so.
     pub fn hold<R: Wait>(&self, rt: &R, pass: &mut Pass<V>, guard: u32, version: u64) -> Hold
         requires pass { IsReady self.now pass.old }
-        requires guard { (guard < guards_of self.now) × All (λ k. k.guard < guard) (grips_of pass.old) × (length (grips_of pass.old) < 9) }
-        ensures pass { IsIdle pass.new × IsSamePass pass.old pass.new × KnowsSame pass.old pass.new × KeepsNews (news_of pass.old) (news_of pass.new) }
+        requires guard { (guard < guards_of self.now) ×
+            All (λ k. k.guard < guard) (grips_of pass.old) × (length (grips_of pass.old) < 9) }
+        ensures pass { IsIdle pass.new × IsSamePass pass.old pass.new ×
+            KnowsSame pass.old pass.new × KeepsNews (news_of pass.old) (news_of pass.new) }
         ensures answer { IsAnswer self.now pass.old pass.new guard version result }
     {
         hold_guard(rt, &self.table.shared, &mut pass.seat, guard, version)
@@ -79,9 +87,11 @@ impl<V: Story> Turn<V> {
     /// Gives a guard back at its version in the notes that the pass has seen.
     pub fn release(&self, pass: &mut Pass<V>, guard: u32, version: u64)
         requires pass { IsReady self.now pass.old }
-        requires grip { (v : ℕ) × Contains (grips_of pass.old) (grip guard v) × (v ≤ length (seen_by pass.old)) }
+        requires grip { (v : ℕ) × Contains (grips_of pass.old) (grip guard v) ×
+            (v ≤ length (seen_by pass.old)) }
         requires version { HasVersion self.now pass.old guard version }
-        ensures pass { IsIdle pass.new × IsSamePass pass.old pass.new × KnowsSame pass.old pass.new × (news_of pass.new ≡ news_of pass.old) }
+        ensures pass { IsIdle pass.new × IsSamePass pass.old pass.new ×
+            KnowsSame pass.old pass.new × (news_of pass.new ≡ news_of pass.old) }
         ensures grips { grips_of pass.new ≡ without guard (grips_of pass.old) }
         ensures shut { Shut self.now pass.new }
     {

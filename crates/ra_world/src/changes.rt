@@ -17,9 +17,12 @@ pub(crate) fn process_after(inst: &Instance, start: &Assignment, step: Step, bef
     requires process { step.process.0 < process_count inst.now.tables }
     requires start { IsAssignment inst.now.tables start.now.items }
     requires fits { before < 2 ^ 120 }
-    requires counted { process_weight_of inst.now.tables * process_share inst.now.tables start.now.items step.process.0 step.from.0 ≤ before }
-    ensures { result + process_weight_of inst.now.tables * process_share inst.now.tables start.now.items step.process.0 step.from.0
-        ≡ before + process_weight_of inst.now.tables * process_share inst.now.tables start.now.items step.process.0 step.to.0 }
+    requires counted { process_weight_of inst.now.tables *
+        process_share inst.now.tables start.now.items step.process.0 step.from.0 ≤ before }
+    ensures { result + process_weight_of inst.now.tables *
+        process_share inst.now.tables start.now.items step.process.0 step.from.0
+        ≡ before + process_weight_of inst.now.tables *
+        process_share inst.now.tables start.now.items step.process.0 step.to.0 }
 {
     let weight = u128::from(inst.process_weight());
     let left = weight * u128::from(process_share(inst, start, step.process, step.from));
@@ -35,9 +38,12 @@ pub(crate) fn machine_after(inst: &Instance, start: &Assignment, step: Step, bef
     requires to { step.to.0 < machine_count inst.now.tables }
     requires start { IsAssignment inst.now.tables start.now.items }
     requires fits { before < 2 ^ 120 }
-    requires counted { machine_weight_of inst.now.tables * way_share inst.now.tables start.now.items step.process.0 step.from.0 ≤ before }
-    ensures { result + machine_weight_of inst.now.tables * way_share inst.now.tables start.now.items step.process.0 step.from.0
-        ≡ before + machine_weight_of inst.now.tables * way_share inst.now.tables start.now.items step.process.0 step.to.0 }
+    requires counted { machine_weight_of inst.now.tables *
+        way_share inst.now.tables start.now.items step.process.0 step.from.0 ≤ before }
+    ensures { result + machine_weight_of inst.now.tables *
+        way_share inst.now.tables start.now.items step.process.0 step.from.0
+        ≡ before + machine_weight_of inst.now.tables *
+        way_share inst.now.tables start.now.items step.process.0 step.to.0 }
 {
     let weight = u128::from(inst.machine_weight());
     let left = weight * u128::from(way_share(inst, start, step.process, step.from));
@@ -84,7 +90,8 @@ fn home_of(start: &Assignment, p: Process) -> Machine
 /// The service cost, for whatever assignment the counters stand for.
 #[tactic(auto, using(crate::proofs::CostLaws::product_small))]
 pub(crate) fn service_cost(inst: &Instance, cells: &Cells<'_>) -> u128
-    ensures { (a0 a : List Machine) → StandFor cells.now inst.now.tables a0 a → result ≡ service_cost inst.now.tables a0 a }
+    ensures { (a0 a : List Machine) → StandFor cells.now inst.now.tables a0 a →
+        result ≡ service_cost inst.now.tables a0 a }
 {
     let most = cells.greatest().greatest();
     u128::from(inst.service_weight()) * u128::from(most)
@@ -99,7 +106,15 @@ pub(crate) fn summed(
     machine: u128,
 ) -> Parts
     requires { AreSmall load balance process service machine }
-    ensures { result ≡ record { load = load; balance = balance; process = process; service = service; machine = machine; total = load + balance + process + service + machine } }
+    ensures { result ≡
+        record {
+          load = load;
+          balance = balance;
+          process = process;
+          service = service;
+          machine = machine;
+          total = load + balance + process + service + machine;
+        } }
 {
     Parts {
         load,

@@ -25,7 +25,8 @@ pub(crate) fn follow<L: Ledger>(
     requires keeps { Keeps kept.old inst.now.tables start.now.items }
     requires moves { AreSteps inst.now.tables kept.old.assignment.items mv.now.steps }
     ensures keeps { Keeps kept.new inst.now.tables start.now.items }
-    ensures assignment { kept.new.assignment.items ≡ applied kept.old.assignment.items mv.now.steps }
+    ensures assignment { kept.new.assignment.items ≡
+        applied kept.old.assignment.items mv.now.steps }
     ensures counted { steps.new ≡ steps.old + length mv.now.steps * resource_count inst.now.tables }
     ensures few { length mv.now.steps ≤ 3 }
 {
@@ -49,7 +50,8 @@ fn follow_step<L: Ledger>(
     requires apart { step.from.0 ≢ step.to.0 }
     requires at_from { machine_at kept.old.assignment.items step.process.0 ≡ step.from.0 }
     ensures keeps { Keeps kept.new inst.now.tables start.now.items }
-    ensures assignment { kept.new.assignment.items ≡ slice_set kept.old.assignment.items step.process.0 step.to }
+    ensures assignment { kept.new.assignment.items ≡
+        slice_set kept.old.assignment.items step.process.0 step.to }
     ensures counted { steps.new ≡ steps.old + resource_count inst.now.tables }
 {
     kept.rows.shift(step.process, step.from, step.to, steps);

@@ -17,7 +17,8 @@ use std::alloc::Global;
 pub(crate) fn load_of(inst: &Instance, rows: &Rows<'_>, m: Machine) -> u128
     requires machine { m.0 < machine_count inst.now.tables }
     requires instance { rows.now.tables ≡ inst.now.tables }
-    ensures value { (a : List Machine) → StandFor rows.now a → result ≡ machine_load inst.now.tables a m.0 }
+    ensures value { (a : List Machine) → StandFor rows.now a →
+        result ≡ machine_load inst.now.tables a m.0 }
     ensures bound { result ≤ 20 * 2 ^ 96 }
 {
     row_load(inst, m, rows.usage_row(m))
@@ -27,7 +28,8 @@ pub(crate) fn load_of(inst: &Instance, rows: &Rows<'_>, m: Machine) -> u128
 pub(crate) fn balance_of(inst: &Instance, rows: &Rows<'_>, m: Machine) -> u128
     requires machine { m.0 < machine_count inst.now.tables }
     requires instance { rows.now.tables ≡ inst.now.tables }
-    ensures value { (a : List Machine) → StandFor rows.now a → result ≡ machine_balance inst.now.tables a m.0 }
+    ensures value { (a : List Machine) → StandFor rows.now a →
+        result ≡ machine_balance inst.now.tables a m.0 }
     ensures bound { result ≤ 20 * 2 ^ 96 }
 {
     row_balance(inst, m, rows.usage_row(m))
@@ -40,7 +42,8 @@ pub(crate) fn loads_of(
     rows: &Rows<'_>,
 ) -> Result<Fixed<u128>, NoMemory>
     requires { rows.now.tables ≡ inst.now.tables }
-    ensures { IfOk result (λ costs. (a : List Machine) → StandFor rows.now a → AreCosts costs.items (machine_count inst.now.tables) (machine_load inst.now.tables a)) }
+    ensures { IfOk result (λ costs. (a : List Machine) → StandFor rows.now a →
+        AreCosts costs.items (machine_count inst.now.tables) (machine_load inst.now.tables a)) }
 {
     let mut costs = Fixed::make(alloc, inst.machines() as usize)?;
     for m in 0..inst.machines() {
@@ -56,7 +59,8 @@ pub(crate) fn balances_of(
     rows: &Rows<'_>,
 ) -> Result<Fixed<u128>, NoMemory>
     requires { rows.now.tables ≡ inst.now.tables }
-    ensures { IfOk result (λ costs. (a : List Machine) → StandFor rows.now a → AreCosts costs.items (machine_count inst.now.tables) (machine_balance inst.now.tables a)) }
+    ensures { IfOk result (λ costs. (a : List Machine) → StandFor rows.now a →
+        AreCosts costs.items (machine_count inst.now.tables) (machine_balance inst.now.tables a)) }
 {
     let mut costs = Fixed::make(alloc, inst.machines() as usize)?;
     for m in 0..inst.machines() {
@@ -96,7 +100,9 @@ pub(crate) fn renew_loads(
     requires sum { before ≡ total (length loads.old.items) (slice_index loads.old.items) }
     requires fits { before < 2 ^ 120 }
     ensures costs { (a : List Machine) → StandFor rows.now a → loads.new.items
-        ≡ slice_set (slice_set loads.old.items step.from.0 (machine_load inst.now.tables a step.from.0)) step.to.0 (machine_load inst.now.tables a step.to.0) }
+        ≡ slice_set (slice_set loads.old.items step.from.0
+        (machine_load inst.now.tables a step.from.0)) step.to.0
+        (machine_load inst.now.tables a step.to.0) }
     ensures sum { result ≡ total (length loads.old.items) (slice_index loads.new.items) }
 {
     let load = replace_cost(loads, before, step.from, load_of(inst, rows, step.from));
@@ -118,7 +124,9 @@ pub(crate) fn renew_balances(
     requires sum { before ≡ total (length balances.old.items) (slice_index balances.old.items) }
     requires fits { before < 2 ^ 120 }
     ensures costs { (a : List Machine) → StandFor rows.now a → balances.new.items
-        ≡ slice_set (slice_set balances.old.items step.from.0 (machine_balance inst.now.tables a step.from.0)) step.to.0 (machine_balance inst.now.tables a step.to.0) }
+        ≡ slice_set (slice_set balances.old.items step.from.0
+        (machine_balance inst.now.tables a step.from.0)) step.to.0
+        (machine_balance inst.now.tables a step.to.0) }
     ensures sum { result ≡ total (length balances.old.items) (slice_index balances.new.items) }
 {
     let balance = replace_cost(

@@ -88,7 +88,9 @@ impl<'a> World<'a> {
 
     /// The parts of its cost.
     pub fn parts(&self) -> Parts
-        ensures { result ≡ parts_of self.now.inst.now.tables self.now.start.now.items self.now.kept.assignment.items }
+        ensures { result ≡
+            parts_of self.now.inst.now.tables self.now.start.now.items
+            self.now.kept.assignment.items }
     {
         self.kept.parts
     }
@@ -114,7 +116,8 @@ impl<'a> World<'a> {
     pub fn cells(&self) -> &Cells<'a>
         ensures value { result.now ≡ self.now.kept.cells }
         ensures instance { result.now.inst.now.tables ≡ self.now.inst.now.tables }
-        ensures stand { cells.StandFor result.now self.now.inst.now.tables self.now.start.now.items self.now.kept.assignment.items }
+        ensures stand { cells.StandFor result.now self.now.inst.now.tables self.now.start.now.items
+            self.now.kept.assignment.items }
     {
         &self.kept.cells
     }
@@ -137,7 +140,8 @@ impl<'a> World<'a> {
     #[tactic(auto, using(crate::proofs::RenewalLaws::kept_cost))]
     pub fn machine_load(&self, m: Machine) -> u128
         requires { m.0 < machine_count self.now.inst.now.tables }
-        ensures { result ≡ machine_load self.now.inst.now.tables self.now.kept.assignment.items m.0 }
+        ensures { result ≡
+            machine_load self.now.inst.now.tables self.now.kept.assignment.items m.0 }
     {
         self.kept.loads.get(m.0 as usize)
     }
@@ -146,7 +150,8 @@ impl<'a> World<'a> {
     #[tactic(auto, using(crate::proofs::RenewalLaws::kept_cost))]
     pub fn machine_balance(&self, m: Machine) -> u128
         requires { m.0 < machine_count self.now.inst.now.tables }
-        ensures { result ≡ machine_balance self.now.inst.now.tables self.now.kept.assignment.items m.0 }
+        ensures { result ≡
+            machine_balance self.now.inst.now.tables self.now.kept.assignment.items m.0 }
     {
         self.kept.balances.get(m.0 as usize)
     }
@@ -155,13 +160,17 @@ impl<'a> World<'a> {
     /// its processes, each once, whatever the number of all processes is.
     pub fn apply<L: Ledger>(&mut self, mv: &Move, steps: &mut Steps<L>)
         requires at_from { StandsAt from_in mv.now.steps self.old.kept.assignment.items }
-        requires to { (j : ℕ) → j < length mv.now.steps → to_in mv.now.steps j < machine_count self.old.inst.now.tables }
-        requires unbroken { broken_by self.old.inst.now.tables self.old.start.now.items self.old.kept.assignment.items mv.now.steps ≡ None }
-        ensures assignment { self.new.kept.assignment.items ≡ applied self.old.kept.assignment.items mv.now.steps }
+        requires to { (j : ℕ) → j < length mv.now.steps →
+            to_in mv.now.steps j < machine_count self.old.inst.now.tables }
+        requires unbroken { broken_by self.old.inst.now.tables self.old.start.now.items
+            self.old.kept.assignment.items mv.now.steps ≡ None }
+        ensures assignment { self.new.kept.assignment.items ≡
+            applied self.old.kept.assignment.items mv.now.steps }
         ensures instance { self.new.inst.now ≡ self.old.inst.now }
         ensures topology { self.new.topo.now ≡ self.old.topo.now }
         ensures initial { self.new.start.now ≡ self.old.start.now }
-        ensures counted { steps.new ≡ steps.old + length mv.now.steps * resource_count self.old.inst.now.tables }
+        ensures counted { steps.new ≡
+            steps.old + length mv.now.steps * resource_count self.old.inst.now.tables }
         ensures at_most { steps.new ≤ steps.old + 3 * resource_count self.old.inst.now.tables }
     {
         let inst = self.inst;

@@ -2,9 +2,9 @@
 ghost use Rattle.std.specs.Prelude.{◌≡◌, ◌*◌, length};
 ghost use Rattle.ra_draws.specs.Lots.{IsFitting};
 
-use super::samples::list;
 use ra_base::{Drawing, NoMemory};
 use ra_draws::{Lot, Lots, Source};
+use ra_samples::list;
 use std::alloc::Global;
 use std::process::Abort;
 
@@ -14,7 +14,7 @@ fn written(rt: &impl Abort, alloc: Global, words: &[u64], budget: u64) -> Lot
     ensures fitting { IsFitting result }
     ensures budget { result.budget ≡ budget }
 {
-    let words = list(rt, alloc, words);
+    let words = list(alloc, words).expect(rt, "no memory");
     Lot {
         source: Source::Written(words),
         budget,
