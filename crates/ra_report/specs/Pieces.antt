@@ -4,7 +4,7 @@ use Rattle.std.specs.Io.KnownBytes.{Appends}
 use Rattle.ra_io.specs.Faults.{Rose}
 use Rattle.ra_io.specs.Pieces.{AppendsPart}
 use Rattle.ra_report.specs.declared.pieces.Piece.{Piece}
-use Rattle.ra_report.specs.declared.pieces.Piece.TheVariants.{Text, Number}
+use Rattle.ra_report.specs.declared.pieces.Piece.TheVariants.{Text, Number, Marked}
 use Rattle.ra_report.specs.Texts.{number_text}
 
 -- texts one after another
@@ -12,10 +12,11 @@ abbrev pub joined : List (List ℕ) → List ℕ
 joined [] = []
 joined (text ∷ texts) = text ++ joined texts
 
--- the bytes of a piece: a text as it is, a number in decimal
+-- the bytes of a piece: a text as it is, a number in decimal, and such a number with a byte before it
 abbrev pub piece_bytes : Piece → List ℕ
 piece_bytes (Text text) = text.now
 piece_bytes (Number n) = number_text n
+piece_bytes (Marked mark n) = mark ∷ number_text n
 
 -- the bytes of pieces, one after another
 abbrev pub bytes_of : List Piece → List ℕ

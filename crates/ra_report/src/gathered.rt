@@ -43,7 +43,18 @@ impl<'a, O: Sink> Gathered<'a, O> {
         ensures { Adds O.taken O.faults self.old self.new piece.now }
     {
         if self.waiting.try_extend_from_slice(piece).is_err() {
-            self.put_waiting();
+            self.add_past(piece);
+        }
+    }
+
+    /// Adds a piece that no longer fits: what waits is put first.
+    #[cold]
+    #[inline(never)]
+    fn add_past(&mut self, piece: &[u8])
+        ensures { Adds O.taken O.faults self.old self.new piece.now }
+    {
+        self.put_waiting();
+        if self.waiting.try_extend_from_slice(piece).is_err() {
             self.put(piece);
         }
     }
@@ -64,8 +75,6 @@ impl<'a, O: Sink> Gathered<'a, O> {
     }
 
     /// Puts what waits.
-    #[cold]
-    #[inline(never)]
     fn put_waiting(&mut self)
         ensures adds { Adds O.taken O.faults self.old self.new [] }
         ensures none { self.new.waiting.items ≡ [] }
@@ -75,8 +84,6 @@ impl<'a, O: Sink> Gathered<'a, O> {
     }
 
     /// Puts a piece, where nothing waits.
-    #[cold]
-    #[inline(never)]
     fn put(&mut self, piece: &[u8])
         requires { self.old.waiting.items ≡ [] }
         ensures { Adds O.taken O.faults self.old self.new piece.now }

@@ -4,7 +4,7 @@ ghost use Rattle.ra_report.specs.Texts.{space};
 ghost use Rattle.ra_report.specs.JournalTexts.{verdict_text, kind_text, step_text, steps_text, entry_front, entry_line, entries_text};
 
 use crate::gathered::Gathered;
-use crate::pieces::{Piece, add_pieces};
+use crate::pieces::{Piece, add_decimal, add_marked, add_pieces};
 use crate::texts::add_cause;
 use ra_io::Sink;
 use ra_journal::Entry;
@@ -34,22 +34,13 @@ fn add_entry<O: Sink>(text: &mut Gathered<'_, O>, place: u64, entry: &Entry)
 fn add_front<O: Sink>(text: &mut Gathered<'_, O>, place: u64, entry: &Entry)
     ensures { Adds O.taken O.faults text.old text.new (entry_front place entry.now) }
 {
-    let space = Piece::Text(" ");
-    add_pieces(
-        text,
-        &[
-            Piece::Number(place as u128),
-            space,
-            Piece::Number(entry.worker as u128),
-            space,
-            Piece::Number(entry.k as u128),
-            space,
-            Piece::Number(entry.q as u128),
-            space,
-            Piece::Text(kind_name(entry.mv.kind())),
-            space,
-        ],
-    )
+    add_decimal(text, place);
+    add_marked(text, b' ', entry.worker as u64);
+    add_marked(text, b' ', entry.k);
+    add_marked(text, b' ', entry.q);
+    text.add(b" ");
+    text.add(kind_name(entry.mv.kind()).as_bytes());
+    text.add(b" ")
 }
 
 /// The printed name of a kind of moves.
@@ -77,17 +68,10 @@ fn add_steps<O: Sink>(text: &mut Gathered<'_, O>, mv: &Move)
 fn add_step<O: Sink>(text: &mut Gathered<'_, O>, step: Step)
     ensures { Adds O.taken O.faults text.old text.new (step_text step ++ space) }
 {
-    add_pieces(
-        text,
-        &[
-            Piece::Number(step.process.0 as u128),
-            Piece::Text(":"),
-            Piece::Number(step.from.0 as u128),
-            Piece::Text(">"),
-            Piece::Number(step.to.0 as u128),
-            Piece::Text(" "),
-        ],
-    )
+    add_decimal(text, step.process.0 as u64);
+    add_marked(text, b':', step.from.0 as u64);
+    add_marked(text, b'>', step.to.0 as u64);
+    text.add(b" ")
 }
 
 /// Adds a verdict.

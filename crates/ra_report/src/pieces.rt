@@ -1,6 +1,7 @@
-ghost use Rattle.std.specs.Prelude.{◌≡◌};
+ghost use Rattle.std.specs.Prelude.{◌≡◌, ◌∷◌};
 ghost use Rattle.ra_report.specs.Gathering.{Adds};
 ghost use Rattle.ra_report.specs.Pieces.{bytes_of, piece_bytes};
+ghost use Rattle.ra_report.specs.Texts.{number_text};
 
 use crate::gathered::Gathered;
 use itoa::Buffer;
@@ -13,17 +14,41 @@ pub(crate) enum Piece<'a> {
     Text(&'a str),
     /// A number in decimal.
     Number(u128),
+    /// A byte, and behind it a number in decimal.
+    Marked(u8, u64),
+}
+
+/// Adds a number in decimal.
+#[inline(always)]
+#[tactic(auto, using(crate::proofs::NumberTexts::decimal_number))]
+pub(crate) fn add_decimal<O: Sink>(text: &mut Gathered<'_, O>, number: u64)
+    ensures { Adds O.taken O.faults text.old text.new (number_text number) }
+{
+    text.add(Buffer::new().format(number).as_bytes())
+}
+
+/// Adds a byte, and behind it a number in decimal.
+#[inline(always)]
+pub(crate) fn add_marked<O: Sink>(text: &mut Gathered<'_, O>, mark: u8, number: u64)
+    ensures { Adds O.taken O.faults text.old text.new (mark ∷ number_text number) }
+{
+    text.add(&[mark]);
+    add_decimal(text, number)
 }
 
 /// Adds one piece.
-#[tactic(auto, using(crate::proofs::NumberTexts::decimal_number))]
 #[inline(always)]
+#[tactic(auto, using(crate::proofs::NumberTexts::decimal_number))]
 fn add_piece<O: Sink>(text: &mut Gathered<'_, O>, piece: Piece<'_>)
     ensures { Adds O.taken O.faults text.old text.new (piece_bytes piece.entry) }
 {
     match piece {
         Piece::Text(word) => text.add(word.as_bytes()),
-        Piece::Number(number) => text.add(Buffer::new().format(number).as_bytes()),
+        Piece::Number(number) => {
+            let mut digits = Buffer::new();
+            text.add(digits.format(number).as_bytes())
+        }
+        Piece::Marked(mark, number) => add_marked(text, mark, number),
     }
 }
 

@@ -89,7 +89,7 @@ fn add_machines<O: Sink>(text: &mut Gathered<'_, O>, machines: &[Machine])
     ensures { Adds O.taken O.faults text.old text.new (machines_text machines.now) }
 {
     for machine in machines {
-        add_pieces(text, &[Piece::Text(" "), Piece::Number(machine.0 as u128)]);
+        add_pieces(text, &[Piece::Marked(b' ', machine.0 as u64)]);
     }
 }
 

@@ -2,7 +2,7 @@ ghost use Rattle.ra_report.specs.Gathering.{Adds};
 ghost use Rattle.ra_report.specs.Texts.{parts_text, cause_text, with_one, with_two, with_three, with_four};
 
 use crate::gathered::Gathered;
-use crate::pieces::{Piece, add_pieces};
+use crate::pieces::{Piece, add_marked, add_pieces};
 use ra_base::{Cause, Parts};
 use ra_io::Sink;
 
@@ -81,23 +81,19 @@ pub(crate) fn add_cause<O: Sink>(text: &mut Gathered<'_, O>, cause: &Cause)
 fn add_one<O: Sink>(text: &mut Gathered<'_, O>, word: &str, a: u32)
     ensures { Adds O.taken O.faults text.old text.new (with_one word.now a) }
 {
-    let space = Piece::Text(" ");
-    add_pieces(text, &[Piece::Text(word), space, Piece::Number(a as u128)])
+    add_pieces(text, &[Piece::Text(word), Piece::Marked(b' ', a as u64)])
 }
 
 /// A word and two numbers.
 fn add_two<O: Sink>(text: &mut Gathered<'_, O>, word: &str, a: u32, b: u32)
     ensures { Adds O.taken O.faults text.old text.new (with_two word.now a b) }
 {
-    let space = Piece::Text(" ");
     add_pieces(
         text,
         &[
             Piece::Text(word),
-            space,
-            Piece::Number(a as u128),
-            space,
-            Piece::Number(b as u128),
+            Piece::Marked(b' ', a as u64),
+            Piece::Marked(b' ', b as u64),
         ],
     )
 }
@@ -106,17 +102,15 @@ fn add_two<O: Sink>(text: &mut Gathered<'_, O>, word: &str, a: u32, b: u32)
 fn add_three<O: Sink>(text: &mut Gathered<'_, O>, word: &str, a: u128, b: u128, c: u64)
     ensures { Adds O.taken O.faults text.old text.new (with_three word.now a b c) }
 {
-    let space = Piece::Text(" ");
     add_pieces(
         text,
         &[
             Piece::Text(word),
-            space,
+            Piece::Text(" "),
             Piece::Number(a),
-            space,
+            Piece::Text(" "),
             Piece::Number(b),
-            space,
-            Piece::Number(c as u128),
+            Piece::Marked(b' ', c),
         ],
     )
 }
@@ -125,19 +119,9 @@ fn add_three<O: Sink>(text: &mut Gathered<'_, O>, word: &str, a: u128, b: u128, 
 fn add_four<O: Sink>(text: &mut Gathered<'_, O>, word: &str, a: u32, b: u32, c: u64, d: u32)
     ensures { Adds O.taken O.faults text.old text.new (with_four word.now a b c d) }
 {
-    let space = Piece::Text(" ");
-    add_pieces(
-        text,
-        &[
-            Piece::Text(word),
-            space,
-            Piece::Number(a as u128),
-            space,
-            Piece::Number(b as u128),
-            space,
-            Piece::Number(c as u128),
-            space,
-            Piece::Number(d as u128),
-        ],
-    )
+    text.add(word.as_bytes());
+    add_marked(text, b' ', a as u64);
+    add_marked(text, b' ', b as u64);
+    add_marked(text, b' ', c);
+    add_marked(text, b' ', d as u64)
 }
