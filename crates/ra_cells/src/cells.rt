@@ -77,7 +77,6 @@ impl<'a> Cells<'a> {
     }
 
     /// How many processes of a service are on a machine.
-
     pub fn on_machine(&self, s: Service, m: Machine) -> u32
         requires { s.0 < service_count self.now.inst.now.tables }
         ensures count { (i : Tables) (a0 a : List Place) → StandFor self.now i a0 a →
@@ -88,7 +87,6 @@ impl<'a> Cells<'a> {
     }
 
     /// How many processes of a service are in a location, given by its label; 0 at a label that no machine has.
-
     pub fn in_location(&self, s: Service, label: u32) -> u32
         requires { s.0 < service_count self.now.inst.now.tables }
         ensures count { (i : Tables) (a0 a : List Place) → StandFor self.now i a0 a →
@@ -99,7 +97,6 @@ impl<'a> Cells<'a> {
     }
 
     /// How many processes of a service are in a neighbourhood, given by its label; 0 at a label that no machine has.
-
     pub fn in_neighbourhood(&self, s: Service, label: u32) -> u32
         requires { s.0 < service_count self.now.inst.now.tables }
         ensures count { (i : Tables) (a0 a : List Place) → StandFor self.now i a0 a →
@@ -110,7 +107,6 @@ impl<'a> Cells<'a> {
     }
 
     /// In how many different locations the processes of a service are.
-
     pub fn locations(&self, s: Service) -> u32
         requires { s.0 < service_count self.now.inst.now.tables }
         ensures count { (i : Tables) (a0 a : List Place) → StandFor self.now i a0 a →
@@ -121,7 +117,6 @@ impl<'a> Cells<'a> {
     }
 
     /// How many processes of a service aren't on their initial machine.
-
     pub fn moved(&self, s: Service) -> u32
         requires { s.0 < service_count self.now.inst.now.tables }
         ensures count { (i : Tables) (a0 a : List Place) → StandFor self.now i a0 a →
