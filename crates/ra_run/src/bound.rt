@@ -71,14 +71,10 @@ fn print_bound<F: Files, O: Sink>(
     ensures kept { (other : List ℕ) → F.held files.new other ≡ F.held files.old other }
     ensures never_fall { (other : List ℕ) → F.faults files.old other ≤ F.faults files.new other }
 {
-    match read_open(alloc, files, model) {
-        Ok(inst) => {
-            let bound = bound(&inst);
-            match write_bound(out, &bound) {
-                Ok(()) => Ok(()),
-                Err(_) => Err(Refusal::Write),
-            }
-        }
-        Err(refusal) => Err(refusal),
+    let inst = read_open(alloc, files, model)?;
+    let bound = bound(&inst);
+    match write_bound(out, &bound) {
+        Ok(()) => Ok(()),
+        Err(_) => Err(Refusal::Write),
     }
 }

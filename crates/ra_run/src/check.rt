@@ -85,12 +85,10 @@ fn check<F: Files, O: Sink>(
     ensures kept { (other : List ℕ) → F.held files.new other ≡ F.held files.old other }
     ensures never_fall { (other : List ℕ) → F.faults files.old other ≤ F.faults files.new other }
 {
-    match weigh(alloc, model, initial, changed, closed, files) {
-        Ok(parts) => match write_parts(out, &parts) {
-            Ok(()) => Ok(()),
-            Err(_) => Err(Refusal::Write),
-        },
-        Err(refusal) => Err(refusal),
+    let parts = weigh(alloc, model, initial, changed, closed, files)?;
+    match write_parts(out, &parts) {
+        Ok(()) => Ok(()),
+        Err(_) => Err(Refusal::Write),
     }
 }
 
@@ -111,11 +109,7 @@ fn weigh<F: Files>(
     ensures kept { (other : List ℕ) → F.held files.new other ≡ F.held files.old other }
     ensures never_fall { (other : List ℕ) → F.faults files.old other ≤ F.faults files.new other }
 {
-    match read_instance(alloc, files, model, closed) {
-        Ok(inst) => match read_lists(alloc, files, initial, changed, &inst) {
-            Ok(lists) => judge(alloc, &inst, &lists.initial, &lists.changed),
-            Err(refusal) => Err(refusal),
-        },
-        Err(refusal) => Err(refusal),
-    }
+    let inst = read_instance(alloc, files, model, closed)?;
+    let lists = read_lists(alloc, files, initial, changed, &inst)?;
+    judge(alloc, &inst, &lists.initial, &lists.changed)
 }

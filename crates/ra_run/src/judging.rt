@@ -22,12 +22,10 @@ pub(crate) fn judge(
     ensures passes { IfOk result (Judged inst.now.tables initial.now.items changed.now.items) }
     ensures refused { IfErr result (JudgeSays inst.now.tables initial.now.items changed.now.items) }
 {
-    match judge_start(alloc, inst, initial) {
-        Ok(mut scratch) => match first_broken(inst, initial, changed, &mut scratch) {
-            Some(cause) => Err(Refusal::ChangedBroken(cause)),
-            None => Ok(parts(inst, initial, changed, &mut scratch)),
-        },
-        Err(refusal) => Err(refusal),
+    let mut scratch = judge_start(alloc, inst, initial)?;
+    match first_broken(inst, initial, changed, &mut scratch) {
+        Some(cause) => Err(Refusal::ChangedBroken(cause)),
+        None => Ok(parts(inst, initial, changed, &mut scratch)),
     }
 }
 

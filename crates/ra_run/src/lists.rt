@@ -80,11 +80,7 @@ pub(crate) fn read_lists<F: Files>(
     ensures kept { (other : List ℕ) → F.held files.new other ≡ F.held files.old other }
     ensures never_fall { (other : List ℕ) → F.faults files.old other ≤ F.faults files.new other }
 {
-    match read_list(alloc, files, Which::Initial, initial, inst) {
-        Ok(initial) => match read_list(alloc, files, Which::Changed, changed, inst) {
-            Ok(changed) => Ok(Lists { initial, changed }),
-            Err(refusal) => Err(refusal),
-        },
-        Err(refusal) => Err(refusal),
-    }
+    let initial = read_list(alloc, files, Which::Initial, initial, inst)?;
+    let changed = read_list(alloc, files, Which::Changed, changed, inst)?;
+    Ok(Lists { initial, changed })
 }

@@ -25,12 +25,10 @@ pub(crate) fn read_instance<F: Files>(
     ensures kept { (other : List ℕ) → F.held files.new other ≡ F.held files.old other }
     ensures never_fall { (other : List ℕ) → F.faults files.old other ≤ F.faults files.new other }
 {
-    match read_open(alloc, files, model) {
-        Ok(inst) => match closed {
-            None => Ok(inst),
-            Some(closed) => close(alloc, files, closed, inst),
-        },
-        Err(refusal) => Err(refusal),
+    let inst = read_open(alloc, files, model)?;
+    match closed {
+        None => Ok(inst),
+        Some(closed) => close(alloc, files, closed, inst),
     }
 }
 

@@ -100,15 +100,11 @@ fn solve<F: Files, O: Sink>(
     ensures kept { (other : List ℕ) → F.held files.new other ≡ F.held files.old other }
     ensures never_fall { (other : List ℕ) → F.faults files.old other ≤ F.faults files.new other }
 {
-    match read_start(alloc, model, initial, closed, files) {
-        Ok(start) => match run_from(alloc, &start.inst, &start.initial, lots) {
-            Ok(run) => match report(out, &start.inst, lots, &run) {
-                Ok(()) => Ok(()),
-                Err(_) => Err(Refusal::Write),
-            },
-            Err(refusal) => Err(refusal),
-        },
-        Err(refusal) => Err(refusal),
+    let start = read_start(alloc, model, initial, closed, files)?;
+    let run = run_from(alloc, &start.inst, &start.initial, lots)?;
+    match report(out, &start.inst, lots, &run) {
+        Ok(()) => Ok(()),
+        Err(_) => Err(Refusal::Write),
     }
 }
 
@@ -136,13 +132,9 @@ fn read_start<F: Files>(
     ensures kept { (other : List ℕ) → F.held files.new other ≡ F.held files.old other }
     ensures never_fall { (other : List ℕ) → F.faults files.old other ≤ F.faults files.new other }
 {
-    match read_instance(alloc, files, model, closed) {
-        Ok(inst) => match read_list(alloc, files, Which::Initial, initial, &inst) {
-            Ok(initial) => Ok(Start { inst, initial }),
-            Err(refusal) => Err(refusal),
-        },
-        Err(refusal) => Err(refusal),
-    }
+    let inst = read_instance(alloc, files, model, closed)?;
+    let initial = read_list(alloc, files, Which::Initial, initial, &inst)?;
+    Ok(Start { inst, initial })
 }
 
 /// The run of the one worker, where the initial list is feasible.
@@ -157,12 +149,10 @@ fn run_from(
     ensures run { IfOk result (HasRun inst.now.tables initial.now.items lots.now) }
     ensures refused { IfErr result (StartSays inst.now.tables initial.now.items) }
 {
-    match judge_start(alloc, inst, initial) {
-        Ok(mut scratch) => match run_alone(alloc, inst, initial, lots, &mut scratch) {
-            Ok(run) => Ok(run),
-            Err(_) => Err(Refusal::Memory),
-        },
-        Err(refusal) => Err(refusal),
+    let mut scratch = judge_start(alloc, inst, initial)?;
+    match run_alone(alloc, inst, initial, lots, &mut scratch) {
+        Ok(run) => Ok(run),
+        Err(_) => Err(Refusal::Memory),
     }
 }
 
