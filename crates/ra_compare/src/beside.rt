@@ -1,6 +1,8 @@
-ghost use Rattle.std.specs.Prelude.{◌≡◌, ℕ, ◌<◌, length, IfOk, IfSome};
+ghost use Rattle.std.specs.Prelude.{◌≡◌, ℕ, ◌<◌, None, length, IfOk, IfSome};
+ghost use Rattle.ra_base.specs.declared.causes.Cause.{Cause};
 ghost use Rattle.ra_model.specs.Numbers.{machine_count};
 ghost use Rattle.ra_model.specs.Assignments.{IsAssignment};
+ghost use Rattle.ra_model.specs.Broken.{first_broken};
 ghost use Rattle.ra_model.specs.Costs.{parts_of};
 ghost use Rattle.ra_check.specs.Made.{IsMadeFor};
 ghost use Rattle.ra_topology.specs.Fits.{IsTopologyOf};
@@ -8,6 +10,7 @@ ghost use Rattle.ra_moves.specs.declared.verdicts.Verdict.TheVariants.{Done, Ref
 ghost use Rattle.ra_moves.specs.Steps.{StandsAt, from_in, to_in};
 ghost use Rattle.ra_moves.specs.Replacing.{applied};
 ghost use Rattle.ra_moves.specs.Judging.{judge};
+ghost use Rattle.ra_compare.specs.Asked.{asked};
 
 use ra_base::{Assignment, Drawing, Fixed, NoMemory, Parts, Steps};
 use ra_check::{Scratch, first_broken, parts};
@@ -45,6 +48,8 @@ impl<'a> Beside<'a> {
             IfSome made (λ b. b.world.start.now ≡ a0.now)) }
         ensures assignment { IfOk result (λ made.
             IfSome made (λ b. b.world.kept.assignment.items ≡ a0.now.items)) }
+        ensures none { IfOk result (λ made. made ≡ None →
+            first_broken inst.now.tables a0.now.items a0.now.items ≡ None → ⊥) }
     {
         let mut scratch = Scratch::make(alloc, inst)?;
         if first_broken(inst, a0, a0, &mut scratch).is_some() {
@@ -88,6 +93,8 @@ impl<'a> Beside<'a> {
             mv.now.steps 18446744073709551615 }
         ensures done { (cost : ℕ) → result ≡ Done cost → self.new.world.kept.assignment.items
             ≡ applied self.old.world.kept.assignment.items mv.now.steps }
+        ensures refused { (cause : Cause) → result ≡ Refused cause →
+            self.new.world ≡ self.old.world }
         ensures instance { self.new.world.inst.now ≡ self.old.world.inst.now }
         ensures initial { self.new.world.start.now ≡ self.old.world.start.now }
     {
@@ -103,8 +110,18 @@ impl<'a> Beside<'a> {
         verdict
     }
 
-    /// Follows one of the moves that eight words name, where it is judged Done.
+    /// Follows the move that eight words ask for, where it is judged Done: the last word picks one of those that they name.
+    #[tactic(auto, unfolding(crate::specs::Asked::asked))]
     pub fn propose<L: Ledger>(&mut self, words: &[u64; 8], steps: &mut Steps<L>) -> Verdict
+        ensures verdict { result ≡ judge self.old.world.inst.now.tables
+            self.old.world.start.now.items self.old.world.kept.assignment.items
+            (asked self.old.world.inst.now.tables self.old.world.kept.assignment.items words.now)
+            18446744073709551615 }
+        ensures done { (cost : ℕ) → result ≡ Done cost → self.new.world.kept.assignment.items
+            ≡ applied self.old.world.kept.assignment.items
+            (asked self.old.world.inst.now.tables self.old.world.kept.assignment.items words.now) }
+        ensures refused { (cause : Cause) → result ≡ Refused cause →
+            self.new.world ≡ self.old.world }
         ensures instance { self.new.world.inst.now ≡ self.old.world.inst.now }
         ensures initial { self.new.world.start.now ≡ self.old.world.start.now }
     {
