@@ -38,34 +38,48 @@ fn is_done(verdict: &Verdict) -> bool {
     }
 }
 
-/// Proposes two thousand moves, compares after each that is followed, and gives how many these were.
-fn walk<L: Ledger>(rt: &impl Abort, beside: &mut Beside<'_>, blank: Blank) -> u32
+/// The kind of move that words ask for: 0 a shift, 1 a swap, 2 a chain.
+fn kind_in(words: &[u64; 8]) -> usize
+    ensures { result < 3 }
+{
+    match words[0] % 8 {
+        0..=4 => 0,
+        5 | 6 => 1,
+        _ => 2,
+    }
+}
+
+/// Proposes two thousand moves, compares after each that is followed, and gives how many of each kind these were.
+fn walk<L: Ledger>(rt: &impl Abort, beside: &mut Beside<'_>, blank: Blank) -> [u32; 3]
     requires name { blank.name ≡ L.name }
     requires parts { blank.parts ≡ L.parts }
     requires some { 0 < blank.parts }
 {
     let mut steps = Steps::<L>::make(blank);
     let mut seed = 1u64;
-    let mut followed = 0u32;
+    let mut followed = [0u32; 3];
     for _ in 0..2000 {
         let words = words_from(&mut seed);
         if is_done(&beside.propose(&words, &mut steps)) {
-            followed = followed.saturating_add(1);
+            let kind = kind_in(&words);
+            followed[kind] = followed[kind].saturating_add(1);
             compare(rt, beside, &mut steps);
         }
     }
     followed
 }
 
-/// Follows moves of an instance from a start, more than a hundred of them.
+/// Follows moves of an instance from a start, some hundred of them, and of each kind more than ten.
 fn follow_many(rt: &impl Abort, alloc: Global, inst: &Instance, start: &[u32]) {
     let a0 = assignment(alloc, start).expect(rt, "no memory");
     assert!(rt; inst.is_assignment(&a0));
     let topo = Topology::make(alloc, inst).expect(rt, "no memory");
     let made = Beside::make(alloc, inst, &topo, &a0).expect(rt, "no memory");
     let mut beside = made.expect(rt, "no feasible start");
-    let followed = walk::<Brand>(rt, &mut beside, Blank::new(1));
-    assert!(rt; followed > 100, "{followed}");
+    let [shifts, swaps, chains] = walk::<Brand>(rt, &mut beside, Blank::new(1));
+    assert!(rt; shifts > 100, "{shifts}");
+    assert!(rt; swaps > 10, "{swaps}");
+    assert!(rt; chains > 10, "{chains}");
 }
 
 /// The instance with these machines closed.
