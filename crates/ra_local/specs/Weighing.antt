@@ -1,0 +1,56 @@
+-- The weighing of a move: what it breaks, or else what it changes but for the greatest moved count, which depends on all
+-- services (this project's).
+use Rattle.std.specs.Prelude.{ℕ, zero, suc, ◌+◌, ℤ, pos, ◌-ℤ◌, Bool, not, List, [], ◌∷◌, ◌++◌, length, Option, Some, None, if◌then◌else◌}
+use Rattle.ra_base.specs.Sums.{is_named}
+use Rattle.ra_base.specs.declared.causes.Cause.{Cause}
+use Rattle.ra_base.specs.declared.costs.MovedCount.{MovedCount}
+use Rattle.ra_base.specs.declared.ids.Machine.{Machine}
+use Rattle.ra_model.specs.declared.raw.Tables.{Tables}
+use Rattle.ra_model.specs.Services.{moved_of}
+use Rattle.ra_model.specs.Costs.{load_cost, balance_cost, process_cost, machine_cost}
+use Rattle.ra_moves.specs.declared.steps.Step.{Step}
+use Rattle.ra_moves.specs.declared.verdicts.Weighed.{Weighed}
+use Rattle.ra_moves.specs.Replacing.{applied}
+use Rattle.ra_moves.specs.Judging.{broken_by}
+use Rattle.ra_local.specs.Touched.{service_in}
+
+-- load, balance, process and machine cost together
+unfoldable pub local_cost : Tables → List Machine → List Machine → ℕ
+local_cost i a0 a = load_cost i a + balance_cost i a + process_cost i a0 a + machine_cost i a0 a
+
+-- how much of it a move adds or takes away
+unfoldable pub local_change : Tables → List Machine → List Machine → List Step → ℤ
+local_change i a0 a steps = pos (local_cost i a0 (applied a steps)) -ℤ pos (local_cost i a0 a)
+
+-- a service with its moved counts before and after a move
+unfoldable pub moved_count : Tables → List Machine → List Machine → List Step → ℕ → MovedCount
+moved_count i a0 a steps s = record { service = record { 0 = s }; before = moved_of i a0 a s; after = moved_of i a0 (applied a steps) s }
+
+-- no step before step j moves its service
+unfoldable pub is_new_service : Tables → List Step → ℕ → Bool
+is_new_service i steps j = not (is_named j (service_in i steps) (service_in i steps j))
+
+-- the different services of the first n steps, in the order of the steps
+unfoldable pub services_moved : Tables → List Step → ℕ → List ℕ
+services_moved i steps zero = []
+services_moved i steps (suc n) = if is_new_service i steps n then services_moved i steps n ++ service_in i steps n ∷ [] else services_moved i steps n
+
+-- the moved counts of service k of some, where there are as many
+unfoldable pub count_at : Tables → List Machine → List Machine → List Step → List ℕ → ℕ → Option MovedCount
+count_at i a0 a steps [] k = None
+count_at i a0 a steps (s ∷ rest) zero = Some (moved_count i a0 a steps s)
+count_at i a0 a steps (s ∷ rest) (suc k) = count_at i a0 a steps rest k
+
+-- the moved counts of the different services of a move, in the order of its steps
+unfoldable pub changed_count : Tables → List Machine → List Machine → List Step → ℕ → Option MovedCount
+changed_count i a0 a steps k = count_at i a0 a steps (services_moved i steps (length steps)) k
+
+-- where a cause is there nothing else is told
+unfoldable pub weighed_by : Option Cause → ℤ → (ℕ → Option MovedCount) → Weighed
+weighed_by None local counts = record { broken = None; local = local; first = counts 0; second = counts 1; third = counts 2 }
+weighed_by (Some cause) local counts = record { broken = Some cause; local = pos 0; first = None; second = None; third = None }
+
+-- the weighing of a move of assignment a, reached from a0: the cause other than Rise for which it is refused; else the
+-- change of load, balance, process and machine cost together, and the moved counts of the different services
+unfoldable pub weighed_of : Tables → List Machine → List Machine → List Step → Weighed
+weighed_of i a0 a steps = weighed_by (broken_by i a0 a steps) (local_change i a0 a steps) (changed_count i a0 a steps)
