@@ -3,7 +3,8 @@ a machine may be slower for a while.
 
 usage: measure.py PROGRAM LOOP FOLDER
 
-FOLDER has the instances 1000, 5000 and 100 of make_instance.py. LOOP is the plain loop of numbers.c.
+FOLDER has the instances 1000 and 5000 of make_instance.py, and its skewed ones 100-skewed and 1000-skewed. LOOP is the
+plain loop of numbers.c.
 """
 import os
 import subprocess
@@ -11,7 +12,7 @@ import sys
 from statistics import median
 
 ROUNDS = 15
-PROPOSALS = 200
+PROPOSALS = 20_000
 
 
 def seconds_and_peak(command):
@@ -53,11 +54,21 @@ def main():
         for name, seconds in others:
             ratio = median(own / max(plain, 0.001) for own, plain in zip(seconds, loops[1]))
             print(f"  {name} takes {ratio:.2f} times the loop's time")
-    model, initial = (os.path.join(folder, "100", name) for name in ["model", "initial"])
-    print("100 machines, 1000 processes, 4 resources")
-    lot = f"7:{PROPOSALS}"
-    (seconds,) = measure({f"reassign solve {lot}": [program, "solve", model, initial, lot]}).values()
-    print(f"  {PROPOSALS / median(seconds):.0f} proposals per second")
+    for instance in ["100-skewed", "1000-skewed"]:
+        measure_solve(program, instance, os.path.join(folder, instance))
+
+
+def measure_solve(program, instance, folder):
+    """Prints how many proposals a second a run makes, without the reading of its files, and how many were done."""
+    print(f"{instance}, {PROPOSALS} proposals")
+    run = [program, "solve", os.path.join(folder, "model"), os.path.join(folder, "initial")]
+    none, all_made = measure(
+        {"reassign solve 7:0": run + ["7:0"], f"reassign solve 7:{PROPOSALS}": run + [f"7:{PROPOSALS}"]}
+    ).values()
+    net = max(median(all_made) - median(none), 0.001)
+    report = subprocess.run(run + [f"7:{PROPOSALS}"], stdout=subprocess.PIPE, check=True, text=True)
+    done = sum(" done " in line for line in report.stdout.splitlines())
+    print(f"  {PROPOSALS / net:.0f} proposals per second of processor time, {done} of them done")
 
 
 main()
