@@ -1,4 +1,6 @@
 pub mod Places
 pub mod NextLemmas
 pub mod SoundLemmas
+pub mod Offers
+pub mod StandingLemmas
 pub mod SoloLemmas
