@@ -1,6 +1,7 @@
 ghost use Rattle.std.specs.Prelude.{◌≡◌, ◌↔◌, ◌<◌, true};
 ghost use Rattle.ra_model.specs.Numbers.{process_count};
-ghost use Rattle.ra_guards.specs.Guards.{AreKnown, ends_at, meets_step};
+ghost use Rattle.ra_local.specs.Touched.{ends_at};
+ghost use Rattle.ra_guards.specs.Guards.{AreKnown, meets_step};
 ghost use Rattle.ra_guards.specs.Versions.{Apart};
 
 use crate::services::guards_service;
