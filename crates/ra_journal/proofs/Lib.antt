@@ -1,4 +1,7 @@
 pub mod Places
+pub mod AddedLemmas
+pub mod BestLemmas
+pub mod RoomLemmas
 pub mod NextLemmas
 pub mod SoundLemmas
 pub mod Offers
