@@ -4,6 +4,7 @@ pub mod BestLemmas
 pub mod RoomLemmas
 pub mod NextLemmas
 pub mod SoundLemmas
+pub mod BatchLemmas
 pub mod Offers
 pub mod StandingLemmas
 pub mod SoloLemmas

@@ -1,3 +1,4 @@
+pub mod Batches
 pub mod Best
 pub mod Entries
 pub mod Laws

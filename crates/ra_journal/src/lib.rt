@@ -2,9 +2,14 @@
 //! whole, and what follows from that.
 #![tactic(auto)]
 
+mod batch;
+mod copying;
 mod entries;
 pub mod laws;
+mod replies;
 mod states;
 
+pub use batch::Batch;
 pub use entries::Entry;
+pub use replies::Reply;
 pub use states::{advance, cost_then};
