@@ -8,7 +8,7 @@ use Rattle.ra_model.specs.Assignments.{IsAssignment}
 use Rattle.ra_model.specs.Broken.{first_broken}
 use Rattle.ra_settle.specs.Settling.{AreMovedOf}
 use Rattle.ra_guards.specs.Kept.{AreVersions}
-use Rattle.ra_journal.specs.declared.journal.Book.{Book}
+use Rattle.ra_journal.specs.declared.book.Book.{Book}
 use Rattle.ra_journal.specs.declared.entries.Entry.{Entry}
 use Rattle.ra_journal.specs.Entries.{made_in, entries_of, worker_count, proposal_count}
 use Rattle.ra_journal.specs.States.{state, kept_cost, cost_at}

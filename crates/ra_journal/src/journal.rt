@@ -7,7 +7,7 @@ ghost use Rattle.ra_topology.specs.Fits.{IsTopologyOf};
 ghost use Rattle.ra_guards.specs.declared.newest.Newer.{Newer};
 ghost use Rattle.ra_guards.specs.Guards.{writes};
 ghost use Rattle.ra_guards.specs.Kept.{version_in};
-ghost use Rattle.ra_journal.specs.Entries.{entry_at, entries_of, worker_count};
+ghost use Rattle.ra_journal.specs.Entries.{entry_at, entries_of, worker_count, proposal_count};
 ghost use Rattle.ra_journal.specs.States.{kept_cost, cost_at};
 ghost use Rattle.ra_journal.specs.Best.{best_of};
 ghost use Rattle.ra_journal.specs.Legal.{Legal};
@@ -16,6 +16,7 @@ ghost use Rattle.ra_journal.specs.Committing.{committed, newer_since, IsCommit};
 ghost use Rattle.ra_journal.specs.Keeping.{IsStart, IsKept};
 
 use crate::batch::Batch;
+use crate::book::Book;
 use crate::copying::copy_entries;
 use crate::entries::Entry;
 use crate::recording::record;
@@ -28,24 +29,6 @@ use ra_model::Instance;
 use ra_moves::Plan;
 use ra_topology::Topology;
 use std::alloc::Global;
-
-/// What a journal keeps of its entries, and them.
-#[derive(Drop)]
-pub(crate) struct Book {
-    /// The entries.
-    pub(crate) entries: Fixed<Entry>,
-    /// The version of each guard after them.
-    pub(crate) versions: Versions,
-    /// The moved counts of the state after them.
-    pub(crate) greatest: Greatest,
-    /// The cost of that state.
-    pub(crate) kept: u128,
-    /// How many of them each worker has made.
-    pub(crate) made: [u64; 16],
-    /// The first place whose state costs least, and that cost.
-    pub(crate) best_at: u64,
-    pub(crate) best_cost: u128,
-}
 
 /// The journal of a run: the proposals of all workers in the order in which they were recorded. It is legal at all
 /// times, by its type. Its memory is taken when it is made, for one entry for each proposal of all budgets.
@@ -81,7 +64,7 @@ impl<'a> Journal<'a> {
         ensures lots { IfOk result (λ journal. journal.lots.now ≡ lots.now) }
         ensures entries { IfOk result (λ journal. journal.book.entries.items ≡ []) }
     {
-        let entries = Fixed::make(alloc, proposals(lots))?;
+        let entries = Fixed::make(alloc, proposals(lots) as usize)?;
         let versions = Versions::make(alloc, inst.machines(), inst.services())?;
         let greatest = Greatest::make(alloc, inst)?;
         let book = Book {
@@ -129,4 +112,17 @@ impl<'a> Journal<'a> {
             None => record(self.inst, self.topo, self.a0, self.lots, &mut self.book, worker, plan),
         }
     }
+}
+
+/// How many proposals all workers together make.
+#[tactic(auto, unfolding(crate::specs::Entries::proposal_count))]
+fn proposals(lots: &Lots) -> u64
+    ensures value { result ≡ proposal_count lots.now }
+    ensures few { result ≤ 1000000 }
+{
+    let mut number = 0;
+    for w in 0..lots.len() {
+        number += lots.lot(w).budget;
+    }
+    number
 }

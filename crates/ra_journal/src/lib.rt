@@ -3,13 +3,17 @@
 #![tactic(auto)]
 
 mod batch;
+mod book;
 mod copying;
 mod entries;
+mod journal;
 pub mod laws;
+mod recording;
 mod replies;
 mod states;
 
 pub use batch::Batch;
 pub use entries::Entry;
+pub use journal::Journal;
 pub use replies::Reply;
 pub use states::{advance, cost_then};
