@@ -2,6 +2,8 @@ pub mod Places
 pub mod AddedLemmas
 pub mod BestLemmas
 pub mod RoomLemmas
+pub mod MovedLemmas
+pub mod TouchedLemmas
 pub mod NextLemmas
 pub mod SoundLemmas
 pub mod BatchLemmas

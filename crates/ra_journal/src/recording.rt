@@ -94,8 +94,10 @@ fn add(book: &mut Book, entry: Entry)
     requires few { slice_index book.old.made entry.worker < 2 ^ 63 }
     ensures { IsAdded book.old book.new entry }
 {
+    let place = entry.worker as usize;
+    let made = book.made[place];
+    book.made[place] = made + 1;
     book.entries.push(entry);
-    book.made[entry.worker as usize] += 1;
 }
 
 /// Takes the last entry, which has this move and this verdict, into the versions, the moved counts and the cost.

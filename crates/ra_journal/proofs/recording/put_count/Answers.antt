@@ -1,0 +1,8 @@
+use Rattle.ra_journal.proofs.MovedLemmas.{put_some, put_none}
+use Rattle.ra_journal.proofs.recording.put_count.Goals as goal
+
+pub returns-in-Some : goal.returns-in-Some
+returns-in-Some c = ?
+
+pub returns-in_default : goal.returns-in_default
+returns-in_default c = put_none _ _ c.in_default.is
