@@ -2,3 +2,8 @@ pub mod SearchLemmas
 pub mod EndLemmas
 pub mod StayLemmas
 pub mod Local
+pub mod AlikeLemmas
+pub mod CauseLemmas
+pub mod ChangeLemmas
+pub mod CountLemmas
+pub mod Determined

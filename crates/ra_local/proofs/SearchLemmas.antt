@@ -16,3 +16,7 @@ first_agrees n test f g one other same = first_same n f g (λ k within. ⊎_elim
 -- where the test is false all along nothing is found
 pub first_nowhere : (n : ℕ) (test : ℕ → Bool) (f : ℕ → Option Cause) → OnlyWhere n test f → ((k : ℕ) → k < n → test k ≡ false) → first n f ≡ None
 first_nowhere n test f only nowhere = first_none_from n f (λ k within. only.others k within (nowhere k within))
+
+-- the same test in other words
+pub only_tested : (n : ℕ) (test other : ℕ → Bool) (f : ℕ → Option Cause) → ((k : ℕ) → test k ≡ other k) → OnlyWhere n test f → OnlyWhere n other f
+only_tested n test other f same only = record { others = λ k within no. only.others k within (same k ∙ no) }

@@ -54,12 +54,12 @@ transient_same i a0 a steps m r move none = tally_stays i a steps (transient_sha
 -- services
 
 -- a process of another service isn't counted
-of_other : (i : Tables) (s : ℕ) (test : ℕ → ℕ → Bool) (p at : ℕ) → service_of i p ≢ s → of_service i s test p at ≡ 0
+pub of_other : (i : Tables) (s : ℕ) (test : ℕ → ℕ → Bool) (p at : ℕ) → service_of i p ≢ s → of_service i s test p at ≡ 0
 unfolding of_service is_of
 of_other i s test p at apart = ap one_if (and_left (eqb (service_of i p) s) (test p at) (ne_eqb (service_of i p) s apart))
 
 -- nor is one that doesn't pass
-of_failed : (i : Tables) (s : ℕ) (test : ℕ → ℕ → Bool) (p at : ℕ) → test p at ≡ false → of_service i s test p at ≡ 0
+pub of_failed : (i : Tables) (s : ℕ) (test : ℕ → ℕ → Bool) (p at : ℕ) → test p at ≡ false → of_service i s test p at ≡ 0
 unfolding of_service
 of_failed i s test p at fails = ap one_if (and_right (is_of i s p) (test p at) fails)
 
