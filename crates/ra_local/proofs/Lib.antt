@@ -1,0 +1,10 @@
+pub mod MovedServices
+pub mod SearchLemmas
+pub mod EndLemmas
+pub mod StayLemmas
+pub mod Local
+pub mod AlikeLemmas
+pub mod CauseLemmas
+pub mod ChangeLemmas
+pub mod CountLemmas
+pub mod Determined
