@@ -3,9 +3,9 @@ use Rattle.std.specs.Prelude.{ℕ, ◌<◌, List, length, Bool, false, ◌||◌}
 use Rattle.ra_base.specs.declared.ids.Guard.{Guard}
 use Rattle.ra_base.specs.declared.ids.Guard.TheVariants as guard
 use Rattle.ra_model.specs.declared.raw.Tables.{Tables}
-use Rattle.ra_model.specs.Numbers.{process_count, service_of}
+use Rattle.ra_model.specs.Numbers.{machine_count, process_count, service_of}
 use Rattle.ra_moves.specs.declared.steps.Step.{Step}
-use Rattle.ra_moves.specs.Steps.{process_in}
+use Rattle.ra_moves.specs.Steps.{process_in, from_in, to_in}
 use Rattle.ra_local.specs.Touched.{ends_at, moves_service, reads_service, guards_service}
 
 -- the write guards of a move: the machines that its steps leave and enter, and the services of its processes
@@ -25,6 +25,12 @@ is_guard i steps g = writes i steps g || reads i steps g
 -- each step moves a process of the instance
 pub record AreKnown (i : Tables) (steps : List Step) : Type 0 where
   pub each : (j : ℕ) → j < length steps → process_in steps j < process_count i
+
+-- each step moves a process of the instance from one of its machines to one of its machines
+pub record AreWithin (i : Tables) (steps : List Step) : Type 0 where
+  pub process : (j : ℕ) → j < length steps → process_in steps j < process_count i
+  pub from : (j : ℕ) → j < length steps → from_in steps j < machine_count i
+  pub to : (j : ℕ) → j < length steps → to_in steps j < machine_count i
 
 -- a step of another move leaves or enters a machine that is a guard, or moves a process of a service that is one
 unfoldable pub meets_step : Tables → List Step → Step → Bool

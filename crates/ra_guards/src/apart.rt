@@ -40,7 +40,7 @@ fn meets_step(inst: &Instance, mv: &Move, step: Step) -> bool
 
 /// Whether a move leaves or enters a machine.
 #[tactic(auto, using(crate::proofs::GuardLemmas::ends))]
-fn ends_at(mv: &Move, machine: Machine) -> bool
+pub(crate) fn ends_at(mv: &Move, machine: Machine) -> bool
     ensures { result ≡ ends_at mv.now.steps machine.0 }
 {
     for j in 0..mv.steps() {

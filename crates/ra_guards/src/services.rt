@@ -20,7 +20,7 @@ pub(crate) fn guards_service(inst: &Instance, mv: &Move, service: Service) -> bo
 
 /// Whether a process of a service moves.
 #[tactic(auto, using(ra_base::proofs::Named::names, crate::proofs::GuardLemmas::known, crate::proofs::GuardLemmas::service_at), unfolding(ra_local::specs::Touched::moves_service))]
-fn moves_service(inst: &Instance, mv: &Move, service: Service) -> bool
+pub(crate) fn moves_service(inst: &Instance, mv: &Move, service: Service) -> bool
     requires known { AreKnown inst.now.tables mv.now.steps }
     ensures { result ≡ moves_service inst.now.tables mv.now.steps service.0 }
 {
