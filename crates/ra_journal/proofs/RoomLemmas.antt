@@ -3,7 +3,7 @@ use Rattle.std.proofs.Common.{◌≡◌, ℕ, zero, suc, ◌+◌, ◌*◌, ◌<�
 use Rattle.std.proofs.lemmas.Bool.{cases_Bool, eqb-true}
 use Rattle.std.proofs.lemmas.List.Sums.{sum_by-cons}
 use Rattle.ra_base.specs.Sums.{total, one_if}
-use Rattle.ra_base.proofs.Sums.{total_none, total_front, total_same, total_suc, total_le, total_lt, total_grouped, total_constant}
+use Rattle.ra_base.proofs.Sums.{total_none, total_front, total_same, total_suc, total_le, total_lt, total_grouped, total_constant, total_part}
 use Rattle.ra_draws.specs.declared.sources.Lot.{Lot}
 use Rattle.ra_draws.specs.declared.budgets.Lots.{Lots}
 use Rattle.ra_draws.specs.Lots.{lot_at, budget_of}
@@ -52,3 +52,11 @@ entries_few l h n numbered = omega (arith, entries_together l h n numbered, tota
 pub entries_fewer : (l : Lots) (h : List Entry) (n w : ℕ) → AreNumbered l h n → w < worker_count l → entries_of h n w < budget l w → n < proposal_count l
 unfolding proposal_count
 entries_fewer l h n w numbered exists left = omega (arith, entries_together l h n numbered, total_lt (worker_count l) w (entries_of h n) (budget l) exists left (λ v there. entries_within l h n v numbered))
+
+-- budgets together are few
+pub proposals_few : (l : Lots) → proposal_count l ≤ 1000000
+proposals_few l = omega (arith, proposals_are l, l.fitting.together)
+
+pub budgets_few : (l : Lots) (w : ℕ) → w < worker_count l → total w (budget l) + budget l w ≤ 1000000
+unfolding proposal_count
+budgets_few l w exists = omega (arith, proposals_few l, total_part (worker_count l) w (budget l) exists)
