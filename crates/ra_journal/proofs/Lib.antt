@@ -9,4 +9,6 @@ pub mod SoundLemmas
 pub mod BatchLemmas
 pub mod Offers
 pub mod StandingLemmas
+pub mod EndLemmas
+pub mod KeepingLemmas
 pub mod SoloLemmas
