@@ -11,4 +11,6 @@ pub mod Offers
 pub mod StandingLemmas
 pub mod EndLemmas
 pub mod KeepingLemmas
+pub mod RecordingLemmas
+pub mod NewerLemmas
 pub mod SoloLemmas

@@ -42,9 +42,13 @@ unfolding verdict_of
 done_none None x cost is = refl
 done_none (Some cause) x cost is = absurd (cc)
 
+pub unbroken_if_done : (i : Tables) (a0 a : List Machine) (steps : List Step) (rise cost : ℕ) (verdict : Verdict) → verdict ≡ judge i a0 a steps rise → verdict ≡ Done cost → broken_by i a0 a steps ≡ None
+unfolding judge
+unbroken_if_done i a0 a steps rise cost verdict is done = left_none (broken_by i a0 a steps) _ (done_none _ _ cost (sym is ∙ done))
+
 pub done_no_repeat : (i : Tables) (a0 a : List Machine) (steps : List Step) (rise cost : ℕ) (verdict : Verdict) → verdict ≡ judge i a0 a steps rise → verdict ≡ Done cost → repeat_of steps ≡ None
-unfolding judge broken_by
-done_no_repeat i a0 a steps rise cost verdict is done = left_none (repeat_of steps) _ (left_none _ _ (done_none _ _ cost (sym is ∙ done)))
+unfolding broken_by
+done_no_repeat i a0 a steps rise cost verdict is done = left_none (repeat_of steps) _ (unbroken_if_done i a0 a steps rise cost verdict is done)
 
 -- untouched guards keep their residents
 pub guards_keep : (i : Tables) (a0 : List Machine) (h : List Entry) (q n : ℕ) (steps : List Step) → q ≤ n → MakesMoves i a0 h n → Untouched i (made_in h) q n steps → HeldAlike i steps (state a0 h q) (state a0 h n)

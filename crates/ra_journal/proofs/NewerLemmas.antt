@@ -1,0 +1,51 @@
+-- The first guard that is newer, by the table of versions, and what a commit answers by it.
+use Rattle.std.proofs.Common.{◌≡◌, ℕ, ◌-◌, ◌<◌, cond, ltb, ◌&&◌, Bool, List, [], ◌∷◌, ◌++◌, length, Option, Some, None, sym, refl, ap, ap₂, ◌∙◌}
+use Rattle.ra_base.specs.Searches.{or_else, first}
+use Rattle.ra_base.specs.declared.ids.Guard.{Guard}
+use Rattle.ra_base.specs.declared.ids.Guard.TheVariants as guard
+use Rattle.ra_base.specs.declared.ids.Machine.{Machine}
+use Rattle.ra_base.proofs.Searches.{first_same}
+use Rattle.ra_draws.specs.declared.budgets.Lots.{Lots}
+use Rattle.ra_model.specs.declared.raw.Tables.{Tables}
+use Rattle.ra_model.specs.Numbers.{machine_count, service_count}
+use Rattle.ra_moves.specs.declared.steps.Step.{Step}
+use Rattle.ra_moves.specs.declared.verdicts.Plan.{Plan}
+use Rattle.ra_moves.specs.MoveSteps.{MoveSteps}
+use Rattle.ra_guards.specs.declared.newest.Newer.{Newer}
+use Rattle.ra_guards.specs.Guards.{is_guard}
+use Rattle.ra_guards.specs.Order.{IsKnown}
+use Rattle.ra_guards.specs.VersionTable.{VersionTable}
+use Rattle.ra_guards.specs.Kept.{version_in, AreVersions}
+use Rattle.ra_guards.specs.Newest.{newer_at, first_that, first_newer}
+use Rattle.ra_guards.specs.Versions.{version}
+use Rattle.ra_journal.specs.declared.entries.Entry.{Entry}
+use Rattle.ra_journal.specs.declared.replies.Reply.TheVariants.{Recorded, Stale}
+use Rattle.ra_journal.specs.Entries.{made_in}
+use Rattle.ra_journal.specs.Committing.{next_move, next_entry, newer_since, Committed, committed_by, committed, IsCommit}
+use Rattle.ra_journal.proofs.EndLemmas.{next_is_planned}
+
+newer_by : (test : Guard → Bool) (v u : Guard → ℕ) (q : ℕ) (g : Guard) → v g ≡ u g → newer_at test v q g ≡ newer_at test u q g
+unfolding newer_at
+newer_by test v u q g same = ap (λ n. let newer : Newer = record { guard = g; at = n - 1 } in cond (test g && ltb q n) (Some newer) None) same
+
+pub newer_same : (i : Tables) (h : List Entry) (q : ℕ) (steps : List Step) (v : VersionTable) → AreVersions i (made_in h) (length h) v → first_newer i steps (version_in v) q ≡ newer_since i h q steps
+unfolding newer_since first_newer first_that IsKnown
+newer_same i h q steps v are =
+    let test = is_guard i steps in
+    let now = version i (made_in h) (length h) in
+    ap₂ or_else
+        (first_same (machine_count i) (λ m. newer_at test (version_in v) q (guard.Machine (record { 0 = m }))) (λ m. newer_at test now q (guard.Machine (record { 0 = m }))) (λ m within. newer_by test (version_in v) now q (guard.Machine (record { 0 = m })) (are.each (guard.Machine (record { 0 = m })) within)))
+        (first_same (service_count i) (λ s. newer_at test (version_in v) q (guard.Service (record { 0 = s }))) (λ s. newer_at test now q (guard.Service (record { 0 = s }))) (λ s within. newer_by test (version_in v) now q (guard.Service (record { 0 = s })) (are.each (guard.Service (record { 0 = s })) within)))
+
+-- a commit by what is newer
+committed_by_newer : (i : Tables) (a0 : List Machine) (l : Lots) (h : List Entry) (w : ℕ) (plan : Plan) (newer : Option Newer) → IsCommit i a0 l h w plan → newer_since i h plan.q plan.mv.steps ≡ newer → committed i a0 l h w plan.q ≡ committed_by newer h (next_entry i a0 l h w plan.q)
+unfolding committed
+committed_by_newer i a0 l h w plan newer commit is = ap (λ (n : Option Newer). committed_by n h (next_entry i a0 l h w plan.q)) (ap (λ (mv : MoveSteps). newer_since i h plan.q mv.steps) (next_is_planned i a0 l h w plan commit) ∙ is)
+
+pub committed_stale : (i : Tables) (a0 : List Machine) (l : Lots) (h : List Entry) (w : ℕ) (plan : Plan) (newer : Newer) → IsCommit i a0 l h w plan → newer_since i h plan.q plan.mv.steps ≡ Some newer → committed i a0 l h w plan.q ≡ record { journal = h; reply = Stale newer.guard newer.at }
+unfolding committed_by
+committed_stale i a0 l h w plan newer commit is = committed_by_newer i a0 l h w plan (Some newer) commit is
+
+pub committed_recorded : (i : Tables) (a0 : List Machine) (l : Lots) (h : List Entry) (w : ℕ) (plan : Plan) → IsCommit i a0 l h w plan → newer_since i h plan.q plan.mv.steps ≡ None → committed i a0 l h w plan.q ≡ record { journal = h ++ next_entry i a0 l h w plan.q ∷ []; reply = Recorded (length h) (next_entry i a0 l h w plan.q).verdict }
+unfolding committed_by
+committed_recorded i a0 l h w plan commit is = committed_by_newer i a0 l h w plan None commit is
