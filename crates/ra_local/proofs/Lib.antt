@@ -1,0 +1,9 @@
+pub mod SearchLemmas
+pub mod EndLemmas
+pub mod StayLemmas
+pub mod Local
+pub mod AlikeLemmas
+pub mod CauseLemmas
+pub mod ChangeLemmas
+pub mod CountLemmas
+pub mod Determined

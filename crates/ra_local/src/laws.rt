@@ -1,0 +1,14 @@
+//! Laws of moves: each function does nothing, and its contract is a law that was proved.
+ghost use Rattle.ra_local.specs.Laws.{FailuresAreLocal, WeighingIsDetermined};
+
+/// A move of an assignment that breaks nothing breaks only what it touches.
+pub fn failures_are_local()
+    ensures { FailuresAreLocal }
+{}
+
+/// A move weighs the same in two assignments that break nothing, where its machines hold the same
+/// processes in both, and the processes of each service that it moves, or that is joined with one,
+/// have the same machines.
+pub fn weighing_is_determined()
+    ensures { WeighingIsDetermined }
+{}
