@@ -13,4 +13,5 @@ pub mod EndLemmas
 pub mod KeepingLemmas
 pub mod RecordingLemmas
 pub mod NewerLemmas
+pub mod StartLemmas
 pub mod SoloLemmas

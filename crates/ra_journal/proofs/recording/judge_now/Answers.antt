@@ -20,7 +20,7 @@ allow-allowed-requires c = omega (arith, c.requires.commit.within, ap (λ (lot :
 pub settle_now-requires : goal.settle_now-requires
 settle_now-requires c =
     let settling = settling_now c.args.inst.now.tables c.args.a0.now.items c.args.lots.now c.args.book.now c.args.worker c.args.plan.now c.requires.start c.requires.kept c.requires.commit c.requires.untouched in
-    has_settling c.args.inst.now.tables c.args.a0.now.items _ c.args.plan.now.mv.steps c.args.book.now c.args.plan.now settling
+    record { some = has_settling c.args.inst.now.tables c.args.a0.now.items _ c.args.plan.now.mv.steps c.args.book.now c.args.plan.now settling }
 
 pub returns : goal.returns
 unfolding allowed allowance_of budget_of
