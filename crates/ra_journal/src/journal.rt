@@ -1,18 +1,14 @@
 ghost use Rattle.std.specs.Prelude.{◌≡◌, ◌-◌, ◌<◌, ◌≤◌, min, None, Some, [], length, IfOk};
-ghost use Rattle.ra_base.specs.declared.ids.Guard.{Guard as AGuard};
 ghost use Rattle.ra_model.specs.Assignments.{IsAssignment};
 ghost use Rattle.ra_model.specs.Broken.{first_broken};
 ghost use Rattle.ra_model.specs.Costs.{parts_of};
 ghost use Rattle.ra_topology.specs.Fits.{IsTopologyOf};
-ghost use Rattle.ra_guards.specs.declared.newest.Newer.{Newer};
-ghost use Rattle.ra_guards.specs.Guards.{writes};
-ghost use Rattle.ra_guards.specs.Kept.{version_in};
+ghost use Rattle.ra_guards.specs.declared.newest.Newer.{Newer as Touched};
 ghost use Rattle.ra_journal.specs.Entries.{entry_at, entries_of, worker_count, proposal_count};
 ghost use Rattle.ra_journal.specs.States.{kept_cost, cost_at};
 ghost use Rattle.ra_journal.specs.Best.{best_of};
-ghost use Rattle.ra_journal.specs.Legal.{Legal};
 ghost use Rattle.ra_journal.specs.Batches.{batch_from};
-ghost use Rattle.ra_journal.specs.Committing.{committed, newer_since, IsCommit};
+ghost use Rattle.ra_journal.specs.Committing.{committed, newer_since, AreHeld, IsCommit};
 ghost use Rattle.ra_journal.specs.Keeping.{IsStart, IsKept};
 
 use crate::batch::Batch;
@@ -24,7 +20,7 @@ use crate::replies::Reply;
 use ra_base::{Assignment, Fixed, NoMemory, Parts};
 use ra_cells::Greatest;
 use ra_draws::Lots;
-use ra_guards::{Versions, first_newer, first_newer_read};
+use ra_guards::{Newer, Versions, first_newer, first_newer_read};
 use ra_model::Instance;
 use ra_moves::Plan;
 use ra_topology::Topology;
@@ -88,7 +84,7 @@ impl<'a> Journal<'a> {
     /// Records a worker's next proposal, judged at the state after all entries, unless a guard of its move was touched
     /// since it was planned.
     pub fn commit(&mut self, worker: u32, plan: &Plan) -> Reply
-        requires { IsCommit self.old.inst.now.tables self.old.a0.now.items self.old.lots.now
+        requires commit { IsCommit self.old.inst.now.tables self.old.a0.now.items self.old.lots.now
             self.old.book.entries.items worker plan.now }
         ensures journal { self.new.book.entries.items ≡
             (committed self.old.inst.now.tables self.old.a0.now.items self.old.lots.now
@@ -96,21 +92,161 @@ impl<'a> Journal<'a> {
         ensures reply { result ≡
             (committed self.old.inst.now.tables self.old.a0.now.items self.old.lots.now
             self.old.book.entries.items worker plan.now.q).reply }
-        ensures stale { (newer : Newer) → newer_since self.old.inst.now.tables
-            self.old.book.entries.items plan.now.q plan.now.mv.steps ≡ Some newer
+        ensures stale { (one : Touched) → newer_since self.old.inst.now.tables
+            self.old.book.entries.items plan.now.q plan.now.mv.steps ≡ Some one
             → self.new ≡ self.old }
         ensures instance { self.new.inst.now ≡ self.old.inst.now }
         ensures topology { self.new.topo.now ≡ self.old.topo.now }
         ensures initial { self.new.a0.now ≡ self.old.a0.now }
         ensures lots { self.new.lots.now ≡ self.old.lots.now }
     {
-        match first_newer(self.topo, self.inst, &plan.mv, &self.book.versions, plan.q) {
-            Some(newer) => Reply::Stale {
-                guard: newer.guard,
-                at: newer.at,
+        let newer = first_newer(self.topo, self.inst, &plan.mv, &self.book.versions, plan.q);
+        self.answer(newer, worker, plan)
+    }
+
+    /// The same where it is known that no write guard of the move was touched since it was planned: it compares the other
+    /// guards alone.
+    pub fn commit_held(&mut self, worker: u32, plan: &Plan) -> Reply
+        requires commit { IsCommit self.old.inst.now.tables self.old.a0.now.items self.old.lots.now
+            self.old.book.entries.items worker plan.now }
+        requires held { AreHeld self.old.inst.now.tables self.old.book.entries.items plan.now.q
+            plan.now.mv.steps }
+        ensures journal { self.new.book.entries.items ≡
+            (committed self.old.inst.now.tables self.old.a0.now.items self.old.lots.now
+            self.old.book.entries.items worker plan.now.q).journal }
+        ensures reply { result ≡
+            (committed self.old.inst.now.tables self.old.a0.now.items self.old.lots.now
+            self.old.book.entries.items worker plan.now.q).reply }
+        ensures stale { (one : Touched) → newer_since self.old.inst.now.tables
+            self.old.book.entries.items plan.now.q plan.now.mv.steps ≡ Some one
+            → self.new ≡ self.old }
+        ensures instance { self.new.inst.now ≡ self.old.inst.now }
+        ensures topology { self.new.topo.now ≡ self.old.topo.now }
+        ensures initial { self.new.a0.now ≡ self.old.a0.now }
+        ensures lots { self.new.lots.now ≡ self.old.lots.now }
+    {
+        let newer = first_newer_read(self.topo, self.inst, &plan.mv, &self.book.versions, plan.q);
+        self.answer(newer, worker, plan)
+    }
+
+    /// Answers a worker by the first guard of its move that was touched since, and records its proposal where there is
+    /// none.
+    fn answer(&mut self, newer: Option<Newer>, worker: u32, plan: &Plan) -> Reply
+        requires commit { IsCommit self.old.inst.now.tables self.old.a0.now.items self.old.lots.now
+            self.old.book.entries.items worker plan.now }
+        requires newer { newer ≡
+            newer_since self.old.inst.now.tables self.old.book.entries.items plan.now.q
+            plan.now.mv.steps }
+        ensures journal { self.new.book.entries.items ≡
+            (committed self.old.inst.now.tables self.old.a0.now.items self.old.lots.now
+            self.old.book.entries.items worker plan.now.q).journal }
+        ensures reply { result ≡
+            (committed self.old.inst.now.tables self.old.a0.now.items self.old.lots.now
+            self.old.book.entries.items worker plan.now.q).reply }
+        ensures stale { (one : Touched) → newer_since self.old.inst.now.tables
+            self.old.book.entries.items plan.now.q plan.now.mv.steps ≡ Some one
+            → self.new ≡ self.old }
+        ensures instance { self.new.inst.now ≡ self.old.inst.now }
+        ensures topology { self.new.topo.now ≡ self.old.topo.now }
+        ensures initial { self.new.a0.now ≡ self.old.a0.now }
+        ensures lots { self.new.lots.now ≡ self.old.lots.now }
+    {
+        match newer {
+            Some(guard) => Reply::Stale {
+                guard: guard.guard,
+                at: guard.at,
             },
-            None => record(self.inst, self.topo, self.a0, self.lots, &mut self.book, worker, plan),
+            None => record(
+                self.inst,
+                self.topo,
+                self.a0,
+                self.lots,
+                &mut self.book,
+                worker,
+                plan,
+            ),
         }
+    }
+
+    /// Fills a batch with the entries from a place on, as many as it has room for, and tells their number.
+    pub fn copy_from(&self, at: u64, batch: &mut Batch) -> u64
+        requires { at ≤ length self.now.book.entries.items }
+        ensures entries { batch.new ≡ batch_from self.now.book.entries.items at }
+        ensures number { result ≡ min 1024 (length self.now.book.entries.items - at) }
+    {
+        copy_entries(self.book.entries.as_slice(), at as usize, batch)
+    }
+
+    /// How many entries there are.
+    pub fn len(&self) -> u64
+        ensures { result ≡ length self.now.book.entries.items }
+    {
+        self.book.entries.len() as u64
+    }
+
+    /// The entry at a place, counted from 0.
+    #[tactic(auto, unfolding(crate::specs::Entries::entry_at))]
+    pub fn entry(&self, at: u64) -> Entry
+        requires { at < length self.now.book.entries.items }
+        ensures { result ≡ entry_at self.now.book.entries.items at }
+    {
+        self.book.entries.get(at as usize)
+    }
+
+    /// How many entries a worker has made.
+    pub fn made_by(&self, worker: u32) -> u64
+        requires { worker < worker_count self.now.lots.now }
+        ensures { result ≡
+            entries_of self.now.book.entries.items (length self.now.book.entries.items) worker }
+    {
+        self.book.made[worker as usize]
+    }
+
+    /// The cost of the state after all entries.
+    pub fn kept_cost(&self) -> u128
+        ensures { result ≡
+            kept_cost self.now.inst.now.tables self.now.a0.now.items self.now.book.entries.items
+            (length self.now.book.entries.items) }
+    {
+        self.book.kept
+    }
+
+    /// How many entries stand before the first state of least cost.
+    pub fn best_at(&self) -> u64
+        ensures { result ≡
+            best_of self.now.inst.now.tables self.now.a0.now.items self.now.book.entries.items }
+    {
+        self.book.best_at
+    }
+
+    /// The cost of that state.
+    pub fn best_cost(&self) -> u128
+        ensures { result ≡
+            cost_at self.now.inst.now.tables self.now.a0.now.items self.now.book.entries.items
+            (best_of self.now.inst.now.tables self.now.a0.now.items self.now.book.entries.items) }
+    {
+        self.book.best_cost
+    }
+
+    /// The instance.
+    pub fn instance(&self) -> &'a Instance
+        ensures { result.now ≡ self.now.inst.now }
+    {
+        self.inst
+    }
+
+    /// Its topology.
+    pub fn topology(&self) -> &'a Topology
+        ensures { result.now ≡ self.now.topo.now }
+    {
+        self.topo
+    }
+
+    /// The lots of the workers.
+    pub fn lots(&self) -> &'a Lots
+        ensures { result.now ≡ self.now.lots.now }
+    {
+        self.lots
     }
 }
 
