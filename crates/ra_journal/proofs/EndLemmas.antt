@@ -20,10 +20,12 @@ use Rattle.ra_moves.specs.Options.{option_at, plan_of, plan_place}
 use Rattle.ra_moves.proofs.OptionLemmas.{option_stands, option_reaches}
 use Rattle.ra_local.specs.Moving.{IsOffered}
 use Rattle.ra_local.specs.Weighing.{weighed_of}
-use Rattle.ra_local.proofs.Determined.{weighing_is_determined}
 use Rattle.ra_settle.specs.Settling.{IsSettling, HasSettling}
 use Rattle.ra_guards.specs.Guards.{AreWithin}
 use Rattle.ra_guards.specs.Versions.{Untouched}
+use Rattle.ra_guards.specs.Made.{AreSound}
+use Rattle.ra_guards.proofs.NewestLemmas.{newest_is_right}
+use Rattle.ra_guards.proofs.ResidentLemmas.{untouched_is_right}
 use Rattle.ra_journal.specs.declared.book.Book.{Book}
 use Rattle.ra_journal.specs.declared.entries.Entry.{Entry}
 use Rattle.ra_journal.specs.Entries.{made_in, entries_of, words, allowed}
@@ -34,7 +36,8 @@ use Rattle.ra_journal.specs.Committing.{next_number, next_move, next_entry, newe
 use Rattle.ra_journal.specs.Keeping.{IsStart, IsKept}
 use Rattle.ra_journal.proofs.Offers.{plan_offered}
 use Rattle.ra_journal.proofs.SoundLemmas.{sound}
-use Rattle.ra_journal.proofs.StandingLemmas.{guards_keep, offered_later, legal_moves}
+use Rattle.ra_journal.proofs.MadeLemmas.{state_is_made, made_stand}
+use Rattle.ra_journal.proofs.StandingLemmas.{legal_moves}
 
 -- the states of a legal journal
 
@@ -68,7 +71,29 @@ planned_offered i a0 l h w plan start legal commit = subst (λ (mv : MoveSteps).
 -- no guard is newer
 pub untouched_since : (i : Tables) (h : List Entry) (q : ℕ) (steps : List Step) → WellFormed i → AreWithin i steps → newer_since i h q steps ≡ None → Untouched i (made_in h) q (length h) steps
 unfolding newer_since
-untouched_since i h q steps limits within none = ?
+untouched_since i h q steps limits within none = (newest_is_right.none i (made_in h) q (length h) steps limits within).0 none
+
+-- what is known of the states of a journal, over the list of what its entries make
+are_sound : (i : Tables) (a0 : List Machine) (l : Lots) (h : List Entry) (n : ℕ) → IsStart i a0 → Legal i a0 l h → n ≤ length h → AreSound i a0 (made_in h) n
+are_sound i a0 l h n start legal within = record {
+  fits = λ j few. subst (IsAssignment i) (state_is_made a0 h j) (sound_at i a0 l h j start legal (omega arith)).assignment;
+  unbroken = λ j few. subst (λ a. first_broken i a0 a ≡ None) (state_is_made a0 h j) (unbroken_at i a0 l h j start legal (omega arith));
+}
+
+-- what was right of a move at place q is right at place n, where its guards were not touched
+record IsRightAt (i : Tables) (a0 : List Machine) (h : List Entry) (q n : ℕ) (steps : List Step) : Type 0 where
+  offered : IsOffered i (state a0 h n) steps
+  weighed : weighed_of i a0 (state a0 h q) steps ≡ weighed_of i a0 (state a0 h n) steps
+
+right_later : (i : Tables) (a0 : List Machine) (l : Lots) (h : List Entry) (q n : ℕ) (steps : List Step) → IsStart i a0 → Legal i a0 l h → q ≤ n → n ≤ length h → IsOffered i (state a0 h q) steps → Untouched i (made_in h) q n steps → IsRightAt i a0 h q n steps
+right_later i a0 l h q n steps start legal few within offered untouched =
+    let moves = legal_moves i a0 l h start.limits start.fits legal in
+    let stand = made_stand i a0 h n (record { each = λ j made before is. moves.each j made (omega arith) is }) in
+    let right = untouched_is_right i a0 (made_in h) q n steps start.limits (are_sound i a0 l h n start legal within) stand few (subst (λ a. IsOffered i a steps) (state_is_made a0 h q) offered) untouched in
+    record {
+      offered = subst (λ a. IsOffered i a steps) (sym (state_is_made a0 h n)) right.offered;
+      weighed = ap (λ a. weighed_of i a0 a steps) (state_is_made a0 h q) ∙ right.weighed ∙ ap (λ a. weighed_of i a0 a steps) (sym (state_is_made a0 h n));
+    }
 
 -- the plan at the end
 pub record IsPlannedAtEnd (i : Tables) (a0 : List Machine) (l : Lots) (h : List Entry) (plan : Plan) : Type 0 where
@@ -81,16 +106,8 @@ planned_at_end i a0 l h w plan start legal commit none =
     let n = length h in
     let steps = plan.mv.steps in
     let untouched = untouched_since i h plan.q steps start.limits (planned_within i a0 l h w plan start legal commit) none in
-    let moves = legal_moves i a0 l h start.limits start.fits legal in
-    let before = planned_offered i a0 l h w plan start legal commit in
-    let fits = (sound_at i a0 l h n start legal (omega arith)).assignment in
-    let offered = offered_later i a0 h plan.q n steps commit.place moves untouched fits before in
-    let alike = guards_keep i a0 h plan.q n steps commit.place moves untouched in
-    record {
-      untouched = untouched;
-      offered = offered;
-      weighed = commit.weighed ∙ weighing_is_determined i a0 (state a0 h plan.q) (state a0 h n) steps start.limits before offered (unbroken_at i a0 l h plan.q start legal commit.place) (unbroken_at i a0 l h n start legal (omega arith)) alike;
-    }
+    let right = right_later i a0 l h plan.q n steps start legal commit.place (omega arith) (planned_offered i a0 l h w plan start legal commit) untouched in
+    record { untouched = untouched; offered = right.offered; weighed = commit.weighed ∙ right.weighed }
 
 pub settling_now : (i : Tables) (a0 : List Machine) (l : Lots) (book : Book) (w : ℕ) (plan : Plan) → IsStart i a0 → IsKept i a0 l book → IsCommit i a0 l book.entries.items w plan → newer_since i book.entries.items plan.q plan.mv.steps ≡ None → IsSettling i a0 (state a0 book.entries.items (length book.entries.items)) plan.mv.steps book.greatest book.kept plan.weighed
 unfolding cost_at

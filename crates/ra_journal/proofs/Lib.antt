@@ -7,6 +7,7 @@ pub mod TouchedLemmas
 pub mod NextLemmas
 pub mod SoundLemmas
 pub mod BatchLemmas
+pub mod MadeLemmas
 pub mod Offers
 pub mod StandingLemmas
 pub mod EndLemmas

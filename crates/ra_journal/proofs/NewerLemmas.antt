@@ -16,30 +16,23 @@ use Rattle.ra_guards.specs.Guards.{is_guard}
 use Rattle.ra_guards.specs.Order.{IsKnown}
 use Rattle.ra_guards.specs.VersionTable.{VersionTable}
 use Rattle.ra_guards.specs.Kept.{version_in, AreVersions}
-use Rattle.ra_guards.specs.Newest.{newer_at, first_that, first_newer, first_newer_read}
+use Rattle.ra_guards.specs.Newest.{first_newer, first_newer_read}
 use Rattle.ra_guards.specs.Versions.{version}
+use Rattle.ra_guards.proofs.NewestLemmas.{newest_is_right}
 use Rattle.ra_journal.specs.declared.entries.Entry.{Entry}
 use Rattle.ra_journal.specs.declared.replies.Reply.TheVariants.{Recorded, Stale}
 use Rattle.ra_journal.specs.Entries.{made_in}
 use Rattle.ra_journal.specs.Committing.{next_move, next_entry, newer_since, Committed, committed_by, committed, AreHeld, IsCommit}
 use Rattle.ra_journal.proofs.EndLemmas.{next_is_planned}
 
-newer_by : (test : Guard → Bool) (v u : Guard → ℕ) (q : ℕ) (g : Guard) → v g ≡ u g → newer_at test v q g ≡ newer_at test u q g
-unfolding newer_at
-newer_by test v u q g same = ap (λ n. let newer : Newer = record { guard = g; at = n - 1 } in cond (test g && ltb q n) (Some newer) None) same
-
 pub newer_same : (i : Tables) (h : List Entry) (q : ℕ) (steps : List Step) (v : VersionTable) → AreVersions i (made_in h) (length h) v → first_newer i steps (version_in v) q ≡ newer_since i h q steps
-unfolding newer_since first_newer first_that IsKnown
-newer_same i h q steps v are =
-    let test = is_guard i steps in
-    let now = version i (made_in h) (length h) in
-    ap₂ or_else
-        (first_same (machine_count i) (λ m. newer_at test (version_in v) q (guard.Machine (record { 0 = m }))) (λ m. newer_at test now q (guard.Machine (record { 0 = m }))) (λ m within. newer_by test (version_in v) now q (guard.Machine (record { 0 = m })) (are.each (guard.Machine (record { 0 = m })) within)))
-        (first_same (service_count i) (λ s. newer_at test (version_in v) q (guard.Service (record { 0 = s }))) (λ s. newer_at test now q (guard.Service (record { 0 = s }))) (λ s within. newer_by test (version_in v) now q (guard.Service (record { 0 = s })) (are.each (guard.Service (record { 0 = s })) within)))
+unfolding newer_since
+newer_same i h q steps v are = newest_is_right.in_table i (made_in h) (length h) steps v q are
 
 -- where no write guard is newer, by the guards that aren't write guards
 pub newer_read_same : (i : Tables) (h : List Entry) (q : ℕ) (steps : List Step) (v : VersionTable) → AreVersions i (made_in h) (length h) v → AreHeld i h q steps → first_newer_read i steps (version_in v) q ≡ newer_since i h q steps
-newer_read_same i h q steps v are held = ?
+unfolding newer_since
+newer_read_same i h q steps v are held = newest_is_right.read_in_table i (made_in h) (length h) steps v q are ∙ sym (newest_is_right.held i steps (version i (made_in h) (length h)) q held.each)
 
 -- a commit by what is newer
 committed_by_newer : (i : Tables) (a0 : List Machine) (l : Lots) (h : List Entry) (w : ℕ) (plan : Plan) (newer : Option Newer) → IsCommit i a0 l h w plan → newer_since i h plan.q plan.mv.steps ≡ newer → committed i a0 l h w plan.q ≡ committed_by newer h (next_entry i a0 l h w plan.q)

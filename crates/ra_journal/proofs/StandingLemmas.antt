@@ -17,11 +17,15 @@ use Rattle.ra_moves.specs.Judging.{repeat_of, broken_by, verdict_of, judge}
 use Rattle.ra_local.specs.Moving.{IsMove, IsOffered}
 use Rattle.ra_local.specs.Alike.{HeldAlike}
 use Rattle.ra_guards.specs.Versions.{Untouched}
+use Rattle.ra_guards.specs.Made.{made_state}
+use Rattle.ra_guards.proofs.TouchLemmas.{apart_from_untouched}
+use Rattle.ra_guards.proofs.ResidentLemmas.{guards_keep as residents_kept}
 use Rattle.ra_journal.specs.declared.entries.Entry.{Entry}
 use Rattle.ra_journal.specs.Entries.{entry_at, steps_made, made_by, made_in, words, allowed}
 use Rattle.ra_journal.specs.States.{state, after_made}
 use Rattle.ra_journal.specs.Legal.{IsLegalAt, Legal}
 use Rattle.ra_journal.specs.Laws.{MakesMoves, IsOfferedAt, LegalMakesMoves, LegalIsOffered}
+use Rattle.ra_journal.proofs.MadeLemmas.{state_is_made, made_stand}
 use Rattle.ra_journal.proofs.Offers.{plan_offered, offered_alike}
 use Rattle.ra_journal.proofs.SoundLemmas.{Reaches, applied_fits}
 
@@ -52,7 +56,9 @@ done_no_repeat i a0 a steps rise cost verdict is done = left_none (repeat_of ste
 
 -- untouched guards keep their residents
 pub guards_keep : (i : Tables) (a0 : List Machine) (h : List Entry) (q n : ℕ) (steps : List Step) → q ≤ n → MakesMoves i a0 h n → Untouched i (made_in h) q n steps → HeldAlike i steps (state a0 h q) (state a0 h n)
-guards_keep i a0 h q n steps few moves untouched = ?
+guards_keep i a0 h q n steps few moves untouched =
+    let alike = residents_kept i a0 (made_in h) q n steps few (made_stand i a0 h n moves) (apart_from_untouched i (made_in h) q n steps untouched) in
+    subst (λ a. HeldAlike i steps a (state a0 h n)) (sym (state_is_made a0 h q)) (subst (HeldAlike i steps (made_state a0 (made_in h) q)) (sym (state_is_made a0 h n)) alike)
 
 -- so what was offered at q is offered at n
 pub offered_later : (i : Tables) (a0 : List Machine) (h : List Entry) (q n : ℕ) (steps : List Step) → q ≤ n → MakesMoves i a0 h n → Untouched i (made_in h) q n steps → IsAssignment i (state a0 h n) → IsOffered i (state a0 h q) steps → IsOffered i (state a0 h n) steps
