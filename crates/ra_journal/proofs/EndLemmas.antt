@@ -1,5 +1,5 @@
 -- What is known at the end of a legal journal of a worker's plan, of whose move no guard was touched since.
-use Rattle.std.proofs.Common.{◌≡◌, ℕ, ◌<◌, ◌≤◌, List, [], ◌∷◌, ◌++◌, length, Option, Some, None, sym, refl, ap, ◌∙◌, subst, arith}
+use Rattle.std.proofs.Common.{◌≡◌, ℕ, ◌<◌, ◌≤◌, List, length, None, sym, refl, ap, ◌∙◌, subst, arith}
 use Rattle.ra_base.specs.declared.causes.Drawing.{Drawing}
 use Rattle.ra_base.specs.declared.ids.Machine.{Machine}
 use Rattle.ra_draws.specs.declared.budgets.Lots.{Lots}
@@ -8,7 +8,6 @@ use Rattle.ra_model.specs.Limits.{WellFormed}
 use Rattle.ra_model.specs.Numbers.{machine_count}
 use Rattle.ra_model.specs.Assignments.{IsAssignment}
 use Rattle.ra_model.specs.Broken.{first_broken}
-use Rattle.ra_model.specs.Feasible.{Feasible}
 use Rattle.ra_model.proofs.BrokenLemmas.{feasible_from_unbroken, unbroken_from_feasible}
 use Rattle.ra_moves.specs.declared.steps.Step.{Step}
 use Rattle.ra_moves.specs.declared.verdicts.Plan.{Plan}
@@ -29,7 +28,7 @@ use Rattle.ra_guards.proofs.ResidentLemmas.{untouched_is_right}
 use Rattle.ra_journal.specs.declared.book.Book.{Book}
 use Rattle.ra_journal.specs.declared.entries.Entry.{Entry}
 use Rattle.ra_journal.specs.Entries.{made_in, entries_of, words, allowed}
-use Rattle.ra_journal.specs.States.{state, kept_cost, cost_at}
+use Rattle.ra_journal.specs.States.{state, cost_at}
 use Rattle.ra_journal.specs.Legal.{Legal, IsLegalAt}
 use Rattle.ra_journal.specs.Laws.{IsSound}
 use Rattle.ra_journal.specs.Committing.{next_number, next_move, next_entry, newer_since, IsCommit}

@@ -1,15 +1,13 @@
 -- A book that records a next entry keeps what it is to keep.
-use Rattle.std.proofs.Common.{◌≡◌, ◌≢◌, ℕ, suc, ◌+◌, ◌<◌, ◌≤◌, Bool, true, false, cond, eqb, ltb, List, [], ◌∷◌, ◌++◌, length, get_or, set, Option, Some, None, sym, refl, ap, ap₂, ◌∙◌, subst, ⊎_elim, arith, eq-eqb, ne_eqb}
+use Rattle.std.proofs.Common.{◌≡◌, ◌≢◌, ℕ, suc, ◌+◌, ◌<◌, ◌≤◌, Bool, true, false, cond, eqb, ltb, List, [], ◌∷◌, ◌++◌, length, get_or, set, sym, refl, ap, ap₂, ◌∙◌, subst, ⊎_elim, arith, eq-eqb, ne_eqb}
 use Rattle.std.proofs.lemmas.List.{length_push, length-set, get_or-set_other, get_or-set_same}
 use Rattle.std.proofs.lemmas.Bool.{cases_eq}
 use Rattle.ra_base.specs.Listed.{Listed}
 use Rattle.ra_base.specs.Sums.{one_if}
 use Rattle.ra_base.specs.declared.causes.Cause.{Cause}
-use Rattle.ra_base.specs.declared.ids.Guard.{Guard}
 use Rattle.ra_base.specs.declared.ids.Machine.{Machine}
 use Rattle.ra_draws.specs.declared.budgets.Lots.{Lots}
 use Rattle.ra_model.specs.declared.raw.Tables.{Tables}
-use Rattle.ra_model.specs.Numbers.{service_count}
 use Rattle.ra_model.specs.Services.{moved_of}
 use Rattle.ra_moves.specs.declared.steps.Step.{Step}
 use Rattle.ra_moves.specs.declared.verdicts.Verdict.{Verdict}
@@ -18,13 +16,12 @@ use Rattle.ra_moves.specs.declared.verdicts.Weighed.{Weighed}
 use Rattle.ra_moves.specs.Replacing.{applied}
 use Rattle.ra_cells.specs.MovedCounts.{MovedCounts}
 use Rattle.ra_settle.specs.Settling.{AreMovedOf}
-use Rattle.ra_guards.specs.Order.{IsKnown}
 use Rattle.ra_guards.specs.VersionTable.{VersionTable}
 use Rattle.ra_guards.specs.Kept.{version_in, IsTableOf, AreVersions}
-use Rattle.ra_guards.specs.Versions.{touches, version}
+use Rattle.ra_guards.specs.Versions.{touches}
 use Rattle.ra_journal.specs.declared.book.Book.{Book}
 use Rattle.ra_journal.specs.declared.entries.Entry.{Entry}
-use Rattle.ra_journal.specs.Entries.{steps_made, made_by, made_in, entries_of, worker_count}
+use Rattle.ra_journal.specs.Entries.{steps_made, made_by, made_in, entries_of}
 use Rattle.ra_journal.specs.States.{state, after_made, kept_cost, cost_then, cost_at}
 use Rattle.ra_journal.specs.Best.{best_place, best_of}
 use Rattle.ra_journal.specs.Legal.{Legal, IsLegalAt}

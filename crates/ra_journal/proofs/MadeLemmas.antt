@@ -1,13 +1,12 @@
 -- A journal as the list of what its entries make: it has the same states, and its moves stand there too.
-use Rattle.std.proofs.Common.{◌≡◌, ℕ, zero, suc, ◌<◌, ◌≤◌, List, Option, Some, sym, refl, ap, ap₂, ◌∙◌, subst, arith}
+use Rattle.std.proofs.Common.{◌≡◌, ℕ, zero, suc, List, sym, refl, ap₂, ◌∙◌, subst}
 use Rattle.ra_base.specs.declared.ids.Machine.{Machine}
 use Rattle.ra_model.specs.declared.raw.Tables.{Tables}
 use Rattle.ra_moves.specs.declared.steps.Step.{Step}
 use Rattle.ra_local.specs.Moving.{IsMove}
 use Rattle.ra_guards.specs.Made.{after_made, made_state, StandsHere, MadeStand}
-use Rattle.ra_guards.specs.Versions.{made_at}
 use Rattle.ra_journal.specs.declared.entries.Entry.{Entry}
-use Rattle.ra_journal.specs.Entries.{entry_at, made_by, made_in}
+use Rattle.ra_journal.specs.Entries.{made_in}
 use Rattle.ra_journal.specs.States.{state}
 use Rattle.ra_journal.specs.Laws.{MakesMoves}
 use Rattle.ra_journal.proofs.Places.{made_place}

@@ -1,5 +1,5 @@
 -- Moved counts into which those of a weighing are put.
-use Rattle.std.proofs.Common.{◌≡◌, ◌≢◌, ℕ, ◌<◌, ◌≤◌, cond, eqb, List, length, get_or, set, Option, Some, None, sym, refl, ap, ◌∙◌, ⊎_elim, arith, eq-eqb, ne_eqb}
+use Rattle.std.proofs.Common.{◌≡◌, ◌≢◌, ℕ, ◌<◌, cond, eqb, List, length, get_or, set, Option, Some, None, sym, refl, ap, ◌∙◌, ⊎_elim, arith, eq-eqb, ne_eqb}
 use Rattle.std.proofs.lemmas.List.{get_or-set_other, get_or-set_same, length-set}
 use Rattle.std.proofs.lemmas.Bool.{cases_eq, cond-true, cond-false}
 use Rattle.ra_base.specs.declared.costs.MovedCount.{MovedCount}

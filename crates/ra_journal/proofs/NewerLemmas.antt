@@ -1,19 +1,12 @@
 -- The first guard that is newer, by the table of versions, and what a commit answers by it.
-use Rattle.std.proofs.Common.{◌≡◌, ℕ, ◌-◌, ◌<◌, cond, ltb, ◌&&◌, Bool, List, [], ◌∷◌, ◌++◌, length, Option, Some, None, sym, refl, ap, ap₂, ◌∙◌}
-use Rattle.ra_base.specs.Searches.{or_else, first}
-use Rattle.ra_base.specs.declared.ids.Guard.{Guard}
-use Rattle.ra_base.specs.declared.ids.Guard.TheVariants as guard
+use Rattle.std.proofs.Common.{◌≡◌, ℕ, List, [], ◌∷◌, ◌++◌, length, Option, Some, None, sym, ap, ◌∙◌}
 use Rattle.ra_base.specs.declared.ids.Machine.{Machine}
-use Rattle.ra_base.proofs.Searches.{first_same}
 use Rattle.ra_draws.specs.declared.budgets.Lots.{Lots}
 use Rattle.ra_model.specs.declared.raw.Tables.{Tables}
-use Rattle.ra_model.specs.Numbers.{machine_count, service_count}
 use Rattle.ra_moves.specs.declared.steps.Step.{Step}
 use Rattle.ra_moves.specs.declared.verdicts.Plan.{Plan}
 use Rattle.ra_moves.specs.MoveSteps.{MoveSteps}
 use Rattle.ra_guards.specs.declared.newest.Newer.{Newer}
-use Rattle.ra_guards.specs.Guards.{is_guard}
-use Rattle.ra_guards.specs.Order.{IsKnown}
 use Rattle.ra_guards.specs.VersionTable.{VersionTable}
 use Rattle.ra_guards.specs.Kept.{version_in, AreVersions}
 use Rattle.ra_guards.specs.Newest.{first_newer, first_newer_read}
@@ -22,7 +15,7 @@ use Rattle.ra_guards.proofs.NewestLemmas.{newest_is_right}
 use Rattle.ra_journal.specs.declared.entries.Entry.{Entry}
 use Rattle.ra_journal.specs.declared.replies.Reply.TheVariants.{Recorded, Stale}
 use Rattle.ra_journal.specs.Entries.{made_in}
-use Rattle.ra_journal.specs.Committing.{next_move, next_entry, newer_since, Committed, committed_by, committed, AreHeld, IsCommit}
+use Rattle.ra_journal.specs.Committing.{next_entry, newer_since, committed_by, committed, AreHeld, IsCommit}
 use Rattle.ra_journal.proofs.EndLemmas.{next_is_planned}
 
 pub newer_same : (i : Tables) (h : List Entry) (q : ℕ) (steps : List Step) (v : VersionTable) → AreVersions i (made_in h) (length h) v → first_newer i steps (version_in v) q ≡ newer_since i h q steps

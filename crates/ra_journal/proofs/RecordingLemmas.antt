@@ -1,7 +1,6 @@
 -- What the parts of a record need and do.
-use Rattle.std.proofs.Common.{◌≡◌, ℕ, suc, ◌+◌, ◌<◌, ◌≤◌, List, length, Option, Some, None, sym, refl, ap, ◌∙◌, subst, arith}
+use Rattle.std.proofs.Common.{◌≡◌, ℕ, ◌<◌, ◌≤◌, List, length, Option, Some, None, sym, refl, ap, ◌∙◌, subst, arith}
 use Rattle.std.specs.Prelude.{IfSome}
-use Rattle.ra_base.proofs.Searches.{left_none}
 use Rattle.ra_base.specs.declared.causes.Cause.{Cause}
 use Rattle.ra_base.specs.declared.costs.MovedCount.{MovedCount}
 use Rattle.ra_base.specs.declared.ids.Machine.{Machine}
@@ -15,7 +14,7 @@ use Rattle.ra_moves.specs.declared.verdicts.Verdict.{Verdict}
 use Rattle.ra_moves.specs.declared.verdicts.Verdict.TheVariants.{Done, Refused}
 use Rattle.ra_moves.specs.declared.verdicts.Weighed.{Weighed}
 use Rattle.ra_moves.specs.MoveSteps.{MoveSteps}
-use Rattle.ra_moves.specs.Judging.{broken_by, verdict_of, judge}
+use Rattle.ra_moves.specs.Judging.{judge}
 use Rattle.ra_moves.specs.Replacing.{applied}
 use Rattle.ra_cells.specs.MovedCounts.{MovedCounts}
 use Rattle.ra_cells.specs.Replaced.{IsChange}
@@ -23,18 +22,17 @@ use Rattle.ra_local.specs.Moving.{IsMove, IsOffered}
 use Rattle.ra_local.specs.Weighing.{local_change, changed_count, weighed_by, weighed_of}
 use Rattle.ra_settle.specs.Settling.{IsSettling}
 use Rattle.ra_settle.proofs.MovedAfter.{counts_after}
-use Rattle.ra_settle.proofs.Settles.{AreChanges, changes}
+use Rattle.ra_settle.proofs.Settles.{changes}
 use Rattle.ra_guards.specs.Kept.{IsTableOf}
-use Rattle.ra_guards.specs.VersionTable.{VersionTable}
 use Rattle.ra_journal.specs.declared.book.Book.{Book}
 use Rattle.ra_journal.specs.declared.entries.Entry.{Entry}
-use Rattle.ra_journal.specs.Entries.{steps_made, entry_at, entries_of, worker_count, budget, allowed, proposal_count}
+use Rattle.ra_journal.specs.Entries.{steps_made, entries_of, worker_count, allowed}
 use Rattle.ra_journal.specs.States.{state, cost_then}
 use Rattle.ra_journal.specs.Legal.{Legal}
 use Rattle.ra_journal.specs.Committing.{next_number, newer_since, IsCommit}
 use Rattle.ra_journal.specs.Keeping.{IsStart, IsKept}
 use Rattle.ra_journal.specs.Recording.{IsCount, AreFitting, ArePut, counts_of, AreTouched, IsTakenIn}
-use Rattle.ra_journal.proofs.EndLemmas.{IsPlannedAtEnd, planned_at_end, settling_now, next_is_legal}
+use Rattle.ra_journal.proofs.EndLemmas.{planned_at_end, next_is_legal}
 use Rattle.ra_journal.proofs.KeepingLemmas.{IsNext}
 use Rattle.ra_journal.proofs.RoomLemmas.{AreNumbered, entries_within, entries_fewer, budgets_few}
 use Rattle.ra_journal.proofs.StandingLemmas.{unbroken_if_done, done_no_repeat}

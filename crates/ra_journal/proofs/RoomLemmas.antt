@@ -1,9 +1,9 @@
 -- A journal whose entries are numbered has no more entries than the budgets allow, and fewer while a worker has some left.
-use Rattle.std.proofs.Common.{◌≡◌, ℕ, zero, suc, ◌+◌, ◌*◌, ◌<◌, ◌≤◌, Bool, true, false, cond, eqb, List, [], ◌∷◌, length, sum_by, get_or, sym, refl, ap, ◌∙◌, subst, ⊎_elim, arith}
-use Rattle.std.proofs.lemmas.Bool.{cases_Bool, eqb-true}
+use Rattle.std.proofs.Common.{◌≡◌, ℕ, zero, suc, ◌+◌, ◌<◌, ◌≤◌, Bool, true, false, eqb, List, [], ◌∷◌, length, sum_by, sym, refl, ap, ◌∙◌, subst, arith}
+use Rattle.std.proofs.lemmas.Bool.{eqb-true}
 use Rattle.std.proofs.lemmas.List.Sums.{sum_by-cons}
 use Rattle.ra_base.specs.Sums.{total, one_if}
-use Rattle.ra_base.proofs.Sums.{total_none, total_front, total_same, total_suc, total_le, total_lt, total_grouped, total_constant, total_part}
+use Rattle.ra_base.proofs.Sums.{total_none, total_front, total_suc, total_le, total_lt, total_grouped, total_constant, total_part}
 use Rattle.ra_draws.specs.declared.sources.Lot.{Lot}
 use Rattle.ra_draws.specs.declared.budgets.Lots.{Lots}
 use Rattle.ra_draws.specs.Lots.{lot_at, budget_of}

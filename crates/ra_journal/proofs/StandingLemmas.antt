@@ -1,6 +1,6 @@
 -- In a legal journal each move that is made stands where it is made, and each entry was offered, where it was planned and
 -- at its own place.
-use Rattle.std.proofs.Common.{◌≡◌, ℕ, zero, suc, ◌<◌, ◌≤◌, List, length, Option, Some, None, sym, refl, ap, ◌∙◌, subst, ⊎_elim, arith}
+use Rattle.std.proofs.Common.{◌≡◌, ℕ, zero, suc, ◌<◌, ◌≤◌, List, length, Option, Some, None, sym, refl, ◌∙◌, subst, ⊎_elim, arith}
 use Rattle.std.proofs.lemmas.Bool.{cases_lt}
 use Rattle.ra_base.specs.declared.causes.Cause.{Cause}
 use Rattle.ra_base.specs.declared.ids.Machine.{Machine}
@@ -8,7 +8,6 @@ use Rattle.ra_base.proofs.Searches.{left_none}
 use Rattle.ra_draws.specs.declared.budgets.Lots.{Lots}
 use Rattle.ra_model.specs.declared.raw.Tables.{Tables}
 use Rattle.ra_model.specs.Limits.{WellFormed}
-use Rattle.ra_model.specs.Numbers.{machine_count}
 use Rattle.ra_model.specs.Assignments.{IsAssignment}
 use Rattle.ra_moves.specs.declared.steps.Step.{Step}
 use Rattle.ra_moves.specs.declared.verdicts.Verdict.{Verdict}
@@ -27,7 +26,7 @@ use Rattle.ra_journal.specs.Legal.{IsLegalAt, Legal}
 use Rattle.ra_journal.specs.Laws.{MakesMoves, IsOfferedAt, LegalMakesMoves, LegalIsOffered}
 use Rattle.ra_journal.proofs.MadeLemmas.{state_is_made, made_stand}
 use Rattle.ra_journal.proofs.Offers.{plan_offered, offered_alike}
-use Rattle.ra_journal.proofs.SoundLemmas.{Reaches, applied_fits}
+use Rattle.ra_journal.proofs.SoundLemmas.{applied_fits}
 
 -- what an entry makes is its move, and its verdict is then Done
 record IsMade (verdict : Verdict) (steps made : List Step) : Type 0 where

@@ -1,5 +1,5 @@
 -- A book without entries keeps what it is to keep.
-use Rattle.std.proofs.Common.{◌≡◌, ℕ, zero, ◌<◌, eqb, List, [], length, replicate, get_or, sym, refl, ap, ◌∙◌, subst, arith}
+use Rattle.std.proofs.Common.{◌≡◌, ℕ, eqb, List, [], length, replicate, get_or, sym, ap, ◌∙◌, subst, arith}
 use Rattle.std.proofs.lemmas.List.{length-replicate, get_or-replicate}
 use Rattle.ra_base.proofs.Counts.{count_none}
 use Rattle.ra_base.specs.declared.ids.Machine.{Machine}
@@ -10,11 +10,10 @@ use Rattle.ra_model.specs.Costs.{objective}
 use Rattle.ra_model.specs.Numbers.{machine_count, service_count, process_count}
 use Rattle.ra_settle.specs.Settling.{AreMovedOf}
 use Rattle.ra_guards.specs.Kept.{AreZero}
-use Rattle.ra_guards.specs.Versions.{version}
 use Rattle.ra_journal.specs.declared.book.Book.{Book}
 use Rattle.ra_journal.specs.declared.entries.Entry.{Entry}
 use Rattle.ra_journal.specs.Best.{best_place, best_of}
-use Rattle.ra_journal.specs.Entries.{made_in, entry_at, entries_of, worker_count, proposal_count}
+use Rattle.ra_journal.specs.Entries.{made_in, entry_at, entries_of, proposal_count}
 use Rattle.ra_journal.specs.Keeping.{IsKept}
 use Rattle.ra_journal.specs.States.{state, kept_cost, cost_at}
 use Rattle.ra_journal.proofs.AddedLemmas.{version_few}

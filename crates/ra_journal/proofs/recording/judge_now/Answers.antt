@@ -1,5 +1,4 @@
-use Rattle.std.proofs.Common.{◌≡◌, List, length, ap, ap₂, ◌∙◌, arith}
-use Rattle.ra_base.specs.declared.ids.Machine.{Machine}
+use Rattle.std.proofs.Common.{length, ap, ap₂, ◌∙◌, arith}
 use Rattle.ra_draws.specs.Allowance.{allowance}
 use Rattle.ra_draws.specs.Lots.{budget_of, allowance_of}
 use Rattle.ra_draws.specs.declared.sources.Lot.{Lot}

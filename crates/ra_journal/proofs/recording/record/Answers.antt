@@ -1,12 +1,9 @@
-use Rattle.std.proofs.Common.{◌≡◌, List, ◌∷◌, [], ◌++◌, length, sym, refl, ap, ap₂, ◌∙◌, subst, arith}
+use Rattle.std.proofs.Common.{◌∷◌, [], ◌++◌, length, sym, refl, ap, ap₂, ◌∙◌, subst, arith}
 use Rattle.ra_cells.specs.MovedCounts.{MovedCounts}
-use Rattle.ra_guards.specs.Kept.{IsTableOf}
 use Rattle.ra_journal.specs.declared.entries.Entry.{Entry}
 use Rattle.ra_journal.specs.declared.replies.Reply.TheVariants.{Recorded}
-use Rattle.ra_journal.specs.Entries.{made_in}
 use Rattle.ra_journal.specs.Recording.{AreFitting}
 use Rattle.ra_journal.specs.States.{state}
-use Rattle.ra_journal.specs.Committing.{next_number}
 use Rattle.ra_journal.proofs.EndLemmas.{planned_within, settling_now, next_entry_is}
 use Rattle.ra_journal.proofs.KeepingLemmas.{recorded_by, kept_more}
 use Rattle.ra_journal.proofs.RecordingLemmas.{has_room, worker_below, made_few, counts_fit, is_next}

@@ -1,4 +1,4 @@
-use Rattle.std.proofs.Common.{◌≡◌, List, length, Some, None, sym, refl, ap, ◌∙◌}
+use Rattle.std.proofs.Common.{sym, ap, ◌∙◌}
 use Rattle.ra_journal.specs.Committing.{Committed}
 use Rattle.ra_journal.proofs.NewerLemmas.{committed_stale, committed_recorded}
 use Rattle.ra_journal.proofs.journal.Journal.answer.Goals as goal

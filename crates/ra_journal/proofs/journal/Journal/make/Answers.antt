@@ -1,7 +1,7 @@
-use Rattle.std.proofs.Common.{◌≡◌, refl, sym, ap, ◌∙◌, subst}
+use Rattle.std.proofs.Common.{refl, ap, ◌∙◌, subst}
 use Rattle.ra_base.specs.declared.costs.Parts.{Parts}
 use Rattle.ra_model.specs.Costs.{parts_of}
-use Rattle.ra_model.specs.Numbers.{machine_count, service_count}
+use Rattle.ra_model.specs.Numbers.{service_count}
 use Rattle.ra_guards.specs.Kept.{AreZero}
 use Rattle.ra_journal.proofs.StartLemmas.{kept_start}
 use Rattle.ra_journal.proofs.journal.Journal.make.Goals as goal
