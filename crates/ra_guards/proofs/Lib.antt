@@ -1,2 +1,11 @@
 pub mod GuardLemmas
+pub mod OrderLemmas
+pub mod GatherLemmas
+pub mod WriteLemmas
+pub mod KeptLemmas
+pub mod LowestLemmas
+pub mod JoinLemmas
 pub mod TouchLemmas
+pub mod VersionLemmas
+pub mod NewestLemmas
+pub mod ResidentLemmas

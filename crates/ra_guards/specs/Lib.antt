@@ -1,3 +1,10 @@
 pub mod Guards
-pub mod Laws
+pub mod Order
 pub mod Versions
+pub mod VersionTable
+pub mod Kept
+pub mod Numbered
+pub mod Newest
+pub mod Lowest
+pub mod Made
+pub mod Laws
