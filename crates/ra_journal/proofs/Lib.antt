@@ -14,5 +14,6 @@ pub mod EndLemmas
 pub mod KeepingLemmas
 pub mod RecordingLemmas
 pub mod NewerLemmas
+pub mod CommitLemmas
 pub mod StartLemmas
 pub mod SoloLemmas
