@@ -1,0 +1,5 @@
+#![tactic(auto)]
+
+mod verdicts;
+
+pub use verdicts::verdict;
