@@ -1,3 +1,4 @@
+//! The verdict on a move that was weighed at a world.
 #![tactic(auto)]
 
 mod verdicts;
