@@ -2,7 +2,6 @@ pub mod Places
 pub mod AddedLemmas
 pub mod BestLemmas
 pub mod RoomLemmas
-pub mod MovedLemmas
 pub mod TouchedLemmas
 pub mod NextLemmas
 pub mod SoundLemmas
