@@ -141,7 +141,7 @@ unfolding next_entry
 next_entry_is i a0 l h w plan verdict commit judged =
     let move = sym (next_is_planned i a0 l h w plan commit) in
     same_entry w plan.k plan.q plan.mv (next_move i a0 l h w plan.q) (next_number h w) verdict (judge i a0 (state a0 h (length h)) (next_move i a0 l h w plan.q).steps (allowed l w (next_number h w))) commit.number move
-        (judged ∙ ap (λ (mv : MoveSteps). judge i a0 (state a0 h (length h)) mv.steps (allowed l w plan.k)) move ∙ ap (λ k. judge i a0 (state a0 h (length h)) (next_move i a0 l h w plan.q).steps (allowed l w k)) commit.number)
+    (judged ∙ ap (λ (mv : MoveSteps). judge i a0 (state a0 h (length h)) mv.steps (allowed l w plan.k)) move ∙ ap (λ k. judge i a0 (state a0 h (length h)) (next_move i a0 l h w plan.q).steps (allowed l w k)) commit.number)
 
 -- it may stand at the end
 pub next_is_legal : (i : Tables) (a0 : List Machine) (l : Lots) (h : List Entry) (w : ℕ) (plan : Plan) (e : Entry) → IsCommit i a0 l h w plan → IsPlannedAtEnd i a0 l h plan → e.worker ≡ w → e.k ≡ plan.k → e.q ≡ plan.q → e.mv ≡ plan.mv → e.verdict ≡ judge i a0 (state a0 h (length h)) plan.mv.steps (allowed l w plan.k) → IsLegalAt i a0 l h (length h) e

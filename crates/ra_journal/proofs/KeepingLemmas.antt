@@ -8,29 +8,31 @@ use Rattle.ra_base.specs.declared.causes.Cause.{Cause}
 use Rattle.ra_base.specs.declared.ids.Machine.{Machine}
 use Rattle.ra_draws.specs.declared.budgets.Lots.{Lots}
 use Rattle.ra_model.specs.declared.raw.Tables.{Tables}
-use Rattle.ra_model.specs.Services.{moved_of}
 use Rattle.ra_moves.specs.declared.steps.Step.{Step}
 use Rattle.ra_moves.specs.declared.verdicts.Verdict.{Verdict}
 use Rattle.ra_moves.specs.declared.verdicts.Verdict.TheVariants.{Done, Refused}
 use Rattle.ra_moves.specs.declared.verdicts.Weighed.{Weighed}
 use Rattle.ra_moves.specs.Replacing.{applied}
 use Rattle.ra_cells.specs.MovedCounts.{MovedCounts}
+use Rattle.ra_local.specs.Moving.{IsOffered}
+use Rattle.ra_local.specs.Weighing.{weighed_of}
 use Rattle.ra_settle.specs.Settling.{AreMovedOf}
 use Rattle.ra_guards.specs.VersionTable.{VersionTable}
 use Rattle.ra_guards.specs.Kept.{version_in, IsTableOf, AreVersions}
 use Rattle.ra_guards.specs.Versions.{touches}
 use Rattle.ra_journal.specs.declared.book.Book.{Book}
 use Rattle.ra_journal.specs.declared.entries.Entry.{Entry}
-use Rattle.ra_journal.specs.Entries.{steps_made, made_by, made_in, entries_of}
+use Rattle.ra_journal.specs.Entries.{steps_made, made_by, made_in, entries_of, allowed}
 use Rattle.ra_journal.specs.States.{state, after_made, kept_cost, cost_then, cost_at}
 use Rattle.ra_journal.specs.Best.{best_place, best_of}
 use Rattle.ra_journal.specs.Legal.{Legal, IsLegalAt}
 use Rattle.ra_journal.specs.Keeping.{IsStart, AreMadeBy, IsKept}
-use Rattle.ra_journal.specs.Recording.{IsAdded, ArePut, counts_of, AreTouched, IsTakenIn, IsBestKept}
+use Rattle.ra_journal.specs.Recording.{IsAdded, AreChangedBy, AreTouched, IsTakenIn, IsBestKept}
 use Rattle.ra_journal.proofs.AddedLemmas.{entries_added, state_added, kept_added, version_added}
 use Rattle.ra_journal.proofs.BestLemmas.{best_added, same_cost, best_within}
 use Rattle.ra_journal.proofs.NextLemmas.{next_legal}
 use Rattle.ra_journal.proofs.Places.{same_added}
+use Rattle.ra_journal.proofs.StandingLemmas.{unbroken_if_done, done_no_repeat}
 use Rattle.ra_journal.proofs.EndLemmas.{sound_at}
 
 -- what the three parts of a record do together
@@ -39,7 +41,7 @@ pub record IsRecorded (i : Tables) (e : Entry) (weighed : Weighed) (before after
   pub room : after.entries.room ≡ before.entries.room
   pub made : after.made ≡ set before.made e.worker (get_or before.made e.worker 0 + 1)
   pub versions : AreTouched i (made_by e) (suc (length before.entries.items)) before.versions after.versions
-  pub done : (cost : ℕ) → e.verdict ≡ Done cost → ArePut before.greatest after.greatest (counts_of weighed)
+  pub done : (cost : ℕ) → e.verdict ≡ Done cost → AreChangedBy i e.mv.steps weighed before.greatest after.greatest
   pub refused : (cause : Cause) → e.verdict ≡ Refused cause → after.greatest ≡ before.greatest
   pub kept : after.kept ≡ cost_then before.kept e.verdict
   pub best_at : after.best_at ≡ cond (ltb after.kept before.best_cost) (suc (length before.entries.items)) before.best_at
@@ -96,22 +98,17 @@ versions_kept i h e before after versions is = record {
 }
 
 -- the moved counts
-moved_after : (i : Tables) (a0 a : List Machine) (steps : List Step) (before after : MovedCounts) (verdict : Verdict) (count : (ℕ → ℕ) → ℕ → ℕ) → AreMovedOf i a0 a before → ((cost : ℕ) → verdict ≡ Done cost → (f : ℕ → ℕ) (s : ℕ) → f s ≡ moved_of i a0 a s → count f s ≡ moved_of i a0 (applied a steps) s) → ((cost : ℕ) → verdict ≡ Done cost → ArePut before after count) → ((cause : Cause) → verdict ≡ Refused cause → after ≡ before) → AreMovedOf i a0 (after_made a (steps_made verdict steps)) after
+moved_after : (i : Tables) (a0 a : List Machine) (steps : List Step) (before after : MovedCounts) (verdict : Verdict) → AreMovedOf i a0 a before → ((cost : ℕ) → verdict ≡ Done cost → AreMovedOf i a0 (applied a steps) after) → ((cause : Cause) → verdict ≡ Refused cause → after ≡ before) → AreMovedOf i a0 (after_made a (steps_made verdict steps)) after
 unfolding after_made steps_made
-moved_after i a0 a steps before after (Done cost) count moved right done refused =
-    let put = done cost refl in
-    record {
-      one_each = put.one_each ∙ moved.one_each;
-      each = λ s within. put.each s (omega (arith, moved.one_each)) ∙ right cost refl (λ t. get_or before.counts t 0) s (moved.each s within);
-      limit = put.limit ∙ moved.limit;
-    }
-moved_after i a0 a steps before after (Refused cause) count moved right done refused = subst (AreMovedOf i a0 a) (sym (refused cause refl)) moved
+moved_after i a0 a steps before after (Done cost) moved done refused = done cost refl
+moved_after i a0 a steps before after (Refused cause) moved done refused = subst (AreMovedOf i a0 a) (sym (refused cause refl)) moved
 
 -- what is known of the entry and its weighing
 pub record IsNext (i : Tables) (a0 : List Machine) (l : Lots) (h : List Entry) (e : Entry) (weighed : Weighed) : Type 0 where
   pub legal : IsLegalAt i a0 l h (length h) e
   pub exists : e.worker < 16
-  pub counts : (cost : ℕ) → e.verdict ≡ Done cost → (f : ℕ → ℕ) (s : ℕ) → f s ≡ moved_of i a0 (state a0 h (length h)) s → counts_of weighed f s ≡ moved_of i a0 (applied (state a0 h (length h)) e.mv.steps) s
+  pub offered : IsOffered i (state a0 h (length h)) e.mv.steps
+  pub weighing : weighed ≡ weighed_of i a0 (state a0 h (length h)) e.mv.steps
 
 -- all at the longer journal g
 record IsKeptAt (i : Tables) (a0 : List Machine) (l : Lots) (g : List Entry) (n : ℕ) (f : Book) : Type 0 where
@@ -126,6 +123,12 @@ record IsKeptAt (i : Tables) (a0 : List Machine) (l : Lots) (g : List Entry) (n 
 best_cost_is : (better : Bool) (i : Tables) (a0 : List Machine) (g : List Entry) (n p x y : ℕ) → x ≡ cost_at i a0 g n → y ≡ cost_at i a0 g p → cond better x y ≡ cost_at i a0 g (cond better n p)
 best_cost_is true i a0 g n p x y x_is y_is = x_is
 best_cost_is false i a0 g n p x y x_is y_is = y_is
+
+moved_if_done : (i : Tables) (a0 : List Machine) (l : Lots) (e : Entry) (weighed : Weighed) (b f : Book) → IsKept i a0 l b → IsNext i a0 l b.entries.items e weighed → IsRecorded i e weighed b f → (cost : ℕ) → e.verdict ≡ Done cost → AreMovedOf i a0 (applied (state a0 b.entries.items (length b.entries.items)) e.mv.steps) f.greatest
+moved_if_done i a0 l e weighed b f kept next recorded = λ cost done.
+    let a = state a0 b.entries.items (length b.entries.items) in
+    let rise = allowed l e.worker e.k in
+    (recorded.done cost done).each a0 a (next.offered (done_no_repeat i a0 a e.mv.steps rise cost e.verdict next.legal.judged done)) (unbroken_if_done i a0 a e.mv.steps rise cost e.verdict next.legal.judged done) next.weighing kept.moved
 
 kept_at : (i : Tables) (a0 : List Machine) (l : Lots) (e : Entry) (weighed : Weighed) (b f : Book) → IsStart i a0 → IsKept i a0 l b → IsNext i a0 l b.entries.items e weighed → IsRecorded i e weighed b f → IsKeptAt i a0 l (b.entries.items ++ e ∷ []) (suc (length b.entries.items)) f
 unfolding made_by best_of
@@ -142,7 +145,7 @@ kept_at i a0 l e weighed b f start kept next recorded =
     record {
       legal = legal;
       versions = versions_kept i h e b.versions f.versions kept.versions recorded.versions;
-      moved = subst (λ a. AreMovedOf i a0 a f.greatest) (sym (state_added a0 h e)) (moved_after i a0 (state a0 h n) e.mv.steps b.greatest f.greatest e.verdict (counts_of weighed) kept.moved next.counts recorded.done recorded.refused);
+      moved = subst (λ a. AreMovedOf i a0 a f.greatest) (sym (state_added a0 h e)) (moved_after i a0 (state a0 h n) e.mv.steps b.greatest f.greatest e.verdict kept.moved (moved_if_done i a0 l e weighed b f kept next recorded) recorded.refused);
       made = made_kept l h e b.made f.made kept.made (omega (arith, next.exists, kept.made.long)) recorded.made;
       cost = cost;
       best_at = place;

@@ -2,7 +2,6 @@ pub mod Places
 pub mod AddedLemmas
 pub mod BestLemmas
 pub mod RoomLemmas
-pub mod MovedLemmas
 pub mod TouchedLemmas
 pub mod NextLemmas
 pub mod SoundLemmas
@@ -14,5 +13,6 @@ pub mod EndLemmas
 pub mod KeepingLemmas
 pub mod RecordingLemmas
 pub mod NewerLemmas
+pub mod CommitLemmas
 pub mod StartLemmas
 pub mod SoloLemmas

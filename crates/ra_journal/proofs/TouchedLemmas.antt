@@ -31,8 +31,8 @@ written_known : (i : Tables) (steps : List Step) (v : VersionTable) (g : Guard) 
 unfolding writes HasGuard ends_at moves_service service_in
 written_known i steps v (guard.Machine m) limits within sized is =
     let below = end_below (is_named (length steps) (from_in steps) m.0) (is_named (length steps) (to_in steps) m.0) m.0 (machine_count i)
-        (λ named. named_below (length steps) (machine_count i) (from_in steps) m.0 named within.from)
-        (λ named. named_below (length steps) (machine_count i) (to_in steps) m.0 named within.to) is in
+    (λ named. named_below (length steps) (machine_count i) (from_in steps) m.0 named within.from)
+    (λ named. named_below (length steps) (machine_count i) (to_in steps) m.0 named within.to) is in
     omega (arith, below, sized.machines)
 written_known i steps v (guard.Service s) limits within sized is =
     let below = named_below (length steps) (service_count i) (service_in i steps) s.0 is (λ k there. limits.services (process_in steps k) (within.process k there)) in

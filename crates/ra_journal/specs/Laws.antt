@@ -9,7 +9,8 @@ use Rattle.ra_model.specs.Feasible.{Feasible}
 use Rattle.ra_moves.specs.declared.steps.Step.{Step}
 use Rattle.ra_local.specs.Moving.{IsMove, IsOffered}
 use Rattle.ra_journal.specs.declared.entries.Entry.{Entry}
-use Rattle.ra_journal.specs.Entries.{entry_at, made_by, worker_count}
+use Rattle.ra_journal.specs.Committing.{next_number, committed}
+use Rattle.ra_journal.specs.Entries.{entry_at, made_by, worker_count, budget}
 use Rattle.ra_journal.specs.States.{state, kept_cost, cost_at}
 use Rattle.ra_journal.specs.Legal.{IsLegalAt, Legal, Whole}
 use Rattle.ra_journal.specs.Solo.{solo}
@@ -45,6 +46,18 @@ LegalIsOffered = (i : Tables) (a0 : List Machine) (l : Lots) (h : List Entry) �
 -- a legal next entry keeps a journal legal
 abbrev pub NextKeepsLegal : Type 0
 NextKeepsLegal = (i : Tables) (a0 : List Machine) (l : Lots) (h : List Entry) (e : Entry) → Legal i a0 l h → IsLegalAt i a0 l h (length h) e → Legal i a0 l (h ++ e ∷ [])
+
+-- worker w may hand in a proposal that it has planned at place q: it has some of its budget left, and q is a place of
+-- the journal behind all its entries
+pub record MayCommit (l : Lots) (h : List Entry) (w q : ℕ) : Type 0 where
+  pub worker : w < worker_count l
+  pub left : next_number h w < budget l w
+  pub place : q ≤ length h
+  pub seen : (j : ℕ) → j < length h → (entry_at h j).worker ≡ w → j < q
+
+-- what a journal is after an answer is legal
+abbrev pub CommittedIsLegal : Type 0
+CommittedIsLegal = (i : Tables) (a0 : List Machine) (l : Lots) (h : List Entry) (w q : ℕ) → WellFormed i → IsAssignment i a0 → Feasible i a0 a0 → Legal i a0 l h → MayCommit l h w q → Legal i a0 l (committed i a0 l h w q).journal
 
 -- a legal whole journal of one lot
 pub record IsSoloRun (i : Tables) (a0 : List Machine) (l : Lots) (h : List Entry) : Type 0 where

@@ -1,15 +1,20 @@
 -- What the parts of a record do to a book.
-use Rattle.std.specs.Prelude.{◌≡◌, ℕ, ◌+◌, ◌<◌, ◌≤◌, List, [], ◌∷◌, ◌++◌, length, Option, slice_index, slice_set, if◌then◌else◌, nat_lt, IfSome}
+use Rattle.std.specs.Prelude.{◌≡◌, ℕ, ◌+◌, List, [], ◌∷◌, ◌++◌, length, Option, None, slice_index, slice_set, if◌then◌else◌, nat_lt, IfSome}
 use Rattle.ra_base.specs.declared.causes.Cause.{Cause}
-use Rattle.ra_base.specs.declared.costs.MovedCount.{MovedCount}
 use Rattle.ra_base.specs.declared.ids.Guard.{Guard}
+use Rattle.ra_base.specs.declared.ids.Machine.{Machine}
 use Rattle.ra_model.specs.declared.raw.Tables.{Tables}
 use Rattle.ra_moves.specs.declared.steps.Step.{Step}
 use Rattle.ra_moves.specs.declared.verdicts.Verdict.{Verdict}
 use Rattle.ra_moves.specs.declared.verdicts.Verdict.TheVariants.{Done, Refused}
 use Rattle.ra_moves.specs.declared.verdicts.Weighed.{Weighed}
+use Rattle.ra_moves.specs.Judging.{broken_by}
+use Rattle.ra_moves.specs.Replacing.{applied}
 use Rattle.ra_cells.specs.MovedCounts.{MovedCounts}
-use Rattle.ra_cells.specs.Replaced.{counted_after}
+use Rattle.ra_cells.specs.Replaced.{IsChange}
+use Rattle.ra_local.specs.Moving.{IsMove}
+use Rattle.ra_local.specs.Weighing.{weighed_of}
+use Rattle.ra_settle.specs.Settling.{AreMovedOf}
 use Rattle.ra_guards.specs.Kept.{version_in, IsTableOf}
 use Rattle.ra_guards.specs.VersionTable.{VersionTable}
 use Rattle.ra_guards.specs.Versions.{touches}
@@ -29,25 +34,16 @@ pub record IsAdded (before after : Book) (e : Entry) : Type 0 where
   pub best_at : after.best_at ≡ before.best_at
   pub best_cost : after.best_cost ≡ before.best_cost
 
--- a moved count of one of the services, within the limit; and those of a weighing
-pub record IsCount (moved : MovedCounts) (c : MovedCount) : Type 0 where
-  pub there : c.service.0 < length moved.counts
-  pub within : c.after ≤ moved.limit
+-- the moved counts of a weighing are changes of these
+pub record AreChangesOf (moved : MovedCounts) (weighed : Weighed) : Type 0 where
+  pub first : IfSome weighed.first (λ c. IsChange moved c)
+  pub second : IfSome weighed.second (λ c. IsChange moved c)
+  pub third : IfSome weighed.third (λ c. IsChange moved c)
 
-pub record AreFitting (moved : MovedCounts) (weighed : Weighed) : Type 0 where
-  pub first : IfSome weighed.first (λ c. IsCount moved c)
-  pub second : IfSome weighed.second (λ c. IsCount moved c)
-  pub third : IfSome weighed.third (λ c. IsCount moved c)
-
--- the moved counts of some services have changed to these
-pub record ArePut (before after : MovedCounts) (count : (ℕ → ℕ) → ℕ → ℕ) : Type 0 where
-  pub one_each : length after.counts ≡ length before.counts
-  pub limit : after.limit ≡ before.limit
-  pub each : (s : ℕ) → s < length before.counts → slice_index after.counts s ≡ count (slice_index before.counts) s
-
--- those that a weighing has
-unfoldable pub counts_of : Weighed → (ℕ → ℕ) → ℕ → ℕ
-counts_of weighed f = counted_after weighed.third (counted_after weighed.second (counted_after weighed.first f))
+-- where these steps break nothing in an assignment that has the moved counts, those after the steps are the assignment's
+-- after them
+pub record AreChangedBy (i : Tables) (steps : List Step) (weighed : Weighed) (before after : MovedCounts) : Type 0 where
+  pub each : (a0 a : List Machine) → IsMove i a steps → broken_by i a0 a steps ≡ None → weighed ≡ weighed_of i a0 a steps → AreMovedOf i a0 a before → AreMovedOf i a0 (applied a steps) after
 
 -- the guards that are touched have a version, and the others keep theirs
 pub record AreTouched (i : Tables) (made : Option (List Step)) (number : ℕ) (before after : VersionTable) : Type 0 where
@@ -59,7 +55,7 @@ pub record IsTakenIn (i : Tables) (steps : List Step) (weighed : Weighed) (verdi
   pub entries : after.entries ≡ before.entries
   pub made : after.made ≡ before.made
   pub versions : AreTouched i (steps_made verdict steps) (length before.entries.items) before.versions after.versions
-  pub done : (cost : ℕ) → verdict ≡ Done cost → ArePut before.greatest after.greatest (counts_of weighed)
+  pub done : (cost : ℕ) → verdict ≡ Done cost → AreChangedBy i steps weighed before.greatest after.greatest
   pub refused : (cause : Cause) → verdict ≡ Refused cause → after.greatest ≡ before.greatest
   pub kept : after.kept ≡ cost_then before.kept verdict
   pub best_at : after.best_at ≡ before.best_at

@@ -1,5 +1,5 @@
 //! Laws of journals: each function does nothing, and its contract is a law that was proved.
-ghost use Rattle.ra_journal.specs.Laws.{LegalIsSound, LegalMakesMoves, LegalIsOffered, NextKeepsLegal, OneLotsJournal};
+ghost use Rattle.ra_journal.specs.Laws.{LegalIsSound, LegalMakesMoves, LegalIsOffered, NextKeepsLegal, CommittedIsLegal, OneLotsJournal};
 
 /// In a legal journal over a feasible start every state is feasible, and its kept cost is its objective.
 pub fn legal_is_sound()
@@ -20,6 +20,11 @@ pub fn legal_is_offered()
 /// A legal next entry keeps a journal legal.
 pub fn next_keeps_legal()
     ensures { NextKeepsLegal }
+{}
+
+/// A journal that has answered a worker is legal, if it was so before.
+pub fn committed_is_legal()
+    ensures { CommittedIsLegal }
 {}
 
 /// With one lot the run of one worker is legal and whole, and no other journal is.

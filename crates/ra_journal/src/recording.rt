@@ -1,26 +1,24 @@
-ghost use Rattle.std.specs.Prelude.{◌≡◌, ◌<◌, ◌≤◌, ◌^◌, [], ◌∷◌, ◌++◌, Some, None, length, slice_index, IfSome};
+ghost use Rattle.std.specs.Prelude.{◌≡◌, ◌<◌, ◌≤◌, ◌^◌, [], ◌∷◌, ◌++◌, Some, None, length, slice_index};
 ghost use Rattle.ra_topology.specs.Fits.{IsTopologyOf};
-ghost use Rattle.ra_cells.specs.Replaced.{counted_after};
 ghost use Rattle.ra_moves.specs.Judging.{judge};
 ghost use Rattle.ra_guards.specs.Guards.{AreWithin};
 ghost use Rattle.ra_guards.specs.Kept.{IsTableOf};
 ghost use Rattle.ra_journal.specs.Committing.{newer_since, next_entry, IsCommit};
 ghost use Rattle.ra_journal.specs.Entries.{allowed, steps_made};
 ghost use Rattle.ra_journal.specs.Keeping.{IsStart, IsKept};
-ghost use Rattle.ra_journal.specs.Recording.{IsAdded, IsCount, ArePut, counts_of, AreTouched, IsTakenIn, IsBestKept, AreFitting};
+ghost use Rattle.ra_journal.specs.Recording.{IsAdded, AreChangesOf, AreTouched, IsTakenIn, IsBestKept};
 ghost use Rattle.ra_journal.specs.States.{state};
 ghost use Rattle.ra_journal.specs.declared.replies.Reply.TheVariants.{Recorded};
 
 use crate::book::Book;
 use crate::entries::Entry;
 use crate::replies::Reply;
-use ra_base::{Assignment, MovedCount};
-use ra_cells::Greatest;
+use ra_base::Assignment;
 use ra_draws::{Lots, allow};
 use ra_guards::{Versions, writes};
 use ra_model::Instance;
 use ra_moves::{Move, Plan, Verdict, Weighed};
-use ra_settle::settle_now;
+use ra_settle::{change_counts, settle_now};
 use ra_topology::Topology;
 
 /// Records a worker's next proposal, of whose move no guard was touched since it was planned.
@@ -111,14 +109,14 @@ fn take_in(
 )
     requires within { AreWithin inst.now.tables mv.now.steps }
     requires sized { IsTableOf inst.now.tables book.old.versions }
-    requires counts { AreFitting book.old.greatest weighed.now }
+    requires counts { AreChangesOf book.old.greatest weighed.now }
     ensures { IsTakenIn inst.now.tables mv.now.steps weighed.now verdict.now book.old book.new }
 {
     match verdict {
         Verdict::Done { cost } => {
             let version = book.entries.len() as u64;
             touch(inst, topo, &mut book.versions, mv, version);
-            put_counts(&mut book.greatest, weighed);
+            change_counts(&mut book.greatest, weighed);
             book.kept = *cost;
         }
         Verdict::Refused { .. } => {}
@@ -133,27 +131,6 @@ fn touch(inst: &Instance, topo: &Topology, versions: &mut Versions, mv: &Move, v
 {
     let guards = writes(topo, inst, mv);
     versions.touch(&guards, version);
-}
-
-/// Puts the moved counts of a weighing in the place of those before.
-#[tactic(auto, unfolding(crate::specs::Recording::counts_of))]
-fn put_counts(greatest: &mut Greatest, weighed: &Weighed)
-    requires { AreFitting greatest.old weighed.now }
-    ensures { ArePut greatest.old greatest.new (counts_of weighed.now) }
-{
-    put_count(greatest, weighed.first);
-    put_count(greatest, weighed.second);
-    put_count(greatest, weighed.third);
-}
-
-/// Puts a moved count in the place of that before, where there is one.
-fn put_count(greatest: &mut Greatest, count: Option<MovedCount>)
-    requires { IfSome count (λ c. IsCount greatest.old c) }
-    ensures { ArePut greatest.old greatest.new (counted_after count) }
-{
-    if let Some(c) = count {
-        greatest.change(c.service, c.after);
-    }
 }
 
 /// Keeps the state after all entries as the best one, where it costs less than the best so far.

@@ -2,7 +2,7 @@ use Rattle.std.proofs.Common.{◌∷◌, [], ◌++◌, length, sym, refl, ap, ap
 use Rattle.ra_cells.specs.MovedCounts.{MovedCounts}
 use Rattle.ra_journal.specs.declared.entries.Entry.{Entry}
 use Rattle.ra_journal.specs.declared.replies.Reply.TheVariants.{Recorded}
-use Rattle.ra_journal.specs.Recording.{AreFitting}
+use Rattle.ra_journal.specs.Recording.{AreChangesOf}
 use Rattle.ra_journal.specs.States.{state}
 use Rattle.ra_journal.proofs.EndLemmas.{planned_within, settling_now, next_entry_is}
 use Rattle.ra_journal.proofs.KeepingLemmas.{recorded_by, kept_more}
@@ -27,7 +27,7 @@ take_in-requires-clause-counts c =
     let h = c.args.book.now.entries.items in
     let settling = settling_now i c.args.a0.now.items c.args.lots.now c.args.book.now c.args.worker c.args.plan.now c.requires.start c.requires.kept c.requires.commit c.requires.untouched in
     let fit = counts_fit i c.args.a0.now.items (state c.args.a0.now.items h (length h)) c.args.plan.now.mv.steps c.args.book.now.greatest c.args.book.now.kept c.args.plan.now.weighed c.requires.start.limits settling in
-    subst (λ (moved : MovedCounts). AreFitting moved c.args.plan.now.weighed) (sym c.add.ensures.greatest) fit
+    subst (λ (moved : MovedCounts). AreChangesOf moved c.args.plan.now.weighed) (sym c.add.ensures.greatest) fit
 
 pub returns-clause-kept : goal.returns-clause-kept
 returns-clause-kept c =
