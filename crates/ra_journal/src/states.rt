@@ -1,13 +1,14 @@
 ghost use Rattle.std.specs.Prelude.{◌≡◌};
 ghost use Rattle.ra_moves.specs.Steps.{StandsAt, from_in};
 ghost use Rattle.ra_journal.specs.Entries.{steps_made};
-ghost use Rattle.ra_journal.specs.States.{after_made, cost_then, IsDistinctIfDone};
+ghost use Rattle.ra_guards.specs.Made.{after_made};
+ghost use Rattle.ra_journal.specs.States.{cost_then, IsDistinctIfDone};
 
 use ra_base::Assignment;
 use ra_moves::{Move, Verdict, apply};
 
 /// Takes an entry into a state: its move is applied where its verdict is done.
-#[tactic(auto, unfolding(crate::specs::States::after_made, crate::specs::Entries::steps_made))]
+#[tactic(auto, unfolding(ra_guards::specs::Made::after_made, crate::specs::Entries::steps_made))]
 pub fn advance(state: &mut Assignment, mv: &Move, verdict: &Verdict)
     requires stands { StandsAt from_in mv.now.steps state.old.items }
     requires distinct { IsDistinctIfDone mv.now.steps verdict.now }
