@@ -10,7 +10,7 @@ use Rattle.ra_base.specs.declared.ids.Service.{Service}
 use Rattle.ra_base.proofs.Counts.{count_some, count_zero}
 use Rattle.ra_base.proofs.Named.{is_named_at, is_named_not}
 use Rattle.ra_model.specs.declared.raw.Tables.{Tables}
-use Rattle.ra_model.specs.Numbers.{process_count, service_count, service_of, dependency_count, need_of}
+use Rattle.ra_model.specs.Numbers.{machine_count, process_count, service_count, service_of, dependency_count, need_of}
 use Rattle.ra_model.specs.Limits.{WellFormed}
 use Rattle.ra_model.specs.Relations.{are_joined}
 use Rattle.ra_moves.specs.declared.steps.Step.{Step}
@@ -180,26 +180,31 @@ apart_not i steps others k within meets = (λ same. absurd (cc), λ apart. absur
 
 pub ruleset meetings = (meets_none, meets_more, apart_all, apart_not)
 
--- for a loop over the steps that looks at their processes
+-- for a loop over the steps that looks at what they name
 
-pub record KnownBelow (i : Tables) (steps : List Step) (n : ℕ) : Type 0 where
-  pub each : (j : ℕ) → j < n → process_in steps j < process_count i
+-- the first n steps are within the instance
+pub record WithinBelow (i : Tables) (steps : List Step) (n : ℕ) : Type 0 where
+  pub each : (j : ℕ) → j < n → (process_in steps j < process_count i) × (from_in steps j < machine_count i) × (to_in steps j < machine_count i)
 
-pub known_none : (i : Tables) (steps : List Step) → KnownBelow i steps 0
-known_none i steps = record { each = λ j before. absurd (omega arith) }
+pub within_none : (i : Tables) (steps : List Step) → WithinBelow i steps 0
+within_none i steps = record { each = λ j before. absurd (omega arith) }
 
-pub known_more : (i : Tables) (steps : List Step) (n : ℕ) (s : Step) → KnownBelow i steps n → s ≡ step_at steps n → s.process.0 < process_count i → KnownBelow i steps (n + 1)
-unfolding process_in
-known_more i steps n s before is there = record {
+pub within_more : (i : Tables) (steps : List Step) (n : ℕ) (s : Step) → WithinBelow i steps n → s ≡ step_at steps n → s.process.0 < process_count i → s.from.0 < machine_count i → s.to.0 < machine_count i → WithinBelow i steps (n + 1)
+unfolding process_in from_in to_in
+within_more i steps n s before is process from to = record {
   each = λ j within. ⊎_elim
       (λ (earlier : j < n). before.each j earlier)
       (λ (later : n ≤ j).
       let here : s ≡ step_at steps j = is ∙ ap (step_at steps) (omega arith) in
-      subst (λ (t : Step). t.process.0 < process_count i) here there)
+      subst (λ (t : Step). (t.process.0 < process_count i) × (t.from.0 < machine_count i) × (t.to.0 < machine_count i)) here (process, from, to))
       (cases_lt j n);
 }
 
-pub known_all : (i : Tables) (steps : List Step) (n : ℕ) → n ≡ length steps → KnownBelow i steps n → AreKnown i steps
-known_all i steps n all known = record { each = λ j within. known.each j (omega arith) }
+pub within_all : (i : Tables) (steps : List Step) (n : ℕ) → n ≡ length steps → WithinBelow i steps n → AreWithin i steps
+within_all i steps n all below = record {
+  process = λ j within. (below.each j (omega arith)).0;
+  from = λ j within. (below.each j (omega arith)).1;
+  to = λ j within. (below.each j (omega arith)).2;
+}
 
-pub ruleset knowing = (known_none, known_more, known_all)
+pub ruleset knowing = (within_none, within_more, within_all)

@@ -1,7 +1,8 @@
 -- What the first newer guard is: in a table of the versions, where there is none, and where no write guard is newer.
-use Rattle.std.proofs.Common.{◌≡◌, ◌↔◌, ℕ, ◌-◌, ◌<◌, ◌≤◌, Bool, true, false, cond, ◌&&◌, ltb, List, length, Option, Some, None, sym, ap, ap₂, ◌∙◌, ⊎_elim, arith, lit<}
-use Rattle.std.proofs.lemmas.Bool.{cases_lt, cases_Bool, both_ways, or_cases, ltb-true}
+use Rattle.std.proofs.Common.{◌≡◌, ◌↔◌, ℕ, ◌-◌, ◌<◌, ◌≤◌, Bool, true, false, cond, ◌&&◌, ltb, List, All, length, get_or, Option, Some, None, sym, ap, ap₂, ◌∙◌, ⊎_elim, arith, lit<}
+use Rattle.std.proofs.lemmas.Bool.{cases_lt, cases_Bool, both_ways, or_left, or_cases, ltb-true}
 use Rattle.std.proofs.lemmas.List.{get_or_past}
+use Rattle.std.proofs.lemmas.List.Elements.{All-from_get_or, Contains-get_or}
 use Rattle.ra_base.specs.Searches.{or_else, first}
 use Rattle.ra_base.specs.Sums.{is_named}
 use Rattle.ra_base.specs.declared.ids.Guard.{Guard}
@@ -18,13 +19,14 @@ use Rattle.ra_moves.specs.declared.steps.Step.{Step}
 use Rattle.ra_moves.specs.Steps.{process_in, from_in, to_in}
 use Rattle.ra_topology.proofs.NeedLemmas.{need_within}
 use Rattle.ra_local.specs.Touched.{ends_at, service_in, moves_service, reads_service, guards_service}
-use Rattle.ra_guards.specs.Guards.{AreWithin, writes, is_guard}
-use Rattle.ra_guards.specs.Order.{IsKnown}
+use Rattle.ra_guards.specs.Guards.{AreWithin, writes, reads, is_guard}
+use Rattle.ra_guards.specs.Order.{IsKnown, guard_at, AreWrites}
 use Rattle.ra_guards.specs.Versions.{version, Untouched}
 use Rattle.ra_guards.specs.VersionTable.{VersionTable}
-use Rattle.ra_guards.specs.Kept.{version_in, AreVersions}
+use Rattle.ra_guards.specs.Kept.{HasGuard, version_in, AreZero, IsTableOf, AreVersions, IsTouched}
 use Rattle.ra_guards.specs.Newest.{newer_at, first_that, first_newer, first_newer_read, reads_only}
 use Rattle.ra_guards.specs.Laws.{NewestIsRight}
+use Rattle.ra_guards.proofs.OrderLemmas.{has_known}
 use Rattle.ra_guards.proofs.GuardLemmas.{machine_guard, service_guard}
 use Rattle.ra_guards.proofs.LowestLemmas.{newer_some, newer_none, guard_read_only, unwritten_guard}
 
@@ -107,6 +109,22 @@ guard_known i steps (guard.Service s) limits within guarded = ⊎_elim
     let found = count_positive (length steps) (λ j. are_joined i (service_in i steps j) s.0) (ltb-true 0 _ is_read) in
     joined_known i (service_in i steps found.0) s.0 limits (step_service i steps found.0 limits within found.1) found.2)
     (or_cases (moves_service i steps s.0) (reads_service i steps s.0) (sym (service_guard i steps s) ∙ guarded))
+
+-- so a table of the instance has each write guard
+pub writes_had : (i : Tables) (steps : List Step) (guards : List Guard) (v : VersionTable) → WellFormed i → AreWithin i steps → AreWrites i steps guards → IsTableOf i v → All (HasGuard v) guards
+unfolding is_guard guard_at
+writes_had i steps guards v limits within writing sized = All-from_get_or (HasGuard v) guards (guard.Machine (record { 0 = 0 })) (λ k inside.
+    let g = get_or guards k (guard.Machine (record { 0 = 0 })) in
+    let written = (writing.exactly (get_or guards k (guard.Machine (record { 0 = 0 })))).0 (Contains-get_or guards k (guard.Machine (record { 0 = 0 })) inside) in
+    has_known i v (get_or guards k (guard.Machine (record { 0 = 0 }))) sized (guard_known i steps (get_or guards k (guard.Machine (record { 0 = 0 }))) limits within (or_left (writes i steps (get_or guards k (guard.Machine (record { 0 = 0 })))) (reads i steps (get_or guards k (guard.Machine (record { 0 = 0 })))) written)))
+
+pub zero_sized : (i : Tables) (v : VersionTable) (m s : ℕ) → m ≡ machine_count i → s ≡ service_count i → AreZero m s v → IsTableOf i v
+zero_sized i v m s machines services zeros = record { machines = zeros.count_machines ∙ machines; services = zeros.count_services ∙ services }
+
+pub touched_sized : (i : Tables) (before after : VersionTable) (guards : List Guard) (version : ℕ) → IsTableOf i before → IsTouched before after guards version → IsTableOf i after
+touched_sized i before after guards version sized touched = record { machines = touched.machines ∙ sized.machines; services = touched.services ∙ sized.services }
+
+pub ruleset had = (writes_had, zero_sized, touched_sized)
 
 -- there is none exactly where no guard has a version above q
 

@@ -1,6 +1,8 @@
 //! Moves on an instance of eight machines, four services and six processes.
 ghost use Rattle.std.specs.Prelude.{◌≡◌, IsTrue};
-ghost use Rattle.ra_guards.specs.Guards.{AreKnown};
+ghost use Rattle.ra_guards.specs.Guards.{AreWithin};
+
+mod newest;
 
 use super::keeps_apart;
 use ra_base::{Machine, Process};
@@ -9,22 +11,30 @@ use ra_moves::{Move, Step};
 use ra_samples::eight_machines;
 use std::process::Abort;
 
-/// Whether each step of a move is of a process of the instance.
+/// Whether each step of a move is of a process and of machines of the instance.
 #[tactic(auto, using(crate::proofs::GuardLemmas::knowing))]
-fn are_known(inst: &Instance, mv: &Move) -> bool
-    ensures { IsTrue result → AreKnown inst.now.tables mv.now.steps }
+fn are_within(inst: &Instance, mv: &Move) -> bool
+    ensures { IsTrue result → AreWithin inst.now.tables mv.now.steps }
 {
     for j in 0..mv.steps() {
-        if mv.step(j).process.0 >= inst.processes() {
+        let step = mv.step(j);
+        if step.process.0 >= inst.processes() {
+            return false;
+        }
+        if step.from.0 >= inst.machines() {
+            return false;
+        }
+        if step.to.0 >= inst.machines() {
             return false;
         }
     }
     true
 }
 
-/// Whether two moves are apart, where the instance has their processes.
+/// Whether two moves are apart, where the instance has what they name.
+#[tactic(auto, using(crate::proofs::GuardLemmas::within_known))]
 fn answer(inst: &Instance, mv: &Move, other: &Move) -> Option<bool> {
-    if are_known(inst, mv) && are_known(inst, other) {
+    if are_within(inst, mv) && are_within(inst, other) {
         Some(keeps_apart(inst, mv, other))
     } else {
         None

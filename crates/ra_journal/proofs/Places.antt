@@ -11,7 +11,8 @@ use Rattle.ra_moves.specs.declared.steps.Step.{Step}
 use Rattle.ra_guards.specs.Versions.{made_at, touches, stamp, version}
 use Rattle.ra_journal.specs.declared.entries.Entry.{Entry}
 use Rattle.ra_journal.specs.Entries.{entry_at, steps_made, made_by, made_in, entries_of}
-use Rattle.ra_journal.specs.States.{state, after_made, kept_cost, cost_then}
+use Rattle.ra_guards.specs.Made.{after_made}
+use Rattle.ra_journal.specs.States.{state, kept_cost, cost_then}
 
 -- the entries of a journal with one entry more
 pub entry_before : (h : List Entry) (e : Entry) (j : ℕ) → j < length h → entry_at (h ++ e ∷ []) j ≡ entry_at h j

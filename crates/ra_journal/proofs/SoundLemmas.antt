@@ -27,7 +27,8 @@ use Rattle.ra_moves.proofs.OptionLemmas.{option_reaches, option_stands}
 use Rattle.ra_guards.specs.Guards.{AreKnown}
 use Rattle.ra_journal.specs.declared.entries.Entry.{Entry}
 use Rattle.ra_journal.specs.Entries.{entry_at, steps_made, made_by, words, allowed}
-use Rattle.ra_journal.specs.States.{state, after_made, kept_cost, cost_then, cost_at}
+use Rattle.ra_guards.specs.Made.{after_made}
+use Rattle.ra_journal.specs.States.{state, kept_cost, cost_then, cost_at}
 use Rattle.ra_journal.specs.Legal.{IsLegalAt, Legal}
 use Rattle.ra_journal.specs.Laws.{LegalIsSound}
 

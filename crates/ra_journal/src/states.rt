@@ -1,7 +1,8 @@
 ghost use Rattle.std.specs.Prelude.{◌≡◌};
 ghost use Rattle.ra_moves.specs.Steps.{StandsAt, from_in};
 ghost use Rattle.ra_journal.specs.Entries.{steps_made};
-ghost use Rattle.ra_journal.specs.States.{after_made, cost_then, IsDistinctIfDone};
+ghost use Rattle.ra_guards.specs.Made.{after_made};
+ghost use Rattle.ra_journal.specs.States.{cost_then, IsDistinctIfDone};
 
 use ra_base::Assignment;
 use ra_moves::{Move, Verdict, apply};

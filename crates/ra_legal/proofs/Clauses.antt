@@ -12,7 +12,8 @@ use Rattle.ra_guards.specs.Versions.{Apart, ApartSince, Untouched}
 use Rattle.ra_guards.proofs.TouchLemmas.{since_more, apart_from_untouched}
 use Rattle.ra_journal.specs.declared.entries.Entry.{Entry}
 use Rattle.ra_journal.specs.Entries.{entry_at, steps_made, made_by, made_in}
-use Rattle.ra_journal.specs.States.{state, after_made}
+use Rattle.ra_guards.specs.Made.{after_made}
+use Rattle.ra_journal.specs.States.{state}
 use Rattle.ra_journal.proofs.Places.{made_place}
 use Rattle.ra_journal.specs.Legal.{IsLegalAt, IsLegal}
 use Rattle.ra_legal.specs.Touching.{IsApartFrom}

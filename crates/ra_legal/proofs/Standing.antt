@@ -31,7 +31,8 @@ use Rattle.ra_guards.specs.Versions.{Apart, ApartSince, Untouched}
 use Rattle.ra_guards.proofs.TouchLemmas.{apart_from_untouched}
 use Rattle.ra_journal.specs.declared.entries.Entry.{Entry}
 use Rattle.ra_journal.specs.Entries.{entry_at, steps_made, made_by, made_in, words, allowed}
-use Rattle.ra_journal.specs.States.{state, after_made}
+use Rattle.ra_guards.specs.Made.{after_made}
+use Rattle.ra_journal.specs.States.{state}
 use Rattle.ra_journal.specs.Legal.{IsLegal}
 use Rattle.ra_journal.proofs.Places.{made_place}
 use Rattle.ra_journal.proofs.SoundLemmas.{Reaches, applied_fits, plan_reaches, plan_known}

@@ -13,7 +13,8 @@ use Rattle.ra_journal.specs.declared.entries.Entry.{Entry}
 use Rattle.ra_journal.specs.Best.{best_place}
 use Rattle.ra_journal.specs.Entries.{budget, steps_made}
 use Rattle.ra_journal.specs.Solo.{solo_entry, solo_entries}
-use Rattle.ra_journal.specs.States.{state, after_made, cost_then, cost_at}
+use Rattle.ra_guards.specs.Made.{after_made}
+use Rattle.ra_journal.specs.States.{state, cost_then, cost_at}
 use Rattle.ra_journal.proofs.Places.{SameBelow, same_fewer, same_added, same_state}
 use Rattle.ra_solo.specs.declared.progress.Progress.{Progress}
 use Rattle.ra_solo.specs.Runs.{IsAfter, IsBestSoFar}

@@ -19,7 +19,8 @@ use Rattle.ra_moves.specs.Judging.{repeat_of, broken_by, verdict_of, judge}
 use Rattle.ra_moves.specs.Options.{plan_of}
 use Rattle.ra_journal.specs.declared.entries.Entry.{Entry}
 use Rattle.ra_journal.specs.Entries.{entry_at, steps_made, made_by, words, allowed}
-use Rattle.ra_journal.specs.States.{state, after_made, cost_then}
+use Rattle.ra_guards.specs.Made.{after_made}
+use Rattle.ra_journal.specs.States.{state, cost_then}
 use Rattle.ra_journal.specs.Solo.{solo_entry, solo_entries}
 use Rattle.ra_journal.proofs.Places.{same_fewer, same_added, same_state, entry_added}
 use Rattle.ra_journal.proofs.SoundLemmas.{applied_fits}

@@ -6,10 +6,6 @@ use Rattle.ra_model.specs.declared.raw.Tables.{Tables}
 use Rattle.ra_model.specs.Numbers.{process_count}
 use Rattle.ra_model.specs.Assignments.{IsAssignment}
 use Rattle.ra_model.specs.Costs.{parts_of, objective}
-use Rattle.ra_moves.specs.declared.steps.Step.{Step}
-use Rattle.ra_moves.specs.declared.verdicts.Verdict.{Verdict}
-use Rattle.ra_moves.specs.declared.verdicts.Verdict.TheVariants.{Done}
-use Rattle.ra_moves.specs.Steps.{Distinct}
 use Rattle.ra_journal.specs.Best.{best_place, best_of}
 use Rattle.ra_journal.specs.Entries.{budget}
 use Rattle.ra_journal.specs.Solo.{solo_entries, solo}

@@ -5,7 +5,7 @@ use Rattle.ra_draws.specs.declared.sources.Lot.{Lot}
 use Rattle.ra_draws.specs.Lots.{budget_of, allowance_of}
 use Rattle.ra_journal.specs.declared.entries.Entry.{Entry}
 use Rattle.ra_journal.specs.Entries.{budget, allowed, steps_made}
-use Rattle.ra_journal.specs.States.{after_made}
+use Rattle.ra_guards.specs.Made.{after_made}
 use Rattle.ra_solo.proofs.Steps.{solo_length, entry_is, fits_more, done_not_repeated}
 use Rattle.ra_solo.proofs.OneMore.{one_more}
 use Rattle.ra_solo.proofs.progress.Progress.propose.Goals as goal
