@@ -1,0 +1,6 @@
+pub mod Marks
+pub mod Reading
+pub mod Requirements
+pub mod Searching
+pub mod Touching
+pub mod Trials

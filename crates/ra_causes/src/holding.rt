@@ -1,0 +1,147 @@
+ghost use Rattle.std.specs.Prelude.{◌≡◌, ◌↔◌, ◌<◌, true, None, length};
+ghost use Rattle.ra_model.specs.Numbers.{service_count};
+ghost use Rattle.ra_model.specs.Broken.{first_broken, broken_capacity, broken_transient, broken_conflict, broken_spread, broken_dependency, broken_closed};
+ghost use Rattle.ra_causes.specs.Trials.{tables_of, initial_of, steps_of, after_of};
+
+use crate::marks::Mark;
+use crate::trial::Trial;
+use ra_base::{Machine, Service};
+use ra_moves::Step;
+
+impl<'a, 'b> Trial<'a, 'b> {
+    /// Whether no constraint is broken after the move.
+    pub(crate) fn is_unbroken(&self) -> bool
+        ensures { (result ≡ true) ↔
+            (first_broken (tables_of self.now) (initial_of self.now) (after_of self.now) ≡ None) }
+    {
+        if !self.keeps_capacity() {
+            return false;
+        }
+        if !self.keeps_transient() {
+            return false;
+        }
+        if !self.keeps_apart() {
+            return false;
+        }
+        if !self.keeps_spread() {
+            return false;
+        }
+        if !self.keeps_near() {
+            return false;
+        }
+        self.keeps_closed()
+    }
+
+    /// Whether each machine that is entered has the capacity.
+    fn keeps_capacity(&self) -> bool
+        ensures { (result ≡ true) ↔
+            (broken_capacity (tables_of self.now) (after_of self.now) ≡ None) }
+    {
+        for j in 0..self.mv.steps() {
+            if self.row_capacity(self.mv.step(j).to).is_some() {
+                return false;
+            }
+        }
+        true
+    }
+
+    /// Whether each machine that is entered has the capacity in between.
+    fn keeps_transient(&self) -> bool
+        ensures { (result ≡ true) ↔
+            (broken_transient (tables_of self.now) (initial_of self.now) (after_of self.now)
+            ≡ None) }
+    {
+        for j in 0..self.mv.steps() {
+            if self.row_transient(self.mv.step(j).to).is_some() {
+                return false;
+            }
+        }
+        true
+    }
+
+    /// Whether no process enters a machine that has another one of its service.
+    fn keeps_apart(&self) -> bool
+        ensures { (result ≡ true) ↔
+            (broken_conflict (tables_of self.now) (after_of self.now) ≡ None) }
+    {
+        for j in 0..self.mv.steps() {
+            let step = self.mv.step(j);
+            if self.conflict_test(self.inst.service_of(step.process), step.to).is_some() {
+                return false;
+            }
+        }
+        true
+    }
+
+    /// Whether each service that moves is in enough locations.
+    fn keeps_spread(&self) -> bool
+        ensures { (result ≡ true) ↔
+            (broken_spread (tables_of self.now) (after_of self.now) ≡ None) }
+    {
+        for j in 0..self.mv.steps() {
+            let s = self.inst.service_of(self.mv.step(j).process);
+            if self.spread_test(s).is_some() {
+                return false;
+            }
+        }
+        true
+    }
+
+    /// Whether each process is near what its service needs.
+    fn keeps_near(&self) -> bool
+        ensures { (result ≡ true) ↔
+            (broken_dependency (tables_of self.now) (after_of self.now) ≡ None) }
+    {
+        for j in 0..self.mv.steps() {
+            let step = self.mv.step(j);
+            if !self.finds_needs(step) || !self.leaves_none_alone(step) {
+                return false;
+            }
+        }
+        true
+    }
+
+    /// Whether no process enters a closed machine that isn't its initial one.
+    fn keeps_closed(&self) -> bool
+        ensures { (result ≡ true) ↔
+            (broken_closed (tables_of self.now) (initial_of self.now) (after_of self.now)
+            ≡ None) }
+    {
+        for j in 0..self.mv.steps() {
+            let step = self.mv.step(j);
+            if self.inst.closed(step.to) && self.home(step.process).0 != step.to.0 {
+                return false;
+            }
+        }
+        true
+    }
+
+    /// Whether a process finds all that its service needs in the neighbourhood that it enters.
+    fn finds_needs(&self, step: Step) -> bool {
+        let label = self.inst.neighbourhood(step.to);
+        let needs = self.inst.depends(self.inst.service_of(step.process));
+        for k in 0..needs.len() {
+            if self.count_after(needs[k], Mark::InNeighbourhood, label) == 0 {
+                return false;
+            }
+        }
+        true
+    }
+
+    /// Whether a process that leaves a neighbourhood is the last of its service there, and one of a service that needs
+    /// it stays.
+    fn leaves_none_alone(&self, step: Step) -> bool {
+        let s = self.inst.service_of(step.process);
+        let label = self.inst.neighbourhood(step.from);
+        if self.count_after(s, Mark::InNeighbourhood, label) > 0 {
+            return true;
+        }
+        let dependants = self.topo.dependants(s);
+        for k in 0..dependants.len() {
+            if self.count_after(dependants[k], Mark::InNeighbourhood, label) > 0 {
+                return false;
+            }
+        }
+        true
+    }
+}
