@@ -2,6 +2,4 @@
 //! definitions, on which weighing by changes and the guards stand.
 #![tactic(auto)]
 
-mod nothing;
-
-pub use nothing::steps_of;
+pub mod laws;

@@ -1,0 +1,4 @@
+pub mod SearchLemmas
+pub mod EndLemmas
+pub mod StayLemmas
+pub mod Local
