@@ -1,4 +1,5 @@
 pub mod Marks
+pub mod Nearness
 pub mod Reading
 pub mod Requirements
 pub mod Searching

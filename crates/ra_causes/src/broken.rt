@@ -44,10 +44,10 @@ pub fn is_unbroken<L: Ledger>(world: &World<'_>, mv: &Move, steps: &mut Steps<L>
     ensures counted { steps.new ≤ steps.old + 3 * resource_count world.now.inst.now.tables }
     ensures onwards { steps.old ≤ steps.new }
 {
-    if repeat_of(mv).is_some() {
+    if let Some(_) = repeat_of(mv) {
         return false;
     }
-    if same_of(mv).is_some() {
+    if let Some(_) = same_of(mv) {
         return false;
     }
     Trial::of(world, mv, steps).is_unbroken()

@@ -70,6 +70,7 @@ impl<'a, 'b> Trial<'a, 'b> {
 
     /// The use of a resource of a machine, where it is above its capacity after the move.
     #[inline(always)]
+    #[tactic(auto, using(crate::proofs::TestLemmas::capacities))]
     fn capacity_test(&self, m: Machine, r: Resource, kept: u64) -> Option<Cause>
         requires machine { m.0 < machine_count (tables_of self.now) }
         requires resource { r.0 < resource_count (tables_of self.now) }
@@ -93,6 +94,7 @@ impl<'a, 'b> Trial<'a, 'b> {
 
     /// The transient use of a resource of a machine, where it is above its capacity after the move.
     #[inline(always)]
+    #[tactic(auto, using(crate::proofs::TestLemmas::transients))]
     fn transient_test(&self, m: Machine, r: Resource, kept: u64) -> Option<Cause>
         requires machine { m.0 < machine_count (tables_of self.now) }
         requires resource { r.0 < resource_count (tables_of self.now) }

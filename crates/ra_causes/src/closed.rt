@@ -23,7 +23,9 @@ impl<'a, 'b> Trial<'a, 'b> {
     }
 
     /// A process on a closed machine that isn't its initial one after the move.
-    fn closed_test(&self, p: Process) -> Option<Cause>
+    #[inline(always)]
+    #[tactic(auto, using(crate::proofs::TestLemmas::closes))]
+    pub(crate) fn closed_test(&self, p: Process) -> Option<Cause>
         requires { p.0 < process_count (tables_of self.now) }
         ensures { result ≡
             closed_test (tables_of self.now) (initial_of self.now) (after_of self.now) p.0 }

@@ -1,5 +1,6 @@
 ghost use Rattle.std.specs.Prelude.{◌≡◌, ◌↔◌, ◌<◌, true, None, length};
-ghost use Rattle.ra_model.specs.Numbers.{service_count};
+ghost use Rattle.ra_model.specs.Numbers.{machine_count, service_count, process_count, service_of, neighbourhood_of};
+ghost use Rattle.ra_causes.specs.Nearness.{FindsNeeds, LeavesNone};
 ghost use Rattle.ra_model.specs.Broken.{first_broken, broken_capacity, broken_transient, broken_conflict, broken_spread, broken_dependency, broken_closed};
 ghost use Rattle.ra_causes.specs.Trials.{tables_of, initial_of, steps_of, after_of};
 
@@ -33,12 +34,13 @@ impl<'a, 'b> Trial<'a, 'b> {
     }
 
     /// Whether each machine that is entered has the capacity.
+    #[tactic(auto, using(crate::proofs::StepLemmas::known))]
     fn keeps_capacity(&self) -> bool
         ensures { (result ≡ true) ↔
             (broken_capacity (tables_of self.now) (after_of self.now) ≡ None) }
     {
         for j in 0..self.mv.steps() {
-            if self.row_capacity(self.mv.step(j).to).is_some() {
+            if let Some(_) = self.row_capacity(self.mv.step(j).to) {
                 return false;
             }
         }
@@ -46,13 +48,14 @@ impl<'a, 'b> Trial<'a, 'b> {
     }
 
     /// Whether each machine that is entered has the capacity in between.
+    #[tactic(auto, using(crate::proofs::StepLemmas::known))]
     fn keeps_transient(&self) -> bool
         ensures { (result ≡ true) ↔
             (broken_transient (tables_of self.now) (initial_of self.now) (after_of self.now)
             ≡ None) }
     {
         for j in 0..self.mv.steps() {
-            if self.row_transient(self.mv.step(j).to).is_some() {
+            if let Some(_) = self.row_transient(self.mv.step(j).to) {
                 return false;
             }
         }
@@ -60,13 +63,14 @@ impl<'a, 'b> Trial<'a, 'b> {
     }
 
     /// Whether no process enters a machine that has another one of its service.
+    #[tactic(auto, using(crate::proofs::StepLemmas::known))]
     fn keeps_apart(&self) -> bool
         ensures { (result ≡ true) ↔
             (broken_conflict (tables_of self.now) (after_of self.now) ≡ None) }
     {
         for j in 0..self.mv.steps() {
             let step = self.mv.step(j);
-            if self.conflict_test(self.inst.service_of(step.process), step.to).is_some() {
+            if let Some(_) = self.conflict_test(self.inst.service_of(step.process), step.to) {
                 return false;
             }
         }
@@ -74,13 +78,14 @@ impl<'a, 'b> Trial<'a, 'b> {
     }
 
     /// Whether each service that moves is in enough locations.
+    #[tactic(auto, using(crate::proofs::StepLemmas::known))]
     fn keeps_spread(&self) -> bool
         ensures { (result ≡ true) ↔
             (broken_spread (tables_of self.now) (after_of self.now) ≡ None) }
     {
         for j in 0..self.mv.steps() {
             let s = self.inst.service_of(self.mv.step(j).process);
-            if self.spread_test(s).is_some() {
+            if let Some(_) = self.spread_test(s) {
                 return false;
             }
         }
@@ -88,13 +93,17 @@ impl<'a, 'b> Trial<'a, 'b> {
     }
 
     /// Whether each process is near what its service needs.
+    #[tactic(auto, using(crate::proofs::StepLemmas::known))]
     fn keeps_near(&self) -> bool
         ensures { (result ≡ true) ↔
             (broken_dependency (tables_of self.now) (after_of self.now) ≡ None) }
     {
         for j in 0..self.mv.steps() {
             let step = self.mv.step(j);
-            if !self.finds_needs(step) || !self.leaves_none_alone(step) {
+            if !self.finds_needs(step) {
+                return false;
+            }
+            if !self.leaves_none_alone(step) {
                 return false;
             }
         }
@@ -102,14 +111,14 @@ impl<'a, 'b> Trial<'a, 'b> {
     }
 
     /// Whether no process enters a closed machine that isn't its initial one.
+    #[tactic(auto, using(crate::proofs::StepLemmas::known))]
     fn keeps_closed(&self) -> bool
         ensures { (result ≡ true) ↔
             (broken_closed (tables_of self.now) (initial_of self.now) (after_of self.now)
             ≡ None) }
     {
         for j in 0..self.mv.steps() {
-            let step = self.mv.step(j);
-            if self.inst.closed(step.to) && self.home(step.process).0 != step.to.0 {
+            if let Some(_) = self.closed_test(self.mv.step(j).process) {
                 return false;
             }
         }
@@ -117,7 +126,14 @@ impl<'a, 'b> Trial<'a, 'b> {
     }
 
     /// Whether a process finds all that its service needs in the neighbourhood that it enters.
-    fn finds_needs(&self, step: Step) -> bool {
+    #[tactic(auto, using(crate::proofs::StepLemmas::known))]
+    fn finds_needs(&self, step: Step) -> bool
+        requires process { step.process.0 < process_count (tables_of self.now) }
+        requires to { step.to.0 < machine_count (tables_of self.now) }
+        ensures { (result ≡ true) ↔ FindsNeeds (tables_of self.now) (after_of self.now)
+            (service_of (tables_of self.now) step.process.0)
+            (neighbourhood_of (tables_of self.now) step.to.0) }
+    {
         let label = self.inst.neighbourhood(step.to);
         let needs = self.inst.depends(self.inst.service_of(step.process));
         for k in 0..needs.len() {
@@ -130,7 +146,14 @@ impl<'a, 'b> Trial<'a, 'b> {
 
     /// Whether a process that leaves a neighbourhood is the last of its service there, and one of a service that needs
     /// it stays.
-    fn leaves_none_alone(&self, step: Step) -> bool {
+    #[tactic(auto, using(crate::proofs::StepLemmas::known))]
+    fn leaves_none_alone(&self, step: Step) -> bool
+        requires process { step.process.0 < process_count (tables_of self.now) }
+        requires from { step.from.0 < machine_count (tables_of self.now) }
+        ensures { (result ≡ true) ↔ LeavesNone (tables_of self.now) (after_of self.now)
+            (service_of (tables_of self.now) step.process.0)
+            (neighbourhood_of (tables_of self.now) step.from.0) }
+    {
         let s = self.inst.service_of(step.process);
         let label = self.inst.neighbourhood(step.from);
         if self.count_after(s, Mark::InNeighbourhood, label) > 0 {

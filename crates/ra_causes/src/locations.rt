@@ -76,17 +76,16 @@ impl<'a, 'b> Trial<'a, 'b> {
 
     /// The location of an end of the steps.
     #[inline(always)]
+    #[tactic(auto, using(crate::proofs::StepLemmas::known))]
     fn end_label(&self, j: u32) -> u32
         requires { j < end_count (steps_of self.now) }
         ensures { result ≡ end_location (tables_of self.now) (steps_of self.now) j }
     {
         let n = self.mv.steps();
-        let machine = if j < n {
-            self.mv.step(j).from
-        } else {
-            self.mv.step(j - n).to
-        };
-        self.inst.location(machine)
+        if j < n {
+            return self.inst.location(self.mv.step(j).from);
+        }
+        self.inst.location(self.mv.step(j - n).to)
     }
 }
 

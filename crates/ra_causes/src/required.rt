@@ -1,4 +1,4 @@
-ghost use Rattle.std.specs.Prelude.{◌≡◌, ◌+◌, ◌*◌, ◌<◌, ◌≤◌, length};
+ghost use Rattle.std.specs.Prelude.{◌≡◌, ℕ, ◌+◌, ◌*◌, ◌<◌, ◌≤◌, length};
 ghost use Rattle.ra_model.specs.Numbers.{resource_count, process_count};
 ghost use Rattle.ra_moves.specs.Steps.{process_in};
 ghost use Rattle.ra_causes.specs.Requirements.{AreRequired};

@@ -39,6 +39,7 @@ impl<'a, 'b> Trial<'a, 'b> {
 
     /// Two processes of a service on a machine after the move.
     #[inline(always)]
+    #[tactic(auto, using(crate::proofs::TestLemmas::conflicts))]
     pub(crate) fn conflict_test(&self, s: Service, m: Machine) -> Option<Cause>
         requires service { s.0 < service_count (tables_of self.now) }
         ensures { result ≡ conflict_test (tables_of self.now) (after_of self.now) s.0 m.0 }
@@ -69,6 +70,7 @@ impl<'a, 'b> Trial<'a, 'b> {
 
     /// A service in fewer locations than it wants after the move.
     #[inline(always)]
+    #[tactic(auto, using(crate::proofs::TestLemmas::spreads))]
     pub(crate) fn spread_test(&self, s: Service) -> Option<Cause>
         requires { s.0 < service_count (tables_of self.now) }
         ensures { result ≡ spread_test (tables_of self.now) (after_of self.now) s.0 }

@@ -7,8 +7,8 @@ ghost use Rattle.ra_moves.specs.Steps.{process_in};
 ghost use Rattle.ra_moves.specs.Replacing.{applied};
 ghost use Rattle.ra_local.specs.Moving.{IsMove};
 ghost use Rattle.ra_local.specs.Laws.{AreLocal};
-ghost use Rattle.ra_rows.specs.Rows as rows;
-ghost use Rattle.ra_cells.specs.Stands as cells;
+ghost use Rattle.ra_rows.specs.Rows as row_words;
+ghost use Rattle.ra_cells.specs.Stands as cell_words;
 ghost use Rattle.ra_causes.specs.Requirements.{AreRequired};
 
 use crate::required::read_required;
@@ -40,9 +40,9 @@ pub(crate) struct Trial<'a, 'b> {
     pub ghost topology: { IsTopologyOf topo.now inst.now.tables },
     pub ghost rows_tables: { rows.now.tables ≡ inst.now.tables },
     pub ghost rows_start: { rows.now.start ≡ start.now.items },
-    pub ghost rows_stand: { rows.StandFor rows.now at.now.items },
+    pub ghost rows_stand: { row_words.StandFor rows.now at.now.items },
     pub ghost cells_tables: { cells.now.inst.now.tables ≡ inst.now.tables },
-    pub ghost cells_stand: { cells.StandFor cells.now inst.now.tables start.now.items at.now.items },
+    pub ghost cells_stand: { cell_words.StandFor cells.now inst.now.tables start.now.items at.now.items },
     pub ghost known: { AreRequired inst.now.tables mv.now.steps (length mv.now.steps) required },
 }
 

@@ -1,4 +1,5 @@
-ghost use Rattle.std.specs.Prelude.{◌≡◌, ◌^◌, ◌<◌, ◌≤◌, if◌then◌else◌};
+ghost use Rattle.std.specs.Prelude.{◌≡◌, ◌^◌, ◌<◌, ◌≤◌, if◌then◌else◌, ◌||◌, ◌&&◌};
+ghost use Rattle.ra_base.specs.Sums.{one_if};
 ghost use Rattle.ra_model.specs.Numbers.{resource_count, machine_count, service_count, process_count};
 ghost use Rattle.ra_model.specs.Assignments.{machine_at};
 ghost use Rattle.ra_model.specs.Usage.{use_of, transient_of};
@@ -13,14 +14,40 @@ use ra_base::{Machine, Process, Resource, Service};
 /// An amount where a test holds, else nothing.
 #[inline(always)]
 pub(crate) fn amount_if(test: bool, amount: u32) -> u64
-    ensures { result ≡ if test then amount else 0 }
+    ensures value { result ≡ if test then amount else 0 }
+    ensures few { result ≤ 2 ^ 32 }
 {
     if test { u64::from(amount) } else { 0 }
+}
+
+/// An amount where one of two tests holds, else nothing.
+#[inline(always)]
+pub(crate) fn amount_of_either(first: bool, second: bool, amount: u32) -> u64
+    ensures value { result ≡ if first || second then amount else 0 }
+    ensures few { result ≤ 2 ^ 32 }
+{
+    if first {
+        return u64::from(amount);
+    }
+    if second { u64::from(amount) } else { 0 }
+}
+
+/// 1 where two tests hold, else 0.
+#[inline(always)]
+fn one_if_both(first: bool, second: bool) -> u32
+    ensures value { result ≡ one_if (first && second) }
+    ensures few { result ≤ 1 }
+{
+    if !first {
+        return 0;
+    }
+    if second { 1 } else { 0 }
 }
 
 impl<'a, 'b> Trial<'a, 'b> {
     /// The use of a resource of a machine after the move, from that before it.
     #[inline(always)]
+    #[tactic(auto, using(crate::proofs::StepLemmas::known, crate::proofs::FlowLemmas::flowing))]
     pub(crate) fn use_after(&self, m: Machine, r: Resource, kept: u64) -> u64
         requires resource { r.0 < resource_count (tables_of self.now) }
         requires kept { kept ≡ use_of (tables_of self.now) (before_of self.now) m.0 r.0 }
@@ -40,6 +67,7 @@ impl<'a, 'b> Trial<'a, 'b> {
 
     /// The transient use of a resource of a machine after the move, from that before it.
     #[inline(always)]
+    #[tactic(auto, using(crate::proofs::StepLemmas::known, crate::proofs::FlowLemmas::flowing))]
     pub(crate) fn transient_after(&self, m: Machine, r: Resource, kept: u64) -> u64
         requires resource { r.0 < resource_count (tables_of self.now) }
         requires kept { kept ≡
@@ -54,8 +82,8 @@ impl<'a, 'b> Trial<'a, 'b> {
             let step = self.mv.step(j);
             let amount = self.required(j, r);
             let home = self.home(step.process);
-            came += amount_if(home.0 == m.0 || step.to.0 == m.0, amount);
-            went += amount_if(home.0 == m.0 || step.from.0 == m.0, amount);
+            came += amount_of_either(home.0 == m.0, step.to.0 == m.0, amount);
+            went += amount_of_either(home.0 == m.0, step.from.0 == m.0, amount);
         }
         kept + came - went
     }
@@ -100,6 +128,7 @@ impl<'a, 'b> Trial<'a, 'b> {
 
     /// How many processes of a service are on machines with a mark, after the move.
     #[inline(always)]
+    #[tactic(auto, using(crate::proofs::StepLemmas::known, crate::proofs::FlowLemmas::flowing))]
     pub(crate) fn count_after(&self, s: Service, mark: Mark, x: u32) -> u32
         requires { s.0 < service_count (tables_of self.now) }
         ensures count { result ≡ marked (tables_of self.now) mark (after_of self.now) s.0 x }
@@ -117,6 +146,7 @@ impl<'a, 'b> Trial<'a, 'b> {
 
     /// 1 for a process of a service that is on a machine with a mark.
     #[inline(always)]
+    #[tactic(auto, using(crate::proofs::TestLemmas::of_read))]
     pub(crate) fn one_at(&self, s: Service, mark: Mark, x: u32, p: Process, at: Machine) -> u32
         requires process { p.0 < process_count (tables_of self.now) }
         requires machine { at.0 < machine_count (tables_of self.now) }
@@ -124,11 +154,9 @@ impl<'a, 'b> Trial<'a, 'b> {
             of_service (tables_of self.now) s.0 (has_mark (tables_of self.now) mark x) p.0 at.0 }
         ensures few { result ≤ 1 }
     {
-        if self.inst.service_of(p).0 == s.0 && self.mark_of(mark, at) == x {
-            1
-        } else {
-            0
-        }
+        let own = self.inst.service_of(p).0 == s.0;
+        let there = self.mark_of(mark, at) == x;
+        one_if_both(own, there)
     }
 
     /// The machine of a process after the move.

@@ -1,0 +1,9 @@
+mod SeekLemmas
+mod FlowLemmas
+mod LocationLemmas
+mod StepLemmas
+mod ReadLemmas
+mod HoldLemmas
+mod NearLemmas
+mod TestLemmas
+mod NextLemmas

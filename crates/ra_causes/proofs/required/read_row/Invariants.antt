@@ -1,0 +1,10 @@
+-- The first columns are read.
+use Rattle.std.proofs.Common.{◌≡◌, ◌+◌}
+use Rattle.ra_causes.specs.Reading.{AreRead}
+use Rattle.ra_causes.proofs.required.read_row.Given as goal
+
+abbrev pub invariant-loop-r : goal.invariant-loop-r
+invariant-loop-r g l = record {
+  read : AreRead l.inst.tables l.p.0 l.j l.r l.initial.required l.required;
+  counted : l.steps ≡ l.initial.steps + l.r;
+}
