@@ -15,16 +15,16 @@ use Rattle.ra_model.specs.Numbers.{resource_count, machine_count, service_count,
 use Rattle.ra_model.specs.Assignments.{machine_at}
 use Rattle.ra_model.specs.Usage.{use_share, use_of, transient_share, transient_of}
 use Rattle.ra_model.specs.Services.{is_of, of_service, members_at, on_machine}
-use Rattle.ra_model.specs.Broken.{cause_if, capacity_test, row_capacity, broken_capacity, transient_test, row_transient, broken_transient, conflict_test, service_conflict, broken_conflict}
+use Rattle.ra_model.specs.Broken.{cause_if, capacity_test, row_capacity, broken_capacity, transient_test, row_transient, broken_transient, conflict_test, service_conflict, broken_conflict, spread_test}
 use Rattle.ra_model.proofs.BrokenLemmas.{Fine, cause_none, cause_free, capacity_met, transient_met}
 use Rattle.ra_moves.specs.declared.steps.Step.{Step}
 use Rattle.ra_moves.specs.Steps.{process_in, from_in, to_in}
 use Rattle.ra_moves.specs.Replacing.{applied}
 use Rattle.ra_moves.specs.Values.{gone, come}
 use Rattle.ra_moves.proofs.ValueLemmas.{use_elsewhere}
-use Rattle.ra_local.specs.Touched.{service_in}
+use Rattle.ra_local.specs.Touched.{service_in, moves_service}
 use Rattle.ra_local.specs.Moving.{IsMove}
-use Rattle.ra_local.specs.Laws.{OnlyWhere}
+use Rattle.ra_local.specs.Laws.{OnlyWhere, AreLocal}
 use Rattle.ra_local.proofs.StayLemmas.{tally_applied}
 
 -- nothing is found at the first n names
@@ -87,13 +87,20 @@ transient_falls : (i : Tables) (a0 a : List Machine) (steps : List Step) (m r : 
 unfolding transient_of come gone
 transient_falls i a0 a steps m r move apart = omega (arith, tally_applied i a steps (transient_share i a0 m r) move, total_le (length steps) (come (transient_share i a0 m r) steps) (gone (transient_share i a0 m r) steps) (λ j within. transient_no_more i a0 m r (process_in steps j) (from_in steps j) (to_in steps j) (apart j within)))
 
+transient_fits : (i : Tables) (a0 a : List Machine) (steps : List Step) (m r : ℕ) → IsMove i a steps → Fine i a0 a → m < machine_count i → r < resource_count i → is_named (length steps) (to_in steps) m ≡ false → transient_at i r ≡ true → transient_of i a0 (applied a steps) m r ≤ capacity_of i m r
+transient_fits i a0 a steps m r move fine m_in r_in none twice = omega (arith, transient_falls i a0 a steps m r move (not_named (length steps) (to_in steps) m none), transient_met i a0 a fine.transient m r m_in r_in twice)
+
+transient_free : (i : Tables) (a0 b : List Machine) (m r : ℕ) → (transient_at i r ≡ true → transient_of i a0 b m r ≤ capacity_of i m r) → transient_test i a0 b m r ≡ None
+unfolding transient_test
+transient_free i a0 b m r fits = cause_free _ _ (⊎_elim
+    (λ (twice : transient_at i r ≡ true). and_right (transient_at i r) (ltb (capacity_of i m r) (transient_of i a0 b m r)) (le-ltb (capacity_of i m r) (transient_of i a0 b m r) (fits twice)))
+    (λ (once : transient_at i r ≡ false). and_left (transient_at i r) (ltb (capacity_of i m r) (transient_of i a0 b m r)) once)
+    (cases_Bool (transient_at i r)))
+
 pub transient_entered : (i : Tables) (a0 a : List Machine) (steps : List Step) → IsMove i a steps → Fine i a0 a → OnlyWhere (machine_count i) (is_named (length steps) (to_in steps)) (row_transient i a0 (applied a steps))
-unfolding row_transient transient_test
+unfolding row_transient
 transient_entered i a0 a steps move fine = record {
-  others = λ m m_in none. first_none_from (resource_count i) _ (λ r r_in. cause_free _ _ (⊎_elim
-      (λ (twice : transient_at i r ≡ true). and_right _ _ (le-ltb _ _ (omega (arith, transient_falls i a0 a steps m r move (not_named (length steps) (to_in steps) m none), transient_met i a0 a fine.transient m r m_in r_in twice))))
-      (λ (once : transient_at i r ≡ false). and_left _ _ once)
-      (cases_Bool (transient_at i r))));
+  others = λ m m_in none. first_none_from (resource_count i) (transient_test i a0 (applied a steps) m) (λ r r_in. transient_free i a0 (applied a steps) m r (λ twice. transient_fits i a0 a steps m r move fine m_in r_in none twice));
 }
 
 -- conflict
@@ -145,3 +152,14 @@ conflict_all i a0 a steps n move fine all none =
 pub conflict_somewhere : (i : Tables) (b : List Machine) (s m : ℕ) → s < service_count i → m < machine_count i → conflict_test i b s m ≢ None → broken_conflict i b ≡ None → ⊥
 unfolding broken_conflict service_conflict
 conflict_somewhere i b s m s_in m_in some none = some (first_none_at m (machine_count i) (conflict_test i b s) m_in (first_none_at s (service_count i) _ s_in none))
+
+pub found_there : (m x : ℕ) (f : ℕ → Option Cause) (cause : Cause) → x < m → Some cause ≡ f x → first m f ≡ None → ⊥
+found_there m x f cause within is none = absurd (cc (is, first_none_at x m f within none))
+
+pub conflict_there : (i : Tables) (b : List Machine) (s m : ℕ) (cause : Cause) → s < service_count i → m < machine_count i → Some cause ≡ conflict_test i b s m → broken_conflict i b ≡ None → ⊥
+conflict_there i b s m cause s_in m_in is none = conflict_somewhere i b s m s_in m_in (λ no. absurd (cc (is, no))) none
+
+-- spread, by the names of the services that move
+pub spread_moved : {i : Tables} {a0 b : List Machine} {steps : List Step} → AreLocal i a0 b steps → OnlyWhere (service_count i) (is_named (length steps) (service_in i steps)) (spread_test i b)
+unfolding moves_service
+spread_moved local = record { others = λ s within none. local.spread.others s within none }

@@ -7,3 +7,5 @@ mod HoldLemmas
 mod NearLemmas
 mod TestLemmas
 mod NextLemmas
+mod LandLemmas
+mod MemberLemmas

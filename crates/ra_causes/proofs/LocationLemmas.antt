@@ -10,7 +10,8 @@ use Rattle.ra_model.specs.Numbers.{location_of}
 use Rattle.ra_model.specs.Limits.{Small}
 use Rattle.ra_model.specs.Services.{is_of, in_location, locations_of, of_service, members_at}
 use Rattle.ra_moves.specs.declared.steps.Step.{Step}
-use Rattle.ra_moves.specs.Steps.{from_in, to_in, process_in}
+use Rattle.ra_moves.specs.Steps.{step_at, from_in, to_in, process_in}
+use Rattle.ra_causes.proofs.StepLemmas.{from_read, to_read}
 use Rattle.ra_moves.specs.Replacing.{applied}
 use Rattle.ra_moves.specs.Values.{end_count, end_in}
 use Rattle.ra_moves.proofs.ValueLemmas.{end_from, end_to}
@@ -97,3 +98,17 @@ held_new e f j label x is new value = value ∙ ap f is ∙ sym (fresh_new e f j
 pub held_marked : (i : Tables) (a : List Machine) (s label n x : ℕ) → n ≡ marked i InLocation a s label → x ≡ one_if (ltb 0 n) → x ≡ held_in i a s label
 unfolding held_in marked in_location has_mark mark_of
 held_marked i a s label n x count value = value ∙ ap (λ k. one_if (ltb 0 k)) count
+
+-- the location of an end, as it is read
+
+pub label_from : (i : Tables) (steps : List Step) (j label : ℕ) (s : Step) → s ≡ step_at steps j → j < length steps → label ≡ location_of i s.from.0 → label ≡ end_location i steps j
+unfolding end_location
+label_from i steps j label s is within read = read ∙ ap (location_of i) (sym (end_from steps j within ∙ from_read steps j s is))
+
+pub label_to : (i : Tables) (steps : List Step) (j n label : ℕ) (s : Step) → n ≡ length steps → n ≤ j → s ≡ step_at steps (j - n) → label ≡ location_of i s.to.0 → label ≡ end_location i steps j
+unfolding end_location
+label_to i steps j n label s all after is read =
+    let place : length steps + (j - n) ≡ j = omega arith in
+    read ∙ ap (location_of i) (sym (ap (end_in steps) (sym place) ∙ end_to steps (j - n) ∙ to_read steps (j - n) s is))
+
+pub ruleset labels = (label_from, label_to)

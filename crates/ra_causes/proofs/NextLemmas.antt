@@ -7,13 +7,15 @@ use Rattle.ra_base.specs.Sums.{count, is_named, pick}
 use Rattle.ra_base.specs.declared.ids.Machine.{Machine}
 use Rattle.ra_base.specs.declared.ids.Service.{Service}
 use Rattle.ra_base.proofs.Named.{is_named_at, is_named_from}
-use Rattle.ra_base.proofs.Picks.{pick_place, pick_ascends}
+use Rattle.ra_base.proofs.Picks.{pick_place, pick_ascends, pick_at}
 use Rattle.ra_base.proofs.Searches.{first_none_from}
 use Rattle.ra_model.specs.declared.raw.Tables.{Tables}
 use Rattle.ra_model.specs.Numbers.{service_count, dependency_count, need_of}
 use Rattle.ra_model.specs.Relations.{depends}
 use Rattle.ra_model.specs.Broken.{pair_dependency, service_dependency}
-use Rattle.ra_topology.specs.Lists.{service_at, is_dependant, numbers_of, AreDependantsOf}
+use Rattle.ra_topology.specs.Lists.{service_at, is_dependant, numbers_of, services_of, AreDependantsOf}
+use Rattle.ra_topology.specs.TopologyLists.{TopologyLists}
+use Rattle.ra_topology.specs.Fits.{IsTopologyOf}
 use Rattle.ra_moves.specs.declared.steps.Step.{Step}
 use Rattle.ra_moves.specs.Steps.{from_in, to_in}
 use Rattle.ra_local.specs.Touched.{ends_at, service_in, moves_service}
@@ -133,3 +135,14 @@ below_middle list low middle ascend within less k before = omega (arith, ascend.
 
 pub above_middle : (list : List Service) (low middle : ℕ) → Ascend list → low ≤ service_at list middle → (k : ℕ) → middle ≤ k → k < length list → low ≤ service_at list k
 above_middle list low middle ascend more k after within = omega (arith, ascend.ordered middle k after within)
+
+pub listed : (i : Tables) (topology : TopologyLists) (s : ℕ) (list : List Service) → IsTopologyOf topology i → s < service_count i → list ≡ services_of topology.dependants s → AreDependantsOf i s list
+listed i topology s list fits there is = rw is (fits.dependants.each s there)
+
+-- a dependant that is listed
+pub dependant_at : (i : Tables) (s k : ℕ) (list : List Service) → AreDependantsOf i s list → k < length list → (service_at list k < service_count i) × (is_dependant i s (service_at list k) ≡ true)
+dependant_at i s k list are within =
+    let long : length list ≡ length (pick (service_count i) (is_dependant i s)) = sym (length-map list (λ (t : Service). t.0)) ∙ ap length are.numbers in
+    let is : get_or (pick (service_count i) (is_dependant i s)) k 0 ≡ service_at list k = ap (λ (l : List ℕ). get_or l k 0) (sym are.numbers) ∙ number_at list k in
+    let at = pick_at (service_count i) (is_dependant i s) k (omega (arith, long)) in
+    (omega (arith, at.0, is), ap (is_dependant i s) (sym is) ∙ at.1)

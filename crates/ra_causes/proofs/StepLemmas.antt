@@ -1,9 +1,9 @@
 -- The steps of a move, as they are read.
-use Rattle.std.proofs.Common.{◌≡◌, ℕ, ◌<◌, ◌≤◌, ◌^◌, ◌||◌, cond, eqb, List, length, sym, ap, ◌∙◌, arith}
+use Rattle.std.proofs.Common.{◌≡◌, ℕ, ◌+◌, ◌-◌, ◌<◌, ◌≤◌, ◌^◌, ◌||◌, cond, eqb, List, length, sym, ap, ◌∙◌, arith}
 use Rattle.ra_base.specs.declared.ids.Machine.{Machine}
 use Rattle.ra_model.specs.declared.raw.Tables.{Tables}
 use Rattle.ra_model.specs.Limits.{WellFormed}
-use Rattle.ra_model.specs.Numbers.{machine_count, service_count, process_count, requirement_of, service_of}
+use Rattle.ra_model.specs.Numbers.{machine_count, service_count, process_count, requirement_of, service_of, dependency_start, dependency_end, dependency_count, need_of}
 use Rattle.ra_model.specs.Assignments.{machine_at}
 use Rattle.ra_model.specs.Usage.{use_share, transient_share}
 use Rattle.ra_moves.specs.declared.steps.Step.{Step}
@@ -29,6 +29,10 @@ step_from i a steps j s move is within =
 
 pub service_there : (i : Tables) (p s : ℕ) → WellFormed i → p < process_count i → s ≡ service_of i p → s < service_count i
 service_there i p s limits there is = rw is (limits.services p there)
+
+pub need_there : (i : Tables) (s k need : ℕ) → WellFormed i → s < service_count i → k < dependency_count i s → need ≡ need_of i s k → need < service_count i
+unfolding need_of dependency_count
+need_there i s k need limits there within is = rw is (limits.needs (dependency_start i s + k) (omega (arith, limits.within s there, limits.in_order s there)))
 
 pub ruleset known = (step_process, step_to, step_from, service_there)
 

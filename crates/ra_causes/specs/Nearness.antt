@@ -1,9 +1,13 @@
 -- What a step has to keep so that no dependency breaks.
-use Rattle.std.specs.Prelude.{◌≡◌, ℕ, ◌<◌, List, true}
+use Rattle.std.specs.Prelude.{◌≡◌, ℕ, ◌<◌, List, Option, true}
+use Rattle.ra_base.specs.declared.causes.Cause.{Cause}
 use Rattle.ra_base.specs.declared.ids.Machine.{Machine}
+use Rattle.ra_base.specs.declared.ids.Process.{Process}
 use Rattle.ra_model.specs.declared.raw.Tables.{Tables}
 use Rattle.ra_model.specs.Numbers.{service_count, dependency_count, need_of, neighbourhood_of}
 use Rattle.ra_model.specs.Relations.{depends}
+use Rattle.ra_model.specs.Broken.{far_test}
+use Rattle.ra_model.specs.Members.{member_at}
 use Rattle.ra_model.specs.Services.{in_neighbourhood}
 use Rattle.ra_moves.specs.declared.steps.Step.{Step}
 use Rattle.ra_moves.specs.Steps.{from_in, to_in}
@@ -21,3 +25,7 @@ pub record LeavesNone (i : Tables) (b : List Machine) (s label : ℕ) : Type 0 w
 pub record KeepNear (i : Tables) (b : List Machine) (steps : List Step) (n : ℕ) : Type 0 where
   pub finds : (j : ℕ) → j < n → FindsNeeds i b (service_in i steps j) (neighbourhood_of i (to_in steps j))
   pub leaves : (j : ℕ) → j < n → LeavesNone i b (service_in i steps j) (neighbourhood_of i (from_in steps j))
+
+-- member x of some, which are of service s, is far from what dependency k needs
+unfoldable pub far_member : Tables → List Machine → ℕ → ℕ → List Process → ℕ → Option Cause
+far_member i b s k members x = far_test i b s k (member_at members x)

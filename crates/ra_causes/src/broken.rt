@@ -44,10 +44,10 @@ pub fn is_unbroken<L: Ledger>(world: &World<'_>, mv: &Move, steps: &mut Steps<L>
     ensures counted { steps.new ≤ steps.old + 3 * resource_count world.now.inst.now.tables }
     ensures onwards { steps.old ≤ steps.new }
 {
-    if let Some(_) = repeat_of(mv) {
+    if let Some(_cause) = repeat_of(mv) {
         return false;
     }
-    if let Some(_) = same_of(mv) {
+    if let Some(_cause) = same_of(mv) {
         return false;
     }
     Trial::of(world, mv, steps).is_unbroken()

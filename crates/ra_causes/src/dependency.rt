@@ -55,7 +55,7 @@ impl<'a, 'b> Trial<'a, 'b> {
     }
 
     /// A process that has none of a service that it needs in its neighbourhood after the move.
-    #[tactic(auto, using(crate::proofs::TestLemmas::fars))]
+    #[tactic(auto, using(crate::proofs::TestLemmas::fars, crate::proofs::StepLemmas::need_there))]
     fn far_test(&self, s: Service, k: usize, need: Service, p: Process) -> Option<Cause>
         requires service { s.0 < service_count (tables_of self.now) }
         requires dependency { k < dependency_count (tables_of self.now) s.0 }

@@ -40,7 +40,7 @@ impl<'a, 'b> Trial<'a, 'b> {
             (broken_capacity (tables_of self.now) (after_of self.now) ≡ None) }
     {
         for j in 0..self.mv.steps() {
-            if let Some(_) = self.row_capacity(self.mv.step(j).to) {
+            if let Some(_cause) = self.row_capacity(self.mv.step(j).to) {
                 return false;
             }
         }
@@ -55,7 +55,7 @@ impl<'a, 'b> Trial<'a, 'b> {
             ≡ None) }
     {
         for j in 0..self.mv.steps() {
-            if let Some(_) = self.row_transient(self.mv.step(j).to) {
+            if let Some(_cause) = self.row_transient(self.mv.step(j).to) {
                 return false;
             }
         }
@@ -70,7 +70,7 @@ impl<'a, 'b> Trial<'a, 'b> {
     {
         for j in 0..self.mv.steps() {
             let step = self.mv.step(j);
-            if let Some(_) = self.conflict_test(self.inst.service_of(step.process), step.to) {
+            if let Some(_cause) = self.conflict_test(self.inst.service_of(step.process), step.to) {
                 return false;
             }
         }
@@ -85,7 +85,7 @@ impl<'a, 'b> Trial<'a, 'b> {
     {
         for j in 0..self.mv.steps() {
             let s = self.inst.service_of(self.mv.step(j).process);
-            if let Some(_) = self.spread_test(s) {
+            if let Some(_cause) = self.spread_test(s) {
                 return false;
             }
         }
@@ -118,7 +118,7 @@ impl<'a, 'b> Trial<'a, 'b> {
             ≡ None) }
     {
         for j in 0..self.mv.steps() {
-            if let Some(_) = self.closed_test(self.mv.step(j).process) {
+            if let Some(_cause) = self.closed_test(self.mv.step(j).process) {
                 return false;
             }
         }
@@ -135,9 +135,11 @@ impl<'a, 'b> Trial<'a, 'b> {
             (neighbourhood_of (tables_of self.now) step.to.0) }
     {
         let label = self.inst.neighbourhood(step.to);
-        let needs = self.inst.depends(self.inst.service_of(step.process));
+        let s = self.inst.service_of(step.process);
+        let needs = self.inst.depends(s);
         for k in 0..needs.len() {
-            if self.count_after(needs[k], Mark::InNeighbourhood, label) == 0 {
+            let near = self.count_after(needs[k], Mark::InNeighbourhood, label);
+            if near == 0 {
                 return false;
             }
         }
@@ -156,12 +158,14 @@ impl<'a, 'b> Trial<'a, 'b> {
     {
         let s = self.inst.service_of(step.process);
         let label = self.inst.neighbourhood(step.from);
-        if self.count_after(s, Mark::InNeighbourhood, label) > 0 {
+        let left = self.count_after(s, Mark::InNeighbourhood, label);
+        if left > 0 {
             return true;
         }
         let dependants = self.topo.dependants(s);
         for k in 0..dependants.len() {
-            if self.count_after(dependants[k], Mark::InNeighbourhood, label) > 0 {
+            let near = self.count_after(dependants[k], Mark::InNeighbourhood, label);
+            if near > 0 {
                 return false;
             }
         }

@@ -76,7 +76,7 @@ impl<'a, 'b> Trial<'a, 'b> {
 
     /// The location of an end of the steps.
     #[inline(always)]
-    #[tactic(auto, using(crate::proofs::StepLemmas::known))]
+    #[tactic(auto, using(crate::proofs::StepLemmas::known, crate::proofs::LocationLemmas::labels))]
     fn end_label(&self, j: u32) -> u32
         requires { j < end_count (steps_of self.now) }
         ensures { result ≡ end_location (tables_of self.now) (steps_of self.now) j }

@@ -7,7 +7,7 @@ use ra_base::{Cause, Process};
 use ra_moves::Move;
 
 /// The first step that names a process of an earlier one.
-#[tactic(auto, using(ra_base::proofs::Searches::searches), unfolding(ra_moves::specs::Judging::repeat_of))]
+#[tactic(auto, using(ra_base::proofs::Searches::searches, crate::proofs::TestLemmas::repeats), unfolding(ra_moves::specs::Judging::repeat_of))]
 pub(crate) fn repeat_of(mv: &Move) -> Option<Cause>
     ensures { result ≡ repeat_of mv.now.steps }
 {
@@ -22,7 +22,7 @@ pub(crate) fn repeat_of(mv: &Move) -> Option<Cause>
 
 /// Whether one of the first steps names a process.
 #[inline(always)]
-#[tactic(auto, using(ra_base::proofs::Named::names))]
+#[tactic(auto, using(ra_base::proofs::Named::names, crate::proofs::StepLemmas::process_read))]
 fn names_before(mv: &Move, count: u32, p: Process) -> bool
     requires { count ≤ length mv.now.steps }
     ensures { result ≡ is_named count (process_in mv.now.steps) p.0 }
@@ -36,7 +36,7 @@ fn names_before(mv: &Move, count: u32, p: Process) -> bool
 }
 
 /// The first step that leaves its process where it is.
-#[tactic(auto, using(ra_base::proofs::Searches::searches), unfolding(ra_moves::specs::Judging::same_of))]
+#[tactic(auto, using(ra_base::proofs::Searches::searches, crate::proofs::TestLemmas::sames), unfolding(ra_moves::specs::Judging::same_of))]
 pub(crate) fn same_of(mv: &Move) -> Option<Cause>
     ensures { result ≡ same_of mv.now.steps }
 {

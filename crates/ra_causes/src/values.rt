@@ -131,7 +131,7 @@ impl<'a, 'b> Trial<'a, 'b> {
     #[tactic(auto, using(crate::proofs::StepLemmas::known, crate::proofs::FlowLemmas::flowing))]
     pub(crate) fn count_after(&self, s: Service, mark: Mark, x: u32) -> u32
         requires { s.0 < service_count (tables_of self.now) }
-        ensures count { result ≡ marked (tables_of self.now) mark (after_of self.now) s.0 x }
+        ensures { result ≡ marked (tables_of self.now) mark (after_of self.now) s.0 x }
     {
         let kept = self.count_before(s, mark, x);
         let mut came: u32 = 0;
@@ -160,6 +160,7 @@ impl<'a, 'b> Trial<'a, 'b> {
     }
 
     /// The machine of a process after the move.
+    #[tactic(auto, using(ra_base::proofs::Named::names, ra_model::proofs::TallyLemmas::machine_at_read, crate::proofs::StepLemmas::process_read, crate::proofs::StepLemmas::known, crate::proofs::LandLemmas::landing))]
     pub(crate) fn machine_after(&self, p: Process) -> Machine
         requires { p.0 < process_count (tables_of self.now) }
         ensures machine { result.0 ≡ machine_at (after_of self.now) p.0 }
