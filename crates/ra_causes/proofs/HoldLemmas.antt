@@ -3,25 +3,26 @@
 use Rattle.std.proofs.Common.{◌≡◌, ◌≢◌, ◌↔◌, ℕ, ◌+◌, ◌<◌, ◌≤◌, Bool, true, false, cond, eqb, ltb, ◌&&◌, ◌||◌, List, Option, Some, None, length, sym, refl, ap, ◌∙◌, ⊎_elim, arith, ne_eqb, le-ltb}
 use Rattle.std.proofs.lemmas.Bool.{cases_Bool, cases_lt, cond-true, cond-false, and_left, and_right, and_parts, or_from, ltb-false, eqb-true, both_ways}
 use Rattle.ra_base.specs.Sums.{total, one_if, count, is_named}
-use Rattle.ra_base.specs.Searches.{first}
+use Rattle.ra_base.specs.Searches.{or_else, first}
 use Rattle.ra_base.specs.declared.ids.Machine.{Machine}
 use Rattle.ra_base.specs.declared.causes.Cause.{Cause}
 use Rattle.ra_base.proofs.Sums.{total_zero, total_le}
 use Rattle.ra_base.proofs.Counts.{one_if_false, count_zero_at, count_positive}
 use Rattle.ra_base.proofs.Named.{is_named_at, is_named_from}
-use Rattle.ra_base.proofs.Searches.{first_none_at, first_none_from}
+use Rattle.ra_base.proofs.Searches.{first_none_at, first_none_from, or_else_none, or_else_some, left_none, right_none}
 use Rattle.ra_model.specs.declared.raw.Tables.{Tables}
 use Rattle.ra_model.specs.Numbers.{resource_count, machine_count, service_count, process_count, transient_at, capacity_of, requirement_of, service_of}
 use Rattle.ra_model.specs.Assignments.{machine_at}
 use Rattle.ra_model.specs.Usage.{use_share, use_of, transient_share, transient_of}
 use Rattle.ra_model.specs.Services.{is_of, of_service, members_at, on_machine}
-use Rattle.ra_model.specs.Broken.{cause_if, capacity_test, row_capacity, broken_capacity, transient_test, row_transient, broken_transient, conflict_test, service_conflict, broken_conflict, spread_test}
+use Rattle.ra_model.specs.Broken.{cause_if, capacity_test, row_capacity, broken_capacity, transient_test, row_transient, broken_transient, conflict_test, service_conflict, broken_conflict, spread_test, first_broken}
 use Rattle.ra_model.proofs.BrokenLemmas.{Fine, cause_none, cause_free, capacity_met, transient_met}
 use Rattle.ra_moves.specs.declared.steps.Step.{Step}
 use Rattle.ra_moves.specs.Steps.{process_in, from_in, to_in}
 use Rattle.ra_moves.specs.Replacing.{applied}
 use Rattle.ra_moves.specs.Values.{gone, come}
 use Rattle.ra_moves.proofs.ValueLemmas.{use_elsewhere}
+use Rattle.ra_moves.specs.Judging.{repeat_of, same_of, broken_by}
 use Rattle.ra_local.specs.Touched.{service_in, moves_service}
 use Rattle.ra_local.specs.Moving.{IsMove}
 use Rattle.ra_local.specs.Laws.{OnlyWhere, AreLocal}
@@ -163,3 +164,27 @@ conflict_there i b s m cause s_in m_in is none = conflict_somewhere i b s m s_in
 pub spread_moved : {i : Tables} {a0 b : List Machine} {steps : List Step} → AreLocal i a0 b steps → OnlyWhere (service_count i) (is_named (length steps) (service_in i steps)) (spread_test i b)
 unfolding moves_service
 spread_moved local = record { others = λ s within none. local.spread.others s within none }
+
+-- one search after another
+
+pub found_first : (a b : Option Cause) (x : Cause) → Some x ≡ a → Some x ≡ or_else a b
+found_first a b x is = sym (ap (λ c. or_else c b) (sym is) ∙ or_else_some x b)
+
+pub found_later : (a b y : Option Cause) → None ≡ a → y ≡ b → y ≡ or_else a b
+found_later a b y none is = is ∙ sym (ap (λ c. or_else c b) (sym none) ∙ or_else_none b)
+
+-- what a move is judged by, where it names no process twice and moves each
+
+pub judged : (i : Tables) (a0 a : List Machine) (steps : List Step) → None ≡ repeat_of steps → None ≡ same_of steps → broken_by i a0 a steps ≡ first_broken i a0 (applied a steps)
+unfolding broken_by
+judged i a0 a steps once apart = sym (found_later (repeat_of steps) (or_else (same_of steps) (first_broken i a0 (applied a steps))) (first_broken i a0 (applied a steps)) once (found_later (same_of steps) (first_broken i a0 (applied a steps)) (first_broken i a0 (applied a steps)) apart refl))
+
+pub repeats_no : (i : Tables) (a0 a : List Machine) (steps : List Step) (x : Cause) → Some x ≡ repeat_of steps → broken_by i a0 a steps ≡ None → ⊥
+unfolding broken_by
+repeats_no i a0 a steps x is none = absurd (cc (is, left_none (repeat_of steps) (or_else (same_of steps) (first_broken i a0 (applied a steps))) none))
+
+pub same_no : (i : Tables) (a0 a : List Machine) (steps : List Step) (x : Cause) → Some x ≡ same_of steps → broken_by i a0 a steps ≡ None → ⊥
+unfolding broken_by
+same_no i a0 a steps x is none =
+    let rest = right_none (repeat_of steps) (or_else (same_of steps) (first_broken i a0 (applied a steps))) none in
+    absurd (cc (is, left_none (same_of steps) (first_broken i a0 (applied a steps)) rest))

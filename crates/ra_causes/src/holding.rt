@@ -1,5 +1,5 @@
 ghost use Rattle.std.specs.Prelude.{◌≡◌, ◌↔◌, ◌<◌, true, None, length};
-ghost use Rattle.ra_model.specs.Numbers.{machine_count, service_count, process_count, service_of, neighbourhood_of};
+ghost use Rattle.ra_model.specs.Numbers.{machine_count, service_count, process_count, neighbourhood_of};
 ghost use Rattle.ra_causes.specs.Nearness.{FindsNeeds, LeavesNone};
 ghost use Rattle.ra_model.specs.Broken.{first_broken, broken_capacity, broken_transient, broken_conflict, broken_spread, broken_dependency, broken_closed};
 ghost use Rattle.ra_causes.specs.Trials.{tables_of, initial_of, steps_of, after_of};
@@ -7,7 +7,6 @@ ghost use Rattle.ra_causes.specs.Trials.{tables_of, initial_of, steps_of, after_
 use crate::marks::Mark;
 use crate::trial::Trial;
 use ra_base::{Machine, Service};
-use ra_moves::Step;
 
 impl<'a, 'b> Trial<'a, 'b> {
     /// Whether no constraint is broken after the move.
@@ -100,10 +99,11 @@ impl<'a, 'b> Trial<'a, 'b> {
     {
         for j in 0..self.mv.steps() {
             let step = self.mv.step(j);
-            if !self.finds_needs(step) {
+            let s = self.inst.service_of(step.process);
+            if !self.finds_needs(s, step.to) {
                 return false;
             }
-            if !self.leaves_none_alone(step) {
+            if !self.leaves_none_alone(s, step.from) {
                 return false;
             }
         }
@@ -125,17 +125,15 @@ impl<'a, 'b> Trial<'a, 'b> {
         true
     }
 
-    /// Whether a process finds all that its service needs in the neighbourhood that it enters.
+    /// Whether all that a service needs is in the neighbourhood of a machine.
     #[tactic(auto, using(crate::proofs::StepLemmas::known))]
-    fn finds_needs(&self, step: Step) -> bool
-        requires process { step.process.0 < process_count (tables_of self.now) }
-        requires to { step.to.0 < machine_count (tables_of self.now) }
-        ensures { (result ≡ true) ↔ FindsNeeds (tables_of self.now) (after_of self.now)
-            (service_of (tables_of self.now) step.process.0)
-            (neighbourhood_of (tables_of self.now) step.to.0) }
+    fn finds_needs(&self, s: Service, to: Machine) -> bool
+        requires service { s.0 < service_count (tables_of self.now) }
+        requires to { to.0 < machine_count (tables_of self.now) }
+        ensures { (result ≡ true) ↔ FindsNeeds (tables_of self.now) (after_of self.now) s.0
+            (neighbourhood_of (tables_of self.now) to.0) }
     {
-        let label = self.inst.neighbourhood(step.to);
-        let s = self.inst.service_of(step.process);
+        let label = self.inst.neighbourhood(to);
         let needs = self.inst.depends(s);
         for k in 0..needs.len() {
             let near = self.count_after(needs[k], Mark::InNeighbourhood, label);
@@ -146,18 +144,15 @@ impl<'a, 'b> Trial<'a, 'b> {
         true
     }
 
-    /// Whether a process that leaves a neighbourhood is the last of its service there, and one of a service that needs
-    /// it stays.
+    /// Whether a service has a process in the neighbourhood of a machine, or no service that needs it has one there.
     #[tactic(auto, using(crate::proofs::StepLemmas::known))]
-    fn leaves_none_alone(&self, step: Step) -> bool
-        requires process { step.process.0 < process_count (tables_of self.now) }
-        requires from { step.from.0 < machine_count (tables_of self.now) }
-        ensures { (result ≡ true) ↔ LeavesNone (tables_of self.now) (after_of self.now)
-            (service_of (tables_of self.now) step.process.0)
-            (neighbourhood_of (tables_of self.now) step.from.0) }
+    fn leaves_none_alone(&self, s: Service, from: Machine) -> bool
+        requires service { s.0 < service_count (tables_of self.now) }
+        requires from { from.0 < machine_count (tables_of self.now) }
+        ensures { (result ≡ true) ↔ LeavesNone (tables_of self.now) (after_of self.now) s.0
+            (neighbourhood_of (tables_of self.now) from.0) }
     {
-        let s = self.inst.service_of(step.process);
-        let label = self.inst.neighbourhood(step.from);
+        let label = self.inst.neighbourhood(from);
         let left = self.count_after(s, Mark::InNeighbourhood, label);
         if left > 0 {
             return true;

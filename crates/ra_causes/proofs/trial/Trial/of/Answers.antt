@@ -6,10 +6,10 @@ use Rattle.ra_causes.proofs.trial.Trial.of.Goals as goal
 
 pub invariant_of-result : goal.invariant_of-result
 invariant_of-result g c = record {
-  moves = rw (c.instance-inst.ensures, c.assignment.ensures.value) c.requires;
+  moves = rw (c.instance-inst.ensures, c.assignment.ensures.value) c.requires.moves;
   begins = rw (c.instance-inst.ensures, c.initial.ensures) c.args.world.now.fits;
   fine = rw (c.instance-inst.ensures, c.initial.ensures, c.assignment.ensures.value) (fine_from_unbroken _ _ _ c.args.world.now.unbroken);
-  local = rw (c.instance-inst.ensures, c.initial.ensures, c.assignment.ensures.value) (failures_are_local _ _ _ _ c.args.world.now.inst.now.well_formed c.requires c.args.world.now.unbroken);
+  local = rw (c.instance-inst.ensures, c.initial.ensures, c.assignment.ensures.value) (failures_are_local _ _ _ _ c.args.world.now.inst.now.well_formed c.requires.moves c.args.world.now.unbroken);
   topology = rw (c.instance-inst.ensures, c.topology.ensures) c.args.world.now.topology;
   rows_tables = rw c.instance-inst.ensures c.rows.ensures.instance;
   rows_start = rw c.initial.ensures c.rows.ensures.initial;
