@@ -1,7 +1,7 @@
 -- What a move can't break holds where each step keeps it: capacity on machines that are entered, conflict of a process
 -- that enters a machine, spread of services that move, and closed machines of processes that move.
-use Rattle.std.proofs.Common.{◌≡◌, ◌≢◌, ◌↔◌, ℕ, ◌+◌, ◌<◌, ◌≤◌, Bool, true, false, cond, eqb, ltb, ◌&&◌, ◌||◌, List, Option, Some, None, length, sym, refl, ap, ◌∙◌, ⊎_elim, arith, ne_eqb, le-ltb}
-use Rattle.std.proofs.lemmas.Bool.{cases_Bool, cases_lt, cond-true, cond-false, and_left, and_right, and_parts, or_from, ltb-false, eqb-true, both_ways}
+use Rattle.std.proofs.Common.{◌≡◌, ◌≢◌, ◌↔◌, ℕ, ◌+◌, ◌<◌, ◌≤◌, Bool, true, false, cond, eqb, ltb, nat_le, ◌&&◌, ◌||◌, List, Option, Some, None, length, sym, refl, ap, ◌∙◌, ⊎_elim, arith, ne_eqb, le-ltb}
+use Rattle.std.proofs.lemmas.Bool.{cases_Bool, cases_lt, cond-true, cond-false, and_left, and_right, and_parts, or_from, ltb-false, eqb-true, both_ways, leb-true, le-leb}
 use Rattle.ra_base.specs.Sums.{total, one_if, count, is_named}
 use Rattle.ra_base.specs.Searches.{or_else, first}
 use Rattle.ra_base.specs.declared.ids.Machine.{Machine}
@@ -188,3 +188,10 @@ unfolding broken_by
 same_no i a0 a steps x is none =
     let rest = right_none (repeat_of steps) (or_else (same_of steps) (first_broken i a0 (applied a steps))) none in
     absurd (cc (is, left_none (same_of steps) (first_broken i a0 (applied a steps)) rest))
+
+-- a comparison that tells
+pub told_le : {P : Type 0} → (x y : ℕ) → (x ≤ y → P) → (y < x → P → ⊥) → (nat_le x y ≡ true) ↔ P
+told_le x y holds fails = (λ yes. holds (leb-true x y yes), λ fact. ⊎_elim
+    (λ (over : y < x). absurd (fails over fact))
+    (λ (within : x ≤ y). le-leb x y within)
+    (cases_lt y x))

@@ -9,3 +9,4 @@ mod TestLemmas
 mod NextLemmas
 mod LandLemmas
 mod MemberLemmas
+mod FitLemmas

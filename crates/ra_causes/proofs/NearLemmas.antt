@@ -61,14 +61,14 @@ near_stayed i a0 a steps s k p move fine keeps s_in k_in p_in of unnamed =
     let stays = process_stays i a steps p move unnamed in
     let near : HasNear i a (need_of i s k) label = dependency_met i a fine.dependency s k p s_in k_in p_in of in
     let found : HasNear i b (need_of i s k) label = ⊎_elim
-        (λ (some : 0 < in_neighbourhood i b (need_of i s k) label). near_from_count i b (need_of i s k) label some)
-        (λ (none : in_neighbourhood i b (need_of i s k) label ≤ 0). ⊎_elim
-        (λ (named : is_named (length steps) (process_in steps) near.0 ≡ true).
-        let at = is_named_from (length steps) (process_in steps) near.0 named in
-        absurd (left_alone i a steps s k p near.0 at.0 move keeps s_in k_in p_in of stays near.2 near.3 at.1 at.2 (omega arith)))
-        (λ (other : is_named (length steps) (process_in steps) near.0 ≡ false). (near.0, near.1, near.2, ap (neighbourhood_of i) (process_stays i a steps near.0 move other) ∙ near.3))
-        (cases_Bool (is_named (length steps) (process_in steps) near.0)))
-        (cases_lt 0 (in_neighbourhood i b (need_of i s k) label)) in
+    (λ (some : 0 < in_neighbourhood i b (need_of i s k) label). near_from_count i b (need_of i s k) label some)
+    (λ (none : in_neighbourhood i b (need_of i s k) label ≤ 0). ⊎_elim
+    (λ (named : is_named (length steps) (process_in steps) near.0 ≡ true).
+    let at = is_named_from (length steps) (process_in steps) near.0 named in
+    absurd (left_alone i a steps s k p near.0 at.0 move keeps s_in k_in p_in of stays near.2 near.3 at.1 at.2 (omega arith)))
+    (λ (other : is_named (length steps) (process_in steps) near.0 ≡ false). (near.0, near.1, near.2, ap (neighbourhood_of i) (process_stays i a steps near.0 move other) ∙ near.3))
+    (cases_Bool (is_named (length steps) (process_in steps) near.0)))
+    (cases_lt 0 (in_neighbourhood i b (need_of i s k) label)) in
     rw stays found
 
 near_always : (i : Tables) (a0 a : List Machine) (steps : List Step) (s k p : ℕ) → IsMove i a steps → Fine i a0 a → KeepNear i (applied a steps) steps (length steps) → s < service_count i → k < dependency_count i s → p < process_count i → service_of i p ≡ s → HasNear i (applied a steps) (need_of i s k) (neighbourhood_of i (machine_at (applied a steps) p))

@@ -152,10 +152,17 @@ unfolding repeat_test
 repeat_none steps j s is unnamed = let process : process_in steps j ≡ s.process.0 = process_number steps j s is in rw process (sym (held_if _ _ unnamed))
 
 pub ruleset capacities = (capacity_over, capacity_within)
+
 pub ruleset transients = (transient_over, transient_within, transient_once)
+
 pub ruleset conflicts = (conflict_some, conflict_none)
+
 pub ruleset spreads = (spread_few, spread_enough)
+
 pub ruleset fars = (far_some, far_none)
+
 pub ruleset closes = (closed_some, closed_open, closed_home)
+
 pub ruleset repeats = (repeat_some, repeat_none)
+
 pub ruleset sames = (same_some, same_none)

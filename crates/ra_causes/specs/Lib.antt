@@ -1,3 +1,4 @@
+pub mod Holding
 pub mod Marks
 pub mod Nearness
 pub mod Reading

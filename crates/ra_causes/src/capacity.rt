@@ -1,7 +1,8 @@
-ghost use Rattle.std.specs.Prelude.{◌≡◌, ◌^◌, ◌<◌};
+ghost use Rattle.std.specs.Prelude.{◌≡◌, ◌↔◌, ◌^◌, ◌<◌, true};
 ghost use Rattle.ra_model.specs.Numbers.{resource_count, machine_count};
 ghost use Rattle.ra_model.specs.Broken.{capacity_test, row_capacity, broken_capacity, transient_test, row_transient, broken_transient};
 ghost use Rattle.ra_model.specs.Usage.{use_of, transient_of};
+ghost use Rattle.ra_causes.specs.Holding.{FitsAt, FitsBelow};
 ghost use Rattle.ra_causes.specs.Trials.{tables_of, initial_of, before_of, after_of};
 
 use crate::trial::Trial;
@@ -116,5 +117,45 @@ impl<'a, 'b> Trial<'a, 'b> {
         } else {
             None
         }
+    }
+
+    /// Whether the use of each resource of a machine is within its capacity, after the move and in between.
+    pub(crate) fn row_fits(&self, m: Machine) -> bool
+        requires { m.0 < machine_count (tables_of self.now) }
+        ensures { (result ≡ true) ↔
+            FitsBelow (tables_of self.now) (initial_of self.now) (after_of self.now) m.0
+            (resource_count (tables_of self.now)) }
+    {
+        let used = self.rows.usage_row(m);
+        let between = self.rows.transient_row(m);
+        for r in 0..self.inst.resources() {
+            if !self.fits_at(m, Resource(r), used[r as usize], between[r as usize]) {
+                return false;
+            }
+        }
+        true
+    }
+
+    /// Whether the use of a resource of a machine is within its capacity, after the move and in between. A transient
+    /// resource is used no more than in between.
+    #[inline(always)]
+    fn fits_at(&self, m: Machine, r: Resource, used: u64, between: u64) -> bool
+        requires machine { m.0 < machine_count (tables_of self.now) }
+        requires resource { r.0 < resource_count (tables_of self.now) }
+        requires used { used ≡ use_of (tables_of self.now) (before_of self.now) m.0 r.0 }
+        requires used_below { used < 2 ^ 48 }
+        requires between { between ≡
+            transient_of (tables_of self.now) (initial_of self.now) (before_of self.now) m.0 r.0 }
+        requires between_below { between < 2 ^ 48 }
+        ensures { (result ≡ true) ↔
+            FitsAt (tables_of self.now) (initial_of self.now) (after_of self.now) m.0 r.0 }
+    {
+        let cap = u64::from(self.inst.capacity(m, r));
+        if self.inst.transient(r) {
+            let most = self.transient_after(m, r, between);
+            return most <= cap;
+        }
+        let most = self.use_after(m, r, used);
+        most <= cap
     }
 }

@@ -1,7 +1,8 @@
 ghost use Rattle.std.specs.Prelude.{◌≡◌, ◌↔◌, ◌<◌, true, None, length};
 ghost use Rattle.ra_model.specs.Numbers.{machine_count, service_count, process_count, neighbourhood_of};
+ghost use Rattle.ra_causes.specs.Holding.{FitsAll};
 ghost use Rattle.ra_causes.specs.Nearness.{FindsNeeds, LeavesNone};
-ghost use Rattle.ra_model.specs.Broken.{first_broken, broken_capacity, broken_transient, broken_conflict, broken_spread, broken_dependency, broken_closed};
+ghost use Rattle.ra_model.specs.Broken.{first_broken, broken_conflict, broken_spread, broken_dependency, broken_closed};
 ghost use Rattle.ra_causes.specs.Trials.{tables_of, initial_of, steps_of, after_of};
 
 use crate::marks::Mark;
@@ -14,10 +15,7 @@ impl<'a, 'b> Trial<'a, 'b> {
         ensures { (result ≡ true) ↔
             (first_broken (tables_of self.now) (initial_of self.now) (after_of self.now) ≡ None) }
     {
-        if !self.keeps_capacity() {
-            return false;
-        }
-        if !self.keeps_transient() {
+        if !self.keeps_rows() {
             return false;
         }
         if !self.keeps_apart() {
@@ -32,29 +30,14 @@ impl<'a, 'b> Trial<'a, 'b> {
         self.keeps_closed()
     }
 
-    /// Whether each machine that is entered has the capacity.
+    /// Whether each machine that is entered has the capacity, after the move and in between.
     #[tactic(auto, using(crate::proofs::StepLemmas::known))]
-    fn keeps_capacity(&self) -> bool
+    fn keeps_rows(&self) -> bool
         ensures { (result ≡ true) ↔
-            (broken_capacity (tables_of self.now) (after_of self.now) ≡ None) }
+            FitsAll (tables_of self.now) (initial_of self.now) (after_of self.now) }
     {
         for j in 0..self.mv.steps() {
-            if let Some(_cause) = self.row_capacity(self.mv.step(j).to) {
-                return false;
-            }
-        }
-        true
-    }
-
-    /// Whether each machine that is entered has the capacity in between.
-    #[tactic(auto, using(crate::proofs::StepLemmas::known))]
-    fn keeps_transient(&self) -> bool
-        ensures { (result ≡ true) ↔
-            (broken_transient (tables_of self.now) (initial_of self.now) (after_of self.now)
-            ≡ None) }
-    {
-        for j in 0..self.mv.steps() {
-            if let Some(_cause) = self.row_transient(self.mv.step(j).to) {
+            if !self.row_fits(self.mv.step(j).to) {
                 return false;
             }
         }

@@ -15,4 +15,7 @@ mod steps;
 mod trial;
 mod values;
 
+#[cfg(test)]
+mod tests;
+
 pub use broken::{broken_of, is_unbroken};

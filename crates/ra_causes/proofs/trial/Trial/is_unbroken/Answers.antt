@@ -7,11 +7,8 @@ use Rattle.ra_causes.specs.Trials.{tables_of, initial_of, after_of}
 use Rattle.ra_causes.proofs.HoldLemmas.{told_false}
 use Rattle.ra_causes.proofs.trial.Trial.is_unbroken.Goals as goal
 
-pub returns-then-not-keeps_capacity : goal.returns-then-not-keeps_capacity
-returns-then-not-keeps_capacity c = told_false (λ (none : first_broken (tables_of c.args.self.now) (initial_of c.args.self.now) (after_of c.args.self.now) ≡ None). both_ways c.keeps_capacity.result c.if-not-keeps_capacity.true (c.keeps_capacity.ensures.1 (fine_from_unbroken (tables_of c.args.self.now) (initial_of c.args.self.now) (after_of c.args.self.now) none).capacity))
-
-pub returns-then-not-keeps_transient : goal.returns-then-not-keeps_transient
-returns-then-not-keeps_transient c = told_false (λ (none : first_broken (tables_of c.args.self.now) (initial_of c.args.self.now) (after_of c.args.self.now) ≡ None). both_ways c.keeps_transient.result c.if-not-keeps_transient.true (c.keeps_transient.ensures.1 (fine_from_unbroken (tables_of c.args.self.now) (initial_of c.args.self.now) (after_of c.args.self.now) none).transient))
+pub returns-then-not-keeps_rows : goal.returns-then-not-keeps_rows
+returns-then-not-keeps_rows c = told_false (λ (none : first_broken (tables_of c.args.self.now) (initial_of c.args.self.now) (after_of c.args.self.now) ≡ None). let fine = (fine_from_unbroken (tables_of c.args.self.now) (initial_of c.args.self.now) (after_of c.args.self.now) none) in both_ways c.keeps_rows.result c.if-not-keeps_rows.true (c.keeps_rows.ensures.1 (record { capacity = fine.capacity; transient = fine.transient })))
 
 pub returns-then-not-keeps_apart : goal.returns-then-not-keeps_apart
 returns-then-not-keeps_apart c = told_false (λ (none : first_broken (tables_of c.args.self.now) (initial_of c.args.self.now) (after_of c.args.self.now) ≡ None). both_ways c.keeps_apart.result c.if-not-keeps_apart.true (c.keeps_apart.ensures.1 (fine_from_unbroken (tables_of c.args.self.now) (initial_of c.args.self.now) (after_of c.args.self.now) none).conflict))
@@ -23,4 +20,4 @@ pub returns-then-not-keeps_near : goal.returns-then-not-keeps_near
 returns-then-not-keeps_near c = told_false (λ (none : first_broken (tables_of c.args.self.now) (initial_of c.args.self.now) (after_of c.args.self.now) ≡ None). both_ways c.keeps_near.result c.if-not-keeps_near.true (c.keeps_near.ensures.1 (fine_from_unbroken (tables_of c.args.self.now) (initial_of c.args.self.now) (after_of c.args.self.now) none).dependency))
 
 pub returns : goal.returns
-returns c = (λ (yes : c.keeps_closed.result ≡ true). unbroken_from_fine (tables_of c.args.self.now) (initial_of c.args.self.now) (after_of c.args.self.now) (record { capacity = c.keeps_capacity.ensures.0 c.if-not-keeps_capacity.false; transient = c.keeps_transient.ensures.0 c.if-not-keeps_transient.false; conflict = c.keeps_apart.ensures.0 c.if-not-keeps_apart.false; spread = c.keeps_spread.ensures.0 c.if-not-keeps_spread.false; dependency = c.keeps_near.ensures.0 c.if-not-keeps_near.false; closed = c.keeps_closed.ensures.0 yes }), λ (none : first_broken (tables_of c.args.self.now) (initial_of c.args.self.now) (after_of c.args.self.now) ≡ None). c.keeps_closed.ensures.1 (fine_from_unbroken (tables_of c.args.self.now) (initial_of c.args.self.now) (after_of c.args.self.now) none).closed)
+returns c = (λ (yes : c.keeps_closed.result ≡ true). unbroken_from_fine (tables_of c.args.self.now) (initial_of c.args.self.now) (after_of c.args.self.now) (record { capacity = (c.keeps_rows.ensures.0 c.if-not-keeps_rows.false).capacity; transient = (c.keeps_rows.ensures.0 c.if-not-keeps_rows.false).transient; conflict = c.keeps_apart.ensures.0 c.if-not-keeps_apart.false; spread = c.keeps_spread.ensures.0 c.if-not-keeps_spread.false; dependency = c.keeps_near.ensures.0 c.if-not-keeps_near.false; closed = c.keeps_closed.ensures.0 yes }), λ (none : first_broken (tables_of c.args.self.now) (initial_of c.args.self.now) (after_of c.args.self.now) ≡ None). c.keeps_closed.ensures.1 (fine_from_unbroken (tables_of c.args.self.now) (initial_of c.args.self.now) (after_of c.args.self.now) none).closed)
