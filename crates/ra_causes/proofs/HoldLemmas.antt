@@ -11,10 +11,10 @@ use Rattle.ra_base.proofs.Counts.{one_if_false, count_zero_at, count_positive}
 use Rattle.ra_base.proofs.Named.{is_named_at, is_named_from}
 use Rattle.ra_base.proofs.Searches.{first_none_at, first_none_from, or_else_none, or_else_some, left_none, right_none}
 use Rattle.ra_model.specs.declared.raw.Tables.{Tables}
-use Rattle.ra_model.specs.Numbers.{resource_count, machine_count, service_count, process_count, transient_at, capacity_of, requirement_of, service_of}
+use Rattle.ra_model.specs.Numbers.{resource_count, machine_count, service_count, process_count, transient_at, capacity_of, requirement_of, service_of, spread_of}
 use Rattle.ra_model.specs.Assignments.{machine_at}
 use Rattle.ra_model.specs.Usage.{use_share, use_of, transient_share, transient_of}
-use Rattle.ra_model.specs.Services.{is_of, of_service, members_at, on_machine}
+use Rattle.ra_model.specs.Services.{is_of, of_service, members_at, on_machine, locations_of}
 use Rattle.ra_model.specs.Broken.{cause_if, capacity_test, row_capacity, broken_capacity, transient_test, row_transient, broken_transient, conflict_test, service_conflict, broken_conflict, spread_test, first_broken}
 use Rattle.ra_model.proofs.BrokenLemmas.{Fine, cause_none, cause_free, capacity_met, transient_met}
 use Rattle.ra_moves.specs.declared.steps.Step.{Step}
@@ -27,6 +27,7 @@ use Rattle.ra_local.specs.Touched.{service_in, moves_service}
 use Rattle.ra_local.specs.Moving.{IsMove}
 use Rattle.ra_local.specs.Laws.{OnlyWhere, AreLocal}
 use Rattle.ra_local.proofs.StayLemmas.{tally_applied}
+use Rattle.ra_causes.proofs.TestLemmas.{spread_few}
 
 -- nothing is found at the first n names
 pub record NoneAt (f : ℕ → Option Cause) (e : ℕ → ℕ) (n : ℕ) : Type 0 where
@@ -195,3 +196,6 @@ told_le x y holds fails = (λ yes. holds (leb-true x y yes), λ fact. ⊎_elim
     (λ (over : y < x). absurd (fails over fact))
     (λ (within : x ≤ y). le-leb x y within)
     (cases_lt y x))
+
+pub spread_over : (i : Tables) (b : List Machine) (s has wants : ℕ) → has ≡ locations_of i b s → wants ≡ spread_of i s → has < wants → spread_test i b s ≡ None → ⊥
+spread_over i b s has wants has_is wants_is fewer none = absurd (cc (spread_few i b s has wants has_is wants_is fewer, none))

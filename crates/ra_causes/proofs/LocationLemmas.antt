@@ -1,9 +1,10 @@
 -- How many locations hold a service, from those of the ends of a move.
-use Rattle.std.proofs.Common.{◌≡◌, ℕ, ◌+◌, ◌-◌, ◌^◌, ◌<◌, ◌≤◌, ◌≢◌, true, false, eqb, ltb, List, length, sym, refl, ap, ◌∙◌, arith, ne_eqb}
+use Rattle.std.proofs.Common.{◌≡◌, ℕ, ◌+◌, ◌-◌, ◌*◌, ◌^◌, ◌<◌, ◌≤◌, ◌≢◌, true, false, cond, eqb, ltb, List, length, sym, refl, ap, ◌∙◌, arith, ne_eqb}
 use Rattle.std.proofs.lemmas.Bool.{and_right, both_ways}
 use Rattle.ra_base.specs.Sums.{total, one_if, count, is_named, fresh}
 use Rattle.ra_base.specs.declared.ids.Machine.{Machine}
-use Rattle.ra_base.proofs.Sums.{total_none, total_more}
+use Rattle.ra_base.proofs.Sums.{total_none, total_more, total_bound}
+use Rattle.ra_base.proofs.Counts.{one_if_le}
 use Rattle.ra_base.proofs.Named.{total_change_named, is_named_at, fresh_again, fresh_new}
 use Rattle.ra_model.specs.declared.raw.Tables.{Tables}
 use Rattle.ra_model.specs.Numbers.{location_of}
@@ -112,3 +113,23 @@ label_to i steps j n label s all after is read =
     read ∙ ap (location_of i) (sym (ap (end_in steps) (sym place) ∙ end_to steps (j - n) ∙ to_read steps (j - n) s is))
 
 pub ruleset labels = (label_from, label_to)
+
+-- a move leaves no more locations than it has ends
+
+fresh_few : (e f : ℕ → ℕ) (j : ℕ) → ((x : ℕ) → f x ≤ 1) → fresh e f j ≤ 1
+unfolding fresh
+fresh_few e f j each = elim (is_named j e (e j)) as (λ t. cond t 0 (f (e j)) ≤ 1) [ true ↦ omega arith | false ↦ each (e j) ]
+
+held_few : (i : Tables) (a : List Machine) (s label : ℕ) → held_in i a s label ≤ 1
+unfolding held_in
+held_few i a s label = one_if_le (ltb 0 (in_location i a s label))
+
+ends_are : (steps : List Step) → end_count steps ≡ length steps + length steps
+unfolding end_count
+ends_are steps = refl
+
+pub left_few : (i : Tables) (a : List Machine) (steps : List Step) (s : ℕ) → Small i → IsMove i a steps → locations_of i a s ≤ locations_of i (applied a steps) s + (length steps + length steps)
+left_few i a steps s small move =
+    let ends : end_count steps ≡ length steps + length steps = ends_are steps in
+    let few : total (end_count steps) (fresh (end_location i steps) (held_in i a s)) ≤ end_count steps * 1 = total_bound (end_count steps) 1 (fresh (end_location i steps) (held_in i a s)) (λ j h. fresh_few (end_location i steps) (held_in i a s) j (held_few i a s)) in
+    omega (arith, few, ends, locations_change i a steps s small move)

@@ -67,7 +67,7 @@ impl<'a, 'b> Trial<'a, 'b> {
     {
         for j in 0..self.mv.steps() {
             let s = self.inst.service_of(self.mv.step(j).process);
-            if let Some(_cause) = self.spread_test(s) {
+            if !self.spread_fits(s) {
                 return false;
             }
         }

@@ -1,4 +1,4 @@
-ghost use Rattle.std.specs.Prelude.{◌≡◌, ◌<◌};
+ghost use Rattle.std.specs.Prelude.{◌≡◌, ◌↔◌, ◌<◌, true, None};
 ghost use Rattle.ra_model.specs.Numbers.{machine_count, service_count};
 ghost use Rattle.ra_model.specs.Broken.{conflict_test, service_conflict, broken_conflict, spread_test, broken_spread};
 ghost use Rattle.ra_causes.specs.Trials.{tables_of, after_of};
@@ -86,5 +86,21 @@ impl<'a, 'b> Trial<'a, 'b> {
         } else {
             None
         }
+    }
+
+    /// Whether a service is in enough locations after the move, which leaves no more of them than it has ends.
+    pub(crate) fn spread_fits(&self, s: Service) -> bool
+        requires { s.0 < service_count (tables_of self.now) }
+        ensures { (result ≡ true) ↔
+            (spread_test (tables_of self.now) (after_of self.now) s.0 ≡ None) }
+    {
+        let wants = self.inst.spread_min(s);
+        let before = self.cells.locations(s);
+        let spare = before.saturating_sub(2 * self.mv.steps());
+        if wants <= spare {
+            return true;
+        }
+        let has = self.locations_after(s);
+        wants <= has
     }
 }
