@@ -1,0 +1,4 @@
+pub mod RoomLaws
+pub mod MemberLaws
+pub mod NeedLaws
+pub mod AllowLaws
