@@ -1,6 +1,6 @@
 -- A shift is refused for no cause exactly where its conditions are met.
-use Rattle.std.proofs.Common.{◌≡◌, ◌≢◌, ◌↔◌, ℕ, ◌<◌, List, [], ◌∷◌, None, eqb, sym, refl, ap, ◌∙◌, arith, set, eq-eqb, ne_eqb}
-use Rattle.std.proofs.lemmas.Bool.{both_ways}
+use Rattle.std.proofs.Common.{◌≡◌, ◌≢◌, ◌↔◌, ℕ, ◌<◌, true, false, List, [], ◌∷◌, None, eqb, sym, refl, ap, ◌∙◌, arith, set, eq-eqb, ne_eqb}
+use Rattle.std.proofs.lemmas.Bool.{both_ways, false≢true}
 use Rattle.ra_base.specs.Searches.{or_else, first}
 use Rattle.ra_base.specs.Sums.{is_named}
 use Rattle.ra_base.specs.declared.ids.Machine.{Machine}
@@ -18,6 +18,7 @@ use Rattle.ra_moves.specs.Steps.{process_in, from_in, to_in, step_at}
 use Rattle.ra_moves.specs.Replacing.{after_steps, applied}
 use Rattle.ra_moves.specs.Judging.{repeat_test, repeat_of, same_test, same_of, broken_by}
 use Rattle.ra_moves.specs.Options.{leaving}
+use Rattle.ra_world.specs.declared.world.World.{World}
 use Rattle.ra_shift.specs.Conditions.{shifted, Allows}
 use Rattle.ra_shift.proofs.RoomLaws.{IsStart, placed, room_from, between_from, capacity_after, transient_after}
 use Rattle.ra_shift.proofs.MemberLaws.{alone_from, conflict_after, spread_after, closed_after}
@@ -65,7 +66,7 @@ unbroken_after : (i : Tables) (a0 a : List Machine) (p to : ℕ) → broken_by i
 unfolding broken_by
 unbroken_after i a0 a p to none = ap (first_broken i a0) (sym (applied_one a p to)) ∙ right_none (same_of (leaving a p to ∷ [])) _ (right_none (repeat_of (leaving a p to ∷ [])) _ none)
 
-apart_after : (i : Tables) (a0 a : List Machine) (p to : ℕ) → broken_by i a0 a (leaving a p to ∷ []) ≡ None → machine_at a p ≢ to
+pub apart_after : (i : Tables) (a0 a : List Machine) (p to : ℕ) → broken_by i a0 a (leaving a p to ∷ []) ≡ None → machine_at a p ≢ to
 unfolding broken_by
 apart_after i a0 a p to none = apart_from a p to (left_none (same_of (leaving a p to ∷ [])) _ (right_none (repeat_of (leaving a p to ∷ [])) _ none))
 
@@ -103,3 +104,18 @@ allowed i a0 a p to h none =
 
 pub unbroken : (i : Tables) (a0 a : List Machine) (p to : ℕ) → IsAt i a0 a p to → Allows i a0 a p to → broken_by i a0 a (leaving a p to ∷ []) ≡ None
 unbroken i a0 a p to h allows = unbroken_from i a0 a p to allows.apart (unbroken_from_feasible i a0 (shifted a p to) (feasible_after i a0 a p to (start_of i a0 a p to h allows.apart) allows))
+
+-- in a world
+pub at_of : (w : World) (p to : ℕ) → p < process_count w.inst.now.tables → to < machine_count w.inst.now.tables → IsAt w.inst.now.tables w.start.now.items w.kept.assignment.items p to
+at_of w p to known reach = record {
+  formed = w.inst.now.well_formed;
+  small = w.inst.now.small;
+  fits = w.keeps.stand.fits;
+  unbroken = w.unbroken;
+  known = known;
+  reach = reach;
+}
+
+-- a test that is false where a shift breaks something
+pub refused : {B : Type 0} → (B → ⊥) → (false ≡ true) ↔ B
+refused lacks = (λ e. absurd (false≢true e), λ b. absurd (lacks b))

@@ -9,14 +9,16 @@ use Rattle.ra_base.proofs.Counts.{one_if_true, one_if_false}
 use Rattle.ra_base.proofs.Picks.{pick_at, pick_place}
 use Rattle.ra_model.specs.declared.raw.Tables.{Tables}
 use Rattle.ra_model.specs.Numbers.{resource_count, service_count, process_count, service_of, transient_at, capacity_of, requirement_of, location_of, neighbourhood_of, dependency_count, need_of}
-use Rattle.ra_model.specs.Limits.{Small}
+use Rattle.ra_model.specs.Limits.{WellFormed, Small}
 use Rattle.ra_model.specs.Assignments.{machine_at}
 use Rattle.ra_model.specs.Usage.{use_share, use_of, transient_of}
 use Rattle.ra_model.specs.Services.{in_location, in_neighbourhood, locations_of}
 use Rattle.ra_model.specs.Relations.{depends}
 use Rattle.ra_model.proofs.TallyLemmas.{tally_term}
 use Rattle.ra_rows.specs.Rows.{IsUsageRow, IsTransientRow}
-use Rattle.ra_topology.specs.Lists.{numbers_of, service_at, is_dependant, AreNeedsOf, AreDependantsOf}
+use Rattle.ra_topology.proofs.NeedLemmas.{need_within}
+use Rattle.ra_topology.specs.Fits.{AreNeeds, AreDependants}
+use Rattle.ra_topology.specs.Lists.{services_of, numbers_of, service_at, is_dependant, AreNeedsOf, AreDependantsOf}
 use Rattle.ra_shift.specs.Conditions.{HasRoom, HasRoomBetween, FindsNeeds, MayLeave}
 use Rattle.ra_shift.specs.Sharing.{AreRequired, use_without, use_with, locations_without}
 use Rattle.ra_shift.proofs.SpreadLaws.{some_location}
@@ -133,3 +135,15 @@ pub needs_lack : (i : Tables) (a : List Machine) (p s to label k : ℕ) (service
 needs_lack i a p s to label k services s_is label_is are within other none finds =
     let here : service_at services k ≡ need_of i (service_of i p) k = are.each k (omega (arith, are.one_each)) ∙ ap (λ u. need_of i u k) s_is in
     omega (arith, none, finds.each k (omega (arith, are.one_each, ap (dependency_count i) s_is)) (λ e. other (here ∙ e)), ap₂ (in_neighbourhood i a) here label_is)
+
+-- the lists of a topology
+pub dependants_there : (i : Tables) (lists : List (List Service)) (s : ℕ) (services : List Service) → AreDependants lists i → s < service_count i → services ≡ services_of lists s → AreDependantsOf i s services
+dependants_there i lists s services are within is = subst (λ (xs : List Service). AreDependantsOf i s xs) (sym is) (are.each s within)
+
+pub needs_there : (i : Tables) (lists : List (List Service)) (s : ℕ) (services : List Service) → AreNeeds lists i → s < service_count i → services ≡ services_of lists s → AreNeedsOf i s services
+needs_there i lists s services are within is = subst (λ (xs : List Service). AreNeedsOf i s xs) (sym is) (are.each s within)
+
+pub needs_within : (i : Tables) (s k : ℕ) (services : List Service) → WellFormed i → AreNeedsOf i s services → s < service_count i → k < length services → service_at services k < service_count i
+needs_within i s k services limits are within inside =
+    let at = are.each k (omega (arith, are.one_each)) in
+    omega (arith, at, need_within i s k limits within (omega (arith, are.one_each)))

@@ -1,12 +1,12 @@
 -- In how many locations a service is once one of its processes goes to another machine.
-use Rattle.std.proofs.Common.{◌≡◌, ◌≢◌, ℕ, ◌+◌, ◌-◌, ◌^◌, ◌<◌, ◌≤◌, List, Bool, true, false, eqb, ltb, refl, ap, sym, ◌∙◌, ⊎_elim, arith, eq-eqb, ne_eqb}
+use Rattle.std.proofs.Common.{◌≡◌, ◌≢◌, ℕ, ◌+◌, ◌-◌, ◌^◌, ◌<◌, ◌≤◌, List, Bool, true, false, eqb, ltb, refl, ap, ap₂, sym, ◌∙◌, ⊎_elim, arith, eq-eqb, ne_eqb}
 use Rattle.std.proofs.lemmas.Bool.{cases_eq, lt-ltb, le-ltb}
 use Rattle.std.proofs.lemmas.Grind.{common_steps}
 use Rattle.ra_base.specs.Sums.{one_if, count}
 use Rattle.ra_base.specs.declared.ids.Machine.{Machine}
 use Rattle.ra_base.proofs.Counts.{one_if_true, one_if_false, one_if_le, count_same, count_some, count_change_two}
 use Rattle.ra_model.specs.declared.raw.Tables.{Tables}
-use Rattle.ra_model.specs.Numbers.{process_count, service_of, location_of}
+use Rattle.ra_model.specs.Numbers.{process_count, service_of, spread_of, location_of}
 use Rattle.ra_model.specs.Limits.{WellFormed, Small}
 use Rattle.ra_model.specs.Assignments.{IsAssignment, machine_at}
 use Rattle.ra_model.specs.Services.{in_location, locations_of}
@@ -77,3 +77,15 @@ spread_is i a p to small fits within = ⊎_elim
       let there = ap (λ x. one_if (eqb (in_location i a (service_of i p) (location_of i to)) x)) none in
       omega (arith, goes, there, some_location i a p small within))
     (cases_eq (location_of i (machine_at a p)) (location_of i to))
+
+-- enough locations are left, whatever the machine
+pub keeps_anyway : (i : Tables) (a : List Machine) (p to least without : ℕ) → Small i → IsAssignment i a → p < process_count i → least ≡ spread_of i (service_of i p) → without ≡ locations_without i a p → least ≤ without → spread_of i (service_of i p) ≤ locations_of i (shifted a p to) (service_of i p)
+keeps_anyway i a p to least without small fits within least_is without_is enough = omega (arith, least_is, without_is, enough, spread_is i a p to small fits within)
+
+-- or with the location of the machine
+pub keeps_with : (i : Tables) (a : List Machine) (p to s least without home label own held comes : ℕ) → Small i → IsAssignment i a → p < process_count i → s ≡ service_of i p → least ≡ spread_of i (service_of i p) → without ≡ locations_without i a p → home ≡ location_of i (machine_at a p) → label ≡ location_of i to → own ≡ one_if (eqb home label) → held ≡ in_location i a s label → comes ≡ one_if (eqb held own) → without + comes ≡ locations_of i (shifted a p to) (service_of i p)
+keeps_with i a p to s least without home label own held comes small fits within s_is least_is without_is home_is label_is own_is held_is comes_is =
+    let own_there : own ≡ one_if (eqb (location_of i (machine_at a p)) (location_of i to)) = own_is ∙ ap₂ (λ x y. one_if (eqb x y)) home_is label_is in
+    let held_there : held ≡ in_location i a (service_of i p) (location_of i to) = held_is ∙ ap₂ (in_location i a) s_is label_is in
+    let comes_there : comes ≡ one_if (eqb (in_location i a (service_of i p) (location_of i to)) (one_if (eqb (location_of i (machine_at a p)) (location_of i to)))) = comes_is ∙ ap₂ (λ x y. one_if (eqb x y)) held_there own_there in
+    omega (arith, without_is, comes_there, spread_is i a p to small fits within)

@@ -242,7 +242,7 @@ impl<'w, 'a> Shift<'w, 'a> {
             return true;
         }
         let label = self.world.instance().location(to);
-        let own = one_when(label == self.location);
+        let own = one_when(self.location == label);
         let comes = self.world.cells().in_location(self.service, label) == own;
         self.spread_min <= self.spread_without + one_when(comes)
     }

@@ -1,27 +1,22 @@
--- TODO
-use Rattle.std.proofs.Common.{rules, ◌≡◌, ◌≢◌, ℕ, ◌+◌, ◌*◌, ◌^◌, ◌<◌, ◌≤◌, ◌↔◌, [], ◌∷◌, None, true, false, pos, ◌-ℤ◌, ◌-◌, length, ◌/◌, ◌%◌, Bool, nat_eq, nat_lt, List, ◌++◌, slice_index_or, slice_set, bit_and, bit_or, Fits, w8, w32, w64, Bor, MutBor}
-use Rattle.ra_model.specs.Numbers.{resource_count, machine_count, process_count, service_of, location_of, neighbourhood_of, spread_of, closed_at, transient_at, capacity_of, service_count}
-use Rattle.ra_model.specs.Assignments.{machine_at}
-use Rattle.ra_model.specs.Services.{on_machine, in_neighbourhood, locations_of}
-use Rattle.ra_moves.specs.Options.{leaving}
-use Rattle.ra_moves.specs.Judging.{broken_by}
-use Rattle.ra_local.specs.Weighing.{local_change, moved_count, weighed_of}
-use Rattle.ra_shift.specs.Conditions.{shifted, HasRoom, HasRoomBetween, FindsNeeds, MayLeave}
-use Rattle.ra_shift.specs.Sharing.{AreRequired, use_without, row_cost, cost_of, way_cost, locations_without}
+-- The bounds of a machine's costs.
+use Rattle.std.proofs.Common.{◌≡◌, ◌∙◌, ◌+◌, ap, ap₂, arith}
+use Rattle.ra_model.specs.MachineCosts.{machine_load, machine_balance}
+use Rattle.ra_shift.specs.Sharing.{cost_of, way_cost}
+use Rattle.ra_shift.proofs.ChangeLaws.{cost_small}
 use Rattle.ra_shift.proofs.shift.cost_before.Goals as goal
 
--- src/shift.rt:348:5
 pub overflow_add-result : goal.overflow_add-result
-overflow_add-result c = ?
+overflow_add-result c = omega (arith, c.machine_load-load.ensures, c.machine_balance-balance.ensures, cost_small c.args.world.now.inst.now.tables c.args.world.now.kept.assignment.items c.args.from.0 c.args.world.now.inst.now.well_formed c.args.world.now.inst.now.small)
 
--- src/shift.rt:348:5
 pub overflow_add-result-2 : goal.overflow_add-result-2
-overflow_add-result-2 c = ?
+overflow_add-result-2 c = omega (arith, c.way_cost.ensures.bound, c.machine_load-load.ensures, c.machine_balance-balance.ensures, cost_small c.args.world.now.inst.now.tables c.args.world.now.kept.assignment.items c.args.from.0 c.args.world.now.inst.now.well_formed c.args.world.now.inst.now.small)
 
--- src/shift.rt:336:1
 pub returns-clause-value : goal.returns-clause-value
-returns-clause-value c = ?
+unfolding cost_of
+returns-clause-value c =
+    let w = c.args.world.now in
+    ap₂ (λ x y. x + y) (ap₂ (λ x y. x + y) (c.machine_load-load.ensures ∙ ap (machine_load w.inst.now.tables w.kept.assignment.items) c.requires.from) (c.machine_balance-balance.ensures ∙ ap (machine_balance w.inst.now.tables w.kept.assignment.items) c.requires.from))
+    (c.way_cost.ensures.value ∙ ap (way_cost w.inst.now.tables w.start.now.items c.args.p.0) c.requires.from)
 
--- src/shift.rt:336:1
 pub returns-clause-bound : goal.returns-clause-bound
-returns-clause-bound c = ?
+returns-clause-bound c = omega (arith, c.way_cost.ensures.bound, c.machine_load-load.ensures, c.machine_balance-balance.ensures, cost_small c.args.world.now.inst.now.tables c.args.world.now.kept.assignment.items c.args.from.0 c.args.world.now.inst.now.well_formed c.args.world.now.inst.now.small)

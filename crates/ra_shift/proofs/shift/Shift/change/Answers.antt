@@ -1,27 +1,32 @@
--- TODO
-use Rattle.std.proofs.Common.{rules, ◌≡◌, ◌≢◌, ℕ, ◌+◌, ◌*◌, ◌^◌, ◌<◌, ◌≤◌, ◌↔◌, [], ◌∷◌, None, true, false, pos, ◌-ℤ◌, ◌-◌, length, ◌/◌, ◌%◌, Bool, nat_eq, nat_lt, List, ◌++◌, slice_index_or, slice_set, bit_and, bit_or, Fits, w8, w32, w64, Bor, MutBor, ℤ, ◌+ℤ◌, ◌*ℤ◌, ◌≤ℤ◌, ◌<ℤ◌, FitsSigned, to_z, of_z}
-use Rattle.ra_model.specs.Numbers.{resource_count, machine_count, process_count, service_of, location_of, neighbourhood_of, spread_of, closed_at, transient_at, capacity_of, service_count}
-use Rattle.ra_model.specs.Assignments.{machine_at}
-use Rattle.ra_model.specs.Services.{on_machine, in_neighbourhood, locations_of}
-use Rattle.ra_moves.specs.Options.{leaving}
-use Rattle.ra_moves.specs.Judging.{broken_by}
-use Rattle.ra_local.specs.Weighing.{local_change, moved_count, weighed_of}
-use Rattle.ra_shift.specs.Conditions.{shifted, HasRoom, HasRoomBetween, FindsNeeds, MayLeave}
-use Rattle.ra_shift.specs.Sharing.{AreRequired, use_without, row_cost, cost_of, way_cost, locations_without}
+-- The bounds of a machine's costs, and what the costs change by.
+use Rattle.std.proofs.Common.{◌≡◌, ◌∙◌, ◌+◌, ap₂, arith}
+use Rattle.std.specs.Int.{w128}
+use Rattle.std.proofs.lemmas.Int.{to_z-of_z}
+use Rattle.ra_shift.specs.Sharing.{cost_of}
+use Rattle.ra_shift.proofs.AllowLaws.{at_of, start_of}
+use Rattle.ra_shift.proofs.ChangeLaws.{cost_small, change_is}
 use Rattle.ra_shift.proofs.shift.Shift.change.Goals as goal
 
--- src/shift.rt:311:20
 pub overflow_add-here : goal.overflow_add-here
-overflow_add-here c = ?
+overflow_add-here c =
+    let w = c.args.self.now.world.now in
+    omega (arith, c.machine_load.ensures, c.machine_balance.ensures, cost_small w.inst.now.tables w.kept.assignment.items c.args.to.0 w.inst.now.well_formed w.inst.now.small)
 
--- src/shift.rt:314:47
 pub overflow_add-self-3 : goal.overflow_add-self-3
-overflow_add-self-3 c = ?
+overflow_add-self-3 c =
+    let w = c.args.self.now.world.now in
+    omega (arith, c.args.self.now.before_small, c.machine_load.ensures, c.machine_balance.ensures, cost_small w.inst.now.tables w.kept.assignment.items c.args.to.0 w.inst.now.well_formed w.inst.now.small)
 
--- src/shift.rt:314:9
 pub difference-requires-clause-taken : goal.difference-requires-clause-taken
-difference-requires-clause-taken c = ?
+difference-requires-clause-taken c =
+    let w = c.args.self.now.world.now in
+    omega (arith, c.args.self.now.before_small, c.machine_load.ensures, c.machine_balance.ensures, cost_small w.inst.now.tables w.kept.assignment.items c.args.to.0 w.inst.now.well_formed w.inst.now.small)
 
--- src/shift.rt:302:5
 pub returns : goal.returns
-returns c = ?
+unfolding cost_of
+returns c =
+    let shift = c.args.self.now in
+    let w = shift.world.now in
+    let start = start_of w.inst.now.tables w.start.now.items w.kept.assignment.items shift.process.0 c.args.to.0 (at_of w shift.process.0 c.args.to.0 shift.process_known c.requires.machine) c.requires.apart in
+    let change = change_is w.inst.now.tables w.start.now.items w.kept.assignment.items shift.process.0 c.args.to.0 shift.without shift.before c.cost_with-with.result c.way_cost-way.result _ start shift.without_is shift.before_is c.cost_with-with.ensures.value c.way_cost-way.ensures.value (ap₂ (λ x y. x + y) c.machine_load.ensures c.machine_balance.ensures) in
+    to_z-of_z w128 c.difference.result c.difference.ensures.fits ∙ c.difference.ensures.value ∙ change

@@ -1,19 +1,18 @@
--- TODO
-use Rattle.std.proofs.Common.{rules, ◌≡◌, ◌≢◌, ℕ, ◌+◌, ◌*◌, ◌^◌, ◌<◌, ◌≤◌, ◌↔◌, [], ◌∷◌, None, true, false, pos, ◌-ℤ◌, ◌-◌, length, ◌/◌, ◌%◌, Bool, nat_eq, nat_lt, List, ◌++◌, slice_index_or, slice_set, bit_and, bit_or, Fits, w8, w32, w64, Bor, MutBor}
-use Rattle.ra_model.specs.Numbers.{resource_count, machine_count, process_count, service_of, location_of, neighbourhood_of, spread_of, closed_at, transient_at, capacity_of, service_count}
-use Rattle.ra_model.specs.Assignments.{machine_at}
-use Rattle.ra_model.specs.Services.{on_machine, in_neighbourhood, locations_of}
-use Rattle.ra_moves.specs.Options.{leaving}
-use Rattle.ra_moves.specs.Judging.{broken_by}
-use Rattle.ra_local.specs.Weighing.{local_change, moved_count, weighed_of}
-use Rattle.ra_shift.specs.Conditions.{shifted, HasRoom, HasRoomBetween, FindsNeeds, MayLeave}
-use Rattle.ra_shift.specs.Sharing.{AreRequired, use_without, row_cost, cost_of, way_cost, locations_without}
+-- The count before, and what the process changes.
+use Rattle.std.proofs.Common.{◌≡◌, ◌∙◌, ap, ap₂}
+use Rattle.ra_cells.specs.Marks.{away}
+use Rattle.ra_shift.proofs.ChangeLaws.{moved_after, moved_is}
 use Rattle.ra_shift.proofs.shift.Shift.moved.Goals as goal
 
--- src/shift.rt:330:20
 pub overflow_sub-result : goal.overflow_sub-result
-overflow_sub-result c = ?
+overflow_sub-result c =
+    let shift = c.args.self.now in
+    let w = shift.world.now in
+    (moved_after w.inst.now.tables w.start.now.items w.kept.assignment.items shift.process.0 c.args.to.0 shift.service.0 c.moved-before.result c.is_away-gone.result c.is_away-come.result w.keeps.stand.fits shift.process_known shift.service_is (c.moved-before.ensures.count _ _ _ c.cells.ensures.stand) (c.is_away-gone.ensures.value ∙ ap₂ away shift.home_is shift.from_is) (c.is_away-come.ensures.value ∙ ap (λ h. away h c.args.to.0) shift.home_is)).0
 
--- src/shift.rt:318:5
 pub returns : goal.returns
-returns c = ?
+returns c =
+    let shift = c.args.self.now in
+    let w = shift.world.now in
+    let after = moved_after w.inst.now.tables w.start.now.items w.kept.assignment.items shift.process.0 c.args.to.0 shift.service.0 c.moved-before.result c.is_away-gone.result c.is_away-come.result w.keeps.stand.fits shift.process_known shift.service_is (c.moved-before.ensures.count _ _ _ c.cells.ensures.stand) (c.is_away-gone.ensures.value ∙ ap₂ away shift.home_is shift.from_is) (c.is_away-come.ensures.value ∙ ap (λ h. away h c.args.to.0) shift.home_is) in
+    moved_is w.inst.now.tables w.start.now.items w.kept.assignment.items shift.process.0 c.args.to.0 c.moved-before.result _ shift.service shift.service_is (c.moved-before.ensures.count _ _ _ c.cells.ensures.stand) after.1

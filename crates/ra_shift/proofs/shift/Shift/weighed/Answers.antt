@@ -1,19 +1,15 @@
--- TODO
-use Rattle.std.proofs.Common.{rules, ◌≡◌, ◌≢◌, ℕ, ◌+◌, ◌*◌, ◌^◌, ◌<◌, ◌≤◌, ◌↔◌, [], ◌∷◌, None, true, false, pos, ◌-ℤ◌, ◌-◌, length, ◌/◌, ◌%◌, Bool, nat_eq, nat_lt, List, ◌++◌, slice_index_or, slice_set, bit_and, bit_or, Fits, w8, w32, w64, Bor, MutBor, ℤ, ◌+ℤ◌, ◌*ℤ◌, ◌≤ℤ◌, ◌<ℤ◌, FitsSigned, to_z, of_z}
-use Rattle.ra_model.specs.Numbers.{resource_count, machine_count, process_count, service_of, location_of, neighbourhood_of, spread_of, closed_at, transient_at, capacity_of, service_count}
-use Rattle.ra_model.specs.Assignments.{machine_at}
-use Rattle.ra_model.specs.Services.{on_machine, in_neighbourhood, locations_of}
-use Rattle.ra_moves.specs.Options.{leaving}
-use Rattle.ra_moves.specs.Judging.{broken_by}
-use Rattle.ra_local.specs.Weighing.{local_change, moved_count, weighed_of}
-use Rattle.ra_shift.specs.Conditions.{shifted, HasRoom, HasRoomBetween, FindsNeeds, MayLeave}
-use Rattle.ra_shift.specs.Sharing.{AreRequired, use_without, row_cost, cost_of, way_cost, locations_without}
+-- The change of the costs and the moved counts of one service.
+use Rattle.std.proofs.Common.{◌≡◌, ◌∙◌}
+use Rattle.ra_shift.proofs.AllowLaws.{apart_after}
+use Rattle.ra_shift.proofs.ChangeLaws.{weighed_is}
 use Rattle.ra_shift.proofs.shift.Shift.weighed.Goals as goal
 
--- src/shift.rt:145:20
 pub change-requires-clause-apart : goal.change-requires-clause-apart
-change-requires-clause-apart c = ?
+change-requires-clause-apart c =
+    let w = c.args.self.now.world.now in
+    apart_after w.inst.now.tables w.start.now.items w.kept.assignment.items c.args.self.now.process.0 c.args.to.0 c.requires.unbroken
 
--- src/shift.rt:133:5
 pub returns : goal.returns
-returns c = ?
+returns c =
+    let w = c.args.self.now.world.now in
+    weighed_is w.inst.now.tables w.start.now.items w.kept.assignment.items c.args.self.now.process.0 c.args.to.0 _ c.moved.result c.requires.unbroken ? c.moved.ensures
