@@ -1,10 +1,10 @@
 -- A shift is refused for no cause exactly where its conditions are met.
-use Rattle.std.proofs.Common.{◌≡◌, ◌≢◌, ◌↔◌, ℕ, ◌<◌, true, false, List, [], ◌∷◌, None, eqb, sym, refl, ap, ◌∙◌, arith, set, eq-eqb, ne_eqb}
+use Rattle.std.proofs.Common.{◌≡◌, ◌≢◌, ◌↔◌, ℕ, ◌<◌, true, false, List, [], ◌∷◌, None, eqb, sym, refl, ap, ◌∙◌, arith, eq-eqb, ne_eqb}
 use Rattle.std.proofs.lemmas.Bool.{both_ways, false≢true}
 use Rattle.ra_base.specs.Searches.{or_else, first}
 use Rattle.ra_base.specs.Sums.{is_named}
 use Rattle.ra_base.specs.declared.ids.Machine.{Machine}
-use Rattle.ra_base.proofs.Searches.{left_none, right_none, both_none, first_none_at, first_none_from}
+use Rattle.ra_base.proofs.Searches.{left_none, right_none, both_none, first_none_at}
 use Rattle.ra_model.specs.declared.raw.Tables.{Tables}
 use Rattle.ra_model.specs.Numbers.{machine_count, process_count, service_of, closed_at}
 use Rattle.ra_model.specs.Limits.{WellFormed, Small}
@@ -13,7 +13,6 @@ use Rattle.ra_model.specs.Broken.{cause_if, first_broken}
 use Rattle.ra_model.specs.Feasible.{Feasible}
 use Rattle.ra_model.proofs.TallyLemmas.{fits_set}
 use Rattle.ra_model.proofs.BrokenLemmas.{cause_none, cause_free, feasible_from_unbroken, unbroken_from_feasible}
-use Rattle.ra_moves.specs.declared.steps.Step.{Step}
 use Rattle.ra_moves.specs.Steps.{process_in, from_in, to_in, step_at}
 use Rattle.ra_moves.specs.Replacing.{after_steps, applied}
 use Rattle.ra_moves.specs.Judging.{repeat_test, repeat_of, same_test, same_of, broken_by}

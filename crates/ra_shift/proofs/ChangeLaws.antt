@@ -1,27 +1,23 @@
 -- What a shift changes: the costs of its two machines, those of its own way, and how many processes have moved.
-use Rattle.std.proofs.Common.{◌≡◌, ◌≢◌, ℕ, ℤ, Bool, pos, ◌+◌, ◌-◌, ◌*◌, ◌^◌, ◌<◌, ◌≤◌, ◌-ℤ◌, true, false, cond, eqb, not, List, [], ◌∷◌, None, Some, length, refl, ap, ap₂, sym, ◌∙◌, ⊎_elim, arith, set}
-use Rattle.std.proofs.lemmas.Bool.{cases_eq, cases_Bool, cond-true, cond-false}
+use Rattle.std.proofs.Common.{◌≡◌, ℕ, ℤ, Bool, pos, ◌+◌, ◌-◌, ◌^◌, ◌<◌, ◌≤◌, ◌-ℤ◌, true, false, cond, eqb, not, List, [], ◌∷◌, None, Some, refl, ap, ap₂, sym, ◌∙◌, arith}
 use Rattle.std.proofs.lemmas.Int.{ints}
-use Rattle.ra_base.specs.Sums.{one_if, total, is_named}
-use Rattle.ra_base.specs.declared.causes.Cause.{Cause}
+use Rattle.ra_base.specs.Sums.{one_if, is_named}
 use Rattle.ra_base.specs.declared.costs.MovedCount.{MovedCount}
 use Rattle.ra_base.specs.declared.ids.Machine.{Machine}
 use Rattle.ra_base.specs.declared.ids.Service.{Service}
 use Rattle.ra_base.proofs.Sums.{total_change_two}
 use Rattle.ra_model.specs.declared.raw.Tables.{Tables}
-use Rattle.ra_model.specs.Numbers.{resource_count, machine_count, process_count, service_of, process_weight_of, machine_weight_of}
+use Rattle.ra_model.specs.Numbers.{resource_count, machine_count, process_count, service_of}
 use Rattle.ra_model.specs.Limits.{WellFormed, Small}
 use Rattle.ra_model.specs.Assignments.{IsAssignment, machine_at}
 use Rattle.ra_model.specs.Usage.{use_of}
 use Rattle.ra_model.specs.Services.{moved_of}
-use Rattle.ra_model.specs.Costs.{load_cost, balance_cost, process_cost, machine_cost, process_share, way_share}
-use Rattle.ra_model.specs.MachineCosts.{row_load, row_balance, machine_load, machine_balance, MachineCostsFit}
+use Rattle.ra_model.specs.Costs.{load_cost, balance_cost}
+use Rattle.ra_model.specs.MachineCosts.{machine_load, machine_balance}
 use Rattle.ra_model.proofs.MachineLemmas.{row_load_same, row_balance_same, load_by_machine, balance_by_machine, machine_costs_fit}
 use Rattle.ra_cells.specs.Marks.{away}
 use Rattle.ra_world.proofs.CostLaws.{process_set, machine_set}
 use Rattle.ra_world.proofs.RenewalLaws.{load_stays, balance_stays}
-use Rattle.ra_moves.specs.declared.steps.Step.{Step}
-use Rattle.ra_moves.specs.declared.verdicts.Weighed.{Weighed}
 use Rattle.ra_moves.specs.Steps.{process_in, step_at}
 use Rattle.ra_moves.specs.Replacing.{applied}
 use Rattle.ra_moves.specs.Judging.{broken_by}
@@ -56,13 +52,13 @@ cost_left i a0 a p to h = cost_by_row i (shifted a p to) (machine_at a p) ∙ ro
 loads_change : (i : Tables) (a0 a : List Machine) (p to : ℕ) → IsStart i a0 a p to → load_cost i (shifted a p to) + (machine_load i a (machine_at a p) + machine_load i a to) ≡ load_cost i a + (machine_load i (shifted a p to) (machine_at a p) + machine_load i (shifted a p to) to)
 loads_change i a0 a p to h =
     let change = total_change_two (machine_count i) (machine_at a p) to (machine_load i (shifted a p to)) (machine_load i a) (h.fits.in_range p h.known) h.reach h.apart
-      (λ m within not_from not_to. sym (load_stays i a p (record { 0 = to }) m h.fits h.known (λ e. not_from (sym e)) (λ e. not_to (sym e)))) in
+    (λ m within not_from not_to. sym (load_stays i a p (record { 0 = to }) m h.fits h.known (λ e. not_from (sym e)) (λ e. not_to (sym e)))) in
     omega (arith, change, load_by_machine i a, load_by_machine i (shifted a p to))
 
 balances_change : (i : Tables) (a0 a : List Machine) (p to : ℕ) → IsStart i a0 a p to → balance_cost i (shifted a p to) + (machine_balance i a (machine_at a p) + machine_balance i a to) ≡ balance_cost i a + (machine_balance i (shifted a p to) (machine_at a p) + machine_balance i (shifted a p to) to)
 balances_change i a0 a p to h =
     let change = total_change_two (machine_count i) (machine_at a p) to (machine_balance i (shifted a p to)) (machine_balance i a) (h.fits.in_range p h.known) h.reach h.apart
-      (λ m within not_from not_to. sym (balance_stays i a p (record { 0 = to }) m h.formed h.fits h.known (λ e. not_from (sym e)) (λ e. not_to (sym e)))) in
+    (λ m within not_from not_to. sym (balance_stays i a p (record { 0 = to }) m h.formed h.fits h.known (λ e. not_from (sym e)) (λ e. not_to (sym e)))) in
     omega (arith, change, balance_by_machine i a, balance_by_machine i (shifted a p to))
 
 -- all four parts

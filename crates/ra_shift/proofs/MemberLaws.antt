@@ -1,19 +1,18 @@
 -- Where one process goes to another machine: how the processes of its service, and those of others, are placed then.
-use Rattle.std.proofs.Common.{◌≡◌, ◌≢◌, ℕ, ◌+◌, ◌-◌, ◌^◌, ◌<◌, ◌≤◌, List, Bool, true, false, ◌&&◌, eqb, ltb, cond, length, refl, ap, sym, ◌∙◌, ⊎_elim, arith, eq-eqb, ne_eqb}
-use Rattle.std.proofs.lemmas.Bool.{cases_eq, cases_lt, eqb-true, and_left, and_from, and_parts, lt-ltb, le-ltb}
-use Rattle.ra_base.specs.Sums.{one_if, count}
+use Rattle.std.proofs.Common.{◌≡◌, ◌≢◌, ℕ, ◌+◌, ◌^◌, ◌<◌, ◌≤◌, List, Bool, true, ◌&&◌, eqb, ltb, refl, ap, sym, ◌∙◌, ⊎_elim, arith, eq-eqb}
+use Rattle.std.proofs.lemmas.Bool.{cases_eq, cases_lt, eqb-true, and_left, and_from, and_parts}
+use Rattle.ra_base.specs.Sums.{one_if}
 use Rattle.ra_base.specs.declared.ids.Machine.{Machine}
-use Rattle.ra_base.proofs.Counts.{one_if_true, one_if_false, one_if_le, count_same, count_change, count_change_two, count_positive, count_some}
+use Rattle.ra_base.proofs.Counts.{one_if_true, one_if_false, count_same, count_positive, count_some}
 use Rattle.ra_model.specs.declared.raw.Tables.{Tables}
-use Rattle.ra_model.specs.Numbers.{machine_count, service_count, process_count, service_of, spread_of, dependency_count, need_of, location_of, neighbourhood_of, closed_at}
+use Rattle.ra_model.specs.Numbers.{service_count, process_count, service_of, spread_of, location_of, neighbourhood_of, closed_at}
 use Rattle.ra_model.specs.Assignments.{IsAssignment, machine_at}
-use Rattle.ra_model.specs.Services.{is_of, of_service, members_at, on_machine, in_location, in_neighbourhood, locations_of, moved_of}
-use Rattle.ra_model.specs.Relations.{depends}
-use Rattle.ra_model.specs.Feasible.{HasNear, Feasible}
+use Rattle.ra_model.specs.Services.{is_of, of_service, members_at, on_machine, in_location, in_neighbourhood, locations_of}
+use Rattle.ra_model.specs.Feasible.{Feasible}
 use Rattle.ra_model.proofs.TallyLemmas.{members_set, tally_term}
 use Rattle.ra_model.proofs.SortingLemmas.{is_of_same, is_of_other}
-use Rattle.ra_model.proofs.BrokenLemmas.{on_machine_count, near_from_count, count_from_near}
-use Rattle.ra_shift.specs.Conditions.{shifted, FindsNeeds, MayLeave}
+use Rattle.ra_model.proofs.BrokenLemmas.{on_machine_count}
+use Rattle.ra_shift.specs.Conditions.{shifted}
 use Rattle.ra_shift.proofs.RoomLaws.{IsStart, placed, others}
 
 -- the share of one process in a count of a service
@@ -78,9 +77,9 @@ on_some i a s m some =
 pub alone_from : (i : Tables) (a0 a : List Machine) (p to : ℕ) → IsStart i a0 a p to → Feasible i a0 (shifted a p to) → on_machine i a (service_of i p) to ≡ 0
 alone_from i a0 a p to h after = ⊎_elim
     (λ (some : 0 < on_machine i a (service_of i p) to).
-      let found = on_some i a (service_of i p) to some in
-      let apart : found.0 ≢ p = λ e. h.apart (ap (machine_at a) (sym e) ∙ found.3) in
-      absurd (after.conflict found.0 p found.1 h.known apart found.2 (others a p to found.0 apart ∙ found.3 ∙ sym (placed i a0 a p to h))))
+    let found = on_some i a (service_of i p) to some in
+    let apart : found.0 ≢ p = λ e. h.apart (ap (machine_at a) (sym e) ∙ found.3) in
+    absurd (after.conflict found.0 p found.1 h.known apart found.2 (others a p to found.0 apart ∙ found.3 ∙ sym (placed i a0 a p to h))))
     (λ (none : on_machine i a (service_of i p) to ≤ 0). omega arith)
     (cases_lt 0 (on_machine i a (service_of i p) to))
 
@@ -91,12 +90,12 @@ not_there i a p to q alone within is here = absurd (omega (arith, alone, on_mine
 pub conflict_after : (i : Tables) (a0 a : List Machine) (p to : ℕ) → IsStart i a0 a p to → on_machine i a (service_of i p) to ≡ 0 → (k l : ℕ) → k < process_count i → l < process_count i → k ≢ l → service_of i k ≡ service_of i l → machine_at (shifted a p to) k ≢ machine_at (shifted a p to) l
 conflict_after i a0 a p to h alone k l k_in l_in apart one_service = ⊎_elim
     (λ (k_is : k ≡ p). λ met.
-      let other : l ≢ p = λ e. apart (k_is ∙ sym e) in
-      not_there i a p to l alone l_in (sym one_service ∙ ap (service_of i) k_is) (sym (others a p to l other) ∙ sym met ∙ ap (machine_at (shifted a p to)) k_is ∙ placed i a0 a p to h))
+    let other : l ≢ p = λ e. apart (k_is ∙ sym e) in
+    not_there i a p to l alone l_in (sym one_service ∙ ap (service_of i) k_is) (sym (others a p to l other) ∙ sym met ∙ ap (machine_at (shifted a p to)) k_is ∙ placed i a0 a p to h))
     (λ (k_other : k ≢ p). ⊎_elim
-      (λ (l_is : l ≡ p). λ met. not_there i a p to k alone k_in (one_service ∙ ap (service_of i) l_is) (sym (others a p to k k_other) ∙ met ∙ ap (machine_at (shifted a p to)) l_is ∙ placed i a0 a p to h))
-      (λ (l_other : l ≢ p). λ met. h.feasible.conflict k l k_in l_in apart one_service (sym (others a p to k k_other) ∙ met ∙ others a p to l l_other))
-      (cases_eq l p))
+    (λ (l_is : l ≡ p). λ met. not_there i a p to k alone k_in (one_service ∙ ap (service_of i) l_is) (sym (others a p to k k_other) ∙ met ∙ ap (machine_at (shifted a p to)) l_is ∙ placed i a0 a p to h))
+    (λ (l_other : l ≢ p). λ met. h.feasible.conflict k l k_in l_in apart one_service (sym (others a p to k k_other) ∙ met ∙ others a p to l l_other))
+    (cases_eq l p))
     (cases_eq k p)
 
 -- spread
@@ -110,7 +109,7 @@ spread_after i a0 a p to h mine s within = ⊎_elim
 pub closed_after : (i : Tables) (a0 a : List Machine) (p to : ℕ) → IsStart i a0 a p to → (closed_at i to ≡ true → machine_at a0 p ≡ to) → (q : ℕ) → q < process_count i → closed_at i (machine_at (shifted a p to) q) ≡ true → machine_at a0 q ≡ machine_at (shifted a p to) q
 closed_after i a0 a p to h admitted q within closed = ⊎_elim
     (λ (same : q ≡ p).
-      let here : machine_at (shifted a p to) q ≡ to = ap (machine_at (shifted a p to)) same ∙ placed i a0 a p to h in
-      ap (machine_at a0) same ∙ admitted (ap (closed_at i) (sym here) ∙ closed) ∙ sym here)
+    let here : machine_at (shifted a p to) q ≡ to = ap (machine_at (shifted a p to)) same ∙ placed i a0 a p to h in
+    ap (machine_at a0) same ∙ admitted (ap (closed_at i) (sym here) ∙ closed) ∙ sym here)
     (λ (other : q ≢ p). h.feasible.closed q within (ap (closed_at i) (sym (others a p to q other)) ∙ closed) ∙ sym (others a p to q other))
     (cases_eq q p)

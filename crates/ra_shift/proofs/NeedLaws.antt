@@ -1,5 +1,5 @@
 -- Where one process goes to another machine: what its service needs there, and who needs it where it was.
-use Rattle.std.proofs.Common.{◌≡◌, ◌≢◌, ℕ, ◌+◌, ◌<◌, ◌≤◌, List, Bool, true, false, eqb, length, refl, ap, sym, ◌∙◌, ⊎_elim, arith, eq-eqb, ne_eqb}
+use Rattle.std.proofs.Common.{◌≡◌, ◌≢◌, ℕ, ◌<◌, ◌≤◌, List, true, eqb, refl, ap, sym, ◌∙◌, ⊎_elim, arith, eq-eqb, ne_eqb}
 use Rattle.std.proofs.lemmas.Bool.{cases_eq, cases_lt}
 use Rattle.ra_base.specs.Sums.{one_if}
 use Rattle.ra_base.specs.declared.ids.Machine.{Machine}
@@ -72,7 +72,7 @@ near_p : (i : Tables) (a0 a : List Machine) (p to k : ℕ) → IsStart i a0 a p 
 near_p i a0 a p to k h needs within = ⊎_elim
     (λ (own : need_of i (service_of i p) k ≡ service_of i p). (p, h.known, sym own, ap (neighbourhood_of i) (placed i a0 a p to h)))
     (λ (other : need_of i (service_of i p) k ≢ service_of i p). near_from_count i (shifted a p to) (need_of i (service_of i p) k) (neighbourhood_of i to)
-      (omega (arith, needs.each k within other, near_other i a p to (need_of i (service_of i p) k) (neighbourhood_of i to) h.fits h.known (λ e. other (sym e)))))
+    (omega (arith, needs.each k within other, near_other i a p to (need_of i (service_of i p) k) (neighbourhood_of i to) h.fits h.known (λ e. other (sym e)))))
     (cases_eq (need_of i (service_of i p) k) (service_of i p))
 
 -- a process of p's service stays in each neighbourhood where another process needs it
@@ -84,26 +84,30 @@ kept_near i a0 a p to s k q h may s_in k_in q_in one_service other mine = ⊎_el
   where
     label : ℕ
     label = neighbourhood_of i (machine_at a q)
+
     near_q : 0 < in_neighbourhood i a (service_of i p) (neighbourhood_of i (machine_at a q))
     near_q = omega (arith, count_from_near i a (need_of i s k) (neighbourhood_of i (machine_at a q)) (h.feasible.dependency s k q s_in k_in q_in one_service), ap (λ u. in_neighbourhood i a u (neighbourhood_of i (machine_at a q))) mine)
+
     here_q : 0 < in_neighbourhood i a s (neighbourhood_of i (machine_at a q))
     here_q = count_from_near i a s (neighbourhood_of i (machine_at a q)) (q, q_in, one_service, refl)
+
     leaving_it : s ≢ service_of i p → neighbourhood_of i (machine_at a p) ≡ neighbourhood_of i (machine_at a q) → neighbourhood_of i (machine_at a p) ≢ neighbourhood_of i to → 1 < in_neighbourhood i a (service_of i p) (neighbourhood_of i (machine_at a q))
     leaving_it apart at_q leaves = ⊎_elim
         (λ (two : 1 < in_neighbourhood i a (service_of i p) (neighbourhood_of i (machine_at a q))). two)
         (λ (last : in_neighbourhood i a (service_of i p) (neighbourhood_of i (machine_at a q)) ≤ 1).
-          absurd (omega (arith, here_q, ap (in_neighbourhood i a s) at_q, (may leaves).each s s_in (depends_at i s k (service_of i p) k_in mine) apart (omega (arith, last, ap (in_neighbourhood i a (service_of i p)) at_q)))))
+        absurd (omega (arith, here_q, ap (in_neighbourhood i a s) at_q, (may leaves).each s s_in (depends_at i s k (service_of i p) k_in mine) apart (omega (arith, last, ap (in_neighbourhood i a (service_of i p)) at_q)))))
         (cases_lt 1 (in_neighbourhood i a (service_of i p) (neighbourhood_of i (machine_at a q))))
+
     left : s ≢ service_of i p → 0 < in_neighbourhood i (shifted a p to) (service_of i p) (neighbourhood_of i (machine_at a q))
     left apart = ⊎_elim
         (λ (at_q : neighbourhood_of i (machine_at a p) ≡ neighbourhood_of i (machine_at a q)). ⊎_elim
-          (λ (stays : neighbourhood_of i (machine_at a p) ≡ neighbourhood_of i to).
-            omega (arith, near_q, near_mine i a p to (neighbourhood_of i (machine_at a q)) h.fits h.known, ap (λ x. one_if (eqb x (neighbourhood_of i (machine_at a q)))) stays))
-          (λ (leaves : neighbourhood_of i (machine_at a p) ≢ neighbourhood_of i to).
-            omega (arith, leaving_it apart at_q leaves, near_mine i a p to (neighbourhood_of i (machine_at a q)) h.fits h.known, one_if_le (eqb (neighbourhood_of i (machine_at a p)) (neighbourhood_of i (machine_at a q)))))
-          (cases_eq (neighbourhood_of i (machine_at a p)) (neighbourhood_of i to)))
+        (λ (stays : neighbourhood_of i (machine_at a p) ≡ neighbourhood_of i to).
+        omega (arith, near_q, near_mine i a p to (neighbourhood_of i (machine_at a q)) h.fits h.known, ap (λ x. one_if (eqb x (neighbourhood_of i (machine_at a q)))) stays))
+        (λ (leaves : neighbourhood_of i (machine_at a p) ≢ neighbourhood_of i to).
+        omega (arith, leaving_it apart at_q leaves, near_mine i a p to (neighbourhood_of i (machine_at a q)) h.fits h.known, one_if_le (eqb (neighbourhood_of i (machine_at a p)) (neighbourhood_of i (machine_at a q)))))
+        (cases_eq (neighbourhood_of i (machine_at a p)) (neighbourhood_of i to)))
         (λ (away : neighbourhood_of i (machine_at a p) ≢ neighbourhood_of i (machine_at a q)).
-          omega (arith, near_q, near_mine i a p to (neighbourhood_of i (machine_at a q)) h.fits h.known, one_if_false (eqb (neighbourhood_of i (machine_at a p)) (neighbourhood_of i (machine_at a q))) (ne_eqb _ _ away)))
+        omega (arith, near_q, near_mine i a p to (neighbourhood_of i (machine_at a q)) h.fits h.known, one_if_false (eqb (neighbourhood_of i (machine_at a p)) (neighbourhood_of i (machine_at a q))) (ne_eqb _ _ away)))
         (cases_eq (neighbourhood_of i (machine_at a p)) (neighbourhood_of i (machine_at a q)))
 
 near_moved : (i : Tables) (a0 a : List Machine) (p to s k q : ℕ) → IsStart i a0 a p to → FindsNeeds i a p to → k < dependency_count i s → service_of i q ≡ s → q ≡ p → HasNear i (shifted a p to) (need_of i s k) (neighbourhood_of i (machine_at (shifted a p to) q))
@@ -116,7 +120,7 @@ near_stayed : (i : Tables) (a0 a : List Machine) (p to s k q : ℕ) → IsStart 
 near_stayed i a0 a p to s k q h may s_in k_in q_in one_service other = ⊎_elim
     (λ (mine : need_of i s k ≡ service_of i p). rw (others a p to q other, mine) (kept_near i a0 a p to s k q h may s_in k_in q_in one_service other mine))
     (λ (foreign : need_of i s k ≢ service_of i p). rw (others a p to q other) (near_from_count i (shifted a p to) (need_of i s k) (neighbourhood_of i (machine_at a q))
-      (omega (arith, count_from_near i a (need_of i s k) (neighbourhood_of i (machine_at a q)) (h.feasible.dependency s k q s_in k_in q_in one_service), near_other i a p to (need_of i s k) (neighbourhood_of i (machine_at a q)) h.fits h.known (λ e. foreign (sym e))))))
+    (omega (arith, count_from_near i a (need_of i s k) (neighbourhood_of i (machine_at a q)) (h.feasible.dependency s k q s_in k_in q_in one_service), near_other i a p to (need_of i s k) (neighbourhood_of i (machine_at a q)) h.fits h.known (λ e. foreign (sym e))))))
     (cases_eq (need_of i s k) (service_of i p))
 
 pub dependency_after : (i : Tables) (a0 a : List Machine) (p to : ℕ) → IsStart i a0 a p to → FindsNeeds i a p to → (neighbourhood_of i (machine_at a p) ≢ neighbourhood_of i to → MayLeave i a p) → (s k q : ℕ) → s < service_count i → k < dependency_count i s → q < process_count i → service_of i q ≡ s → HasNear i (shifted a p to) (need_of i s k) (neighbourhood_of i (machine_at (shifted a p to) q))

@@ -1,8 +1,8 @@
 -- What is read of a world, over plain lists and numbers.
-use Rattle.std.proofs.Common.{◌≡◌, ◌≢◌, ℕ, zero, suc, ◌+◌, ◌-◌, ◌<◌, ◌≤◌, true, false, IsTrue, List, length, set, slice_index, eqb, refl, ap, ap₂, sym, ◌∙◌, ⊎_elim, arith, get_or-set_same, get_or-set_other, subst}
+use Rattle.std.proofs.Common.{◌≡◌, ◌≢◌, ℕ, ◌+◌, ◌-◌, ◌<◌, ◌≤◌, true, List, length, set, slice_index, eqb, refl, ap, ap₂, sym, ◌∙◌, ⊎_elim, arith, get_or-set_same, get_or-set_other, subst}
 use Rattle.std.proofs.lemmas.Bool.{cases_eq, cond-true, eq-eqb, ne_eqb}
 use Rattle.std.proofs.lemmas.List.{length-map, get_or-map}
-use Rattle.ra_base.specs.Sums.{one_if, pick, count}
+use Rattle.ra_base.specs.Sums.{pick, count}
 use Rattle.ra_base.specs.declared.ids.Machine.{Machine}
 use Rattle.ra_base.specs.declared.ids.Service.{Service}
 use Rattle.ra_base.proofs.Counts.{one_if_true, one_if_false}
@@ -11,7 +11,7 @@ use Rattle.ra_model.specs.declared.raw.Tables.{Tables}
 use Rattle.ra_model.specs.Numbers.{resource_count, service_count, process_count, service_of, transient_at, capacity_of, requirement_of, location_of, neighbourhood_of, dependency_count, need_of}
 use Rattle.ra_model.specs.Limits.{WellFormed, Small}
 use Rattle.ra_model.specs.Assignments.{machine_at}
-use Rattle.ra_model.specs.Usage.{use_share, use_of, transient_of}
+use Rattle.ra_model.specs.Usage.{use_share, use_of}
 use Rattle.ra_model.specs.Services.{in_location, in_neighbourhood, locations_of}
 use Rattle.ra_model.specs.Relations.{depends}
 use Rattle.ra_model.proofs.TallyLemmas.{tally_term}

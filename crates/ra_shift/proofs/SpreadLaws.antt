@@ -1,13 +1,12 @@
 -- In how many locations a service is once one of its processes goes to another machine.
-use Rattle.std.proofs.Common.{◌≡◌, ◌≢◌, ℕ, ◌+◌, ◌-◌, ◌^◌, ◌<◌, ◌≤◌, List, Bool, true, false, eqb, ltb, refl, ap, ap₂, sym, ◌∙◌, ⊎_elim, arith, eq-eqb, ne_eqb}
+use Rattle.std.proofs.Common.{◌≡◌, ◌≢◌, ℕ, ◌+◌, ◌^◌, ◌<◌, ◌≤◌, List, eqb, ltb, refl, ap, ap₂, sym, ◌∙◌, ⊎_elim, arith, eq-eqb, ne_eqb}
 use Rattle.std.proofs.lemmas.Bool.{cases_eq, lt-ltb, le-ltb}
-use Rattle.std.proofs.lemmas.Grind.{common_steps}
-use Rattle.ra_base.specs.Sums.{one_if, count}
+use Rattle.ra_base.specs.Sums.{one_if}
 use Rattle.ra_base.specs.declared.ids.Machine.{Machine}
 use Rattle.ra_base.proofs.Counts.{one_if_true, one_if_false, one_if_le, count_same, count_some, count_change_two}
 use Rattle.ra_model.specs.declared.raw.Tables.{Tables}
 use Rattle.ra_model.specs.Numbers.{process_count, service_of, spread_of, location_of}
-use Rattle.ra_model.specs.Limits.{WellFormed, Small}
+use Rattle.ra_model.specs.Limits.{Small}
 use Rattle.ra_model.specs.Assignments.{IsAssignment, machine_at}
 use Rattle.ra_model.specs.Services.{in_location, locations_of}
 use Rattle.ra_shift.specs.Conditions.{shifted}
@@ -47,7 +46,7 @@ to_another i a p to small fits within apart =
     let from_label = location_of i (machine_at a p) in
     let to_label = location_of i to in
     let changed = count_change_two (2 ^ 32) from_label to_label (λ label. ltb 0 (in_location i (shifted a p to) s label)) (λ label. ltb 0 (in_location i a s label)) (small.locations (machine_at a p)) (small.locations to) apart
-      (λ label h not_from not_to. ap (ltb 0) (omega (arith, location_mine i a p to label fits within, one_if_false (eqb from_label label) (ne_eqb _ _ (λ e. not_from (sym e))), one_if_false (eqb to_label label) (ne_eqb _ _ (λ e. not_to (sym e)))))) in
+    (λ label h not_from not_to. ap (ltb 0) (omega (arith, location_mine i a p to label fits within, one_if_false (eqb from_label label) (ne_eqb _ _ (λ e. not_from (sym e))), one_if_false (eqb to_label label) (ne_eqb _ _ (λ e. not_to (sym e)))))) in
     let at_from = location_mine i a p to from_label fits within in
     let at_to = location_mine i a p to to_label fits within in
     let left = taken_away (in_location i a s from_label) (in_location i (shifted a p to) s from_label) (omega (arith, at_from, one_if_true (eqb from_label from_label) (eq-eqb _ _ refl), one_if_false (eqb to_label from_label) (ne_eqb _ _ (λ e. apart (sym e))))) in
@@ -66,16 +65,16 @@ pub spread_is : (i : Tables) (a : List Machine) (p to : ℕ) → Small i → IsA
 unfolding locations_without
 spread_is i a p to small fits within = ⊎_elim
     (λ (same : location_of i (machine_at a p) ≡ location_of i to).
-      let stays = within_location i a p to fits within same in
-      let one = one_if_true (eqb (location_of i (machine_at a p)) (location_of i to)) (eq-eqb _ _ same) in
-      let here = ap (λ x. one_if (eqb (in_location i a (service_of i p) (location_of i to)) x)) one in
-      let label = ap (λ x. one_if (eqb (in_location i a (service_of i p) x) 1)) same in
-      omega (arith, stays, here, label, some_location i a p small within))
+    let stays = within_location i a p to fits within same in
+    let one = one_if_true (eqb (location_of i (machine_at a p)) (location_of i to)) (eq-eqb _ _ same) in
+    let here = ap (λ x. one_if (eqb (in_location i a (service_of i p) (location_of i to)) x)) one in
+    let label = ap (λ x. one_if (eqb (in_location i a (service_of i p) x) 1)) same in
+    omega (arith, stays, here, label, some_location i a p small within))
     (λ (apart : location_of i (machine_at a p) ≢ location_of i to).
-      let goes = to_another i a p to small fits within apart in
-      let none = one_if_false (eqb (location_of i (machine_at a p)) (location_of i to)) (ne_eqb _ _ apart) in
-      let there = ap (λ x. one_if (eqb (in_location i a (service_of i p) (location_of i to)) x)) none in
-      omega (arith, goes, there, some_location i a p small within))
+    let goes = to_another i a p to small fits within apart in
+    let none = one_if_false (eqb (location_of i (machine_at a p)) (location_of i to)) (ne_eqb _ _ apart) in
+    let there = ap (λ x. one_if (eqb (in_location i a (service_of i p) (location_of i to)) x)) none in
+    omega (arith, goes, there, some_location i a p small within))
     (cases_eq (location_of i (machine_at a p)) (location_of i to))
 
 -- enough locations are left, whatever the machine

@@ -158,7 +158,11 @@ pub(crate) fn way_cost(world: &World<'_>, p: Process, home: Machine, at: Machine
     ensures bound { result < 2 ^ 65 }
 {
     let inst = world.instance();
-    let moved = if at.0 == home.0 { 0 } else { inst.process_cost(p) };
+    let moved = if at.0 == home.0 {
+        0
+    } else {
+        inst.process_cost(p)
+    };
     let process = u128::from(inst.process_weight()) * u128::from(moved);
     process + u128::from(inst.machine_weight()) * u128::from(inst.move_cost(home, at))
 }

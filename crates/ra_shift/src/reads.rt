@@ -24,11 +24,7 @@ pub(crate) fn machine_of(a: &Assignment, p: Process) -> Machine
 }
 
 /// What a process requires of each resource, and zeros behind.
-pub(crate) fn required_of<L: Ledger>(
-    inst: &Instance,
-    p: Process,
-    steps: &mut Steps<L>,
-) -> [u32; 20]
+pub(crate) fn required_of<L: Ledger>(inst: &Instance, p: Process, steps: &mut Steps<L>) -> [u32; 20]
     requires { p.0 < process_count inst.now.tables }
     ensures value { AreRequired inst.now.tables p.0 result }
     ensures counted { steps.new ≡ steps.old + resource_count inst.now.tables }

@@ -1,8 +1,8 @@
 -- One more number, and what the numbers are.
-use Rattle.std.proofs.Common.{ℕ, ◌∙◌, ◌+◌, ◌-◌, ap, length, length-set, slice_index, arith}
+use Rattle.std.proofs.Common.{◌∙◌, ◌+◌, ap, length-set, slice_index, arith}
 use Rattle.ra_model.specs.Numbers.{resource_count}
 use Rattle.ra_model.specs.declared.numbers.Instance.{Instance}
-use Rattle.ra_shift.proofs.ReadLaws.{filled_more, used_with, used_covers}
+use Rattle.ra_shift.proofs.ReadLaws.{filled_more, used_with}
 use Rattle.ra_shift.proofs.costs.row_with.Goals as goal
 
 pub loop-r-preserved : goal.loop-r-preserved

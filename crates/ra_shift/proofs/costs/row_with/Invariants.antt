@@ -1,5 +1,5 @@
 -- The numbers so far.
-use Rattle.std.proofs.Common.{◌≡◌, ℕ, ◌+◌, ◌-◌, ◌<◌, length, slice_index}
+use Rattle.std.proofs.Common.{◌≡◌, ℕ, ◌+◌, ◌<◌, length, slice_index}
 use Rattle.ra_shift.proofs.costs.row_with.Given as goal
 
 abbrev pub invariant-loop-r : goal.invariant-loop-r

@@ -1,5 +1,5 @@
 -- One more number, and what the numbers are.
-use Rattle.std.proofs.Common.{ℕ, ◌∙◌, ◌+◌, ◌-◌, ap, length, length-set, slice_index, arith}
+use Rattle.std.proofs.Common.{◌∙◌, ◌-◌, ap, length-set, slice_index, arith}
 use Rattle.ra_model.specs.Numbers.{resource_count}
 use Rattle.ra_model.specs.declared.numbers.Instance.{Instance}
 use Rattle.ra_shift.proofs.ReadLaws.{filled_more, used_without, used_covers}

@@ -1,5 +1,5 @@
 -- What the cells count.
-use Rattle.std.proofs.Common.{◌≡◌, arith}
+use Rattle.std.proofs.Common.{arith}
 use Rattle.std.proofs.lemmas.Bool.{ltb-true, ltb-false}
 use Rattle.ra_shift.proofs.reads.is_other_there.Goals as goal
 

@@ -1,9 +1,8 @@
 -- What the cells count of the service, and of those that depend on it.
-use Rattle.std.proofs.Common.{◌≡◌, ◌≢◌, ℕ, ◌<◌, ◌∙◌, ap, refl, arith, below_more}
-
+use Rattle.std.proofs.Common.{◌≡◌, ◌≢◌, ℕ, ◌<◌, refl, arith, below_more}
 use Rattle.ra_model.specs.Numbers.{service_count}
 use Rattle.ra_model.specs.Services.{in_neighbourhood}
-use Rattle.ra_topology.specs.Lists.{service_at, AreDependantsOf}
+use Rattle.ra_topology.specs.Lists.{service_at}
 use Rattle.ra_shift.proofs.ReadLaws.{may_from_many, may_from_none, may_not_from, dependant_at, dependants_there}
 use Rattle.ra_shift.proofs.reads.may_leave.Goals as goal
 

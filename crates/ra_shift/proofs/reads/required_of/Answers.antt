@@ -1,6 +1,6 @@
 -- One more number.
-use Rattle.std.proofs.Common.{ℕ, ◌∙◌, ◌+◌, length, length-set, arith}
-use Rattle.ra_model.specs.Numbers.{resource_count, requirement_of}
+use Rattle.std.proofs.Common.{◌∙◌, length-set, arith}
+use Rattle.ra_model.specs.Numbers.{requirement_of}
 use Rattle.ra_shift.proofs.ReadLaws.{filled_more}
 use Rattle.ra_shift.proofs.reads.required_of.Goals as goal
 

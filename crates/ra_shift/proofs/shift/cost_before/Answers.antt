@@ -1,5 +1,5 @@
 -- The bounds of a machine's costs.
-use Rattle.std.proofs.Common.{◌≡◌, ◌∙◌, ◌+◌, ap, ap₂, arith}
+use Rattle.std.proofs.Common.{◌∙◌, ◌+◌, ap, ap₂, arith}
 use Rattle.ra_model.specs.MachineCosts.{machine_load, machine_balance}
 use Rattle.ra_shift.specs.Sharing.{cost_of, way_cost}
 use Rattle.ra_shift.proofs.ChangeLaws.{cost_small}

@@ -1,5 +1,5 @@
 -- The bounds of a machine's costs, and what the costs change by.
-use Rattle.std.proofs.Common.{◌≡◌, ◌∙◌, ◌+◌, ap₂, arith}
+use Rattle.std.proofs.Common.{◌∙◌, ◌+◌, ap₂, arith}
 use Rattle.std.specs.Int.{w128}
 use Rattle.std.proofs.lemmas.Int.{to_z-of_z}
 use Rattle.ra_shift.specs.Sharing.{cost_of}

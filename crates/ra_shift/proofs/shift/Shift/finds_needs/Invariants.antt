@@ -1,5 +1,5 @@
 -- Each of the needs so far is there, or is the service itself.
-use Rattle.std.proofs.Common.{◌≡◌, ◌≢◌, ℕ, ◌<◌}
+use Rattle.std.proofs.Common.{◌≢◌, ℕ, ◌<◌}
 use Rattle.ra_model.specs.Numbers.{service_of}
 use Rattle.ra_model.specs.Services.{in_neighbourhood}
 use Rattle.ra_topology.specs.Lists.{service_at}

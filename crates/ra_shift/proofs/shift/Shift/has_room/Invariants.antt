@@ -1,5 +1,5 @@
 -- There is room for the resources so far.
-use Rattle.std.proofs.Common.{◌≡◌, ℕ, ◌+◌, ◌<◌, ◌≤◌, slice_index}
+use Rattle.std.proofs.Common.{ℕ, ◌+◌, ◌<◌, ◌≤◌, slice_index}
 use Rattle.ra_model.specs.Numbers.{capacity_of}
 use Rattle.ra_shift.proofs.shift.Shift.has_room.Given as goal
 

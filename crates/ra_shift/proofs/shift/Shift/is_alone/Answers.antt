@@ -1,5 +1,5 @@
 -- What the cells count.
-use Rattle.std.proofs.Common.{◌≡◌, ◌∙◌, sym, ap}
+use Rattle.std.proofs.Common.{◌∙◌, sym, ap}
 use Rattle.std.proofs.lemmas.Bool.{eqb-true, eq-eqb}
 use Rattle.ra_model.specs.Services.{on_machine}
 use Rattle.ra_shift.proofs.shift.Shift.is_alone.Goals as goal

@@ -1,5 +1,5 @@
 -- What the cells count.
-use Rattle.std.proofs.Common.{◌≡◌, arith}
+use Rattle.std.proofs.Common.{arith}
 use Rattle.std.proofs.lemmas.Bool.{eqb-true, eqb-false}
 use Rattle.ra_shift.proofs.shift.Shift.is_missing.Goals as goal
 

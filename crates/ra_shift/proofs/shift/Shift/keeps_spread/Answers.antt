@@ -1,5 +1,5 @@
 -- The locations without the process, and that of the machine where it comes as the first.
-use Rattle.std.proofs.Common.{◌≡◌, ◌∙◌, ap, refl, arith}
+use Rattle.std.proofs.Common.{◌∙◌, ap, refl, arith}
 use Rattle.std.proofs.lemmas.Bool.{leb-true, le-leb}
 use Rattle.ra_model.specs.Numbers.{location_of}
 use Rattle.ra_model.specs.declared.numbers.Instance.{Instance}

@@ -1,5 +1,5 @@
 -- The count before, and what the process changes.
-use Rattle.std.proofs.Common.{◌≡◌, ◌∙◌, ap, ap₂}
+use Rattle.std.proofs.Common.{◌∙◌, ap, ap₂}
 use Rattle.ra_cells.specs.Marks.{away}
 use Rattle.ra_shift.proofs.ChangeLaws.{moved_after, moved_is}
 use Rattle.ra_shift.proofs.shift.Shift.moved.Goals as goal
