@@ -16,6 +16,7 @@ use ra_world::World;
 use std::sync::ledger::Ledger;
 
 /// A process that may be shifted, with all that is the same for each machine to which it might go.
+#[derive(Drop)]
 pub struct Shift<'w, 'a> {
     world: &'w World<'a>,
     process: Process,
