@@ -7,3 +7,6 @@ mod reads;
 mod shift;
 
 pub use shift::Shift;
+
+#[cfg(test)]
+mod tests;

@@ -157,7 +157,7 @@ impl<'w, 'a> Shift<'w, 'a> {
         ensures { (result ≡ true) ↔ (closed_at self.now.world.now.inst.now.tables to.0 ≡ true →
             machine_at self.now.world.now.start.now.items self.now.process.0 ≡ to.0) }
     {
-        if to.0 == self.home.0 {
+        if self.home.0 == to.0 {
             return true;
         }
         !self.world.instance().closed(to)
