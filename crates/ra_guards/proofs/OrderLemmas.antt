@@ -28,16 +28,11 @@ service_same s t same = ap (λ (n : ℕ). guard.Service (record { 0 = n })) same
 pub guard_service : (machines s : ℕ) → guard_of machines (machines + s) ≡ guard.Service (record { 0 = s })
 guard_service machines s = guard_above machines (machines + s) (omega arith) ∙ service_same _ _ (omega arith)
 
--- a guard of the instance is that of its number, and its number is below the count of all
+-- a guard of the instance is that of its number
 pub guard_number : (i : Tables) (g : Guard) → IsKnown i g → guard_of (machine_count i) (number_in (machine_count i) g) ≡ g
 unfolding IsKnown number_in
 guard_number i (guard.Machine m) known = guard_below (machine_count i) m.0 known
 guard_number i (guard.Service s) known = guard_service (machine_count i) s.0
-
-pub number_known : (i : Tables) (g : Guard) → IsKnown i g → number_in (machine_count i) g < machine_count i + service_count i
-unfolding IsKnown number_in
-number_known i (guard.Machine m) known = omega (arith, known)
-number_known i (guard.Service s) known = omega (arith, known)
 
 -- the guard of a number below the count of all is one of the instance
 pub known_number : (i : Tables) (n : ℕ) → n < machine_count i + service_count i → IsKnown i (guard_of (machine_count i) n)

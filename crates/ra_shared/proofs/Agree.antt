@@ -1,5 +1,5 @@
 -- Guards and their numbers, and the versions of both.
-use Rattle.std.proofs.Common.{◌≡◌, ℕ, suc, ◌+◌, ◌-◌, ◌<◌, ◌≤◌, Bool, true, false, nat_lt, List, length, map, slice_get, Option, option_map, Some, None, lt-ltb, le-ltb, ap, sym, ◌∙◌, ⊎_elim, arith}
+use Rattle.std.proofs.Common.{◌≡◌, ℕ, suc, ◌+◌, ◌-◌, ◌<◌, ◌≤◌, true, false, nat_lt, List, length, map, slice_get, Option, option_map, Some, None, lt-ltb, le-ltb, ap, sym, ◌∙◌, ⊎_elim, arith}
 use Rattle.std.proofs.lemmas.Bool.{cases_Bool, cases_lt, cond-true, cond-false}
 use Rattle.std.proofs.lemmas.Option.{slice_get-map, slice_get_cases, get_or_from_slice_get}
 use Rattle.ra_base.specs.declared.ids.Guard.{Guard}
@@ -8,9 +8,10 @@ use Rattle.ra_base.proofs.Greatest.{greatest_at, greatest_least}
 use Rattle.ra_model.specs.declared.raw.Tables.{Tables}
 use Rattle.ra_model.specs.Numbers.{machine_count}
 use Rattle.ra_moves.specs.declared.steps.Step.{Step}
+use Rattle.ra_guards.specs.Order.{IsKnown}
 use Rattle.ra_guards.specs.Versions.{made_at, touches, stamp, version}
 use Rattle.ra_turn.specs.Notes.{IsVersion}
-use Rattle.ra_shared.specs.Numbers.{guard_count, IsKnown, number_of, touches_number}
+use Rattle.ra_shared.specs.Numbers.{guard_count, number_of, touches_number}
 use Rattle.ra_shared.specs.Laws.{TouchesAgree, NoneAbove, VersionsAgree}
 
 -- a number below the machine count is a machine's

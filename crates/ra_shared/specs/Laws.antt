@@ -3,9 +3,10 @@ use Rattle.std.specs.Prelude.{◌≡◌, ℕ, ◌≤◌, false, List, length, ma
 use Rattle.ra_base.specs.declared.ids.Guard.{Guard}
 use Rattle.ra_model.specs.declared.raw.Tables.{Tables}
 use Rattle.ra_moves.specs.declared.steps.Step.{Step}
+use Rattle.ra_guards.specs.Order.{IsKnown}
 use Rattle.ra_guards.specs.Versions.{touches, version}
 use Rattle.ra_turn.specs.Notes.{IsVersion}
-use Rattle.ra_shared.specs.Numbers.{guard_count, IsKnown, number_of, touches_number}
+use Rattle.ra_shared.specs.Numbers.{guard_count, number_of, touches_number}
 
 -- what an entry makes touches a guard exactly where it touches its number
 abbrev pub TouchesAgree : Type 0

@@ -1,5 +1,5 @@
 -- The numbers under which the lock knows the guards: the machines first, then the services.
-use Rattle.std.specs.Prelude.{ℕ, ◌+◌, ◌-◌, ◌<◌, Bool, false, List, Option, nat_lt, if◌then◌else◌}
+use Rattle.std.specs.Prelude.{ℕ, ◌+◌, ◌-◌, Bool, false, List, Option, nat_lt, if◌then◌else◌}
 use Rattle.ra_base.specs.declared.ids.Guard.{Guard}
 use Rattle.ra_base.specs.declared.ids.Guard.TheVariants as guard
 use Rattle.ra_model.specs.declared.raw.Tables.{Tables}
@@ -10,11 +10,6 @@ use Rattle.ra_guards.specs.Versions.{touches}
 -- how many guards an instance has
 unfoldable pub guard_count : Tables → ℕ
 guard_count i = machine_count i + service_count i
-
--- the guard is of a machine or a service of the instance
-unfoldable pub IsKnown : Tables → Guard → Type 0
-IsKnown i (guard.Machine m) = m.0 < machine_count i
-IsKnown i (guard.Service s) = s.0 < service_count i
 
 -- machine m is guard m, and service s is the machine count plus s
 unfoldable pub number_of : Tables → Guard → ℕ
