@@ -1,0 +1,6 @@
+//! Stub.
+#![tactic(auto)]
+
+mod shift;
+
+pub use shift::Shift;
