@@ -1,1 +1,2 @@
+pub mod OptionSizes
 pub mod Bests

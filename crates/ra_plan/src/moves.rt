@@ -1,7 +1,8 @@
 ghost use Rattle.std.specs.Prelude.{◌≡◌, ℕ, ◌+◌, ◌*◌, ◌<◌, ◌≤◌, List, length};
 ghost use Rattle.ra_base.specs.declared.causes.Drawing.{Drawing};
 ghost use Rattle.ra_model.specs.Numbers.{resource_count, machine_count};
-ghost use Rattle.ra_moves.specs.Options.{option_at, option_count};
+ghost use Rattle.ra_moves.specs.MoveSteps.{step_count};
+ghost use Rattle.ra_moves.specs.Options.{kind_of, option_count};
 ghost use Rattle.ra_local.specs.Moving.{IsOffered};
 ghost use Rattle.ra_plan.specs.Choosing.{IsBest, steps_in};
 
@@ -24,7 +25,7 @@ pub(crate) fn best_move<L: Ledger>(
         (option_count words.now (machine_count world.now.inst.now.tables) drawing) result }
     ensures counted { steps.new ≤ steps.old
         + option_count words.now (machine_count world.now.inst.now.tables) drawing
-        * (6 * resource_count world.now.inst.now.tables) }
+        * (2 * (step_count (kind_of words.now) * resource_count world.now.inst.now.tables)) }
 {
     let machines = world.instance().machines();
     let mut best = Best::none();

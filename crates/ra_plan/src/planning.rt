@@ -1,8 +1,7 @@
-ghost use Rattle.std.specs.Prelude.{◌≡◌, ◌+◌, ◌*◌, ◌≤◌, length};
+ghost use Rattle.std.specs.Prelude.{◌≡◌, ℕ, Some, ◌+◌, ◌*◌, ◌≤◌, length};
 ghost use Rattle.ra_base.specs.declared.causes.Drawing.TheVariants.{One, Two};
 ghost use Rattle.ra_model.specs.Numbers.{resource_count, machine_count};
 ghost use Rattle.ra_moves.specs.Options.{plan_of, option_count};
-ghost use Rattle.ra_moves.specs.Steps.{StandsAt, from_in};
 ghost use Rattle.ra_local.specs.Moving.{IsOffered};
 ghost use Rattle.ra_local.specs.Weighing.{weighed_of};
 ghost use Rattle.ra_plan.specs.Choosing.{IsBest};
@@ -11,7 +10,7 @@ use crate::best::Best;
 use crate::moves::best_move;
 use crate::shifts::best_shift;
 use ra_base::{Drawing, Steps};
-use ra_moves::{MoveKind, Plan, resolve};
+use ra_moves::{Move, MoveKind, Plan, Weighed, resolve};
 use ra_weigh::weigh;
 use ra_world::World;
 use std::sync::ledger::Ledger;
@@ -42,11 +41,26 @@ pub fn plan<L: Ledger>(
     let best = best_option(world, words, drawing, allowed, steps);
     let machines = world.instance().machines();
     let mv = resolve(world.assignment(), words, machines, drawing, best.option);
-    let weighed = match best.cost {
-        Some(_) => best.weighed,
-        None => weigh(world, &mv, steps),
-    };
+    let weighed = weighing(world, &best, &mv, steps);
     Plan { q, k, mv, weighed }
+}
+
+/// The weighing of the move that is planned: that of the best option, or of option 0 where none is done.
+fn weighing<L: Ledger>(world: &World<'_>, best: &Best, mv: &Move, steps: &mut Steps<L>) -> Weighed
+    requires offered { IsOffered world.now.inst.now.tables world.now.kept.assignment.items
+        mv.now.steps }
+    requires best { (cost : ℕ) → best.now.cost ≡ Some cost →
+        best.now.weighed ≡ weighed_of world.now.inst.now.tables
+        world.now.start.now.items world.now.kept.assignment.items mv.now.steps }
+    ensures value { result ≡ weighed_of world.now.inst.now.tables
+        world.now.start.now.items world.now.kept.assignment.items mv.now.steps }
+    ensures counted { steps.new ≤ steps.old
+        + 2 * (length mv.now.steps * resource_count world.now.inst.now.tables) }
+{
+    match best.cost {
+        Some(_) => best.weighed,
+        None => weigh(world, mv, steps),
+    }
 }
 
 /// The best of all options that the words name.
@@ -59,19 +73,12 @@ fn best_option<L: Ledger>(
 ) -> Best
     ensures best { IsBest world.now words.now drawing allowed
         (option_count words.now (machine_count world.now.inst.now.tables) drawing) result }
-    ensures counted { steps.new ≤ steps.old + 18 * resource_count world.now.inst.now.tables }
+    ensures counted { steps.new ≤ steps.old + 16 * resource_count world.now.inst.now.tables }
 {
     let machines = world.instance().machines();
     let first = resolve(world.assignment(), words, machines, drawing, 0);
     match first.kind() {
-        MoveKind::Shift => best_shift(
-            world,
-            first.step(0).process,
-            words,
-            drawing,
-            allowed,
-            steps,
-        ),
+        MoveKind::Shift => best_shift(world, first.step(0).process, words, drawing, allowed, steps),
         _ => best_move(world, words, drawing, allowed, steps),
     }
 }

@@ -70,6 +70,7 @@ fn with_shift(
 
 /// The machine of an option: a word for each with drawing One, and a window of machines with drawing Two.
 #[inline(always)]
+#[tactic(auto, unfolding(ra_moves::specs::Options::target, ra_moves::specs::Options::count_of))]
 fn target(words: &[u64; 8], drawing: Drawing, machines: u32, first: u32, option: u32) -> Machine
     requires some { 1 ≤ machines }
     requires few { machines ≤ 5000 }

@@ -1,5 +1,5 @@
 use Rattle.std.proofs.Common.{sym, ◌∙◌}
-use Rattle.ra_plan.proofs.Bests.{best_broken, unbroken_moves, unbroken_none}
+use Rattle.ra_plan.proofs.Bests.{best_broken, unbroken_moves, unbroken_none, judged_in, weighed_at}
 use Rattle.ra_plan.proofs.moves.with_option.Goals as goal
 
 pub is_unbroken-requires-clause-stub : goal.is_unbroken-requires-clause-stub
@@ -18,4 +18,10 @@ pub verdict-requires : goal.verdict-requires
 verdict-requires g c = ?
 
 pub returns-clause-best : goal.returns-clause-best
-returns-clause-best g c = λ x d is same. c.consider.ensures c.args.world.now x d c.args.allowed is ?a ?b
+returns-clause-best g c = λ x d is same.
+    let world = c.args.world.now in
+    let steps = c.args.mv.now.steps in
+    let judged = c.verdict.ensures steps c.requires.offered c.changed_by-weighed.ensures.value in
+    c.consider.ensures world x d c.args.allowed is
+    (judged_in world x d _ _ steps _ same judged)
+    (weighed_at world x d _ steps _ same c.changed_by-weighed.ensures.value)
