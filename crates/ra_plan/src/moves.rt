@@ -28,8 +28,9 @@ pub(crate) fn best_move<L: Ledger>(
         * (2 * (step_count (kind_of words.now) * resource_count world.now.inst.now.tables)) }
 {
     let machines = world.instance().machines();
+    let count = options(words, machines, drawing);
     let mut best = Best::none();
-    for option in 0..options(words, machines, drawing) {
+    for option in 0..count {
         let mv = resolve(world.assignment(), words, machines, drawing, option);
         best = with_option(world, best, option, &mv, allowed, steps);
     }

@@ -34,8 +34,9 @@ pub(crate) fn best_shift<L: Ledger>(
     let machines = world.instance().machines();
     let first = (words[2] % machines as u64) as u32;
     let shift = Shift::make(world, process, steps);
+    let count = options(words, machines, drawing);
     let mut best = Best::none();
-    for option in 0..options(words, machines, drawing) {
+    for option in 0..count {
         let to = target(words, drawing, machines, first, option);
         best = with_shift(world, &shift, best, option, to, allowed);
     }

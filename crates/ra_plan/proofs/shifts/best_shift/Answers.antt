@@ -13,7 +13,7 @@ pub loop-option-init : goal.loop-option-init
 loop-option-init g c = c.none-best.ensures _ _ _ _
 
 pub target-to-requires-clause-named : goal.target-to-requires-clause-named
-target-to-requires-clause-named g c = shift_named _ _ _ _ c.requires.shift (rw (← c.options-option-end.ensures.value) c.loop-option-test.true)
+target-to-requires-clause-named g c = shift_named _ _ _ _ c.requires.shift (rw (← c.options-count.ensures.value) c.loop-option-test.true)
 
 pub with_shift-best-requires-clause-offered : goal.with_shift-best-requires-clause-offered
 with_shift-best-requires-clause-offered g c =
