@@ -15,13 +15,17 @@ use Rattle.ra_model.specs.Limits.{WellFormed}
 use Rattle.ra_model.specs.Relations.{are_joined}
 use Rattle.ra_moves.specs.declared.steps.Step.{Step}
 use Rattle.ra_moves.specs.Steps.{step_at, process_in, from_in, to_in}
-use Rattle.ra_guards.specs.Guards.{AreKnown, ends_at, service_in, moves_service, reads_service, guards_service, writes, reads, is_guard, meets_step}
+use Rattle.ra_local.specs.Touched.{ends_at, service_in, moves_service, reads_service, guards_service}
+use Rattle.ra_guards.specs.Guards.{AreKnown, AreWithin, writes, reads, is_guard, meets_step}
 use Rattle.ra_guards.specs.Versions.{Apart}
 
 -- a step's process, and its service, exist
 pub step_known : (i : Tables) (steps : List Step) (j : ℕ) (s : Step) → AreKnown i steps → j < length steps → s ≡ step_at steps j → s.process.0 < process_count i
 unfolding process_in
 step_known i steps j s known within is = rw is (known.each j within)
+
+pub within_known : (i : Tables) (steps : List Step) → AreWithin i steps → AreKnown i steps
+within_known i steps within = record { each = within.process }
 
 pub service_known : (i : Tables) (p s : ℕ) → WellFormed i → p < process_count i → s ≡ service_of i p → s < service_count i
 service_known i p s limits there is = rw is (limits.services p there)
@@ -137,11 +141,11 @@ service_apart : (i : Tables) (steps others : List Step) (u : ℕ) → NoneMeets 
 unfolding moves_service service_in process_in
 service_apart i steps others u none guarded = is_named_not (length others) (service_in i others) u (λ k within same. both_ways (guards_service i steps u) (ap (guards_service i steps) (sym same) ∙ (missed i steps (step_at others k) (none.each k within)).service) guarded)
 
-machine_guard : (i : Tables) (steps : List Step) (m : Machine) → is_guard i steps (guard.Machine m) ≡ ends_at steps m.0
+pub machine_guard : (i : Tables) (steps : List Step) (m : Machine) → is_guard i steps (guard.Machine m) ≡ ends_at steps m.0
 unfolding is_guard writes reads
 machine_guard i steps m = or-false (ends_at steps m.0)
 
-service_guard : (i : Tables) (steps : List Step) (s : Service) → is_guard i steps (guard.Service s) ≡ guards_service i steps s.0
+pub service_guard : (i : Tables) (steps : List Step) (s : Service) → is_guard i steps (guard.Service s) ≡ guards_service i steps s.0
 unfolding is_guard writes reads guards_service
 service_guard i steps s = refl
 

@@ -1,33 +1,12 @@
 -- The guards of a move: the machines and services on which its verdict stands (this project's).
-use Rattle.std.specs.Prelude.{ℕ, ◌<◌, List, length, Bool, false, ◌||◌, nat_lt}
-use Rattle.ra_base.specs.Sums.{count, is_named}
+use Rattle.std.specs.Prelude.{ℕ, ◌<◌, List, length, Bool, false, ◌||◌}
 use Rattle.ra_base.specs.declared.ids.Guard.{Guard}
 use Rattle.ra_base.specs.declared.ids.Guard.TheVariants as guard
 use Rattle.ra_model.specs.declared.raw.Tables.{Tables}
-use Rattle.ra_model.specs.Numbers.{process_count, service_of}
-use Rattle.ra_model.specs.Relations.{are_joined}
+use Rattle.ra_model.specs.Numbers.{machine_count, process_count, service_of}
 use Rattle.ra_moves.specs.declared.steps.Step.{Step}
 use Rattle.ra_moves.specs.Steps.{process_in, from_in, to_in}
-
--- a step leaves or enters machine m
-unfoldable pub ends_at : List Step → ℕ → Bool
-ends_at steps m = is_named (length steps) (from_in steps) m || is_named (length steps) (to_in steps) m
-
--- the service of the process of step j
-unfoldable pub service_in : Tables → List Step → ℕ → ℕ
-service_in i steps j = service_of i (process_in steps j)
-
--- a process of service s moves
-unfoldable pub moves_service : Tables → List Step → ℕ → Bool
-moves_service i steps s = is_named (length steps) (service_in i steps) s
-
--- a service that moves depends on service u, or service u on one that moves
-unfoldable pub reads_service : Tables → List Step → ℕ → Bool
-reads_service i steps u = nat_lt 0 (count (length steps) (λ j. are_joined i (service_in i steps j) u))
-
--- service u moves, or is joined with one that moves
-unfoldable pub guards_service : Tables → List Step → ℕ → Bool
-guards_service i steps u = moves_service i steps u || reads_service i steps u
+use Rattle.ra_local.specs.Touched.{ends_at, moves_service, reads_service, guards_service}
 
 -- the write guards of a move: the machines that its steps leave and enter, and the services of its processes
 unfoldable pub writes : Tables → List Step → Guard → Bool
@@ -46,6 +25,12 @@ is_guard i steps g = writes i steps g || reads i steps g
 -- each step moves a process of the instance
 pub record AreKnown (i : Tables) (steps : List Step) : Type 0 where
   pub each : (j : ℕ) → j < length steps → process_in steps j < process_count i
+
+-- each step moves a process of the instance from one of its machines to one of its machines
+pub record AreWithin (i : Tables) (steps : List Step) : Type 0 where
+  pub process : (j : ℕ) → j < length steps → process_in steps j < process_count i
+  pub from : (j : ℕ) → j < length steps → from_in steps j < machine_count i
+  pub to : (j : ℕ) → j < length steps → to_in steps j < machine_count i
 
 -- a step of another move leaves or enters a machine that is a guard, or moves a process of a service that is one
 unfoldable pub meets_step : Tables → List Step → Step → Bool

@@ -1,3 +1,7 @@
 pub mod Guards
-pub mod Laws
+pub mod Order
 pub mod Versions
+pub mod VersionTable
+pub mod Kept
+pub mod Numbered
+pub mod Laws

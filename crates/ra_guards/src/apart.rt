@@ -1,6 +1,7 @@
 ghost use Rattle.std.specs.Prelude.{◌≡◌, ◌↔◌, ◌<◌, true};
 ghost use Rattle.ra_model.specs.Numbers.{process_count};
-ghost use Rattle.ra_guards.specs.Guards.{AreKnown, ends_at, meets_step};
+ghost use Rattle.ra_local.specs.Touched.{ends_at};
+ghost use Rattle.ra_guards.specs.Guards.{AreKnown, meets_step};
 ghost use Rattle.ra_guards.specs.Versions.{Apart};
 
 use crate::services::guards_service;
@@ -39,7 +40,7 @@ fn meets_step(inst: &Instance, mv: &Move, step: Step) -> bool
 
 /// Whether a move leaves or enters a machine.
 #[tactic(auto, using(crate::proofs::GuardLemmas::ends))]
-fn ends_at(mv: &Move, machine: Machine) -> bool
+pub(crate) fn ends_at(mv: &Move, machine: Machine) -> bool
     ensures { result ≡ ends_at mv.now.steps machine.0 }
 {
     for j in 0..mv.steps() {

@@ -1,11 +1,17 @@
-//! The guards of a move, and what other moves do to them.
+//! The guards of a move, what other moves do to them, and their versions in a history.
 #![tactic(auto)]
 
 mod apart;
+mod guarding;
 pub mod laws;
 mod services;
+mod versions;
+mod written;
 
 pub use apart::keeps_apart;
+pub use guarding::is_guard;
+pub use versions::Versions;
+pub use written::{WriteGuards, writes};
 
 #[cfg(test)]
 mod tests;

@@ -1,14 +1,15 @@
 ghost use Rattle.std.specs.Prelude.{◌≡◌, ◌<◌};
 ghost use Rattle.ra_model.specs.Numbers.{service_count};
 ghost use Rattle.ra_model.specs.Relations.{depends, are_joined};
-ghost use Rattle.ra_guards.specs.Guards.{AreKnown, moves_service, reads_service, guards_service};
+ghost use Rattle.ra_local.specs.Touched.{moves_service, reads_service, guards_service};
+ghost use Rattle.ra_guards.specs.Guards.{AreKnown};
 
 use ra_base::Service;
 use ra_model::Instance;
 use ra_moves::Move;
 
 /// Whether a service is a guard of a move.
-#[tactic(auto, unfolding(crate::specs::Guards::guards_service))]
+#[tactic(auto, unfolding(ra_local::specs::Touched::guards_service))]
 pub(crate) fn guards_service(inst: &Instance, mv: &Move, service: Service) -> bool
     requires known { AreKnown inst.now.tables mv.now.steps }
     requires there { service.0 < service_count inst.now.tables }
@@ -18,8 +19,8 @@ pub(crate) fn guards_service(inst: &Instance, mv: &Move, service: Service) -> bo
 }
 
 /// Whether a process of a service moves.
-#[tactic(auto, using(ra_base::proofs::Named::names, crate::proofs::GuardLemmas::known, crate::proofs::GuardLemmas::service_at), unfolding(crate::specs::Guards::moves_service))]
-fn moves_service(inst: &Instance, mv: &Move, service: Service) -> bool
+#[tactic(auto, using(ra_base::proofs::Named::names, crate::proofs::GuardLemmas::known, crate::proofs::GuardLemmas::service_at), unfolding(ra_local::specs::Touched::moves_service))]
+pub(crate) fn moves_service(inst: &Instance, mv: &Move, service: Service) -> bool
     requires known { AreKnown inst.now.tables mv.now.steps }
     ensures { result ≡ moves_service inst.now.tables mv.now.steps service.0 }
 {

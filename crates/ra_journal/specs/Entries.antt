@@ -1,6 +1,6 @@
 -- The entries of a journal, by place. A journal is a list of entries; places count from 0 (this project's).
 use Rattle.std.specs.Prelude.{ℕ, List, [], length, map, Option, Some, None, ◌==◌, slice_index_or}
-use Rattle.ra_base.specs.Sums.{count}
+use Rattle.ra_base.specs.Sums.{total, count}
 use Rattle.ra_base.specs.declared.causes.Cause.TheVariants.{Repeat}
 use Rattle.ra_draws.specs.declared.budgets.Lots.{Lots}
 use Rattle.ra_draws.specs.Lots.{budget_of, words_of, allowance_of}
@@ -37,6 +37,10 @@ worker_count l = length l.lots.items
 
 unfoldable pub budget : Lots → ℕ → ℕ
 budget l w = budget_of l.lots.items w
+
+-- how many proposals all workers together make
+unfoldable pub proposal_count : Lots → ℕ
+proposal_count l = total (worker_count l) (budget l)
 
 -- the words of proposal k of worker w, and the rise of cost that it is allowed
 unfoldable pub words : Lots → ℕ → ℕ → List ℕ

@@ -1,13 +1,15 @@
 -- What holds of every journal, each proved by a function of `laws`.
-use Rattle.std.specs.Prelude.{◌≡◌, ℕ, ◌≤◌, List, [], ◌∷◌, ◌++◌, length}
+use Rattle.std.specs.Prelude.{◌≡◌, ℕ, ◌<◌, ◌≤◌, List, [], ◌∷◌, ◌++◌, length, Some}
 use Rattle.ra_base.specs.declared.ids.Machine.{Machine}
 use Rattle.ra_draws.specs.declared.budgets.Lots.{Lots}
 use Rattle.ra_model.specs.declared.raw.Tables.{Tables}
 use Rattle.ra_model.specs.Limits.{WellFormed}
 use Rattle.ra_model.specs.Assignments.{IsAssignment}
 use Rattle.ra_model.specs.Feasible.{Feasible}
+use Rattle.ra_moves.specs.declared.steps.Step.{Step}
+use Rattle.ra_local.specs.Moving.{IsMove, IsOffered}
 use Rattle.ra_journal.specs.declared.entries.Entry.{Entry}
-use Rattle.ra_journal.specs.Entries.{worker_count}
+use Rattle.ra_journal.specs.Entries.{entry_at, made_by, worker_count}
 use Rattle.ra_journal.specs.States.{state, kept_cost, cost_at}
 use Rattle.ra_journal.specs.Legal.{IsLegalAt, Legal, Whole}
 use Rattle.ra_journal.specs.Solo.{solo}
@@ -21,6 +23,24 @@ pub record IsSound (i : Tables) (a0 : List Machine) (h : List Entry) (j : ℕ) :
 -- where the start is feasible and the journal legal, every state is feasible, and the kept cost is its objective
 abbrev pub LegalIsSound : Type 0
 LegalIsSound = (i : Tables) (a0 : List Machine) (l : Lots) (h : List Entry) → WellFormed i → IsAssignment i a0 → Feasible i a0 a0 → Legal i a0 l h → (j : ℕ) → j ≤ length h → IsSound i a0 h j
+
+-- what the first n entries make are moves of the states before them: each process is named once, stands on the machine
+-- that its step leaves, and enters a machine of the instance
+pub record MakesMoves (i : Tables) (a0 : List Machine) (h : List Entry) (n : ℕ) : Type 0 where
+  pub each : (j : ℕ) (steps : List Step) → j < n → made_by (entry_at h j) ≡ Some steps → IsMove i (state a0 h j) steps
+
+-- each move that a legal journal makes stands where it is made
+abbrev pub LegalMakesMoves : Type 0
+LegalMakesMoves = (i : Tables) (a0 : List Machine) (l : Lots) (h : List Entry) → WellFormed i → IsAssignment i a0 → Legal i a0 l h → MakesMoves i a0 h (length h)
+
+-- the move of the entry at place j was offered at the state where it was planned, and at that of its own place
+pub record IsOfferedAt (i : Tables) (a0 : List Machine) (h : List Entry) (j : ℕ) : Type 0 where
+  pub planned : IsOffered i (state a0 h (entry_at h j).q) (entry_at h j).mv.steps
+  pub here : IsOffered i (state a0 h j) (entry_at h j).mv.steps
+
+-- each entry of a legal journal was offered
+abbrev pub LegalIsOffered : Type 0
+LegalIsOffered = (i : Tables) (a0 : List Machine) (l : Lots) (h : List Entry) → WellFormed i → IsAssignment i a0 → Legal i a0 l h → (j : ℕ) → j < length h → IsOfferedAt i a0 h j
 
 -- a legal next entry keeps a journal legal
 abbrev pub NextKeepsLegal : Type 0

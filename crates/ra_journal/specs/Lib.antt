@@ -1,6 +1,10 @@
+pub mod Batches
 pub mod Best
+pub mod Committing
 pub mod Entries
+pub mod Keeping
 pub mod Laws
 pub mod Legal
+pub mod Recording
 pub mod Solo
 pub mod States

@@ -2,9 +2,18 @@
 //! whole, and what follows from that.
 #![tactic(auto)]
 
+mod batch;
+mod book;
+mod copying;
 mod entries;
+mod journal;
 pub mod laws;
+mod recording;
+mod replies;
 mod states;
 
+pub use batch::Batch;
 pub use entries::Entry;
+pub use journal::Journal;
+pub use replies::Reply;
 pub use states::{advance, cost_then};

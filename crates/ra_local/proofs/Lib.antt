@@ -1,3 +1,4 @@
+pub mod MovedServices
 pub mod SearchLemmas
 pub mod EndLemmas
 pub mod StayLemmas

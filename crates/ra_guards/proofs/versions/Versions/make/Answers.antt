@@ -1,0 +1,5 @@
+use Rattle.ra_guards.proofs.KeptLemmas.{zeros}
+use Rattle.ra_guards.proofs.versions.Versions.make.Goals as goal
+
+pub returns : goal.returns
+returns c = zeros c.args.machines c.args.services _ _ c.in_ok-machines.ensures c.in_ok-services.ensures

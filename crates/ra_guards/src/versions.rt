@@ -1,0 +1,68 @@
+ghost use Rattle.std.specs.Prelude.{◌≡◌, All, IfOk};
+ghost use Rattle.ra_guards.specs.Kept.{HasGuard, version_in, AreZero, IsSet, IsTouched};
+
+use crate::written::WriteGuards;
+use ra_base::{Fixed, Guard, NoMemory};
+use ra_model::copies;
+use std::alloc::Global;
+use std::marker::Model;
+
+/// The version of each guard: one more than the place of the last entry that touched it, and 0 where none did. Contracts
+/// see the versions of the machines and those of the services.
+#[derive(Debug, Drop)]
+pub struct Versions {
+    machines: Fixed<u64>,
+    services: Fixed<u64>,
+}
+
+impl Model for Versions {
+    ghost use Rattle.ra_guards.specs.VersionTable.{VersionTable};
+
+    ghost Value = { VersionTable };
+
+    ghost view = { λ v. record { machines = v.machines.items; services = v.services.items } };
+}
+
+impl Versions {
+    /// Versions for so many machines and services, all 0.
+    pub fn make(alloc: Global, machines: u32, services: u32) -> Result<Versions, NoMemory>
+        ensures { IfOk result (AreZero machines services) }
+    {
+        let machines = copies(alloc, machines as usize, 0u64)?;
+        let services = copies(alloc, services as usize, 0u64)?;
+        Ok(Versions { machines, services })
+    }
+
+    /// The version of a guard.
+    pub fn of(&self, guard: Guard) -> u64
+        requires { HasGuard self.now guard }
+        ensures { result ≡ version_in self.now guard }
+    {
+        match guard {
+            Guard::Machine(m) => self.machines.get(m.0 as usize),
+            Guard::Service(s) => self.services.get(s.0 as usize),
+        }
+    }
+
+    /// Gives each of these guards a version, and leaves all others.
+    #[tactic(auto, using(crate::proofs::KeptLemmas::touching))]
+    pub fn touch(&mut self, writes: &WriteGuards, version: u64)
+        requires { All (HasGuard self.old) writes.now }
+        ensures { IsTouched self.old self.new writes.now version }
+    {
+        for k in 0..writes.len() {
+            self.set(writes.guard(k), version);
+        }
+    }
+
+    /// Gives a guard a version.
+    fn set(&mut self, guard: Guard, version: u64)
+        requires { HasGuard self.old guard }
+        ensures { IsSet self.old self.new guard version }
+    {
+        match guard {
+            Guard::Machine(m) => self.machines.set(m.0 as usize, version),
+            Guard::Service(s) => self.services.set(s.0 as usize, version),
+        }
+    }
+}

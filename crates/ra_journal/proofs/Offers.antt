@@ -1,0 +1,66 @@
+-- What is planned at an assignment is offered there, and stays offered where its guards keep their residents.
+use Rattle.std.proofs.Common.{◌≡◌, ℕ, ◌<◌, ◌≤◌, eqb, true, List, length, None, sym, refl, ap, ◌∙◌, subst, arith, eq-eqb}
+use Rattle.std.proofs.lemmas.Bool.{or_left, eqb-true}
+use Rattle.ra_base.specs.declared.causes.Drawing.{Drawing}
+use Rattle.ra_base.specs.declared.ids.Machine.{Machine}
+use Rattle.ra_base.proofs.Named.{is_named_at}
+use Rattle.ra_model.specs.declared.raw.Tables.{Tables}
+use Rattle.ra_model.specs.Limits.{WellFormed}
+use Rattle.ra_model.specs.Numbers.{machine_count}
+use Rattle.ra_model.specs.Assignments.{IsAssignment, machine_at}
+use Rattle.ra_moves.specs.declared.steps.MoveKind.{MoveKind}
+use Rattle.ra_moves.specs.declared.steps.MoveKind.TheVariants.{Shift, Swap, Chain}
+use Rattle.ra_moves.specs.declared.steps.Step.{Step}
+use Rattle.ra_moves.specs.Steps.{process_in, from_in, StandsAt}
+use Rattle.ra_moves.specs.Judging.{repeat_of}
+use Rattle.ra_moves.specs.Options.{kind_of, shift_of, swap_of, chain_of, option_of, option_at, plan_of, plan_place}
+use Rattle.ra_moves.proofs.OptionLemmas.{option_stands, option_reaches}
+use Rattle.ra_moves.proofs.Repeats.{distinct_from_none}
+use Rattle.ra_local.specs.Touched.{ends_at}
+use Rattle.ra_local.specs.Moving.{IsMove, IsOffered}
+use Rattle.ra_local.specs.Alike.{HeldAlike}
+
+option_few : (k : MoveKind) (a : List Machine) (x : List ℕ) (m : ℕ) (d : Drawing) (o : ℕ) → length (option_of k a x m d o).steps ≤ 3
+unfolding option_of shift_of swap_of chain_of
+option_few Shift a x m d o = omega arith
+option_few Swap a x m d o = omega arith
+option_few Chain a x m d o = omega arith
+
+pub plan_offered : (i : Tables) (a0 a : List Machine) (x : List ℕ) (d : Drawing) (rise : ℕ) → WellFormed i → IsAssignment i a → IsOffered i a (plan_of i a0 a x d rise).steps
+unfolding plan_of option_at
+plan_offered i a0 a x d rise limits fits = λ none.
+    let place = plan_place i a0 a x d rise in
+    let some : 0 < length a = omega (arith, fits.one_each, limits.some_process) in
+    let machines : 0 < machine_count i = omega (arith, limits.some_machine) in
+    record {
+      fits = fits;
+      stands = option_stands a x (machine_count i) d place some machines;
+      distinct = distinct_from_none _ none;
+      few = option_few (kind_of x) a x (machine_count i) d place;
+      reaches = option_reaches a x (machine_count i) d place some machines (λ p there. fits.in_range p (omega (arith, fits.one_each)));
+    }
+
+-- a machine that a step leaves is an end of the move
+left_is_end : (steps : List Step) (j : ℕ) → j < length steps → ends_at steps (from_in steps j) ≡ true
+unfolding ends_at
+left_is_end steps j within = or_left _ _ (is_named_at (length steps) j (from_in steps) (from_in steps j) within refl)
+
+-- its processes stay where they stand
+stays_there : (i : Tables) (a b : List Machine) (steps : List Step) (j : ℕ) → HeldAlike i steps a b → j < length steps → machine_at a (process_in steps j) ≡ from_in steps j → machine_at b (process_in steps j) ≡ from_in steps j
+stays_there i a b steps j alike within there =
+    let same = (alike.machines (from_in steps j) (left_is_end steps j within)).each (process_in steps j) in
+    eqb-true (machine_at b (process_in steps j)) (from_in steps j) (sym same ∙ eq-eqb (machine_at a (process_in steps j)) (from_in steps j) there)
+
+pub offered_alike : (i : Tables) (a b : List Machine) (steps : List Step) → HeldAlike i steps a b → IsAssignment i b → IsOffered i a steps → IsOffered i b steps
+offered_alike i a b steps alike fits offered = λ none.
+    let before = offered none in
+    record {
+      fits = fits;
+      stands = record {
+        known = λ j within. omega (arith, before.stands.known j within, before.fits.one_each, fits.one_each);
+        at = λ j within. stays_there i a b steps j alike within (before.stands.at j within);
+      };
+      distinct = before.distinct;
+      few = before.few;
+      reaches = before.reaches;
+    }

@@ -1,0 +1,64 @@
+-- What a journal answers a worker that hands in a plan, and what it adds: one step of the run of several workers, whose
+-- turns may come in any order.
+use Rattle.std.specs.Prelude.{◌≡◌, ℕ, ◌<◌, ◌≤◌, List, [], ◌∷◌, ◌++◌, length, Option, Some, None}
+use Rattle.ra_base.specs.declared.ids.Machine.{Machine}
+use Rattle.ra_draws.specs.declared.budgets.Lots.{Lots}
+use Rattle.ra_model.specs.declared.raw.Tables.{Tables}
+use Rattle.ra_moves.specs.declared.steps.Step.{Step}
+use Rattle.ra_moves.specs.declared.verdicts.Plan.{Plan}
+use Rattle.ra_moves.specs.MoveSteps.{MoveSteps}
+use Rattle.ra_moves.specs.Judging.{judge}
+use Rattle.ra_moves.specs.Options.{plan_of}
+use Rattle.ra_local.specs.Weighing.{weighed_of}
+use Rattle.ra_guards.specs.declared.newest.Newer.{Newer}
+use Rattle.ra_guards.specs.Newest.{first_newer}
+use Rattle.ra_guards.specs.Versions.{version}
+use Rattle.ra_journal.specs.declared.entries.Entry.{Entry}
+use Rattle.ra_journal.specs.declared.replies.Reply.{Reply}
+use Rattle.ra_journal.specs.declared.replies.Reply.TheVariants.{Recorded, Stale}
+use Rattle.ra_journal.specs.Entries.{entry_at, made_in, entries_of, worker_count, budget, words, allowed}
+use Rattle.ra_journal.specs.States.{state}
+
+-- worker w's next proposal: how many entries it has
+unfoldable pub next_number : List Entry → ℕ → ℕ
+next_number h w = entries_of h (length h) w
+
+-- its move, planned at the state of place q
+unfoldable pub next_move : Tables → List Machine → Lots → List Entry → ℕ → ℕ → MoveSteps
+next_move i a0 l h w q = let k = next_number h w in plan_of i a0 (state a0 h q) (words l w k) l.drawing (allowed l w k)
+
+-- its entry, judged at the end of the journal
+unfoldable pub next_entry : Tables → List Machine → Lots → List Entry → ℕ → ℕ → Entry
+next_entry i a0 l h w q =
+    let k = next_number h w in
+    let mv = next_move i a0 l h w q in
+    record { worker = w; k = k; q = q; mv = mv; verdict = judge i a0 (state a0 h (length h)) mv.steps (allowed l w k) }
+
+-- the first guard of a move that the journal has touched since place q, with the place of the last entry that touched it
+unfoldable pub newer_since : Tables → List Entry → ℕ → List Step → Option Newer
+newer_since i h q steps = first_newer i steps (version i (made_in h) (length h)) q
+
+-- a journal after an answer, and the answer
+pub record Committed : Type 0 where
+  pub journal : List Entry
+  pub reply : Reply
+
+-- stale where a guard is newer, and nothing changes; else the entry is added at the end
+unfoldable pub committed_by : Option Newer → List Entry → Entry → Committed
+committed_by (Some newer) h e = record { journal = h; reply = Stale newer.guard newer.at }
+committed_by None h e = record { journal = h ++ e ∷ []; reply = Recorded (length h) e.verdict }
+
+-- worker w hands in its next proposal, planned at the state of place q
+unfoldable pub committed : Tables → List Machine → Lots → List Entry → ℕ → ℕ → Committed
+committed i a0 l h w q = committed_by (newer_since i h q (next_move i a0 l h w q).steps) h (next_entry i a0 l h w q)
+
+-- worker w may hand in this plan: it exists and has some of its budget left, the plan is of its next proposal, was made
+-- at a place of the journal behind all its entries, and is the plan with its weighing at the state there
+pub record IsCommit (i : Tables) (a0 : List Machine) (l : Lots) (h : List Entry) (w : ℕ) (plan : Plan) : Type 0 where
+  pub worker : w < worker_count l
+  pub number : plan.k ≡ next_number h w
+  pub within : plan.k < budget l w
+  pub place : plan.q ≤ length h
+  pub seen : (j : ℕ) → j < length h → (entry_at h j).worker ≡ w → j < plan.q
+  pub planned : plan.mv ≡ plan_of i a0 (state a0 h plan.q) (words l w plan.k) l.drawing (allowed l w plan.k)
+  pub weighed : plan.weighed ≡ weighed_of i a0 (state a0 h plan.q) plan.mv.steps

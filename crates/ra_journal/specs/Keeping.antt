@@ -1,0 +1,38 @@
+-- What a journal keeps beside its entries, and that it is what the definitions give.
+use Rattle.std.specs.Prelude.{◌≡◌, ℕ, ◌<◌, List, length, None, slice_index}
+use Rattle.ra_base.specs.declared.ids.Machine.{Machine}
+use Rattle.ra_draws.specs.declared.budgets.Lots.{Lots}
+use Rattle.ra_model.specs.declared.raw.Tables.{Tables}
+use Rattle.ra_model.specs.Limits.{WellFormed}
+use Rattle.ra_model.specs.Assignments.{IsAssignment}
+use Rattle.ra_model.specs.Broken.{first_broken}
+use Rattle.ra_settle.specs.Settling.{AreMovedOf}
+use Rattle.ra_guards.specs.Kept.{AreVersions}
+use Rattle.ra_journal.specs.declared.book.Book.{Book}
+use Rattle.ra_journal.specs.declared.entries.Entry.{Entry}
+use Rattle.ra_journal.specs.Entries.{made_in, entries_of, worker_count, proposal_count}
+use Rattle.ra_journal.specs.States.{state, kept_cost, cost_at}
+use Rattle.ra_journal.specs.Best.{best_of}
+use Rattle.ra_journal.specs.Legal.{Legal}
+
+-- a0 is an assignment of a well formed instance, and breaks nothing
+pub record IsStart (i : Tables) (a0 : List Machine) : Type 0 where
+  pub limits : WellFormed i
+  pub fits : IsAssignment i a0
+  pub unbroken : first_broken i a0 a0 ≡ None
+
+-- the first places of a list have how many entries each worker has made
+pub record AreMadeBy (l : Lots) (h : List Entry) (made : List ℕ) : Type 0 where
+  pub long : length made ≡ 16
+  pub each : (w : ℕ) → w < worker_count l → slice_index made w ≡ entries_of h (length h) w
+
+-- a book: its entries are a legal journal with room for all proposals, and all that it keeps is that journal's
+pub record IsKept (i : Tables) (a0 : List Machine) (l : Lots) (book : Book) : Type 0 where
+  pub legal : Legal i a0 l book.entries.items
+  pub room : book.entries.room ≡ proposal_count l
+  pub versions : AreVersions i (made_in book.entries.items) (length book.entries.items) book.versions
+  pub moved : AreMovedOf i a0 (state a0 book.entries.items (length book.entries.items)) book.greatest
+  pub made : AreMadeBy l book.entries.items book.made
+  pub cost : book.kept ≡ kept_cost i a0 book.entries.items (length book.entries.items)
+  pub best_at : book.best_at ≡ best_of i a0 book.entries.items
+  pub best_cost : book.best_cost ≡ cost_at i a0 book.entries.items book.best_at

@@ -1,0 +1,23 @@
+use crate::entries::Entry;
+use ra_base::Fixed;
+use ra_cells::Greatest;
+use ra_guards::Versions;
+
+/// The entries of a journal, and what it keeps of them.
+#[derive(Drop)]
+pub(crate) struct Book {
+    /// The entries.
+    pub(crate) entries: Fixed<Entry>,
+    /// The version of each guard after them.
+    pub(crate) versions: Versions,
+    /// The moved counts of the state after them.
+    pub(crate) greatest: Greatest,
+    /// The cost of that state.
+    pub(crate) kept: u128,
+    /// How many of them each worker has made.
+    pub(crate) made: [u64; 16],
+    /// The first place whose state costs least.
+    pub(crate) best_at: u64,
+    /// The cost of the state at that place.
+    pub(crate) best_cost: u128,
+}

@@ -1,0 +1,128 @@
+ghost use Rattle.std.specs.Prelude.{◌≡◌, ◌-◌, ◌<◌, ◌≤◌, min, None, Some, [], length, IfOk};
+ghost use Rattle.ra_base.specs.declared.ids.Guard.{Guard as AGuard};
+ghost use Rattle.ra_model.specs.Assignments.{IsAssignment};
+ghost use Rattle.ra_model.specs.Broken.{first_broken};
+ghost use Rattle.ra_model.specs.Costs.{parts_of};
+ghost use Rattle.ra_topology.specs.Fits.{IsTopologyOf};
+ghost use Rattle.ra_guards.specs.declared.newest.Newer.{Newer};
+ghost use Rattle.ra_guards.specs.Guards.{writes};
+ghost use Rattle.ra_guards.specs.Kept.{version_in};
+ghost use Rattle.ra_journal.specs.Entries.{entry_at, entries_of, worker_count, proposal_count};
+ghost use Rattle.ra_journal.specs.States.{kept_cost, cost_at};
+ghost use Rattle.ra_journal.specs.Best.{best_of};
+ghost use Rattle.ra_journal.specs.Legal.{Legal};
+ghost use Rattle.ra_journal.specs.Batches.{batch_from};
+ghost use Rattle.ra_journal.specs.Committing.{committed, newer_since, IsCommit};
+ghost use Rattle.ra_journal.specs.Keeping.{IsStart, IsKept};
+
+use crate::batch::Batch;
+use crate::book::Book;
+use crate::copying::copy_entries;
+use crate::entries::Entry;
+use crate::recording::record;
+use crate::replies::Reply;
+use ra_base::{Assignment, Fixed, NoMemory, Parts};
+use ra_cells::Greatest;
+use ra_draws::Lots;
+use ra_guards::{Versions, first_newer, first_newer_read};
+use ra_model::Instance;
+use ra_moves::Plan;
+use ra_topology::Topology;
+use std::alloc::Global;
+
+/// The journal of a run: the proposals of all workers in the order in which they were recorded. It is legal at all
+/// times, by its type. Its memory is taken when it is made, for one entry for each proposal of all budgets.
+#[derive(Drop)]
+pub struct Journal<'a> {
+    inst: &'a Instance,
+    topo: &'a Topology,
+    a0: &'a Assignment,
+    lots: &'a Lots,
+    book: Book,
+    pub ghost topology: { IsTopologyOf topo.now inst.now.tables },
+    pub ghost start: { IsStart inst.now.tables a0.now.items },
+    pub ghost kept: { IsKept inst.now.tables a0.now.items lots.now book },
+}
+
+impl<'a> Journal<'a> {
+    /// The journal without entries, over an initial assignment that is feasible, whose cost has these parts.
+    pub fn make(
+        alloc: Global,
+        inst: &'a Instance,
+        topo: &'a Topology,
+        a0: &'a Assignment,
+        start: Parts,
+        lots: &'a Lots,
+    ) -> Result<Journal<'a>, NoMemory>
+        requires fits { IsAssignment inst.now.tables a0.now.items }
+        requires topology { IsTopologyOf topo.now inst.now.tables }
+        requires unbroken { first_broken inst.now.tables a0.now.items a0.now.items ≡ None }
+        requires parts { start ≡ parts_of inst.now.tables a0.now.items a0.now.items }
+        ensures instance { IfOk result (λ journal. journal.inst.now ≡ inst.now) }
+        ensures topology { IfOk result (λ journal. journal.topo.now ≡ topo.now) }
+        ensures initial { IfOk result (λ journal. journal.a0.now ≡ a0.now) }
+        ensures lots { IfOk result (λ journal. journal.lots.now ≡ lots.now) }
+        ensures entries { IfOk result (λ journal. journal.book.entries.items ≡ []) }
+    {
+        let entries = Fixed::make(alloc, proposals(lots) as usize)?;
+        let versions = Versions::make(alloc, inst.machines(), inst.services())?;
+        let greatest = Greatest::make(alloc, inst)?;
+        let book = Book {
+            entries,
+            versions,
+            greatest,
+            kept: start.total,
+            made: [0; 16],
+            best_at: 0,
+            best_cost: start.total,
+        };
+        Ok(Journal {
+            inst,
+            topo,
+            a0,
+            lots,
+            book,
+        })
+    }
+
+    /// Records a worker's next proposal, judged at the state after all entries, unless a guard of its move was touched
+    /// since it was planned.
+    pub fn commit(&mut self, worker: u32, plan: &Plan) -> Reply
+        requires { IsCommit self.old.inst.now.tables self.old.a0.now.items self.old.lots.now
+            self.old.book.entries.items worker plan.now }
+        ensures journal { self.new.book.entries.items ≡
+            (committed self.old.inst.now.tables self.old.a0.now.items self.old.lots.now
+            self.old.book.entries.items worker plan.now.q).journal }
+        ensures reply { result ≡
+            (committed self.old.inst.now.tables self.old.a0.now.items self.old.lots.now
+            self.old.book.entries.items worker plan.now.q).reply }
+        ensures stale { (newer : Newer) → newer_since self.old.inst.now.tables
+            self.old.book.entries.items plan.now.q plan.now.mv.steps ≡ Some newer
+            → self.new ≡ self.old }
+        ensures instance { self.new.inst.now ≡ self.old.inst.now }
+        ensures topology { self.new.topo.now ≡ self.old.topo.now }
+        ensures initial { self.new.a0.now ≡ self.old.a0.now }
+        ensures lots { self.new.lots.now ≡ self.old.lots.now }
+    {
+        match first_newer(self.topo, self.inst, &plan.mv, &self.book.versions, plan.q) {
+            Some(newer) => Reply::Stale {
+                guard: newer.guard,
+                at: newer.at,
+            },
+            None => record(self.inst, self.topo, self.a0, self.lots, &mut self.book, worker, plan),
+        }
+    }
+}
+
+/// How many proposals all workers together make.
+#[tactic(auto, unfolding(crate::specs::Entries::proposal_count))]
+fn proposals(lots: &Lots) -> u64
+    ensures value { result ≡ proposal_count lots.now }
+    ensures few { result ≤ 1000000 }
+{
+    let mut number = 0;
+    for w in 0..lots.len() {
+        number += lots.lot(w).budget;
+    }
+    number
+}

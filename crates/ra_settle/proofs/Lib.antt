@@ -1,0 +1,2 @@
+pub mod MovedAfter
+pub mod Settles
