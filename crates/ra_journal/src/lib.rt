@@ -8,7 +8,6 @@ mod copying;
 mod entries;
 mod journal;
 pub mod laws;
-mod recording;
 mod replies;
 mod states;
 
