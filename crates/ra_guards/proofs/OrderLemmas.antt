@@ -1,10 +1,14 @@
 -- Guards and their numbers.
-use Rattle.std.proofs.Common.{◌≡◌, ℕ, ◌+◌, ◌-◌, ◌<◌, ◌≤◌, true, refl, ap, ◌∙◌, ⊎_elim, arith, lt-ltb, le-ltb}
+use Rattle.std.proofs.Common.{◌≡◌, ℕ, ◌+◌, ◌-◌, ◌<◌, ◌≤◌, true, List, length, refl, ap, ◌∙◌, ⊎_elim, arith, lt-ltb, le-ltb}
 use Rattle.std.proofs.lemmas.Bool.{cases_lt, cond-true, cond-false}
 use Rattle.ra_base.specs.declared.ids.Guard.{Guard}
 use Rattle.ra_base.specs.declared.ids.Guard.TheVariants as guard
+use Rattle.ra_base.specs.declared.ids.Service.{Service}
 use Rattle.ra_model.specs.declared.raw.Tables.{Tables}
 use Rattle.ra_model.specs.Numbers.{machine_count, service_count}
+use Rattle.ra_moves.specs.declared.steps.Step.{Step}
+use Rattle.ra_moves.specs.Steps.{step_at, from_in, to_in}
+use Rattle.ra_guards.specs.Guards.{AreWithin}
 use Rattle.ra_guards.specs.Order.{IsKnown, number_in, guard_of, is_before}
 use Rattle.ra_guards.specs.VersionTable.{VersionTable}
 use Rattle.ra_guards.specs.Kept.{HasGuard, IsTableOf}
@@ -62,3 +66,16 @@ before_number machines m n less = ⊎_elim
     (λ (m_above : machines ≤ m). rw (guard_above machines m m_above, guard_above machines n n_above) (lt-ltb (m - machines) (n - machines) (omega arith)))
     (cases_lt m machines))
     (cases_lt n machines)
+
+-- the guards of a step of a move within the instance
+pub from_has : (i : Tables) (steps : List Step) (j : ℕ) (s : Step) (v : VersionTable) → AreWithin i steps → j < length steps → IsTableOf i v → s ≡ step_at steps j → HasGuard v (guard.Machine s.from)
+unfolding HasGuard from_in
+from_has i steps j s v within there sized is = let known : s.from.0 < machine_count i = rw is (within.from j there) in omega (arith, sized.machines)
+
+pub to_has : (i : Tables) (steps : List Step) (j : ℕ) (s : Step) (v : VersionTable) → AreWithin i steps → j < length steps → IsTableOf i v → s ≡ step_at steps j → HasGuard v (guard.Machine s.to)
+unfolding HasGuard to_in
+to_has i steps j s v within there sized is = let known : s.to.0 < machine_count i = rw is (within.to j there) in omega (arith, sized.machines)
+
+pub service_has : (i : Tables) (s : Service) (v : VersionTable) → s.0 < service_count i → IsTableOf i v → HasGuard v (guard.Service s)
+unfolding HasGuard
+service_has i s v known sized = omega (arith, sized.services)

@@ -4,4 +4,6 @@ pub mod Versions
 pub mod VersionTable
 pub mod Kept
 pub mod Numbered
+pub mod Newest
+pub mod Lowest
 pub mod Laws

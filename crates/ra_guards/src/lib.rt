@@ -4,12 +4,15 @@
 mod apart;
 mod guarding;
 pub mod laws;
+mod lowest;
+mod newest;
 mod services;
 mod versions;
 mod written;
 
 pub use apart::keeps_apart;
 pub use guarding::is_guard;
+pub use newest::{Newer, first_newer, first_newer_read};
 pub use versions::Versions;
 pub use written::{WriteGuards, writes};
 
