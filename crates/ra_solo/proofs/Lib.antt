@@ -1,3 +1,3 @@
-pub mod Steps
-pub mod BestSoFar
-pub mod OneMore
+pub mod Pending
+pub mod Recording
+pub mod Following
