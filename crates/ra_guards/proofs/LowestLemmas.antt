@@ -201,11 +201,11 @@ guard_written : (i : Tables) (steps : List Step) (g : Guard) → writes i steps 
 unfolding is_guard
 guard_written i steps g written = or_left (writes i steps g) (reads i steps g) written
 
-guard_read_only : (i : Tables) (steps : List Step) (g : Guard) → reads_only i steps g ≡ true → is_guard i steps g ≡ true
+pub guard_read_only : (i : Tables) (steps : List Step) (g : Guard) → reads_only i steps g ≡ true → is_guard i steps g ≡ true
 unfolding reads_only
 guard_read_only i steps g is = (and_parts (is_guard i steps g) (not (writes i steps g)) is).0
 
-unwritten_guard : (i : Tables) (steps : List Step) (g : Guard) → is_guard i steps g ≡ true → writes i steps g ≡ false → reads_only i steps g ≡ true
+pub unwritten_guard : (i : Tables) (steps : List Step) (g : Guard) → is_guard i steps g ≡ true → writes i steps g ≡ false → reads_only i steps g ≡ true
 unfolding reads_only
 unwritten_guard i steps g guarded unwritten = and_from (is_guard i steps g) (not (writes i steps g)) guarded (not_from_false (writes i steps g) unwritten)
 
@@ -247,11 +247,11 @@ written_all i v q steps j a n first every below =
 
 -- the first number is that of the first guard
 
-newer_some : (test : Guard → Bool) (v : Guard → ℕ) (q : ℕ) (g : Guard) → test g ≡ true → q < v g → newer_at test v q g ≡ Some (record { guard = g; at = v g - 1 })
+pub newer_some : (test : Guard → Bool) (v : Guard → ℕ) (q : ℕ) (g : Guard) → test g ≡ true → q < v g → newer_at test v q g ≡ Some (record { guard = g; at = v g - 1 })
 unfolding newer_at
 newer_some test v q g passes newer = cond-true _ _ _ (and_from (test g) (ltb q (v g)) passes (lt-ltb q (v g) newer))
 
-newer_none : (test : Guard → Bool) (v : Guard → ℕ) (q : ℕ) (g : Guard) → (test g ≡ true → q < v g → ⊥) → newer_at test v q g ≡ None
+pub newer_none : (test : Guard → Bool) (v : Guard → ℕ) (q : ℕ) (g : Guard) → (test g ≡ true → q < v g → ⊥) → newer_at test v q g ≡ None
 unfolding newer_at
 newer_none test v q g none = cond-false _ _ _ (false_from_ne_true (test g && ltb q (v g)) (λ both. let parts = and_parts (test g) (ltb q (v g)) both in none parts.0 (ltb-true q (v g) parts.1)))
 

@@ -11,21 +11,21 @@ use Rattle.ra_guards.specs.Laws.{UntouchedIsApart}
 
 -- the stamp of a place: of one that touches the guard, of one that doesn't, and at most one more than the place
 
-stamp_touched : (i : Tables) (made : List (Option (List Step))) (g : Guard) (j : ℕ) → touches i (made_at made j) g ≡ true → stamp i made g j ≡ suc j
+pub stamp_touched : (i : Tables) (made : List (Option (List Step))) (g : Guard) (j : ℕ) → touches i (made_at made j) g ≡ true → stamp i made g j ≡ suc j
 unfolding stamp
 stamp_touched i made g j touched = cond-true _ (suc j) 0 touched
 
-stamp_untouched : (i : Tables) (made : List (Option (List Step))) (g : Guard) (j : ℕ) → touches i (made_at made j) g ≡ false → stamp i made g j ≡ 0
+pub stamp_untouched : (i : Tables) (made : List (Option (List Step))) (g : Guard) (j : ℕ) → touches i (made_at made j) g ≡ false → stamp i made g j ≡ 0
 unfolding stamp
 stamp_untouched i made g j untouched = cond-false _ (suc j) 0 untouched
 
-stamp_few : (i : Tables) (made : List (Option (List Step))) (g : Guard) (j : ℕ) → stamp i made g j ≤ suc j
+pub stamp_few : (i : Tables) (made : List (Option (List Step))) (g : Guard) (j : ℕ) → stamp i made g j ≤ suc j
 stamp_few i made g j = ⊎_elim
     (λ (touched : touches i (made_at made j) g ≡ true). omega (arith, stamp_touched i made g j touched))
     (λ (untouched : touches i (made_at made j) g ≡ false). omega (arith, stamp_untouched i made g j untouched))
     (cases_Bool (touches i (made_at made j) g))
 
-touches_done : (i : Tables) (made : List (Option (List Step))) (g : Guard) (j : ℕ) (others : List Step) → made_at made j ≡ Some others → touches i (made_at made j) g ≡ writes i others g
+pub touches_done : (i : Tables) (made : List (Option (List Step))) (g : Guard) (j : ℕ) (others : List Step) → made_at made j ≡ Some others → touches i (made_at made j) g ≡ writes i others g
 unfolding touches
 touches_done i made g j others is = ap (λ (m : Option (List Step)). touches i m g) is
 

@@ -6,4 +6,5 @@ pub mod Kept
 pub mod Numbered
 pub mod Newest
 pub mod Lowest
+pub mod Made
 pub mod Laws

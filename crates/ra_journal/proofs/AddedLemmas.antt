@@ -1,17 +1,15 @@
 -- A journal with one entry more: its counts of entries, its state, its kept cost and its versions.
-use Rattle.std.proofs.Common.{◌≡◌, ℕ, zero, suc, ◌+◌, ◌<◌, ◌≤◌, Bool, true, false, cond, eqb, max, List, [], ◌∷◌, ◌++◌, length, Option, sym, refl, ap, ap₂, ◌∙◌, arith}
-use Rattle.std.proofs.lemmas.List.{length_push}
-use Rattle.ra_base.specs.Sums.{one_if, greatest}
+use Rattle.std.proofs.Common.{◌≡◌, ℕ, suc, ◌+◌, ◌<◌, ◌≤◌, Bool, true, false, cond, eqb, max, List, [], ◌∷◌, ◌++◌, length, Option, sym, ap, ap₂, ◌∙◌, arith}
+use Rattle.ra_base.specs.Sums.{one_if}
 use Rattle.ra_base.specs.declared.ids.Guard.{Guard}
 use Rattle.ra_base.specs.declared.ids.Machine.{Machine}
-use Rattle.ra_base.proofs.Counts.{count_more}
 use Rattle.ra_base.proofs.Greatest.{greatest_suc, greatest_least}
 use Rattle.ra_base.proofs.Sums.{total_suc}
 use Rattle.ra_model.specs.declared.raw.Tables.{Tables}
 use Rattle.ra_moves.specs.declared.steps.Step.{Step}
 use Rattle.ra_guards.specs.Versions.{made_at, touches, stamp, version}
 use Rattle.ra_journal.specs.declared.entries.Entry.{Entry}
-use Rattle.ra_journal.specs.Entries.{entry_at, steps_made, made_by, made_in, entries_of}
+use Rattle.ra_journal.specs.Entries.{entry_at, made_by, made_in, entries_of}
 use Rattle.ra_journal.specs.States.{state, after_made, kept_cost, cost_then}
 use Rattle.ra_journal.proofs.Places.{SameBelow, same_added, same_state, same_kept, same_entries_of, same_version, made_place, entry_added}
 

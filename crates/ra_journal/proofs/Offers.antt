@@ -1,5 +1,5 @@
 -- What is planned at an assignment is offered there, and stays offered where its guards keep their residents.
-use Rattle.std.proofs.Common.{◌≡◌, ℕ, ◌<◌, ◌≤◌, eqb, true, List, length, None, sym, refl, ap, ◌∙◌, subst, arith, eq-eqb}
+use Rattle.std.proofs.Common.{◌≡◌, ℕ, ◌<◌, ◌≤◌, true, List, length, sym, refl, ◌∙◌, arith, eq-eqb}
 use Rattle.std.proofs.lemmas.Bool.{or_left, eqb-true}
 use Rattle.ra_base.specs.declared.causes.Drawing.{Drawing}
 use Rattle.ra_base.specs.declared.ids.Machine.{Machine}
@@ -11,13 +11,12 @@ use Rattle.ra_model.specs.Assignments.{IsAssignment, machine_at}
 use Rattle.ra_moves.specs.declared.steps.MoveKind.{MoveKind}
 use Rattle.ra_moves.specs.declared.steps.MoveKind.TheVariants.{Shift, Swap, Chain}
 use Rattle.ra_moves.specs.declared.steps.Step.{Step}
-use Rattle.ra_moves.specs.Steps.{process_in, from_in, StandsAt}
-use Rattle.ra_moves.specs.Judging.{repeat_of}
+use Rattle.ra_moves.specs.Steps.{process_in, from_in}
 use Rattle.ra_moves.specs.Options.{kind_of, shift_of, swap_of, chain_of, option_of, option_at, plan_of, plan_place}
 use Rattle.ra_moves.proofs.OptionLemmas.{option_stands, option_reaches}
 use Rattle.ra_moves.proofs.Repeats.{distinct_from_none}
 use Rattle.ra_local.specs.Touched.{ends_at}
-use Rattle.ra_local.specs.Moving.{IsMove, IsOffered}
+use Rattle.ra_local.specs.Moving.{IsOffered}
 use Rattle.ra_local.specs.Alike.{HeldAlike}
 
 option_few : (k : MoveKind) (a : List Machine) (x : List ℕ) (m : ℕ) (d : Drawing) (o : ℕ) → length (option_of k a x m d o).steps ≤ 3

@@ -1,6 +1,7 @@
 -- What a journal answers a worker that hands in a plan, and what it adds: one step of the run of several workers, whose
 -- turns may come in any order.
-use Rattle.std.specs.Prelude.{◌≡◌, ℕ, ◌<◌, ◌≤◌, List, [], ◌∷◌, ◌++◌, length, Option, Some, None}
+use Rattle.std.specs.Prelude.{◌≡◌, ℕ, ◌<◌, ◌≤◌, List, [], ◌∷◌, ◌++◌, length, Option, Some, None, true}
+use Rattle.ra_base.specs.declared.ids.Guard.{Guard}
 use Rattle.ra_base.specs.declared.ids.Machine.{Machine}
 use Rattle.ra_draws.specs.declared.budgets.Lots.{Lots}
 use Rattle.ra_model.specs.declared.raw.Tables.{Tables}
@@ -11,6 +12,7 @@ use Rattle.ra_moves.specs.Judging.{judge}
 use Rattle.ra_moves.specs.Options.{plan_of}
 use Rattle.ra_local.specs.Weighing.{weighed_of}
 use Rattle.ra_guards.specs.declared.newest.Newer.{Newer}
+use Rattle.ra_guards.specs.Guards.{writes}
 use Rattle.ra_guards.specs.Newest.{first_newer}
 use Rattle.ra_guards.specs.Versions.{version}
 use Rattle.ra_journal.specs.declared.entries.Entry.{Entry}
@@ -62,3 +64,7 @@ pub record IsCommit (i : Tables) (a0 : List Machine) (l : Lots) (h : List Entry)
   pub seen : (j : ℕ) → j < length h → (entry_at h j).worker ≡ w → j < plan.q
   pub planned : plan.mv ≡ plan_of i a0 (state a0 h plan.q) (words l w plan.k) l.drawing (allowed l w plan.k)
   pub weighed : plan.weighed ≡ weighed_of i a0 (state a0 h plan.q) plan.mv.steps
+
+-- no write guard of a move was touched since place q
+pub record AreHeld (i : Tables) (h : List Entry) (q : ℕ) (steps : List Step) : Type 0 where
+  pub each : (g : Guard) → writes i steps g ≡ true → version i (made_in h) (length h) g ≤ q

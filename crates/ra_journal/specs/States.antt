@@ -1,20 +1,15 @@
 -- The states of a journal, and the cost that its entries keep.
-use Rattle.std.specs.Prelude.{◌≡◌, ℕ, zero, suc, List, Option, Some, None}
+use Rattle.std.specs.Prelude.{◌≡◌, ℕ, zero, suc, List}
 use Rattle.ra_base.specs.declared.ids.Machine.{Machine}
 use Rattle.ra_model.specs.declared.raw.Tables.{Tables}
 use Rattle.ra_model.specs.Costs.{objective}
 use Rattle.ra_moves.specs.declared.steps.Step.{Step}
 use Rattle.ra_moves.specs.declared.verdicts.Verdict.{Verdict}
 use Rattle.ra_moves.specs.declared.verdicts.Verdict.TheVariants.{Done, Refused}
-use Rattle.ra_moves.specs.Replacing.{applied}
 use Rattle.ra_moves.specs.Steps.{Distinct}
+unfoldable pub use Rattle.ra_guards.specs.Made.{after_made}
 use Rattle.ra_journal.specs.declared.entries.Entry.{Entry}
 use Rattle.ra_journal.specs.Entries.{entry_at, made_by}
-
--- an assignment after the steps that are made, if there are any
-unfoldable pub after_made : List Machine → Option (List Step) → List Machine
-after_made a None = a
-after_made a (Some steps) = applied a steps
 
 -- a move that is done names no process twice
 abbrev pub IsDistinctIfDone : List Step → Verdict → Type 0

@@ -1,27 +1,28 @@
 ghost use Rattle.std.specs.Prelude.{◌≡◌, ◌-◌, ◌<◌, ◌≤◌, min, None, Some, [], length, IfOk};
-ghost use Rattle.ra_base.specs.declared.ids.Guard.{Guard as AGuard};
 ghost use Rattle.ra_model.specs.Assignments.{IsAssignment};
 ghost use Rattle.ra_model.specs.Broken.{first_broken};
 ghost use Rattle.ra_model.specs.Costs.{parts_of};
 ghost use Rattle.ra_topology.specs.Fits.{IsTopologyOf};
-ghost use Rattle.ra_guards.specs.declared.newest.Newer.{Newer};
-ghost use Rattle.ra_guards.specs.Guards.{writes};
-ghost use Rattle.ra_guards.specs.Kept.{version_in};
+ghost use Rattle.ra_guards.specs.declared.newest.Newer.{Newer as Touched};
 ghost use Rattle.ra_journal.specs.Entries.{entry_at, entries_of, worker_count, proposal_count};
 ghost use Rattle.ra_journal.specs.States.{kept_cost, cost_at};
 ghost use Rattle.ra_journal.specs.Best.{best_of};
-ghost use Rattle.ra_journal.specs.Legal.{Legal};
 ghost use Rattle.ra_journal.specs.Batches.{batch_from};
-ghost use Rattle.ra_journal.specs.Committing.{committed, newer_since, IsCommit};
+ghost use Rattle.ra_journal.specs.Committing.{committed, newer_since, AreHeld, IsCommit};
 ghost use Rattle.ra_journal.specs.Keeping.{IsStart, IsKept};
 
+use crate::batch::Batch;
 use crate::book::Book;
+use crate::copying::copy_entries;
 use crate::entries::Entry;
+use crate::recording::record;
 use crate::replies::Reply;
-use ra_base::{Assignment, NoMemory, Parts};
+use ra_base::{Assignment, Fixed, NoMemory, Parts};
+use ra_cells::Greatest;
 use ra_draws::Lots;
+use ra_guards::{Newer, Versions, first_newer, first_newer_read};
 use ra_model::Instance;
-use ra_moves::{Plan, Verdict};
+use ra_moves::Plan;
 use ra_topology::Topology;
 use std::alloc::Global;
 
@@ -49,7 +50,6 @@ impl<'a> Journal<'a> {
         start: Parts,
         lots: &'a Lots,
     ) -> Result<Journal<'a>, NoMemory>
-        requires stub { ⊥ }
         requires fits { IsAssignment inst.now.tables a0.now.items }
         requires topology { IsTopologyOf topo.now inst.now.tables }
         requires unbroken { first_broken inst.now.tables a0.now.items a0.now.items ≡ None }
@@ -60,13 +60,30 @@ impl<'a> Journal<'a> {
         ensures lots { IfOk result (λ journal. journal.lots.now ≡ lots.now) }
         ensures entries { IfOk result (λ journal. journal.book.entries.items ≡ []) }
     {
-        Err(NoMemory)
+        let entries = Fixed::make(alloc, proposals(lots) as usize)?;
+        let versions = Versions::make(alloc, inst.machines(), inst.services())?;
+        let greatest = Greatest::make(alloc, inst)?;
+        let book = Book {
+            entries,
+            versions,
+            greatest,
+            kept: start.total,
+            made: [0; 16],
+            best_at: 0,
+            best_cost: start.total,
+        };
+        Ok(Journal {
+            inst,
+            topo,
+            a0,
+            lots,
+            book,
+        })
     }
 
     /// Records a worker's next proposal, judged at the state after all entries, unless a guard of its move was touched
     /// since it was planned.
     pub fn commit(&mut self, worker: u32, plan: &Plan) -> Reply
-        requires stub { ⊥ }
         requires commit { IsCommit self.old.inst.now.tables self.old.a0.now.items self.old.lots.now
             self.old.book.entries.items worker plan.now }
         ensures journal { self.new.book.entries.items ≡
@@ -75,18 +92,89 @@ impl<'a> Journal<'a> {
         ensures reply { result ≡
             (committed self.old.inst.now.tables self.old.a0.now.items self.old.lots.now
             self.old.book.entries.items worker plan.now.q).reply }
-        ensures stale { (newer : Newer) → newer_since self.old.inst.now.tables
-            self.old.book.entries.items plan.now.q plan.now.mv.steps ≡ Some newer
+        ensures stale { (one : Touched) → newer_since self.old.inst.now.tables
+            self.old.book.entries.items plan.now.q plan.now.mv.steps ≡ Some one
             → self.new ≡ self.old }
         ensures instance { self.new.inst.now ≡ self.old.inst.now }
         ensures topology { self.new.topo.now ≡ self.old.topo.now }
         ensures initial { self.new.a0.now ≡ self.old.a0.now }
         ensures lots { self.new.lots.now ≡ self.old.lots.now }
     {
-        Reply::Recorded {
-            at: 0,
-            verdict: Verdict::Done { cost: 0 },
+        let newer = first_newer(self.topo, self.inst, &plan.mv, &self.book.versions, plan.q);
+        self.answer(newer, worker, plan)
+    }
+
+    /// The same where it is known that no write guard of the move was touched since it was planned: it compares the other
+    /// guards alone.
+    pub fn commit_held(&mut self, worker: u32, plan: &Plan) -> Reply
+        requires commit { IsCommit self.old.inst.now.tables self.old.a0.now.items self.old.lots.now
+            self.old.book.entries.items worker plan.now }
+        requires held { AreHeld self.old.inst.now.tables self.old.book.entries.items plan.now.q
+            plan.now.mv.steps }
+        ensures journal { self.new.book.entries.items ≡
+            (committed self.old.inst.now.tables self.old.a0.now.items self.old.lots.now
+            self.old.book.entries.items worker plan.now.q).journal }
+        ensures reply { result ≡
+            (committed self.old.inst.now.tables self.old.a0.now.items self.old.lots.now
+            self.old.book.entries.items worker plan.now.q).reply }
+        ensures stale { (one : Touched) → newer_since self.old.inst.now.tables
+            self.old.book.entries.items plan.now.q plan.now.mv.steps ≡ Some one
+            → self.new ≡ self.old }
+        ensures instance { self.new.inst.now ≡ self.old.inst.now }
+        ensures topology { self.new.topo.now ≡ self.old.topo.now }
+        ensures initial { self.new.a0.now ≡ self.old.a0.now }
+        ensures lots { self.new.lots.now ≡ self.old.lots.now }
+    {
+        let newer = first_newer_read(self.topo, self.inst, &plan.mv, &self.book.versions, plan.q);
+        self.answer(newer, worker, plan)
+    }
+
+    /// Answers a worker by the first guard of its move that was touched since, and records its proposal where there is
+    /// none.
+    fn answer(&mut self, newer: Option<Newer>, worker: u32, plan: &Plan) -> Reply
+        requires commit { IsCommit self.old.inst.now.tables self.old.a0.now.items self.old.lots.now
+            self.old.book.entries.items worker plan.now }
+        requires newer { newer ≡
+            newer_since self.old.inst.now.tables self.old.book.entries.items plan.now.q
+            plan.now.mv.steps }
+        ensures journal { self.new.book.entries.items ≡
+            (committed self.old.inst.now.tables self.old.a0.now.items self.old.lots.now
+            self.old.book.entries.items worker plan.now.q).journal }
+        ensures reply { result ≡
+            (committed self.old.inst.now.tables self.old.a0.now.items self.old.lots.now
+            self.old.book.entries.items worker plan.now.q).reply }
+        ensures stale { (one : Touched) → newer_since self.old.inst.now.tables
+            self.old.book.entries.items plan.now.q plan.now.mv.steps ≡ Some one
+            → self.new ≡ self.old }
+        ensures instance { self.new.inst.now ≡ self.old.inst.now }
+        ensures topology { self.new.topo.now ≡ self.old.topo.now }
+        ensures initial { self.new.a0.now ≡ self.old.a0.now }
+        ensures lots { self.new.lots.now ≡ self.old.lots.now }
+    {
+        match newer {
+            Some(guard) => Reply::Stale {
+                guard: guard.guard,
+                at: guard.at,
+            },
+            None => record(
+                self.inst,
+                self.topo,
+                self.a0,
+                self.lots,
+                &mut self.book,
+                worker,
+                plan,
+            ),
         }
+    }
+
+    /// Fills a batch with the entries from a place on, as many as it has room for, and tells their number.
+    pub fn copy_from(&self, at: u64, batch: &mut Batch) -> u64
+        requires { at ≤ length self.now.book.entries.items }
+        ensures entries { batch.new ≡ batch_from self.now.book.entries.items at }
+        ensures number { result ≡ min 1024 (length self.now.book.entries.items - at) }
+    {
+        copy_entries(self.book.entries.as_slice(), at as usize, batch)
     }
 
     /// How many entries there are.
@@ -105,12 +193,39 @@ impl<'a> Journal<'a> {
         self.book.entries.get(at as usize)
     }
 
-    /// The first place whose state costs least.
+    /// How many entries a worker has made.
+    pub fn made_by(&self, worker: u32) -> u64
+        requires { worker < worker_count self.now.lots.now }
+        ensures { result ≡
+            entries_of self.now.book.entries.items (length self.now.book.entries.items) worker }
+    {
+        self.book.made[worker as usize]
+    }
+
+    /// The cost of the state after all entries.
+    pub fn kept_cost(&self) -> u128
+        ensures { result ≡
+            kept_cost self.now.inst.now.tables self.now.a0.now.items self.now.book.entries.items
+            (length self.now.book.entries.items) }
+    {
+        self.book.kept
+    }
+
+    /// How many entries stand before the first state of least cost.
     pub fn best_at(&self) -> u64
-        ensures { result ≡ best_of self.now.inst.now.tables self.now.a0.now.items
-            self.now.book.entries.items }
+        ensures { result ≡
+            best_of self.now.inst.now.tables self.now.a0.now.items self.now.book.entries.items }
     {
         self.book.best_at
+    }
+
+    /// The cost of that state.
+    pub fn best_cost(&self) -> u128
+        ensures { result ≡
+            cost_at self.now.inst.now.tables self.now.a0.now.items self.now.book.entries.items
+            (best_of self.now.inst.now.tables self.now.a0.now.items self.now.book.entries.items) }
+    {
+        self.book.best_cost
     }
 
     /// The instance.
@@ -120,7 +235,7 @@ impl<'a> Journal<'a> {
         self.inst
     }
 
-    /// The topology of the instance.
+    /// Its topology.
     pub fn topology(&self) -> &'a Topology
         ensures { result.now ≡ self.now.topo.now }
     {
@@ -133,4 +248,17 @@ impl<'a> Journal<'a> {
     {
         self.lots
     }
+}
+
+/// How many proposals all workers together make.
+#[tactic(auto, unfolding(crate::specs::Entries::proposal_count))]
+fn proposals(lots: &Lots) -> u64
+    ensures value { result ≡ proposal_count lots.now }
+    ensures few { result ≤ 1000000 }
+{
+    let mut number = 0;
+    for w in 0..lots.len() {
+        number += lots.lot(w).budget;
+    }
+    number
 }

@@ -1,9 +1,20 @@
 //! Laws of journals: each function does nothing, and its contract is a law that was proved.
-ghost use Rattle.ra_journal.specs.Laws.{LegalIsSound, NextKeepsLegal, OneLotsJournal};
+ghost use Rattle.ra_journal.specs.Laws.{LegalIsSound, LegalMakesMoves, LegalIsOffered, NextKeepsLegal, OneLotsJournal};
 
 /// In a legal journal over a feasible start every state is feasible, and its kept cost is its objective.
 pub fn legal_is_sound()
     ensures { LegalIsSound }
+{}
+
+/// Each move that a legal journal makes stands where it is made: its processes are named once and stand on the machines
+/// that its steps leave, and each step enters a machine of the instance.
+pub fn legal_makes_moves()
+    ensures { LegalMakesMoves }
+{}
+
+/// The move of each entry of a legal journal was offered, where it was planned and at its own place.
+pub fn legal_is_offered()
+    ensures { LegalIsOffered }
 {}
 
 /// A legal next entry keeps a journal legal.

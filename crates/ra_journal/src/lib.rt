@@ -8,6 +8,7 @@ mod copying;
 mod entries;
 mod journal;
 pub mod laws;
+mod recording;
 mod replies;
 mod states;
 

@@ -7,7 +7,7 @@ use ra_base::Assignment;
 use ra_moves::{Move, Verdict, apply};
 
 /// Takes an entry into a state: its move is applied where its verdict is done.
-#[tactic(auto, unfolding(crate::specs::States::after_made, crate::specs::Entries::steps_made))]
+#[tactic(auto, unfolding(ra_guards::specs::Made::after_made, crate::specs::Entries::steps_made))]
 pub fn advance(state: &mut Assignment, mv: &Move, verdict: &Verdict)
     requires stands { StandsAt from_in mv.now.steps state.old.items }
     requires distinct { IsDistinctIfDone mv.now.steps verdict.now }

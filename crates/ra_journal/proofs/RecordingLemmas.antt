@@ -1,0 +1,119 @@
+-- What the parts of a record need and do.
+use Rattle.std.proofs.Common.{◌≡◌, ℕ, ◌<◌, ◌≤◌, List, length, Option, Some, None, sym, refl, ap, ◌∙◌, subst, arith}
+use Rattle.std.specs.Prelude.{IfSome}
+use Rattle.ra_base.specs.declared.causes.Cause.{Cause}
+use Rattle.ra_base.specs.declared.costs.MovedCount.{MovedCount}
+use Rattle.ra_base.specs.declared.ids.Machine.{Machine}
+use Rattle.ra_draws.specs.declared.budgets.Lots.{Lots}
+use Rattle.ra_model.specs.declared.raw.Tables.{Tables}
+use Rattle.ra_model.specs.Limits.{WellFormed}
+use Rattle.ra_model.specs.Services.{moved_of}
+use Rattle.ra_moves.specs.declared.steps.Step.{Step}
+use Rattle.ra_moves.specs.declared.verdicts.Plan.{Plan}
+use Rattle.ra_moves.specs.declared.verdicts.Verdict.{Verdict}
+use Rattle.ra_moves.specs.declared.verdicts.Verdict.TheVariants.{Done, Refused}
+use Rattle.ra_moves.specs.declared.verdicts.Weighed.{Weighed}
+use Rattle.ra_moves.specs.MoveSteps.{MoveSteps}
+use Rattle.ra_moves.specs.Judging.{judge}
+use Rattle.ra_moves.specs.Replacing.{applied}
+use Rattle.ra_cells.specs.MovedCounts.{MovedCounts}
+use Rattle.ra_cells.specs.Replaced.{IsChange}
+use Rattle.ra_local.specs.Moving.{IsMove, IsOffered}
+use Rattle.ra_local.specs.Weighing.{local_change, changed_count, weighed_by, weighed_of}
+use Rattle.ra_settle.specs.Settling.{IsSettling}
+use Rattle.ra_settle.proofs.MovedAfter.{counts_after}
+use Rattle.ra_settle.proofs.Settles.{changes}
+use Rattle.ra_guards.specs.Kept.{IsTableOf}
+use Rattle.ra_journal.specs.declared.book.Book.{Book}
+use Rattle.ra_journal.specs.declared.entries.Entry.{Entry}
+use Rattle.ra_journal.specs.Entries.{steps_made, entries_of, worker_count, allowed}
+use Rattle.ra_journal.specs.States.{state, cost_then}
+use Rattle.ra_journal.specs.Legal.{Legal}
+use Rattle.ra_journal.specs.Committing.{next_number, newer_since, IsCommit}
+use Rattle.ra_journal.specs.Keeping.{IsStart, IsKept}
+use Rattle.ra_journal.specs.Recording.{IsCount, AreFitting, ArePut, counts_of, AreTouched, IsTakenIn}
+use Rattle.ra_journal.proofs.EndLemmas.{planned_at_end, next_is_legal}
+use Rattle.ra_journal.proofs.KeepingLemmas.{IsNext}
+use Rattle.ra_journal.proofs.RoomLemmas.{AreNumbered, entries_within, entries_fewer, budgets_few}
+use Rattle.ra_journal.proofs.StandingLemmas.{unbroken_if_done, done_no_repeat}
+use Rattle.ra_journal.proofs.TouchedLemmas.{touched_nothing}
+
+-- there is room for one entry more
+
+numbered : (i : Tables) (a0 : List Machine) (l : Lots) (h : List Entry) → Legal i a0 l h → AreNumbered l h (length h)
+numbered i a0 l h legal = record { each = λ j before. (legal.each j before).numbered }
+
+pub has_room : (i : Tables) (a0 : List Machine) (l : Lots) (book : Book) (w : ℕ) (plan : Plan) → IsKept i a0 l book → IsCommit i a0 l book.entries.items w plan → length book.entries.items < book.entries.room
+unfolding next_number
+has_room i a0 l book w plan kept commit = omega (arith, kept.room, entries_fewer l book.entries.items (length book.entries.items) w (numbered i a0 l book.entries.items kept.legal) commit.worker (omega (arith, commit.number, commit.within)))
+
+pub worker_below : (l : Lots) (w : ℕ) → w < worker_count l → w < 16
+unfolding worker_count
+worker_below l w exists = omega (arith, l.fitting.few)
+
+pub made_few : (i : Tables) (a0 : List Machine) (l : Lots) (h : List Entry) (w : ℕ) → Legal i a0 l h → w < worker_count l → entries_of h (length h) w ≤ 1000000
+made_few i a0 l h w legal exists = omega (arith, entries_within l h (length h) w (numbered i a0 l h legal), budgets_few l w exists)
+
+-- the moved counts of a weighing fit
+
+as_count : (moved : MovedCounts) (o : Option MovedCount) → IfSome o (λ c. IsChange moved c) → IfSome o (λ c. IsCount moved c)
+as_count moved None is = tt
+as_count moved (Some c) is = record { there = is.there; within = is.within }
+
+pub counts_fit : (i : Tables) (a0 a : List Machine) (steps : List Step) (moved : MovedCounts) (kept : ℕ) (weighed : Weighed) → WellFormed i → IsSettling i a0 a steps moved kept weighed → AreFitting moved weighed
+counts_fit i a0 a steps moved kept weighed limits settling =
+    let are = changes i a0 a steps moved kept weighed limits settling in
+    record { first = as_count moved weighed.first are.first; second = as_count moved weighed.second are.second; third = as_count moved weighed.third are.third }
+
+-- with them put in, the counts are those after a move that is done
+counts_put : (i : Tables) (a0 a : List Machine) (steps : List Step) (f : ℕ → ℕ) (s : ℕ) → IsMove i a steps → f s ≡ moved_of i a0 a s → counts_of (weighed_by None (local_change i a0 a steps) (changed_count i a0 a steps)) f s ≡ moved_of i a0 (applied a steps) s
+unfolding counts_of weighed_by
+counts_put i a0 a steps f s is before = counts_after i a0 a steps f s is before
+
+pub counts_then : (i : Tables) (a0 a : List Machine) (steps : List Step) (rise cost : ℕ) (verdict : Verdict) (weighed : Weighed) (f : ℕ → ℕ) (s : ℕ) → weighed ≡ weighed_of i a0 a steps → IsOffered i a steps → verdict ≡ judge i a0 a steps rise → verdict ≡ Done cost → f s ≡ moved_of i a0 a s → counts_of weighed f s ≡ moved_of i a0 (applied a steps) s
+unfolding weighed_of
+counts_then i a0 a steps rise cost verdict weighed f s is offered judged done before =
+    let unbroken = unbroken_if_done i a0 a steps rise cost verdict judged done in
+    let plain = ap (λ b. weighed_by b (local_change i a0 a steps) (changed_count i a0 a steps)) unbroken in
+    ap (λ (w : Weighed). counts_of w f s) (is ∙ plain) ∙ counts_put i a0 a steps f s (offered (done_no_repeat i a0 a steps rise cost verdict judged done)) before
+
+-- what is taken in of a verdict
+
+pub taken_done : (i : Tables) (steps : List Step) (weighed : Weighed) (verdict : Verdict) (cost number : ℕ) (before after : Book) → verdict ≡ Done cost → after.entries ≡ before.entries → after.made ≡ before.made → number ≡ length before.entries.items → AreTouched i (Some steps) number before.versions after.versions → ArePut before.greatest after.greatest (counts_of weighed) → after.kept ≡ cost → after.best_at ≡ before.best_at → after.best_cost ≡ before.best_cost → IsTakenIn i steps weighed verdict before after
+unfolding steps_made cost_then
+taken_done i steps weighed verdict cost number before after is entries made long versions put kept best_at best_cost = rw is (record {
+  entries = entries;
+  made = made;
+  versions = subst (λ n. AreTouched i (Some steps) n before.versions after.versions) long versions;
+  done = λ other same. put;
+  refused = λ cause same. absurd (cc (same));
+  kept = kept;
+  best_at = best_at;
+  best_cost = best_cost;
+})
+
+pub taken_refused : (i : Tables) (steps : List Step) (weighed : Weighed) (verdict : Verdict) (cause : Cause) (before : Book) → verdict ≡ Refused cause → IsTableOf i before.versions → IsTakenIn i steps weighed verdict before before
+unfolding steps_made cost_then
+taken_refused i steps weighed verdict cause before is sized = rw is (record {
+  entries = refl;
+  made = refl;
+  versions = touched_nothing i (length before.entries.items) before.versions sized;
+  done = λ cost same. absurd (cc (same));
+  refused = λ other same. refl;
+  kept = refl;
+  best_at = refl;
+  best_cost = refl;
+})
+
+-- the next entry, and what is known of it
+pub is_next : (i : Tables) (a0 : List Machine) (l : Lots) (book : Book) (w : ℕ) (plan : Plan) (e : Entry) → IsStart i a0 → IsKept i a0 l book → IsCommit i a0 l book.entries.items w plan → newer_since i book.entries.items plan.q plan.mv.steps ≡ None → e ≡ record { worker = w; k = plan.k; q = plan.q; mv = plan.mv; verdict = e.verdict } → e.verdict ≡ judge i a0 (state a0 book.entries.items (length book.entries.items)) plan.mv.steps (allowed l w plan.k) → IsNext i a0 l book.entries.items e plan.weighed
+is_next i a0 l book w plan e start kept commit none is judged =
+    let h = book.entries.items in
+    let end = planned_at_end i a0 l h w plan start kept.legal commit none in
+    let mv : e.mv ≡ plan.mv = ap (λ (d : Entry). d.mv) is in
+    let worker : e.worker ≡ w = ap (λ (d : Entry). d.worker) is in
+    record {
+      legal = next_is_legal i a0 l h w plan e commit end worker (ap (λ (d : Entry). d.k) is) (ap (λ (d : Entry). d.q) is) mv judged;
+      exists = omega (arith, worker, worker_below l w commit.worker);
+      counts = λ cost done f s before. counts_then i a0 (state a0 h (length h)) plan.mv.steps (allowed l w plan.k) cost e.verdict plan.weighed f s end.weighed end.offered judged done before ∙ ap (λ (m : MoveSteps). moved_of i a0 (applied (state a0 h (length h)) m.steps) s) (sym mv);
+    }

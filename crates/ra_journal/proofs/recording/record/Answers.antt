@@ -1,0 +1,53 @@
+use Rattle.std.proofs.Common.{◌∷◌, [], ◌++◌, length, sym, refl, ap, ap₂, ◌∙◌, subst, arith}
+use Rattle.ra_cells.specs.MovedCounts.{MovedCounts}
+use Rattle.ra_journal.specs.declared.entries.Entry.{Entry}
+use Rattle.ra_journal.specs.declared.replies.Reply.TheVariants.{Recorded}
+use Rattle.ra_journal.specs.Recording.{AreFitting}
+use Rattle.ra_journal.specs.States.{state}
+use Rattle.ra_journal.proofs.EndLemmas.{planned_within, settling_now, next_entry_is}
+use Rattle.ra_journal.proofs.KeepingLemmas.{recorded_by, kept_more}
+use Rattle.ra_journal.proofs.RecordingLemmas.{has_room, worker_below, made_few, counts_fit, is_next}
+use Rattle.ra_journal.proofs.recording.record.Goals as goal
+
+pub add-requires-clause-room : goal.add-requires-clause-room
+add-requires-clause-room c = has_room c.args.inst.now.tables c.args.a0.now.items c.args.lots.now c.args.book.now c.args.worker c.args.plan.now c.requires.kept c.requires.commit
+
+pub add-requires-clause-there : goal.add-requires-clause-there
+add-requires-clause-there c = omega (arith, worker_below c.args.lots.now c.args.worker c.requires.commit.worker, c.requires.kept.made.long)
+
+pub add-requires-clause-few : goal.add-requires-clause-few
+add-requires-clause-few c = omega (arith, c.requires.kept.made.each c.args.worker c.requires.commit.worker, made_few c.args.inst.now.tables c.args.a0.now.items c.args.lots.now c.args.book.now.entries.items c.args.worker c.requires.kept.legal c.requires.commit.worker)
+
+pub take_in-requires-clause-within : goal.take_in-requires-clause-within
+take_in-requires-clause-within c = planned_within c.args.inst.now.tables c.args.a0.now.items c.args.lots.now c.args.book.now.entries.items c.args.worker c.args.plan.now c.requires.start c.requires.kept.legal c.requires.commit
+
+pub take_in-requires-clause-counts : goal.take_in-requires-clause-counts
+take_in-requires-clause-counts c =
+    let i = c.args.inst.now.tables in
+    let h = c.args.book.now.entries.items in
+    let settling = settling_now i c.args.a0.now.items c.args.lots.now c.args.book.now c.args.worker c.args.plan.now c.requires.start c.requires.kept c.requires.commit c.requires.untouched in
+    let fit = counts_fit i c.args.a0.now.items (state c.args.a0.now.items h (length h)) c.args.plan.now.mv.steps c.args.book.now.greatest c.args.book.now.kept c.args.plan.now.weighed c.requires.start.limits settling in
+    subst (λ (moved : MovedCounts). AreFitting moved c.args.plan.now.weighed) (sym c.add.ensures.greatest) fit
+
+pub returns-clause-kept : goal.returns-clause-kept
+returns-clause-kept c =
+    let i = c.args.inst.now.tables in
+    let plan = c.args.plan.now in
+    let e : Entry = record { worker = c.args.worker; k = plan.k; q = plan.q; mv = plan.mv; verdict = c.judge_now-verdict.result } in
+    let next = is_next i c.args.a0.now.items c.args.lots.now c.args.book.now c.args.worker plan e c.requires.start c.requires.kept c.requires.commit c.requires.untouched refl c.judge_now-verdict.ensures in
+    let recorded = recorded_by i e plan.weighed c.args.book.now c.add.new.book c.take_in.new.book c.keep_best.new.book c.add.ensures c.take_in.ensures c.keep_best.ensures in
+    kept_more i c.args.a0.now.items c.args.lots.now e plan.weighed c.args.book.now c.keep_best.new.book c.requires.start c.requires.kept next recorded
+
+pub returns-clause-journal : goal.returns-clause-journal
+returns-clause-journal c =
+    let i = c.args.inst.now.tables in
+    let h = c.args.book.now.entries.items in
+    let plan = c.args.plan.now in
+    let e : Entry = record { worker = c.args.worker; k = plan.k; q = plan.q; mv = plan.mv; verdict = c.judge_now-verdict.result } in
+    let recorded = recorded_by i e plan.weighed c.args.book.now c.add.new.book c.take_in.new.book c.keep_best.new.book c.add.ensures c.take_in.ensures c.keep_best.ensures in
+    recorded.entries ∙ ap (λ (d : Entry). h ++ d ∷ []) (next_entry_is i c.args.a0.now.items c.args.lots.now h c.args.worker plan c.judge_now-verdict.result c.requires.commit c.judge_now-verdict.ensures)
+
+pub returns-clause-reply : goal.returns-clause-reply
+returns-clause-reply c =
+    let is = next_entry_is c.args.inst.now.tables c.args.a0.now.items c.args.lots.now c.args.book.now.entries.items c.args.worker c.args.plan.now c.judge_now-verdict.result c.requires.commit c.judge_now-verdict.ensures in
+    ap₂ Recorded c.len-at.ensures.value (ap (λ (d : Entry). d.verdict) is)

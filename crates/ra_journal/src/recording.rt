@@ -1,0 +1,167 @@
+ghost use Rattle.std.specs.Prelude.{◌≡◌, ◌<◌, ◌≤◌, ◌^◌, [], ◌∷◌, ◌++◌, Some, None, length, slice_index, IfSome};
+ghost use Rattle.ra_topology.specs.Fits.{IsTopologyOf};
+ghost use Rattle.ra_cells.specs.Replaced.{counted_after};
+ghost use Rattle.ra_moves.specs.Judging.{judge};
+ghost use Rattle.ra_guards.specs.Guards.{AreWithin};
+ghost use Rattle.ra_guards.specs.Kept.{IsTableOf};
+ghost use Rattle.ra_journal.specs.Committing.{newer_since, next_entry, IsCommit};
+ghost use Rattle.ra_journal.specs.Entries.{allowed, steps_made};
+ghost use Rattle.ra_journal.specs.Keeping.{IsStart, IsKept};
+ghost use Rattle.ra_journal.specs.Recording.{IsAdded, IsCount, ArePut, counts_of, AreTouched, IsTakenIn, IsBestKept, AreFitting};
+ghost use Rattle.ra_journal.specs.States.{state};
+ghost use Rattle.ra_journal.specs.declared.replies.Reply.TheVariants.{Recorded};
+
+use crate::book::Book;
+use crate::entries::Entry;
+use crate::replies::Reply;
+use ra_base::{Assignment, MovedCount};
+use ra_cells::Greatest;
+use ra_draws::{Lots, allow};
+use ra_guards::{Versions, writes};
+use ra_model::Instance;
+use ra_moves::{Move, Plan, Verdict, Weighed};
+use ra_settle::settle_now;
+use ra_topology::Topology;
+
+/// Records a worker's next proposal, of whose move no guard was touched since it was planned.
+pub(crate) fn record(
+    inst: &Instance,
+    topo: &Topology,
+    a0: &Assignment,
+    lots: &Lots,
+    book: &mut Book,
+    worker: u32,
+    plan: &Plan,
+) -> Reply
+    requires topology { IsTopologyOf topo.now inst.now.tables }
+    requires start { IsStart inst.now.tables a0.now.items }
+    requires kept { IsKept inst.now.tables a0.now.items lots.now book.old }
+    requires commit { IsCommit inst.now.tables a0.now.items lots.now book.old.entries.items worker
+        plan.now }
+    requires untouched { newer_since inst.now.tables book.old.entries.items plan.now.q
+        plan.now.mv.steps ≡ None }
+    ensures kept { IsKept inst.now.tables a0.now.items lots.now book.new }
+    ensures journal { book.new.entries.items ≡ book.old.entries.items
+        ++ next_entry inst.now.tables a0.now.items lots.now book.old.entries.items worker plan.now.q
+        ∷ [] }
+    ensures reply { result ≡ Recorded (length book.old.entries.items)
+        (next_entry inst.now.tables a0.now.items lots.now book.old.entries.items worker
+        plan.now.q).verdict }
+{
+    let verdict = judge_now(inst, a0, lots, book, worker, plan);
+    let at = book.entries.len() as u64;
+    let entry = Entry {
+        worker,
+        k: plan.k,
+        q: plan.q,
+        mv: plan.mv,
+        verdict,
+    };
+    add(book, entry);
+    take_in(inst, topo, book, &plan.mv, &plan.weighed, &verdict);
+    keep_best(book);
+    Reply::Recorded { at, verdict }
+}
+
+/// The verdict on a worker's next proposal at the state after all entries.
+fn judge_now(
+    inst: &Instance,
+    a0: &Assignment,
+    lots: &Lots,
+    book: &Book,
+    worker: u32,
+    plan: &Plan,
+) -> Verdict
+    requires start { IsStart inst.now.tables a0.now.items }
+    requires kept { IsKept inst.now.tables a0.now.items lots.now book.now }
+    requires commit { IsCommit inst.now.tables a0.now.items lots.now book.now.entries.items worker
+        plan.now }
+    requires untouched { newer_since inst.now.tables book.now.entries.items plan.now.q
+        plan.now.mv.steps ≡ None }
+    ensures { result ≡
+        judge inst.now.tables a0.now.items
+        (state a0.now.items book.now.entries.items (length book.now.entries.items))
+        plan.now.mv.steps (allowed lots.now worker plan.now.k) }
+{
+    let allowed = allow(lots.slack(), lots.lot(worker).budget, plan.k);
+    settle_now(inst, &book.greatest, book.kept, &plan.weighed, allowed)
+}
+
+/// Adds an entry at the end, which its worker has made.
+fn add(book: &mut Book, entry: Entry)
+    requires room { length book.old.entries.items < book.old.entries.room }
+    requires there { entry.worker < length book.old.made }
+    requires few { slice_index book.old.made entry.worker < 2 ^ 63 }
+    ensures { IsAdded book.old book.new entry }
+{
+    let place = entry.worker as usize;
+    let made = book.made[place];
+    book.made[place] = made + 1;
+    book.entries.push(entry);
+}
+
+/// Takes the last entry, which has this move and this verdict, into the versions, the moved counts and the cost.
+fn take_in(
+    inst: &Instance,
+    topo: &Topology,
+    book: &mut Book,
+    mv: &Move,
+    weighed: &Weighed,
+    verdict: &Verdict,
+)
+    requires within { AreWithin inst.now.tables mv.now.steps }
+    requires sized { IsTableOf inst.now.tables book.old.versions }
+    requires counts { AreFitting book.old.greatest weighed.now }
+    ensures { IsTakenIn inst.now.tables mv.now.steps weighed.now verdict.now book.old book.new }
+{
+    match verdict {
+        Verdict::Done { cost } => {
+            let version = book.entries.len() as u64;
+            touch(inst, topo, &mut book.versions, mv, version);
+            put_counts(&mut book.greatest, weighed);
+            book.kept = *cost;
+        }
+        Verdict::Refused { .. } => {}
+    }
+}
+
+/// Gives the write guards of a move a version.
+fn touch(inst: &Instance, topo: &Topology, versions: &mut Versions, mv: &Move, version: u64)
+    requires within { AreWithin inst.now.tables mv.now.steps }
+    requires sized { IsTableOf inst.now.tables versions.old }
+    ensures { AreTouched inst.now.tables (Some mv.now.steps) version versions.old versions.new }
+{
+    let guards = writes(topo, inst, mv);
+    versions.touch(&guards, version);
+}
+
+/// Puts the moved counts of a weighing in the place of those before.
+#[tactic(auto, unfolding(crate::specs::Recording::counts_of))]
+fn put_counts(greatest: &mut Greatest, weighed: &Weighed)
+    requires { AreFitting greatest.old weighed.now }
+    ensures { ArePut greatest.old greatest.new (counts_of weighed.now) }
+{
+    put_count(greatest, weighed.first);
+    put_count(greatest, weighed.second);
+    put_count(greatest, weighed.third);
+}
+
+/// Puts a moved count in the place of that before, where there is one.
+fn put_count(greatest: &mut Greatest, count: Option<MovedCount>)
+    requires { IfSome count (λ c. IsCount greatest.old c) }
+    ensures { ArePut greatest.old greatest.new (counted_after count) }
+{
+    if let Some(c) = count {
+        greatest.change(c.service, c.after);
+    }
+}
+
+/// Keeps the state after all entries as the best one, where it costs less than the best so far.
+fn keep_best(book: &mut Book)
+    ensures { IsBestKept book.old book.new }
+{
+    if book.kept < book.best_cost {
+        book.best_at = book.entries.len() as u64;
+        book.best_cost = book.kept;
+    }
+}
