@@ -1,6 +1,9 @@
-//! Stub.
+//! The options of one shift: to which machines a process may go, and what each of these ways changes. What is the same
+//! for all of them is found once.
 #![tactic(auto)]
 
+mod costs;
+mod reads;
 mod shift;
 
 pub use shift::Shift;

@@ -1,65 +1,351 @@
-ghost use Rattle.std.specs.Prelude.{◌≡◌, ◌↔◌, ℕ, ◌+◌, ◌<◌, true, None, [], ◌∷◌};
-ghost use Rattle.ra_model.specs.Numbers.{resource_count, machine_count, process_count};
+ghost use Rattle.std.specs.Prelude.{◌≡◌, ◌≢◌, ℕ, ◌+◌, ◌*◌, ◌^◌, ◌<◌, ◌≤◌, ◌↔◌, [], ◌∷◌, None, true, false, pos, ◌-ℤ◌};
+ghost use Rattle.ra_model.specs.Numbers.{resource_count, machine_count, process_count, service_of, location_of, neighbourhood_of, spread_of, closed_at, transient_at, capacity_of, service_count};
+ghost use Rattle.ra_model.specs.Assignments.{machine_at};
+ghost use Rattle.ra_model.specs.Services.{on_machine, in_neighbourhood, locations_of};
 ghost use Rattle.ra_moves.specs.Options.{leaving};
 ghost use Rattle.ra_moves.specs.Judging.{broken_by};
-ghost use Rattle.ra_local.specs.Weighing.{weighed_of};
+ghost use Rattle.ra_local.specs.Weighing.{local_change, moved_count, weighed_of};
+ghost use Rattle.ra_shift.specs.Conditions.{shifted, HasRoom, HasRoomBetween, FindsNeeds, MayLeave};
+ghost use Rattle.ra_shift.specs.Sharing.{AreRequired, use_without, row_cost, cost_of, way_cost, locations_without};
 
-use ra_base::{Machine, Process, Steps};
+use crate::costs::{cost_with, cost_without, difference, way_cost};
+use crate::reads::{is_away, machine_of, may_leave, one_when, required_of, spread_without};
+use ra_base::{Machine, MovedCount, Process, Resource, Service, Steps};
 use ra_moves::Weighed;
 use ra_world::World;
 use std::sync::ledger::Ledger;
 
-/// A process that may be shifted.
+/// A process that may be shifted, with all that is the same for each machine to which it might go.
 #[derive(Drop)]
 pub struct Shift<'w, 'a> {
     world: &'w World<'a>,
     process: Process,
+    /// The machine that it would leave.
+    from: Machine,
+    /// Its initial machine.
+    home: Machine,
+    service: Service,
+    /// What it requires of each resource, and zeros behind.
+    required: [u32; 20],
+    /// The labels of the location and of the neighbourhood that it would leave.
+    location: u32,
+    neighbourhood: u32,
+    /// In how many locations there is another process of its service, and in how many there have to be some.
+    spread_without: u32,
+    spread_min: u32,
+    /// Whether it may leave its neighbourhood.
+    may_leave: bool,
+    /// The load and balance cost of the machine that it would leave, once it has.
+    without: u128,
+    /// The same while it stays, and what its own way costs so far.
+    before: u128,
+    pub ghost process_known: { process.0 < process_count world.now.inst.now.tables },
+    ghost from_is: { from.0 ≡ machine_at world.now.kept.assignment.items process.0 },
+    ghost home_is: { home.0 ≡ machine_at world.now.start.now.items process.0 },
+    ghost service_is: { service.0 ≡ service_of world.now.inst.now.tables process.0 },
+    ghost required_are: { AreRequired world.now.inst.now.tables process.0 required },
+    ghost location_is: { location ≡ location_of world.now.inst.now.tables (machine_at world.now.kept.assignment.items process.0) },
+    ghost neighbourhood_is: { neighbourhood ≡ neighbourhood_of world.now.inst.now.tables (machine_at world.now.kept.assignment.items process.0) },
+    ghost spread_is: { spread_without ≡ locations_without world.now.inst.now.tables world.now.kept.assignment.items process.0 },
+    ghost spread_few: { spread_without ≤ 50000 },
+    ghost wants_is: { spread_min ≡ spread_of world.now.inst.now.tables (service_of world.now.inst.now.tables process.0) },
+    ghost may: { may_leave ≡ true → MayLeave world.now.inst.now.tables world.now.kept.assignment.items process.0 },
+    ghost may_not: { may_leave ≡ false → MayLeave world.now.inst.now.tables world.now.kept.assignment.items process.0 → ⊥ },
+    ghost without_is: { without ≡ row_cost world.now.inst.now.tables (machine_at world.now.kept.assignment.items process.0) (use_without world.now.inst.now.tables world.now.kept.assignment.items process.0) },
+    ghost without_small: { without ≤ 30 * 2 ^ 96 },
+    ghost before_is: { before ≡ cost_of world.now.inst.now.tables world.now.kept.assignment.items (machine_at world.now.kept.assignment.items process.0) + way_cost world.now.inst.now.tables world.now.start.now.items process.0 (machine_at world.now.kept.assignment.items process.0) },
+    ghost before_small: { before ≤ 2 ^ 102 },
 }
 
 impl<'w, 'a> Shift<'w, 'a> {
-    /// Stub.
+    /// All that is the same for each way of a process. It reads what the process requires, each number once.
     pub fn make<L: Ledger>(
         world: &'w World<'a>,
         process: Process,
         steps: &mut Steps<L>,
     ) -> Shift<'w, 'a>
-        requires process { process.0 < process_count world.now.inst.now.tables }
-        requires stub { ⊥ }
+        requires { process.0 < process_count world.now.inst.now.tables }
         ensures world { result.world.now ≡ world.now }
         ensures process { result.process ≡ process }
         ensures counted { steps.new ≡ steps.old + resource_count world.now.inst.now.tables }
     {
-        Shift { world, process }
+        let inst = world.instance();
+        let from = machine_of(world.assignment(), process);
+        let home = machine_of(world.initial(), process);
+        let service = inst.service_of(process);
+        let required = required_of(inst, process, steps);
+        let location = inst.location(from);
+        let neighbourhood = inst.neighbourhood(from);
+        let spread_without = spread_without(world, process, service, location);
+        let may_leave = may_leave(world, process, service, neighbourhood);
+        let without = cost_without(world, process, &required, from);
+        let before = cost_before(world, process, home, from);
+        Shift {
+            world,
+            process,
+            from,
+            home,
+            service,
+            required,
+            location,
+            neighbourhood,
+            spread_without,
+            spread_min: inst.spread_min(service),
+            may_leave,
+            without,
+            before,
+        }
     }
 
     /// Whether the shift to a machine breaks nothing.
+    #[inline(always)]
     pub fn fits(&self, to: Machine) -> bool
-        requires stub { ⊥ }
-        requires machine { to.0 < machine_count self.now.world.now.inst.now.tables }
+        requires { to.0 < machine_count self.now.world.now.inst.now.tables }
         ensures { (result ≡ true) ↔ (broken_by self.now.world.now.inst.now.tables
             self.now.world.now.start.now.items self.now.world.now.kept.assignment.items
-            (leaving self.now.world.now.kept.assignment.items self.now.process.0 to.0 ∷ []) ≡ None) }
+            (leaving self.now.world.now.kept.assignment.items self.now.process.0 to.0 ∷ [])
+            ≡ None) }
     {
-        false
+        if to.0 == self.from.0 {
+            return false;
+        }
+        if !self.is_admitted(to) {
+            return false;
+        }
+        if !self.has_room(to) {
+            return false;
+        }
+        if !self.is_alone(to) {
+            return false;
+        }
+        if !self.has_room_between(to) {
+            return false;
+        }
+        if !self.keeps_spread(to) {
+            return false;
+        }
+        if !self.keeps_dependants(to) {
+            return false;
+        }
+        self.finds_needs(to)
     }
 
     /// The weighing of a shift that breaks nothing.
     pub fn weighed(&self, to: Machine) -> Weighed
-        requires stub { ⊥ }
         requires machine { to.0 < machine_count self.now.world.now.inst.now.tables }
         requires unbroken { broken_by self.now.world.now.inst.now.tables
             self.now.world.now.start.now.items self.now.world.now.kept.assignment.items
-            (leaving self.now.world.now.kept.assignment.items self.now.process.0 to.0 ∷ []) ≡ None }
+            (leaving self.now.world.now.kept.assignment.items self.now.process.0 to.0 ∷ [])
+            ≡ None }
         ensures { result ≡ weighed_of self.now.world.now.inst.now.tables
             self.now.world.now.start.now.items self.now.world.now.kept.assignment.items
             (leaving self.now.world.now.kept.assignment.items self.now.process.0 to.0 ∷ []) }
     {
         Weighed {
             broken: None,
-            local: 0,
-            first: None,
+            local: self.change(to),
+            first: Some(self.moved(to)),
             second: None,
             third: None,
         }
     }
+
+    /// Whether a machine is open, or is the initial one of the process.
+    #[inline(always)]
+    fn is_admitted(&self, to: Machine) -> bool
+        requires { to.0 < machine_count self.now.world.now.inst.now.tables }
+        ensures { (result ≡ true) ↔ (closed_at self.now.world.now.inst.now.tables to.0 ≡ true →
+            machine_at self.now.world.now.start.now.items self.now.process.0 ≡ to.0) }
+    {
+        if to.0 == self.home.0 {
+            return true;
+        }
+        !self.world.instance().closed(to)
+    }
+
+    /// Whether a machine has room for what the process requires.
+    #[inline(always)]
+    fn has_room(&self, to: Machine) -> bool
+        requires { to.0 < machine_count self.now.world.now.inst.now.tables }
+        ensures { (result ≡ true) ↔ HasRoom self.now.world.now.inst.now.tables
+            self.now.world.now.kept.assignment.items self.now.process.0 to.0 }
+    {
+        let inst = self.world.instance();
+        let used = self.world.rows().usage_row(to);
+        for r in 0..inst.resources() {
+            let place = r as usize;
+            let wanted = used[place] + u64::from(self.required[place]);
+            if wanted > u64::from(inst.capacity(to, Resource(r))) {
+                return false;
+            }
+        }
+        true
+    }
+
+    /// Whether a machine has it while the process moves.
+    #[inline(always)]
+    fn has_room_between(&self, to: Machine) -> bool
+        requires { to.0 < machine_count self.now.world.now.inst.now.tables }
+        ensures { (result ≡ true) ↔ HasRoomBetween self.now.world.now.inst.now.tables
+            self.now.world.now.start.now.items self.now.world.now.kept.assignment.items
+            self.now.process.0 to.0 }
+    {
+        if to.0 == self.home.0 {
+            return true;
+        }
+        let between = self.world.rows().transient_row(to);
+        for r in 0..self.world.instance().resources() {
+            let place = r as usize;
+            let wanted = between[place] + u64::from(self.required[place]);
+            if self.is_too_much(to, Resource(r), wanted) {
+                return false;
+            }
+        }
+        true
+    }
+
+    /// Whether an amount of a transient resource is above what a machine has.
+    #[inline(always)]
+    fn is_too_much(&self, to: Machine, r: Resource, wanted: u64) -> bool
+        requires machine { to.0 < machine_count self.now.world.now.inst.now.tables }
+        requires resource { r.0 < resource_count self.now.world.now.inst.now.tables }
+        ensures { (result ≡ true) ↔ ((transient_at self.now.world.now.inst.now.tables r.0 ≡ true)
+            × (capacity_of self.now.world.now.inst.now.tables to.0 r.0 < wanted)) }
+    {
+        let inst = self.world.instance();
+        if !inst.transient(r) {
+            return false;
+        }
+        wanted > u64::from(inst.capacity(to, r))
+    }
+
+    /// Whether no process of the service is on a machine.
+    #[inline(always)]
+    fn is_alone(&self, to: Machine) -> bool
+        ensures { (result ≡ true) ↔ (on_machine self.now.world.now.inst.now.tables
+            self.now.world.now.kept.assignment.items
+            (service_of self.now.world.now.inst.now.tables self.now.process.0) to.0 ≡ 0) }
+    {
+        self.world.cells().on_machine(self.service, to) == 0
+    }
+
+    /// Whether the service is then in as many locations as it has to be.
+    #[inline(always)]
+    fn keeps_spread(&self, to: Machine) -> bool
+        requires { to.0 < machine_count self.now.world.now.inst.now.tables }
+        ensures { (result ≡ true) ↔ (spread_of self.now.world.now.inst.now.tables
+            (service_of self.now.world.now.inst.now.tables self.now.process.0)
+            ≤ locations_of self.now.world.now.inst.now.tables
+            (shifted self.now.world.now.kept.assignment.items self.now.process.0 to.0)
+            (service_of self.now.world.now.inst.now.tables self.now.process.0)) }
+    {
+        if self.spread_min <= self.spread_without {
+            return true;
+        }
+        let label = self.world.instance().location(to);
+        let own = one_when(self.location == label);
+        let comes = self.world.cells().in_location(self.service, label) == own;
+        self.spread_min <= self.spread_without + one_when(comes)
+    }
+
+    /// Whether no service stays behind that depends on the process.
+    #[inline(always)]
+    fn keeps_dependants(&self, to: Machine) -> bool
+        requires { to.0 < machine_count self.now.world.now.inst.now.tables }
+        ensures { (result ≡ true) ↔ (neighbourhood_of self.now.world.now.inst.now.tables
+            (machine_at self.now.world.now.kept.assignment.items self.now.process.0)
+            ≢ neighbourhood_of self.now.world.now.inst.now.tables to.0 →
+            MayLeave self.now.world.now.inst.now.tables
+            self.now.world.now.kept.assignment.items self.now.process.0) }
+    {
+        if self.may_leave {
+            return true;
+        }
+        self.world.instance().neighbourhood(to) == self.neighbourhood
+    }
+
+    /// Whether what the service needs is in the neighbourhood of a machine.
+    #[inline(always)]
+    fn finds_needs(&self, to: Machine) -> bool
+        requires { to.0 < machine_count self.now.world.now.inst.now.tables }
+        ensures { (result ≡ true) ↔ FindsNeeds self.now.world.now.inst.now.tables
+            self.now.world.now.kept.assignment.items self.now.process.0 to.0 }
+    {
+        let label = self.world.instance().neighbourhood(to);
+        let needs = self.world.topology().needs(self.service);
+        for need in needs {
+            if self.is_missing(*need, label) {
+                return false;
+            }
+        }
+        true
+    }
+
+    /// Whether a service is another one and has no process in a neighbourhood.
+    #[inline(always)]
+    fn is_missing(&self, need: Service, label: u32) -> bool
+        requires { need.0 < service_count self.now.world.now.inst.now.tables }
+        ensures other { result ≡ true →
+            need.0 ≢ service_of self.now.world.now.inst.now.tables self.now.process.0 }
+        ensures none { result ≡ true → in_neighbourhood self.now.world.now.inst.now.tables
+            self.now.world.now.kept.assignment.items need.0 label ≡ 0 }
+        ensures some { result ≡ false →
+            need.0 ≢ service_of self.now.world.now.inst.now.tables self.now.process.0 →
+            0 < in_neighbourhood self.now.world.now.inst.now.tables
+            self.now.world.now.kept.assignment.items need.0 label }
+    {
+        if need.0 == self.service.0 {
+            return false;
+        }
+        self.world.cells().in_neighbourhood(need, label) == 0
+    }
+
+    /// The change of load, balance, process and machine cost together.
+    fn change(&self, to: Machine) -> i128
+        requires machine { to.0 < machine_count self.now.world.now.inst.now.tables }
+        requires apart { machine_at self.now.world.now.kept.assignment.items self.now.process.0
+            ≢ to.0 }
+        ensures { result ≡ local_change self.now.world.now.inst.now.tables
+            self.now.world.now.start.now.items self.now.world.now.kept.assignment.items
+            (leaving self.now.world.now.kept.assignment.items self.now.process.0 to.0 ∷ []) }
+    {
+        let world = self.world;
+        let here = world.machine_load(to) + world.machine_balance(to);
+        let with = cost_with(world, self.process, &self.required, to);
+        let way = way_cost(world, self.process, self.home, to);
+        difference(self.without + with + way, self.before + here)
+    }
+
+    /// The moved counts of the service.
+    fn moved(&self, to: Machine) -> MovedCount
+        ensures { result ≡ moved_count self.now.world.now.inst.now.tables
+            self.now.world.now.start.now.items self.now.world.now.kept.assignment.items
+            (leaving self.now.world.now.kept.assignment.items self.now.process.0 to.0 ∷ [])
+            (service_of self.now.world.now.inst.now.tables self.now.process.0) }
+    {
+        let before = self.world.cells().moved(self.service);
+        let gone = is_away(self.home, self.from);
+        let come = is_away(self.home, to);
+        MovedCount {
+            service: self.service,
+            before,
+            after: before + come - gone,
+        }
+    }
+}
+
+/// The load and balance cost of the machine of a process, and what the process's own way costs.
+fn cost_before(world: &World<'_>, p: Process, home: Machine, from: Machine) -> u128
+    requires process { p.0 < process_count world.now.inst.now.tables }
+    requires home { home.0 ≡ machine_at world.now.start.now.items p.0 }
+    requires from { from.0 ≡ machine_at world.now.kept.assignment.items p.0 }
+    ensures value { result ≡ cost_of world.now.inst.now.tables
+        world.now.kept.assignment.items (machine_at world.now.kept.assignment.items p.0)
+        + way_cost world.now.inst.now.tables world.now.start.now.items p.0
+        (machine_at world.now.kept.assignment.items p.0) }
+    ensures bound { result ≤ 2 ^ 102 }
+{
+    let load = world.machine_load(from);
+    let balance = world.machine_balance(from);
+    load + balance + way_cost(world, p, home, from)
 }

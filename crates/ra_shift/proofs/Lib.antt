@@ -1,0 +1,7 @@
+pub mod RoomLaws
+pub mod MemberLaws
+pub mod NeedLaws
+pub mod SpreadLaws
+pub mod AllowLaws
+pub mod ReadLaws
+pub mod ChangeLaws

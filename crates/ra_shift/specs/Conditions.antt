@@ -1,0 +1,48 @@
+-- What decides whether process p, whose assignment a breaks nothing, may go from its machine to machine `to` (this
+-- project's).
+use Rattle.std.specs.Prelude.{◌≡◌, ◌≢◌, ℕ, ◌+◌, ◌<◌, ◌≤◌, List, true, IsTrue, slice_set}
+use Rattle.ra_base.specs.declared.ids.Machine.{Machine}
+use Rattle.ra_model.specs.declared.raw.Tables.{Tables}
+use Rattle.ra_model.specs.Numbers.{resource_count, service_count, transient_at, capacity_of, spread_of, dependency_count, need_of, service_of, requirement_of, neighbourhood_of, closed_at}
+use Rattle.ra_model.specs.Assignments.{machine_at}
+use Rattle.ra_model.specs.Usage.{use_of, transient_of}
+use Rattle.ra_model.specs.Services.{on_machine, in_neighbourhood, locations_of}
+use Rattle.ra_model.specs.Relations.{depends}
+
+-- the assignment with process p on machine `to`
+abbrev pub shifted : List Machine → ℕ → ℕ → List Machine
+shifted a p to = slice_set a p (record { 0 = to })
+
+-- `to` has room for what p requires
+pub record HasRoom (i : Tables) (a : List Machine) (p to : ℕ) : Type 0 where
+  pub each : (r : ℕ) → r < resource_count i → use_of i a to r + requirement_of i p r ≤ capacity_of i to r
+
+-- and has it while p moves, unless `to` is the initial machine of p, where p is counted already
+pub record HasRoomBetween (i : Tables) (a0 a : List Machine) (p to : ℕ) : Type 0 where
+  pub each : (r : ℕ) → r < resource_count i → IsTrue (transient_at i r) → machine_at a0 p ≢ to → transient_of i a0 a to r + requirement_of i p r ≤ capacity_of i to r
+
+-- each service that p's service needs is in the neighbourhood of `to`, where p brings its own
+pub record FindsNeeds (i : Tables) (a : List Machine) (p to : ℕ) : Type 0 where
+  pub each : (k : ℕ) → k < dependency_count i (service_of i p) → need_of i (service_of i p) k ≢ service_of i p → 0 < in_neighbourhood i a (need_of i (service_of i p) k) (neighbourhood_of i to)
+
+-- p isn't the last of its service in its neighbourhood, or no other service there depends on it
+pub record MayLeave (i : Tables) (a : List Machine) (p : ℕ) : Type 0 where
+  pub each : (d : ℕ) → d < service_count i → depends i d (service_of i p) ≡ true → d ≢ service_of i p → in_neighbourhood i a (service_of i p) (neighbourhood_of i (machine_at a p)) ≤ 1 → in_neighbourhood i a d (neighbourhood_of i (machine_at a p)) ≡ 0
+
+-- p may go to machine `to`
+pub record Allows (i : Tables) (a0 a : List Machine) (p to : ℕ) : Type 0 where
+  -- it is another machine
+  pub apart : machine_at a p ≢ to
+  -- with room
+  pub room : HasRoom i a p to
+  pub between : HasRoomBetween i a0 a p to
+  -- no process of its service is there
+  pub alone : on_machine i a (service_of i p) to ≡ 0
+  -- its service is still in enough locations
+  pub spread : spread_of i (service_of i p) ≤ locations_of i (shifted a p to) (service_of i p)
+  -- its service has what it needs there
+  pub needs : FindsNeeds i a p to
+  -- and no service stays behind without it
+  pub leaves : neighbourhood_of i (machine_at a p) ≢ neighbourhood_of i to → MayLeave i a p
+  -- the machine is open, or p comes home
+  pub admitted : closed_at i to ≡ true → machine_at a0 p ≡ to

@@ -1,0 +1,178 @@
+ghost use Rattle.std.specs.Prelude.{◌≡◌, ℕ, ◌+◌, ◌-◌, ◌*◌, ◌^◌, ◌<◌, ◌≤◌, ◌-ℤ◌, pos, length, slice_index, FitsSigned};
+ghost use Rattle.std.specs.Int.{w128};
+ghost use Rattle.ra_model.specs.Numbers.{resource_count, machine_count, process_count, balance_count};
+ghost use Rattle.ra_model.specs.Assignments.{machine_at};
+ghost use Rattle.ra_model.specs.MachineCosts.{load_share, row_load, row_left, balance_share, row_balance};
+ghost use Rattle.ra_shift.specs.Sharing.{AreRequired, use_without, use_with, row_cost, way_cost};
+
+use ra_base::{Machine, Process, Resource};
+use ra_model::Instance;
+use ra_world::World;
+
+/// The load cost and the balance cost of a machine of which this much is used, a number for each resource.
+#[tactic(auto, unfolding(crate::specs::Sharing::row_cost))]
+pub(crate) fn cost_of_row(inst: &Instance, m: Machine, row: &[u64; 20]) -> u128
+    requires { m.0 < machine_count inst.now.tables }
+    ensures value { result ≡ row_cost inst.now.tables m.0 (slice_index row.now) }
+    ensures bound { result ≤ 30 * 2 ^ 96 }
+{
+    row_load(inst, m, row) + row_balance(inst, m, row)
+}
+
+/// Its load cost.
+#[tactic(auto, using(ra_base::proofs::Sums::sums), unfolding(ra_model::specs::MachineCosts::row_load))]
+fn row_load(inst: &Instance, m: Machine, row: &[u64; 20]) -> u128
+    requires { m.0 < machine_count inst.now.tables }
+    ensures value { result ≡ row_load inst.now.tables m.0 (slice_index row.now) }
+    ensures bound { result ≤ 20 * 2 ^ 96 }
+{
+    let mut cost: u128 = 0;
+    for r in 0..inst.resources() {
+        cost += load_share(inst, m, row, Resource(r));
+    }
+    cost
+}
+
+/// The load cost of one resource of it.
+#[tactic(auto, using(ra_world::proofs::CostLaws::product_below), unfolding(ra_model::specs::MachineCosts::load_share))]
+fn load_share(inst: &Instance, m: Machine, row: &[u64; 20], r: Resource) -> u128
+    requires machine { m.0 < machine_count inst.now.tables }
+    requires resource { r.0 < resource_count inst.now.tables }
+    ensures value { result ≡ load_share inst.now.tables m.0 (slice_index row.now) r.0 }
+    ensures bound { result ≤ 2 ^ 96 }
+{
+    let excess = row[r.0 as usize].saturating_sub(u64::from(inst.safety(m, r)));
+    u128::from(inst.load_weight(r)) * u128::from(excess)
+}
+
+/// Its balance cost.
+#[tactic(auto, using(ra_base::proofs::Sums::sums), unfolding(ra_model::specs::MachineCosts::row_balance))]
+fn row_balance(inst: &Instance, m: Machine, row: &[u64; 20]) -> u128
+    requires { m.0 < machine_count inst.now.tables }
+    ensures value { result ≡ row_balance inst.now.tables m.0 (slice_index row.now) }
+    ensures bound { result ≤ 10 * 2 ^ 96 }
+{
+    let mut cost: u128 = 0;
+    for b in 0..inst.balances() {
+        cost += balance_share(inst, m, row, b);
+    }
+    cost
+}
+
+/// The balance cost of one objective on it.
+#[tactic(auto, using(ra_world::proofs::CostLaws::product_below), unfolding(ra_model::specs::MachineCosts::balance_share))]
+fn balance_share(inst: &Instance, m: Machine, row: &[u64; 20], b: u32) -> u128
+    requires machine { m.0 < machine_count inst.now.tables }
+    requires objective { b < balance_count inst.now.tables }
+    ensures value { result ≡ balance_share inst.now.tables m.0 (slice_index row.now) b }
+    ensures bound { result ≤ 2 ^ 96 }
+{
+    let objective = inst.balance(b);
+    let first = row_left(inst, m, row, objective.first);
+    let second = row_left(inst, m, row, objective.second);
+    let wanted = u64::from(objective.target) * first;
+    let lack = wanted.saturating_sub(second);
+    u128::from(objective.weight) * u128::from(lack)
+}
+
+/// What is left of one resource of it.
+#[tactic(auto, unfolding(ra_model::specs::MachineCosts::row_left))]
+fn row_left(inst: &Instance, m: Machine, row: &[u64; 20], r: Resource) -> u64
+    requires machine { m.0 < machine_count inst.now.tables }
+    requires resource { r.0 < resource_count inst.now.tables }
+    ensures value { result ≡ row_left inst.now.tables m.0 (slice_index row.now) r.0 }
+    ensures bound { result < 2 ^ 32 }
+{
+    u64::from(inst.capacity(m, r)).saturating_sub(row[r.0 as usize])
+}
+
+/// The use of a machine and what a process requires, together.
+fn row_with(world: &World<'_>, p: Process, required: &[u32; 20], to: Machine) -> [u64; 20]
+    requires machine { to.0 < machine_count world.now.inst.now.tables }
+    requires required { AreRequired world.now.inst.now.tables p.0 required.now }
+    ensures { (r : ℕ) → r < resource_count world.now.inst.now.tables → slice_index result r ≡
+        use_with world.now.inst.now.tables world.now.kept.assignment.items p.0 to.0 r }
+{
+    let used = world.rows().usage_row(to);
+    let mut row = [0; 20];
+    for r in 0..world.instance().resources() as usize {
+        row[r] = used[r] + u64::from(required[r]);
+    }
+    row
+}
+
+/// The use of the machine of a process without what that requires.
+fn row_without(world: &World<'_>, p: Process, required: &[u32; 20], from: Machine) -> [u64; 20]
+    requires process { p.0 < process_count world.now.inst.now.tables }
+    requires from { from.0 ≡ machine_at world.now.kept.assignment.items p.0 }
+    requires required { AreRequired world.now.inst.now.tables p.0 required.now }
+    ensures { (r : ℕ) → r < resource_count world.now.inst.now.tables → slice_index result r ≡
+        use_without world.now.inst.now.tables world.now.kept.assignment.items p.0 r }
+{
+    let used = world.rows().usage_row(from);
+    let mut row = [0; 20];
+    for r in 0..world.instance().resources() as usize {
+        row[r] = used[r] - u64::from(required[r]);
+    }
+    row
+}
+
+/// The cost of a machine with a process more.
+pub(crate) fn cost_with(world: &World<'_>, p: Process, required: &[u32; 20], to: Machine) -> u128
+    requires machine { to.0 < machine_count world.now.inst.now.tables }
+    requires required { AreRequired world.now.inst.now.tables p.0 required.now }
+    ensures value { result ≡ row_cost world.now.inst.now.tables to.0
+        (use_with world.now.inst.now.tables world.now.kept.assignment.items p.0 to.0) }
+    ensures bound { result ≤ 30 * 2 ^ 96 }
+{
+    let row = row_with(world, p, required, to);
+    cost_of_row(world.instance(), to, &row)
+}
+
+/// The cost of the machine of a process without it.
+pub(crate) fn cost_without(
+    world: &World<'_>,
+    p: Process,
+    required: &[u32; 20],
+    from: Machine,
+) -> u128
+    requires process { p.0 < process_count world.now.inst.now.tables }
+    requires from { from.0 ≡ machine_at world.now.kept.assignment.items p.0 }
+    requires required { AreRequired world.now.inst.now.tables p.0 required.now }
+    ensures value { result ≡ row_cost world.now.inst.now.tables from.0
+        (use_without world.now.inst.now.tables world.now.kept.assignment.items p.0) }
+    ensures bound { result ≤ 30 * 2 ^ 96 }
+{
+    let row = row_without(world, p, required, from);
+    cost_of_row(world.instance(), from, &row)
+}
+
+/// The process cost and the machine cost of a process on a machine, with their weights.
+#[tactic(auto, using(ra_world::proofs::CostLaws::product_small), unfolding(crate::specs::Sharing::way_cost, ra_model::specs::Costs::process_share, ra_model::specs::Costs::way_share))]
+pub(crate) fn way_cost(world: &World<'_>, p: Process, home: Machine, at: Machine) -> u128
+    requires process { p.0 < process_count world.now.inst.now.tables }
+    requires home { home.0 ≡ machine_at world.now.start.now.items p.0 }
+    requires machine { at.0 < machine_count world.now.inst.now.tables }
+    ensures value { result ≡
+        way_cost world.now.inst.now.tables world.now.start.now.items p.0 at.0 }
+    ensures bound { result < 2 ^ 65 }
+{
+    let inst = world.instance();
+    let moved = if at.0 == home.0 {
+        0
+    } else {
+        inst.process_cost(p)
+    };
+    let process = u128::from(inst.process_weight()) * u128::from(moved);
+    process + u128::from(inst.machine_weight()) * u128::from(inst.move_cost(home, at))
+}
+
+/// What is added, less what is taken away.
+pub(crate) fn difference(added: u128, taken: u128) -> i128
+    requires added { added < 2 ^ 126 }
+    requires taken { taken < 2 ^ 126 }
+    ensures value { result ≡ pos added -ℤ pos taken }
+    ensures fits { FitsSigned w128 result }
+{
+    added as i128 - taken as i128
+}
