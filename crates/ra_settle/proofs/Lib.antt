@@ -1,2 +1,3 @@
 pub mod MovedAfter
 pub mod Settles
+pub mod ChangedCounts

@@ -1,49 +1,33 @@
 -- The moved counts after a move: those of its services are as its weighing says, and all others stay.
-use Rattle.std.proofs.Common.{◌≡◌, ◌≢◌, ℕ, ◌<◌, ◌≤◌, zero, suc, Bool, true, false, List, length, get_or, Option, Some, None, refl, sym, ap, ◌∙◌, ◌⊎◌, inl, inr, ⊎_elim, arith, eq-eqb, ne_eqb}
+use Rattle.std.proofs.Common.{◌≡◌, ◌≢◌, ℕ, ◌<◌, ◌≤◌, zero, suc, true, false, List, length, get_or, Option, Some, None, refl, sym, ap, ◌∙◌, ◌⊎◌, inl, inr, ⊎_elim, arith, eq-eqb, ne_eqb}
 use Rattle.std.specs.Prelude.{IfSome}
-use Rattle.std.proofs.lemmas.Bool.{cases_Bool, cases_lt, cases_eq, both_ways}
+use Rattle.std.proofs.lemmas.Bool.{cases_Bool, cases_lt, cases_eq}
 use Rattle.ra_base.specs.Sums.{is_named, greatest}
 use Rattle.ra_base.specs.declared.costs.MovedCount.{MovedCount}
 use Rattle.ra_base.specs.declared.ids.Machine.{Machine}
-use Rattle.ra_base.proofs.Sums.{total_zero}
-use Rattle.ra_base.proofs.Named.{is_named_at, is_named_from}
+use Rattle.ra_base.proofs.Named.{is_named_from}
 use Rattle.ra_base.proofs.Greatest.{greatest_same}
 use Rattle.ra_model.specs.declared.raw.Tables.{Tables}
-use Rattle.ra_model.specs.Numbers.{service_count, process_count, service_of}
+use Rattle.ra_model.specs.Numbers.{service_count}
 use Rattle.ra_model.specs.Limits.{WellFormed}
-use Rattle.ra_model.specs.Services.{is_of, of_service, members_at, moved_of}
+use Rattle.ra_model.specs.Services.{moved_of}
 use Rattle.ra_model.proofs.BoundLemmas.{moved_within}
 use Rattle.ra_cells.specs.MovedCounts.{MovedCounts}
 use Rattle.ra_cells.specs.Replaced.{counted_after, greatest_with, IsChange, AreApart}
 use Rattle.ra_moves.specs.declared.steps.Step.{Step}
-use Rattle.ra_moves.specs.Steps.{process_in, from_in, to_in}
+use Rattle.ra_moves.specs.Steps.{process_in}
 use Rattle.ra_moves.specs.Replacing.{applied}
-use Rattle.ra_moves.specs.Values.{gone, come}
-use Rattle.ra_moves.proofs.ValueLemmas.{tally_after}
 use Rattle.ra_local.specs.Touched.{service_in, moves_service}
 use Rattle.ra_local.specs.Moving.{IsMove}
 use Rattle.ra_local.specs.Weighing.{moved_count, services_moved, count_at, changed_count}
+use Rattle.ra_local.proofs.StayLemmas.{members_same}
 use Rattle.ra_local.proofs.MovedServices.{services_few, services_named, services_placed, services_apart, count_there, count_past}
 use Rattle.ra_settle.specs.Settling.{AreMovedOf}
 
--- a process of another service isn't counted
-of_other : (i : Tables) (s : ℕ) (test : ℕ → ℕ → Bool) (p at : ℕ) → service_of i p ≢ s → of_service i s test p at ≡ 0
-unfolding of_service is_of
-of_other i s test p at apart = rw (ne_eqb (service_of i p) s apart) refl
-
--- what is counted of a service of which no process moves stays
-pub members_stay : (i : Tables) (a : List Machine) (steps : List Step) (s : ℕ) (test : ℕ → ℕ → Bool) → IsMove i a steps → moves_service i steps s ≡ false → members_at i (applied a steps) s test ≡ members_at i a s test
-unfolding members_at applied gone come moves_service service_in
-members_stay i a steps s test is unmoved =
-    let other = λ (j : ℕ) (within : j < length steps) (same : service_of i (process_in steps j) ≡ s). both_ways _ unmoved (is_named_at (length steps) j (service_in i steps) s within same) in
-    let change = tally_after (process_count i) (of_service i s test) a steps (length steps) (omega arith) is.fits.one_each is.stands is.distinct in
-    let none_gone = total_zero (length steps) (gone (of_service i s test) steps) (λ j within. of_other i s test (process_in steps j) (from_in steps j) (other j within)) in
-    let none_come = total_zero (length steps) (come (of_service i s test) steps) (λ j within. of_other i s test (process_in steps j) (to_in steps j) (other j within)) in
-    omega (arith, change, none_gone, none_come)
-
+-- the count of a service of which no process moves stays
 pub moved_stays : (i : Tables) (a0 a : List Machine) (steps : List Step) (s : ℕ) → IsMove i a steps → moves_service i steps s ≡ false → moved_of i a0 (applied a steps) s ≡ moved_of i a0 a s
 unfolding moved_of
-moved_stays i a0 a steps s is unmoved = members_stay i a steps s _ is unmoved
+moved_stays i a0 a steps s is unmoved = members_same i a steps s _ is unmoved
 
 -- the counts of a weighing
 

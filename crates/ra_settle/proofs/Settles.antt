@@ -41,11 +41,11 @@ unfolding broken_by
 unbroken_move i a0 a steps moved kept weighed settling none = settling.moves (left_none (repeat_of steps) _ none)
 
 -- a weighing where nothing is broken, and one where a cause is
-whole_is : (i : Tables) (a0 a : List Machine) (steps : List Step) → broken_by i a0 a steps ≡ None → weighed_of i a0 a steps ≡ record { broken = None; local = local_change i a0 a steps; first = changed_count i a0 a steps 0; second = changed_count i a0 a steps 1; third = changed_count i a0 a steps 2 }
+pub whole_is : (i : Tables) (a0 a : List Machine) (steps : List Step) → broken_by i a0 a steps ≡ None → weighed_of i a0 a steps ≡ record { broken = None; local = local_change i a0 a steps; first = changed_count i a0 a steps 0; second = changed_count i a0 a steps 1; third = changed_count i a0 a steps 2 }
 unfolding weighed_of weighed_by
 whole_is i a0 a steps none = rw none refl
 
-bare_is : (i : Tables) (a0 a : List Machine) (steps : List Step) (cause : Cause) → broken_by i a0 a steps ≡ Some cause → weighed_of i a0 a steps ≡ record { broken = Some cause; local = pos 0; first = None; second = None; third = None }
+pub bare_is : (i : Tables) (a0 a : List Machine) (steps : List Step) (cause : Cause) → broken_by i a0 a steps ≡ Some cause → weighed_of i a0 a steps ≡ record { broken = Some cause; local = pos 0; first = None; second = None; third = None }
 unfolding weighed_of weighed_by
 bare_is i a0 a steps cause some = rw some refl
 

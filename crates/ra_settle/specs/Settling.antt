@@ -1,5 +1,6 @@
 -- The settling of a weighed move: what has to hold of the moved counts, of the cost and of the weighing.
-use Rattle.std.specs.Prelude.{◌≡◌, ℕ, ◌<◌, List, length, slice_index}
+use Rattle.std.specs.Prelude.{◌≡◌, ℕ, ◌<◌, ◌≤◌, List, length, slice_index}
+use Rattle.ra_base.specs.declared.costs.MovedCount.{MovedCount}
 use Rattle.ra_base.specs.declared.ids.Machine.{Machine}
 use Rattle.ra_model.specs.declared.raw.Tables.{Tables}
 use Rattle.ra_model.specs.Numbers.{service_count, process_count}
@@ -33,3 +34,8 @@ pub record HasSettling (i : Tables) (moved : MovedCounts) (kept : ℕ) (weighed 
   pub assignment : List Machine
   pub steps : List Step
   pub settling : IsSettling i initial assignment steps moved kept weighed
+
+-- the counts have room for a change: its service is there, and its new count within the limit
+pub record IsRoomFor (moved : MovedCounts) (c : MovedCount) : Type 0 where
+  pub there : c.service.0 < length moved.counts
+  pub within : c.after ≤ moved.limit

@@ -1,6 +1,6 @@
-//! Stub.
+//! The verdict on a move that was weighed at a world.
 #![tactic(auto)]
 
-mod stub;
+mod verdicts;
 
-pub use stub::{changed_by, is_unbroken, verdict, weigh};
+pub use verdicts::verdict;

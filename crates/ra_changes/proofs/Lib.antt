@@ -1,0 +1,5 @@
+pub mod MoveLemmas
+pub mod RowLemmas
+pub mod RowUse
+pub mod MovedNext
+pub mod ChangeLaws

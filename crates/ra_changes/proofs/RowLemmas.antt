@@ -1,0 +1,104 @@
+-- Rows of requirements and of use, number by number.
+use Rattle.std.proofs.Common.{◌≡◌, ◌≢◌, ℕ, ◌+◌, ◌-◌, ◌*◌, ◌<◌, ◌≤◌, List, length, get_or, set, refl, sym, ap, ◌∙◌, ⊎_elim, inl, inr, arith, get_or-set_same, get_or-set_other, eq-eqb, ne_eqb}
+use Rattle.std.proofs.Math.ListN.{length-set}
+use Rattle.std.proofs.lemmas.Bool.{cases_lt, cond-true, cond-false}
+use Rattle.ra_base.specs.Tables.{cell}
+use Rattle.ra_base.proofs.Tables.{cell_is, cell_write_same, cell_write_other}
+use Rattle.ra_model.specs.declared.raw.Tables.{Tables}
+use Rattle.ra_model.specs.Numbers.{requirement_of}
+use Rattle.std.proofs.Common.{take, drop}
+use Rattle.std.proofs.lemmas.List.{get_or-take, get_or-drop}
+use Rattle.ra_changes.specs.Required.{ReadTo}
+use Rattle.ra_changes.specs.RowChanges.{share_at, HasMore, HasMoreAt, HasFollowed, CanFollow}
+
+-- a row of requirements, as it is read
+pub required_cell : (width j r : ℕ) (table : List ℕ) → r < width → get_or (take (j * 20 + width - j * 20) (drop (j * 20) table)) r 0 ≡ cell 20 table j r
+required_cell width j r table inside = get_or-take (j * 20 + width - j * 20) (drop (j * 20) table) r 0 (omega arith) ∙ get_or-drop (j * 20) table r 0 ∙ sym (cell_is 20 table j r)
+
+-- one more requirement is read
+pub read_more : (i : Tables) (p j n x : ℕ) (old mid : List ℕ) → ReadTo i p j n old mid → n < 20 → j * 20 + n < length mid → x ≡ requirement_of i p n → ReadTo i p j (n + 1) old (set mid (j * 20 + n) x)
+read_more i p j n x old mid before inside within is = record {
+  here = λ r below. ⊎_elim
+      (λ (earlier : r < n). cell_write_other 20 mid j n x j r inside (omega arith) (inr (λ same. absurd (omega arith))) ∙ before.here r earlier)
+      (λ (now : n ≤ r). let same : r ≡ n = omega arith in rw same (cell_write_same 20 mid j n x within ∙ is))
+      (cases_lt r n);
+  others = λ k r apart few. cell_write_other 20 mid j n x k r inside few (inl apart) ∙ before.others k r apart few;
+}
+
+-- the first n numbers are more by their amounts
+pub record MoreTo (n : ℕ) (old new amounts : List ℕ) : Type 0 where
+  pub same_length : length new ≡ length old
+  pub done : (k : ℕ) → k < n → get_or new k 0 ≡ get_or old k 0 + get_or amounts k 0
+  pub rest : (k : ℕ) → n ≤ k → get_or new k 0 ≡ get_or old k 0
+
+-- or less
+pub record LessTo (n : ℕ) (old new amounts : List ℕ) : Type 0 where
+  pub same_length : length new ≡ length old
+  pub done : (k : ℕ) → k < n → get_or new k 0 + get_or amounts k 0 ≡ get_or old k 0
+  pub rest : (k : ℕ) → n ≤ k → get_or new k 0 ≡ get_or old k 0
+
+pub more_next : (n x : ℕ) (old mid amounts : List ℕ) → MoreTo n old mid amounts → n < length mid → x ≡ get_or mid n 0 + get_or amounts n 0 → MoreTo (n + 1) old (set mid n x) amounts
+more_next n x old mid amounts before within is = record {
+  same_length = length-set mid n x ∙ before.same_length;
+  done = λ k below. ⊎_elim
+      (λ (earlier : k < n). get_or-set_other mid n k x 0 (omega arith) ∙ before.done k earlier)
+      (λ (now : n ≤ k). let same : k ≡ n = omega arith in rw same (get_or-set_same mid n x 0 within ∙ omega (arith, is, before.rest n (omega arith))))
+      (cases_lt k n);
+  rest = λ k above. get_or-set_other mid n k x 0 (omega arith) ∙ before.rest k (omega arith);
+}
+
+pub less_next : (n x : ℕ) (old mid amounts : List ℕ) → LessTo n old mid amounts → n < length mid → x + get_or amounts n 0 ≡ get_or mid n 0 → LessTo (n + 1) old (set mid n x) amounts
+less_next n x old mid amounts before within is = record {
+  same_length = length-set mid n x ∙ before.same_length;
+  done = λ k below. ⊎_elim
+      (λ (earlier : k < n). ap (λ y. y + get_or amounts k 0) (get_or-set_other mid n k x 0 (omega arith)) ∙ before.done k earlier)
+      (λ (now : n ≤ k). let same : k ≡ n = omega arith in rw same (ap (λ y. y + get_or amounts n 0) (get_or-set_same mid n x 0 within) ∙ is ∙ before.rest n (omega arith)))
+      (cases_lt k n);
+  rest = λ k above. get_or-set_other mid n k x 0 (omega arith) ∙ before.rest k (omega arith);
+}
+
+pub more_none : (row amounts : List ℕ) → MoreTo 0 row row amounts
+more_none row amounts = record { same_length = refl; done = λ k below. absurd (omega arith); rest = λ k above. refl }
+
+pub less_none : (row amounts : List ℕ) → LessTo 0 row row amounts
+less_none row amounts = record { same_length = refl; done = λ k below. absurd (omega arith); rest = λ k above. refl }
+
+pub more_all : (n : ℕ) (old new amounts : List ℕ) → MoreTo n old new amounts → length old ≤ n → HasMore old new amounts
+more_all n old new amounts to all = record { same_length = to.same_length; each = λ k within. to.done k (omega arith) }
+
+pub less_all : (n : ℕ) (old new amounts : List ℕ) → LessTo n old new amounts → length old ≤ n → HasMore new old amounts
+less_all n old new amounts to all = record { same_length = sym to.same_length; each = λ k within. sym (to.done k (omega (arith, to.same_length))) }
+
+-- a share at its machine, and elsewhere
+pub share_here : (at m amount : ℕ) → at ≡ m → share_at at m amount ≡ amount
+unfolding share_at
+share_here at m amount here = cond-true _ _ _ (eq-eqb at m here)
+
+pub share_elsewhere : (at m amount : ℕ) → at ≢ m → share_at at m amount ≡ 0
+unfolding share_at
+share_elsewhere at m amount apart = cond-false _ _ _ (ne_eqb at m apart)
+
+pub more_here : (at m : ℕ) (old new amounts : List ℕ) → at ≡ m → HasMore old new amounts → HasMoreAt at m old new amounts
+more_here at m old new amounts here more = record {
+  same_length = more.same_length;
+  each = λ r within. omega (arith, more.each r within, share_here at m (get_or amounts r 0) here);
+}
+
+pub more_elsewhere : (at m : ℕ) (row amounts : List ℕ) → at ≢ m → HasMoreAt at m row row amounts
+more_elsewhere at m row amounts apart = record {
+  same_length = refl;
+  each = λ r within. omega (arith, share_elsewhere at m (get_or amounts r 0) apart);
+}
+
+pub enough_here : (at m r : ℕ) (row amounts : List ℕ) → at ≡ m → share_at at m (get_or amounts r 0) ≤ get_or row r 0 → get_or amounts r 0 ≤ get_or row r 0
+enough_here at m r row amounts here enough = omega (arith, share_here at m (get_or amounts r 0) here)
+
+-- what enters, and then what leaves
+pub enough_left : (from to m : ℕ) (old mid amounts : List ℕ) → CanFollow from to m old amounts → HasMoreAt to m old mid amounts → (r : ℕ) → r < length mid → share_at from m (get_or amounts r 0) ≤ get_or mid r 0
+enough_left from to m old mid amounts able entered r within = omega (arith, able.enough r (omega (arith, entered.same_length)), entered.each r (omega (arith, entered.same_length)))
+
+pub followed : (from to m : ℕ) (old mid new amounts : List ℕ) → HasMoreAt to m old mid amounts → HasMoreAt from m new mid amounts → HasFollowed from to m old new amounts
+followed from to m old mid new amounts entered left = record {
+  same_length = sym left.same_length ∙ entered.same_length;
+  each = λ r within. omega (arith, entered.each r within, left.each r (omega (arith, entered.same_length, left.same_length)));
+}

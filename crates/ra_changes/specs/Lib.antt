@@ -1,0 +1,4 @@
+pub mod Required
+pub mod RowChanges
+pub mod PlaceCosts
+pub mod CountLists

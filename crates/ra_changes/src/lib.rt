@@ -1,0 +1,13 @@
+//! The weighing of a move that breaks nothing, from what its steps change: no second assignment is made, and no memory
+//! is taken.
+#![tactic(auto)]
+
+mod amounts;
+mod changes;
+mod counts;
+mod ends;
+mod required;
+mod rows;
+mod ways;
+
+pub use changes::changed_by;

@@ -1,0 +1,46 @@
+ghost use Rattle.std.specs.Prelude.{◌≡◌, ℕ, ◌+◌, ◌*◌, ◌<◌, length};
+ghost use Rattle.ra_model.specs.Numbers.{resource_count, process_count};
+ghost use Rattle.ra_moves.specs.Steps.{process_in};
+ghost use Rattle.ra_changes.specs.Required.{AreRequired, ReadTo};
+
+use ra_base::{Process, Resource, Steps};
+use ra_model::Instance;
+use ra_moves::Move;
+use std::sync::ledger::Ledger;
+
+/// The requirements of the processes of a move, in rows of twenty numbers, a row for each step. Each is read once.
+#[inline(always)]
+pub(crate) fn requirements<L: Ledger>(inst: &Instance, mv: &Move, steps: &mut Steps<L>) -> [u32; 60]
+    requires { (j : ℕ) → j < length mv.now.steps →
+        process_in mv.now.steps j < process_count inst.now.tables }
+    ensures required { AreRequired inst.now.tables mv.now.steps (length mv.now.steps) result }
+    ensures counted { steps.new ≡
+        steps.old + length mv.now.steps * resource_count inst.now.tables }
+{
+    let mut required = [0u32; 60];
+    for j in 0..mv.steps() {
+        read_row(inst, mv.step(j).process, j, &mut required, steps);
+    }
+    required
+}
+
+/// Reads the requirements of a process into a row.
+#[inline(always)]
+fn read_row<L: Ledger>(
+    inst: &Instance,
+    p: Process,
+    j: u32,
+    required: &mut [u32; 60],
+    steps: &mut Steps<L>,
+)
+    requires process { p.0 < process_count inst.now.tables }
+    requires row { j < 3 }
+    ensures row { ReadTo inst.now.tables p.0 j
+        (resource_count inst.now.tables) required.old required.new }
+    ensures counted { steps.new ≡ steps.old + resource_count inst.now.tables }
+{
+    let start = j as usize * 20;
+    for r in 0..inst.resources() {
+        required[start + r as usize] = inst.requirement(p, Resource(r), steps);
+    }
+}

@@ -1,0 +1,32 @@
+ghost use Rattle.std.specs.Prelude.{◌≡◌, List};
+ghost use Rattle.ra_moves.specs.declared.steps.Step.{Step};
+ghost use Rattle.ra_moves.specs.Judging.{judge};
+ghost use Rattle.ra_local.specs.Moving.{IsOffered};
+ghost use Rattle.ra_local.specs.Weighing.{weighed_of};
+ghost use Rattle.ra_weigh.specs.Weighings.{IsWeighing};
+
+use ra_moves::{Verdict, Weighed};
+use ra_settle::settle_now;
+use ra_world::World;
+
+/// The verdict on a move that was weighed at this world: its broken cause, or else Rise or Done by the cost after it.
+/// `allowed` is how much the cost may rise.
+pub fn verdict(world: &World<'_>, weighed: &Weighed, allowed: u64) -> Verdict
+    requires some { IsWeighing world.now.inst.now.tables world.now.start.now.items
+        world.now.kept.assignment.items weighed.now }
+    ensures { (steps : List Step) →
+        IsOffered world.now.inst.now.tables world.now.kept.assignment.items steps →
+        weighed.now ≡ weighed_of world.now.inst.now.tables world.now.start.now.items
+        world.now.kept.assignment.items steps →
+        result ≡ judge world.now.inst.now.tables world.now.start.now.items
+        world.now.kept.assignment.items steps allowed }
+{
+    let greatest = world.cells().greatest();
+    settle_now(
+        world.instance(),
+        greatest,
+        world.parts().total,
+        weighed,
+        allowed,
+    )
+}
