@@ -1,0 +1,12 @@
+mod SeekLemmas
+mod FlowLemmas
+mod LocationLemmas
+mod StepLemmas
+mod ReadLemmas
+mod HoldLemmas
+mod NearLemmas
+mod TestLemmas
+mod NextLemmas
+mod LandLemmas
+mod MemberLemmas
+mod FitLemmas

@@ -1,0 +1,29 @@
+-- What the steps add and take, and what that makes.
+use Rattle.std.proofs.Common.{◌≡◌, ◌^◌, length, arith}
+use Rattle.ra_model.specs.Services.{of_service, members_at}
+use Rattle.ra_causes.specs.Marks.{has_mark, marked}
+use Rattle.ra_causes.proofs.StepLemmas.{come_read, gone_read}
+use Rattle.ra_causes.specs.Trials.{tables_of, initial_of, steps_of, before_of, after_of}
+use Rattle.ra_causes.proofs.FlowLemmas.{flows_none, flows_more, flowed_enough, flowed}
+use Rattle.ra_causes.proofs.trial.Trial.count_after.Goals as goal
+
+pub loop-j-init : goal.loop-j-init
+loop-j-init c = flows_none (of_service (tables_of c.args.self.now) c.args.s.0 (has_mark (tables_of c.args.self.now) c.args.mark c.args.x)) (steps_of c.args.self.now) 1
+
+pub loop-j-preserved : goal.loop-j-preserved
+loop-j-preserved c = flows_more (of_service (tables_of c.args.self.now) c.args.s.0 (has_mark (tables_of c.args.self.now) c.args.mark c.args.x)) (steps_of c.args.self.now) c.loop-j.j 1 c.loop-j.came c.loop-j.went c.one_at-came.result c.one_at-went.result c.loop-j.invariant
+    (come_read (of_service (tables_of c.args.self.now) c.args.s.0 (has_mark (tables_of c.args.self.now) c.args.mark c.args.x)) (steps_of c.args.self.now) c.loop-j.j c.step-step.result c.one_at-came.result c.step-step.ensures c.one_at-came.ensures.one)
+    (gone_read (of_service (tables_of c.args.self.now) c.args.s.0 (has_mark (tables_of c.args.self.now) c.args.mark c.args.x)) (steps_of c.args.self.now) c.loop-j.j c.step-step.result c.one_at-went.result c.step-step.ensures c.one_at-went.ensures.one)
+    c.one_at-came.ensures.few c.one_at-went.ensures.few
+
+pub overflow_sub-result : goal.overflow_sub-result
+unfolding marked members_at
+overflow_sub-result c =
+    let all : c.loop-j.j ≡ length (steps_of c.args.self.now) = omega (arith, c.loop-j-test.false, c.steps-j-end.ensures.value) in
+    flowed_enough (tables_of c.args.self.now) (before_of c.args.self.now) (steps_of c.args.self.now) (of_service (tables_of c.args.self.now) c.args.s.0 (has_mark (tables_of c.args.self.now) c.args.mark c.args.x)) c.loop-j.j 1 c.count_before-kept.result c.loop-j.came c.loop-j.went c.args.self.now.moves all c.loop-j.invariant c.count_before-kept.ensures.count
+
+pub returns : goal.returns
+unfolding marked members_at
+returns c =
+    let all : c.loop-j.j ≡ length (steps_of c.args.self.now) = omega (arith, c.loop-j-test.false, c.steps-j-end.ensures.value) in
+    flowed (tables_of c.args.self.now) (before_of c.args.self.now) (steps_of c.args.self.now) (of_service (tables_of c.args.self.now) c.args.s.0 (has_mark (tables_of c.args.self.now) c.args.mark c.args.x)) c.loop-j.j 1 c.count_before-kept.result c.loop-j.came c.loop-j.went c.args.self.now.moves all c.loop-j.invariant c.count_before-kept.ensures.count

@@ -1,0 +1,24 @@
+-- One more step.
+use Rattle.std.proofs.Common.{arith}
+use Rattle.ra_local.specs.Touched.{service_in}
+use Rattle.ra_causes.specs.Trials.{tables_of, steps_of}
+use Rattle.ra_causes.proofs.SeekLemmas.{clear_none, clear_more}
+use Rattle.ra_causes.proofs.StepLemmas.{service_read}
+use Rattle.ra_causes.proofs.trial.Trial.next_service.Goals as goal
+
+pub loop-j-init : goal.loop-j-init
+loop-j-init c = record {
+  from = omega (arith, c.requires, c.services-next.ensures);
+  within = omega (arith, c.services-next.ensures);
+  moved = clear_none (service_in (tables_of c.args.self.now) (steps_of c.args.self.now)) c.args.low c.services-next.result;
+}
+
+pub loop-j-preserved : goal.loop-j-preserved
+loop-j-preserved c =
+    let i = tables_of c.args.self.now in
+    let steps = steps_of c.args.self.now in
+    record {
+      from = c.nearer-next.ensures.from;
+      within = omega (arith, c.nearer-next.ensures.near, c.loop-j.invariant.within);
+      moved = clear_more c.loop-j.j (service_in i steps) c.args.low c.loop-j.next c.nearer-next.result c.service_of-s.result.0 c.loop-j.invariant.moved c.nearer-next.ensures.near c.nearer-next.ensures.clear (service_read i steps c.loop-j.j c.step.result c.service_of-s.result.0 c.step.ensures c.service_of-s.ensures);
+    }

@@ -1,0 +1,34 @@
+-- One more step.
+use Rattle.std.proofs.Common.{◌<◌, length, arith}
+use Rattle.ra_model.specs.Numbers.{service_count}
+use Rattle.ra_local.specs.Touched.{service_in}
+use Rattle.ra_causes.specs.Touching.{needs_moved}
+use Rattle.ra_causes.specs.Trials.{tables_of, steps_of}
+use Rattle.ra_causes.proofs.SeekLemmas.{clear_none, clear_nearer, clear_more}
+use Rattle.ra_causes.proofs.StepLemmas.{service_read}
+use Rattle.ra_causes.proofs.NextLemmas.{needs_none, needs_more}
+use Rattle.ra_causes.proofs.trial.Trial.next_touched.Goals as goal
+
+pub loop-j-init : goal.loop-j-init
+loop-j-init c = record {
+  from = omega (arith, c.requires, c.services-next.ensures);
+  within = omega (arith, c.services-next.ensures);
+  moved = clear_none (service_in (tables_of c.args.self.now) (steps_of c.args.self.now)) c.args.low c.services-next.result;
+  needs = needs_none (tables_of c.args.self.now) (steps_of c.args.self.now) c.args.low c.services-next.result;
+}
+
+pub loop-j-preserved : goal.loop-j-preserved
+loop-j-preserved c =
+    let i = tables_of c.args.self.now in
+    let steps = steps_of c.args.self.now in
+    let low = c.args.low in
+    let s = c.service_of-s.result.0 in
+    let is = service_read i steps c.loop-j.j c.step.result s c.step.ensures c.service_of-s.ensures in
+    let moved = clear_more c.loop-j.j (service_in i steps) low c.loop-j.next c.nearer-next.result s c.loop-j.invariant.moved c.nearer-next.ensures.near c.nearer-next.ensures.clear is in
+    let needs = clear_nearer _ low c.loop-j.next c.nearer-next.result c.loop-j.invariant.needs c.nearer-next.ensures.near in
+    record {
+      from = c.nearer_dependant-next.ensures.from;
+      within = omega (arith, c.nearer_dependant-next.ensures.near, c.nearer-next.ensures.near, c.loop-j.invariant.within);
+      moved = clear_nearer _ low c.nearer-next.result c.nearer_dependant-next.result moved c.nearer_dependant-next.ensures.near;
+      needs = needs_more i steps c.loop-j.j low c.nearer-next.result c.nearer_dependant-next.result s needs c.nearer_dependant-next.ensures.near c.nearer_dependant-next.ensures.clear is;
+    }

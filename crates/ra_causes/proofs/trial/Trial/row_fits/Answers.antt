@@ -1,0 +1,25 @@
+-- One resource after another.
+use Rattle.std.proofs.Common.{◌≡◌, ◌<◌, sym, ap, arith}
+use Rattle.std.proofs.lemmas.Bool.{both_ways}
+use Rattle.ra_model.specs.Numbers.{resource_count}
+use Rattle.ra_causes.specs.Holding.{FitsBelow}
+use Rattle.ra_causes.specs.Trials.{tables_of, initial_of, after_of}
+use Rattle.ra_causes.proofs.HoldLemmas.{told_true, told_false}
+use Rattle.ra_causes.proofs.FitLemmas.{below_start, below_more, at_from_below}
+use Rattle.ra_causes.proofs.trial.Trial.row_fits.Goals as goal
+
+pub loop-r-init : goal.loop-r-init
+loop-r-init c = below_start (tables_of c.args.self.now) (initial_of c.args.self.now) (after_of c.args.self.now) c.args.m.0
+
+pub returns-then-not-fits_at : goal.returns-then-not-fits_at
+returns-then-not-fits_at c =
+    let within : c.loop-r.r < resource_count (tables_of c.args.self.now) = omega (arith, c.loop-r-test.true, c.resources-r-end.ensures) in
+    told_false (λ (all : FitsBelow (tables_of c.args.self.now) (initial_of c.args.self.now) (after_of c.args.self.now) c.args.m.0 (resource_count (tables_of c.args.self.now))). both_ways c.fits_at.result c.if-not-fits_at.true (c.fits_at.ensures.1 (at_from_below (tables_of c.args.self.now) (initial_of c.args.self.now) (after_of c.args.self.now) c.args.m.0 c.loop-r.r (resource_count (tables_of c.args.self.now)) within all)))
+
+pub loop-r-preserved : goal.loop-r-preserved
+loop-r-preserved c = below_more (tables_of c.args.self.now) (initial_of c.args.self.now) (after_of c.args.self.now) c.args.m.0 c.loop-r.r c.loop-r.invariant (c.fits_at.ensures.0 c.if-not-fits_at.false)
+
+pub returns : goal.returns
+returns c =
+    let all : c.loop-r.r ≡ resource_count (tables_of c.args.self.now) = omega (arith, c.loop-r-test.false, c.loop-r.auto.r-end, c.resources-r-end.ensures) in
+    told_true (rw all at c.loop-r.invariant)

@@ -1,0 +1,31 @@
+-- What a step has to keep so that no dependency breaks.
+use Rattle.std.specs.Prelude.{◌≡◌, ℕ, ◌<◌, List, Option, true}
+use Rattle.ra_base.specs.declared.causes.Cause.{Cause}
+use Rattle.ra_base.specs.declared.ids.Machine.{Machine}
+use Rattle.ra_base.specs.declared.ids.Process.{Process}
+use Rattle.ra_model.specs.declared.raw.Tables.{Tables}
+use Rattle.ra_model.specs.Numbers.{service_count, dependency_count, need_of, neighbourhood_of}
+use Rattle.ra_model.specs.Relations.{depends}
+use Rattle.ra_model.specs.Broken.{far_test}
+use Rattle.ra_model.specs.Members.{member_at}
+use Rattle.ra_model.specs.Services.{in_neighbourhood}
+use Rattle.ra_moves.specs.declared.steps.Step.{Step}
+use Rattle.ra_moves.specs.Steps.{from_in, to_in}
+use Rattle.ra_local.specs.Touched.{service_in}
+
+-- each service that service s needs has a process in a neighbourhood, given by its label
+pub record FindsNeeds (i : Tables) (b : List Machine) (s label : ℕ) : Type 0 where
+  pub each : (k : ℕ) → k < dependency_count i s → 0 < in_neighbourhood i b (need_of i s k) label
+
+-- where service s has no process in a neighbourhood, no service that needs it has one there
+pub record LeavesNone (i : Tables) (b : List Machine) (s label : ℕ) : Type 0 where
+  pub each : in_neighbourhood i b s label ≡ 0 → (u : ℕ) → u < service_count i → depends i u s ≡ true → in_neighbourhood i b u label ≡ 0
+
+-- the process of each of the first n steps finds what its service needs where it goes, and leaves none alone
+pub record KeepNear (i : Tables) (b : List Machine) (steps : List Step) (n : ℕ) : Type 0 where
+  pub finds : (j : ℕ) → j < n → FindsNeeds i b (service_in i steps j) (neighbourhood_of i (to_in steps j))
+  pub leaves : (j : ℕ) → j < n → LeavesNone i b (service_in i steps j) (neighbourhood_of i (from_in steps j))
+
+-- member x of some, which are of service s, is far from what dependency k needs
+unfoldable pub far_member : Tables → List Machine → ℕ → ℕ → List Process → ℕ → Option Cause
+far_member i b s k members x = far_test i b s k (member_at members x)

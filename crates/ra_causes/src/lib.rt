@@ -1,0 +1,21 @@
+//! The cause for which a move is refused, found by looking only at what the move touches.
+#![tactic(auto)]
+
+mod broken;
+mod capacity;
+mod closed;
+mod dependency;
+mod ends;
+mod holding;
+mod locations;
+mod marks;
+mod required;
+mod services;
+mod steps;
+mod trial;
+mod values;
+
+#[cfg(test)]
+mod tests;
+
+pub use broken::{broken_of, is_unbroken};

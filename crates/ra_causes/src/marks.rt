@@ -1,0 +1,10 @@
+/// Which of its marks a machine is asked for.
+#[derive(Clone, Copy, Debug, PartialEq, Eq)]
+pub(crate) enum Mark {
+    /// Its number.
+    OnMachine,
+    /// The label of its location.
+    InLocation,
+    /// The label of its neighbourhood.
+    InNeighbourhood,
+}
