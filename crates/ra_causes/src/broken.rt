@@ -1,4 +1,4 @@
-ghost use Rattle.std.specs.Prelude.{◌≡◌, ◌↔◌, ◌+◌, ◌*◌, ◌≤◌, true, None};
+ghost use Rattle.std.specs.Prelude.{◌≡◌, ◌↔◌, ◌+◌, ◌*◌, ◌≤◌, true, None, length};
 ghost use Rattle.ra_model.specs.Numbers.{resource_count};
 ghost use Rattle.ra_model.specs.Broken.{first_broken};
 ghost use Rattle.ra_moves.specs.Judging.{broken_by};
@@ -18,7 +18,8 @@ pub fn broken_of<L: Ledger>(world: &World<'_>, mv: &Move, steps: &mut Steps<L>) 
         mv.now.steps }
     ensures cause { result ≡ broken_by world.now.inst.now.tables world.now.start.now.items
         world.now.kept.assignment.items mv.now.steps }
-    ensures counted { steps.new ≤ steps.old + 3 * resource_count world.now.inst.now.tables }
+    ensures counted { steps.new ≤
+        steps.old + length mv.now.steps * resource_count world.now.inst.now.tables }
     ensures onwards { steps.old ≤ steps.new }
 {
     if let Some(cause) = repeat_of(mv) {
@@ -41,7 +42,8 @@ pub fn is_unbroken<L: Ledger>(world: &World<'_>, mv: &Move, steps: &mut Steps<L>
         mv.now.steps }
     ensures answer { (result ≡ true) ↔ (broken_by world.now.inst.now.tables
         world.now.start.now.items world.now.kept.assignment.items mv.now.steps ≡ None) }
-    ensures counted { steps.new ≤ steps.old + 3 * resource_count world.now.inst.now.tables }
+    ensures counted { steps.new ≤
+        steps.old + length mv.now.steps * resource_count world.now.inst.now.tables }
     ensures onwards { steps.old ≤ steps.new }
 {
     if let Some(_cause) = repeat_of(mv) {
