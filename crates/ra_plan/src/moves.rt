@@ -8,8 +8,10 @@ ghost use Rattle.ra_plan.specs.Choosing.{IsBest, steps_in};
 
 use crate::best::Best;
 use ra_base::{Drawing, Steps};
+use ra_causes::is_unbroken;
+use ra_changes::changed_by;
 use ra_moves::{Move, options, resolve};
-use ra_weigh::{changed_by, is_unbroken, verdict};
+use ra_weigh::verdict;
 use ra_world::World;
 use std::sync::ledger::Ledger;
 

@@ -45,6 +45,11 @@ pub after_refused : (a : List Machine) (steps : List Step) (cause : Cause) (verd
 unfolding after_made steps_made
 after_refused a steps cause verdict refused = rw refused refl
 
+-- in a journal without entries the state is the start
+pub at_start : (a0 a : List Machine) (h : List Entry) → a ≡ a0 → h ≡ [] → a ≡ state a0 h (length h)
+unfolding state
+at_start a0 a h same none = rw none same
+
 -- in a journal with that entry more
 pub at_next : (a0 a b : List Machine) (h g : List Entry) (e : Entry) → g ≡ h ++ e ∷ [] → a ≡ state a0 h (length h) → b ≡ after_made a (steps_made e.verdict e.mv.steps) → b ≡ state a0 g (length g)
 unfolding made_by

@@ -1,3 +1,2 @@
-pub mod Pending
 pub mod Recording
 pub mod Following

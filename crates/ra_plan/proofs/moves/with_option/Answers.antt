@@ -1,21 +1,14 @@
-use Rattle.std.proofs.Common.{sym, ◌∙◌}
-use Rattle.ra_plan.proofs.Bests.{best_broken, unbroken_moves, unbroken_none, judged_in, weighed_at}
+use Rattle.ra_plan.proofs.Bests.{best_broken, unbroken_moves, judged_in, weighed_at}
 use Rattle.ra_plan.proofs.moves.with_option.Goals as goal
-
-pub is_unbroken-requires-clause-stub : goal.is_unbroken-requires-clause-stub
-is_unbroken-requires-clause-stub g c = ?
 
 pub returns-then-not-is_unbroken-clause-best : goal.returns-then-not-is_unbroken-clause-best
 returns-then-not-is_unbroken-clause-best g c = λ x d is same. best_broken c.args.world.now x d _ _ _ _ _ c.is_unbroken.ensures.answer c.if-not-is_unbroken.true is same
-
-pub changed_by-weighed-requires-clause-stub : goal.changed_by-weighed-requires-clause-stub
-changed_by-weighed-requires-clause-stub g c = ?
 
 pub changed_by-weighed-requires-clause-moves : goal.changed_by-weighed-requires-clause-moves
 changed_by-weighed-requires-clause-moves g c = unbroken_moves _ _ _ _ _ c.is_unbroken.ensures.answer c.if-not-is_unbroken.false c.requires.offered
 
 pub verdict-requires : goal.verdict-requires
-verdict-requires g c = ?
+verdict-requires g c = record { some = record { steps = c.args.mv.now.steps; offered = c.requires.offered; is = c.changed_by-weighed.ensures.value } }
 
 pub returns-clause-best : goal.returns-clause-best
 returns-clause-best g c = λ x d is same.

@@ -6,9 +6,6 @@ use Rattle.ra_moves.proofs.OptionLemmas.{shift_named}
 use Rattle.ra_plan.proofs.Bests.{shift_in, steps_offered}
 use Rattle.ra_plan.proofs.shifts.best_shift.Goals as goal
 
-pub make-shift-requires-clause-stub : goal.make-shift-requires-clause-stub
-make-shift-requires-clause-stub g c = ?
-
 pub loop-option-init : goal.loop-option-init
 loop-option-init g c = c.none-best.ensures _ _ _ _
 
