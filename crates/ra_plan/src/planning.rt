@@ -1,4 +1,4 @@
-ghost use Rattle.std.specs.Prelude.{◌≡◌, ℕ, Some, ◌+◌, ◌*◌, ◌≤◌, length};
+ghost use Rattle.std.specs.Prelude.{◌≡◌, ℕ, Some, ◌+◌, ◌*◌, ◌≤◌};
 ghost use Rattle.ra_base.specs.declared.causes.Drawing.TheVariants.{One, Two};
 ghost use Rattle.ra_model.specs.Numbers.{resource_count, machine_count};
 ghost use Rattle.ra_moves.specs.Options.{plan_of, option_count};
@@ -54,8 +54,7 @@ fn weighing<L: Ledger>(world: &World<'_>, best: &Best, mv: &Move, steps: &mut St
         world.now.start.now.items world.now.kept.assignment.items mv.now.steps }
     ensures value { result ≡ weighed_of world.now.inst.now.tables
         world.now.start.now.items world.now.kept.assignment.items mv.now.steps }
-    ensures counted { steps.new ≤ steps.old
-        + 2 * (length mv.now.steps * resource_count world.now.inst.now.tables) }
+    ensures counted { steps.new ≤ steps.old + 6 * resource_count world.now.inst.now.tables }
 {
     match best.cost {
         Some(_) => best.weighed,
