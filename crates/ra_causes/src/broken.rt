@@ -18,8 +18,7 @@ pub fn broken_of<L: Ledger>(world: &World<'_>, mv: &Move, steps: &mut Steps<L>) 
         mv.now.steps }
     ensures cause { result ≡ broken_by world.now.inst.now.tables world.now.start.now.items
         world.now.kept.assignment.items mv.now.steps }
-    ensures counted { steps.new ≤
-        steps.old + length mv.now.steps * resource_count world.now.inst.now.tables }
+    ensures counted { steps.new ≤ steps.old + 3 * resource_count world.now.inst.now.tables }
     ensures onwards { steps.old ≤ steps.new }
 {
     if let Some(cause) = repeat_of(mv) {
@@ -42,7 +41,8 @@ pub fn is_unbroken<L: Ledger>(world: &World<'_>, mv: &Move, steps: &mut Steps<L>
         mv.now.steps }
     ensures answer { (result ≡ true) ↔ (broken_by world.now.inst.now.tables
         world.now.start.now.items world.now.kept.assignment.items mv.now.steps ≡ None) }
-    ensures counted { steps.new ≤
+    ensures counted { steps.new ≤ steps.old + 3 * resource_count world.now.inst.now.tables }
+    ensures by_steps { steps.new ≤
         steps.old + length mv.now.steps * resource_count world.now.inst.now.tables }
     ensures onwards { steps.old ≤ steps.new }
 {

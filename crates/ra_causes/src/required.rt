@@ -18,7 +18,8 @@ pub(crate) fn read_required<L: Ledger>(
     requires known { (j : ℕ) → j < length mv.now.steps →
         process_in mv.now.steps j < process_count inst.now.tables }
     ensures required { AreRequired inst.now.tables mv.now.steps (length mv.now.steps) result }
-    ensures counted { steps.new ≤
+    ensures counted { steps.new ≤ steps.old + 3 * resource_count inst.now.tables }
+    ensures by_steps { steps.new ≤
         steps.old + length mv.now.steps * resource_count inst.now.tables }
     ensures onwards { steps.old ≤ steps.new }
 {

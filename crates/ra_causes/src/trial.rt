@@ -59,7 +59,8 @@ impl<'a, 'b> Trial<'a, 'b> {
         ensures initial { result.start.now.items ≡ world.now.start.now.items }
         ensures assignment { result.at.now.items ≡ world.now.kept.assignment.items }
         ensures steps { result.mv.now.steps ≡ mv.now.steps }
-        ensures counted { steps.new ≤
+        ensures counted { steps.new ≤ steps.old + 3 * resource_count world.now.inst.now.tables }
+        ensures by_steps { steps.new ≤
             steps.old + length mv.now.steps * resource_count world.now.inst.now.tables }
         ensures onwards { steps.old ≤ steps.new }
     {

@@ -1,3 +1,2 @@
-pub mod Steps
-pub mod BestSoFar
-pub mod OneMore
+pub mod Recording
+pub mod Following

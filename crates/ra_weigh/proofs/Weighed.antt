@@ -1,6 +1,5 @@
 -- What a world has for settling, and the two forms of a weighing.
-use Rattle.std.proofs.Common.{◌≡◌, pos, List, Some, None, refl, ap, ◌∙◌}
-use Rattle.ra_base.specs.declared.causes.Cause.{Cause}
+use Rattle.std.proofs.Common.{◌≡◌, List, None, ap, ◌∙◌}
 use Rattle.ra_base.specs.declared.costs.Parts.{Parts}
 use Rattle.ra_base.specs.declared.ids.Machine.{Machine}
 use Rattle.ra_base.proofs.Searches.{left_none}
@@ -15,7 +14,7 @@ use Rattle.ra_moves.specs.declared.steps.Step.{Step}
 use Rattle.ra_moves.specs.declared.verdicts.Weighed.{Weighed}
 use Rattle.ra_moves.specs.Judging.{repeat_of, broken_by}
 use Rattle.ra_local.specs.Moving.{IsMove, IsOffered}
-use Rattle.ra_local.specs.Weighing.{weighed_by, weighed_of}
+use Rattle.ra_local.specs.Weighing.{weighed_of}
 use Rattle.ra_settle.specs.Settling.{AreMovedOf, IsSettling, HasSettling}
 use Rattle.ra_weigh.specs.Weighings.{IsWeighing}
 
@@ -46,12 +45,7 @@ has_settling i a0 a cells moved parts weighed start fits stand is costs some = r
   settling = settling_of i a0 a some.steps cells moved parts weighed start fits stand is costs some.offered some.is;
 }
 
--- where a cause is there
-pub bare_is : (i : Tables) (a0 a : List Machine) (steps : List Step) (cause : Cause) → broken_by i a0 a steps ≡ Some cause → (let w : Weighed = record { broken = Some cause; local = pos 0; first = None; second = None; third = None } in w) ≡ weighed_of i a0 a steps
-unfolding weighed_of weighed_by
-bare_is i a0 a steps cause some = rw some refl
-
--- where none is, it is a move
+-- a move that is refused for no cause names no process twice
 pub move_of : (i : Tables) (a0 a : List Machine) (steps : List Step) → IsOffered i a steps → broken_by i a0 a steps ≡ None → IsMove i a steps
 unfolding broken_by
 move_of i a0 a steps offered none = offered (left_none (repeat_of steps) _ none)

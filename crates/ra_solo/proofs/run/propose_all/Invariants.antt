@@ -1,14 +1,17 @@
--- The run so far, and the lot whose words are handed out.
-use Rattle.std.proofs.Common.{◌≡◌}
-use Rattle.ra_check.specs.Made.{IsMadeFor}
+-- The proposals so far, and the lot whose words are handed out.
+use Rattle.std.proofs.Common.{◌≡◌, length}
 use Rattle.ra_draws.specs.Lots.{lot_at}
-use Rattle.ra_solo.specs.Runs.{IsAfter}
 use Rattle.ra_solo.proofs.run.propose_all.Given as goal
 
 abbrev pub invariant-loop-k : goal.invariant-loop-k
 invariant-loop-k l = record {
-  after : IsAfter l.inst.tables l.a0.items l.lots l.k l.progress;
-  made : IsMadeFor l.scratch l.inst.tables;
-  lot : l.draws.lot ≡ lot_at l.lots.lots.items 0;
+  entries : length l.alone.journal.book.entries.items ≡ l.k;
+  instance : l.alone.journal.inst.now ≡ l.fn.alone.journal.inst.now;
+  initial : l.alone.journal.a0.now ≡ l.fn.alone.journal.a0.now;
+  lots : l.alone.journal.lots.now ≡ l.fn.alone.journal.lots.now;
+  lot : l.draws.lot ≡ lot_at l.fn.alone.journal.lots.now.lots.items 0;
   drawn : l.draws.made ≡ l.k;
 }
+
+abbrev pub ghosts-propose : goal.ghosts-propose
+ghosts-propose a = record { name = a.blank.name; parts = a.blank.parts }

@@ -1,0 +1,162 @@
+-- The best option so far, one option after another.
+use Rattle.std.proofs.Common.{◌≡◌, ◌≢◌, ◌↔◌, ℕ, ◌+◌, ◌<◌, ◌≤◌, arith, length, Bool, true, false, cond, List, [], ◌∷◌, Option, Some, None, refl, sym, ap, ◌∙◌}
+use Rattle.ra_base.specs.Searches.{is_better, least, least_place, or_else}
+use Rattle.ra_base.specs.declared.causes.Cause.{Cause}
+use Rattle.ra_base.specs.declared.causes.Drawing.{Drawing}
+use Rattle.ra_base.specs.declared.ids.Machine.{Machine}
+use Rattle.ra_base.proofs.Least.{least_none, least_place_none, least_more, least_place_more, is_better_none}
+use Rattle.ra_base.proofs.Searches.{left_none}
+use Rattle.ra_model.specs.declared.raw.Tables.{Tables}
+use Rattle.ra_model.specs.Numbers.{machine_count}
+use Rattle.ra_model.specs.Limits.{WellFormed}
+use Rattle.ra_model.specs.Assignments.{IsAssignment}
+use Rattle.ra_moves.specs.declared.steps.Step.{Step}
+use Rattle.ra_moves.specs.declared.verdicts.Verdict.{Verdict}
+use Rattle.ra_moves.specs.declared.verdicts.Verdict.TheVariants.{Done, Refused}
+use Rattle.ra_moves.specs.declared.verdicts.Weighed.{Weighed}
+use Rattle.ra_moves.specs.Judging.{judge, broken_by, repeat_of, verdict_of}
+use Rattle.ra_moves.proofs.Repeats.{distinct_from_none}
+use Rattle.ra_moves.proofs.OptionLemmas.{option_stands, option_reaches}
+use Rattle.ra_local.specs.Moving.{IsMove, IsOffered}
+use Rattle.ra_local.specs.Weighing.{weighed_of}
+use Rattle.ra_moves.specs.MoveSteps.{MoveSteps}
+use Rattle.ra_moves.specs.declared.steps.MoveKind.TheVariants.{Shift}
+use Rattle.ra_moves.specs.Options.{kind_of, option_count, drawn, target, leaving, option_at, option_cost, done_cost, plan_place, plan_of}
+use Rattle.ra_world.specs.declared.world.World.{World}
+use Rattle.ra_plan.specs.Choosing.{IsBest, cost_in, steps_in, weighed_in}
+use Rattle.ra_plan.specs.declared.best.Best.{Best}
+use Rattle.ra_plan.proofs.OptionSizes.{option_few, option_some, shift_steps, least_place_below}
+
+-- no option so far
+pub best_none : (w : World) (x : List ℕ) (d : Drawing) (allowed : ℕ) (best : Best) → best.cost ≡ None → best.option ≡ 0 → IsBest w x d allowed 0 best
+best_none w x d allowed best cost option = record {
+  cost = cost ∙ sym (least_none (cost_in w x d allowed));
+  option = option ∙ sym (least_place_none (cost_in w x d allowed));
+  weighed = λ c is. absurd (cc);
+}
+
+-- the cost of an option from the verdict on it
+cost_of : (w : World) (x : List ℕ) (d : Drawing) (allowed n : ℕ) (verdict : Verdict) → verdict ≡ judge w.inst.now.tables w.start.now.items w.kept.assignment.items (steps_in w x d n) allowed → cost_in w x d allowed n ≡ done_cost verdict
+unfolding cost_in option_cost steps_in
+cost_of w x d allowed n verdict is = ap done_cost (sym is)
+
+true_is_not : true ≡ false → ⊥
+true_is_not is = absurd (cc is)
+
+-- an option that isn't done changes nothing
+pub best_skipped : (w : World) (x : List ℕ) (d : Drawing) (allowed n : ℕ) (best : Best) → IsBest w x d allowed n best → cost_in w x d allowed n ≡ None → IsBest w x d allowed (n + 1) best
+best_skipped w x d allowed n best is none =
+    let f : ℕ → Option ℕ = cost_in w x d allowed in
+    let worse : is_better (f n) (least n f) ≡ false = rw none (is_better_none (least n f)) in
+    record {
+      cost = is.cost ∙ sym (least_more n f ∙ ap (λ (b : Bool). cond b (f n) (least n f)) worse);
+      option = is.option ∙ sym (least_place_more n f ∙ ap (λ (b : Bool). cond b n (least_place n f)) worse);
+      weighed = is.weighed;
+    }
+
+pub best_refused : (w : World) (x : List ℕ) (d : Drawing) (allowed n : ℕ) (best : Best) (cause : Cause) → IsBest w x d allowed n best → Refused cause ≡ judge w.inst.now.tables w.start.now.items w.kept.assignment.items (steps_in w x d n) allowed → IsBest w x d allowed (n + 1) best
+unfolding done_cost
+best_refused w x d allowed n best cause is verdict = best_skipped w x d allowed n best is (cost_of w x d allowed n (Refused cause) verdict)
+
+-- one that is done at a lower cost is the best from then on
+pub best_done : (w : World) (x : List ℕ) (d : Drawing) (allowed n cost : ℕ) (weighed : Weighed) (best : Best) → IsBest w x d allowed n best → Done cost ≡ judge w.inst.now.tables w.start.now.items w.kept.assignment.items (steps_in w x d n) allowed → weighed ≡ weighed_in w x d n → IsBest w x d allowed (n + 1) (cond (is_better (Some cost) best.cost) (record { cost = Some cost; option = n; weighed = weighed }) best)
+unfolding done_cost
+best_done w x d allowed n cost weighed best is verdict weighing =
+    let f : ℕ → Option ℕ = cost_in w x d allowed in
+    let here : f n ≡ Some cost = cost_of w x d allowed n (Done cost) verdict in
+    by_test (is_better (Some cost) best.cost) (ap (λ (c : Option ℕ). is_better (Some cost) c) is.cost ∙ ap (λ (c : Option ℕ). is_better c (least n f)) (sym here))
+  where
+    by_test : (better : Bool) → better ≡ is_better (cost_in w x d allowed n) (least n (cost_in w x d allowed)) → IsBest w x d allowed (n + 1) (cond better (record { cost = Some cost; option = n; weighed = weighed }) best)
+    by_test true better =
+        let f : ℕ → Option ℕ = cost_in w x d allowed in
+        record {
+          cost = sym (cost_of w x d allowed n (Done cost) verdict) ∙ sym (least_more n f ∙ ap (λ (b : Bool). cond b (f n) (least n f)) (sym better));
+          option = sym (least_place_more n f ∙ ap (λ (b : Bool). cond b n (least_place n f)) (sym better));
+          weighed = λ c at. weighing;
+        }
+    by_test false better =
+        let f : ℕ → Option ℕ = cost_in w x d allowed in
+        record {
+          cost = is.cost ∙ sym (least_more n f ∙ ap (λ (b : Bool). cond b (f n) (least n f)) (sym better));
+          option = is.option ∙ sym (least_place_more n f ∙ ap (λ (b : Bool). cond b n (least_place n f)) (sym better));
+          weighed = is.weighed;
+        }
+
+-- an option that breaks something isn't done
+refused_cost : (cause : Option Cause) (rise : Option Cause) (after : ℕ) → cause ≢ None → done_cost (verdict_of (or_else cause rise) after) ≡ None
+unfolding or_else verdict_of done_cost
+refused_cost None rise after there = absurd (there refl)
+refused_cost (Some cause) rise after there = refl
+
+pub broken_cost : (w : World) (x : List ℕ) (d : Drawing) (allowed n : ℕ) → broken_by w.inst.now.tables w.start.now.items w.kept.assignment.items (steps_in w x d n) ≢ None → cost_in w x d allowed n ≡ None
+unfolding cost_in option_cost steps_in judge
+broken_cost w x d allowed n broken = refused_cost _ _ _ broken
+
+-- the same, of an option that a test has found broken
+pub best_broken : (w : World) (x : List ℕ) (d : Drawing) (allowed n : ℕ) (best : Best) (steps : List Step) (unbroken : Bool) → (unbroken ≡ true) ↔ (broken_by w.inst.now.tables w.start.now.items w.kept.assignment.items steps ≡ None) → unbroken ≡ false → IsBest w x d allowed n best → steps_in w x d n ≡ steps → IsBest w x d allowed (n + 1) best
+best_broken w x d allowed n best steps unbroken (gives, back) unfit is same = best_skipped w x d allowed n best is (broken_cost w x d allowed n (λ none. absurd (true_is_not (sym (back (rw same at none)) ∙ unfit))))
+
+-- an option that breaks nothing names no process twice
+pub unbroken_repeats : (i : Tables) (a0 a : List Machine) (steps : List Step) → broken_by i a0 a steps ≡ None → repeat_of steps ≡ None
+unfolding broken_by
+unbroken_repeats i a0 a steps none = left_none _ _ none
+
+-- so it is a move, where it was offered
+pub unbroken_moves : (i : Tables) (a0 a : List Machine) (steps : List Step) (unbroken : Bool) → (unbroken ≡ true) ↔ (broken_by i a0 a steps ≡ None) → unbroken ≡ true → IsOffered i a steps → IsMove i a steps
+unbroken_moves i a0 a steps unbroken (gives, back) is offered = offered (unbroken_repeats i a0 a steps (gives is))
+
+pub unbroken_none : (i : Tables) (a0 a : List Machine) (steps : List Step) (unbroken : Bool) → (unbroken ≡ true) ↔ (broken_by i a0 a steps ≡ None) → unbroken ≡ true → broken_by i a0 a steps ≡ None
+unbroken_none i a0 a steps unbroken (gives, back) is = gives is
+
+-- every option of an assignment can be weighed
+pub option_offered : (i : Tables) (a : List Machine) (x : List ℕ) (d : Drawing) (k : ℕ) → WellFormed i → IsAssignment i a → IsOffered i a (option_at a x (machine_count i) d k).steps
+option_offered i a x d k formed fits once =
+    let some : 0 < length a = omega (arith, fits.one_each, formed.some_process) in
+    record {
+      fits = fits;
+      stands = option_stands a x (machine_count i) d k some formed.some_machine;
+      distinct = distinct_from_none _ once;
+      few = option_few a x (machine_count i) d k;
+      reaches = option_reaches a x (machine_count i) d k some formed.some_machine (λ p within. fits.in_range p (omega (arith, fits.one_each)));
+    }
+
+-- the same of steps that are those of an option
+pub steps_offered : (w : World) (x : List ℕ) (d : Drawing) (k : ℕ) (steps : List Step) → steps_in w x d k ≡ steps → IsOffered w.inst.now.tables w.kept.assignment.items steps
+unfolding steps_in
+steps_offered w x d k steps same = rw (← same) (option_offered _ _ x d k w.inst.now.well_formed w.keeps.stand.fits)
+
+-- what is told of the steps of an option is told of the option
+pub judged_in : (w : World) (x : List ℕ) (d : Drawing) (allowed n : ℕ) (steps : List Step) (verdict : Verdict) → steps_in w x d n ≡ steps → verdict ≡ judge w.inst.now.tables w.start.now.items w.kept.assignment.items steps allowed → verdict ≡ judge w.inst.now.tables w.start.now.items w.kept.assignment.items (steps_in w x d n) allowed
+judged_in w x d allowed n steps verdict same is = rw same is
+
+weighed_same : (w : World) (x : List ℕ) (d : Drawing) (n : ℕ) (steps : List Step) → steps_in w x d n ≡ steps → weighed_in w x d n ≡ weighed_of w.inst.now.tables w.start.now.items w.kept.assignment.items steps
+unfolding weighed_in
+weighed_same w x d n steps same = rw same refl
+
+pub weighed_at : (w : World) (x : List ℕ) (d : Drawing) (n : ℕ) (steps : List Step) (weighed : Weighed) → steps_in w x d n ≡ steps → weighed ≡ weighed_of w.inst.now.tables w.start.now.items w.kept.assignment.items steps → weighed ≡ weighed_in w x d n
+weighed_at w x d n steps weighed same is = is ∙ sym (weighed_same w x d n steps same)
+
+-- what is resolved over m machines is the option
+pub option_in : (w : World) (x : List ℕ) (d : Drawing) (m k : ℕ) (mv : MoveSteps) → m ≡ machine_count w.inst.now.tables → mv ≡ option_at w.kept.assignment.items x m d k → steps_in w x d k ≡ mv.steps
+unfolding steps_in
+option_in w x d m k mv machines is = ap (λ (v : MoveSteps). v.steps) (sym (rw machines at is))
+
+pub shift_in : (w : World) (x : List ℕ) (d : Drawing) (m k p to : ℕ) → m ≡ machine_count w.inst.now.tables → kind_of x ≡ Shift → p ≡ drawn w.kept.assignment.items x 1 → to ≡ target d x m k → steps_in w x d k ≡ leaving w.kept.assignment.items p to ∷ []
+unfolding steps_in
+shift_in w x d m k p to machines is process machine = shift_steps _ x _ d k p to is process (rw machines at machine)
+
+-- the best of all options is the plan
+pub best_planned : (w : World) (x : List ℕ) (d : Drawing) (allowed m : ℕ) (best : Best) (mv : MoveSteps) → m ≡ machine_count w.inst.now.tables → IsBest w x d allowed (option_count x (machine_count w.inst.now.tables) d) best → mv ≡ option_at w.kept.assignment.items x m d best.option → mv ≡ plan_of w.inst.now.tables w.start.now.items w.kept.assignment.items x d allowed
+unfolding plan_of plan_place cost_in
+best_planned w x d allowed m best mv machines is option = rw (machines, is.option) at option
+
+-- with its weighing
+pub best_weighed : (w : World) (x : List ℕ) (d : Drawing) (allowed n cost : ℕ) (best : Best) (steps : List Step) → IsBest w x d allowed n best → steps_in w x d best.option ≡ steps → best.cost ≡ Some cost → best.weighed ≡ weighed_of w.inst.now.tables w.start.now.items w.kept.assignment.items steps
+best_weighed w x d allowed n cost best steps is same there = is.weighed cost there ∙ weighed_same w x d best.option steps same
+
+-- and it is one of them
+pub best_below : (w : World) (x : List ℕ) (d : Drawing) (allowed m : ℕ) (best : Best) → m ≡ machine_count w.inst.now.tables → 1 ≤ m → IsBest w x d allowed (option_count x (machine_count w.inst.now.tables) d) best → best.option < option_count x m d
+best_below w x d allowed m best machines some is =
+    let n : ℕ = option_count x m d in
+    let place : best.option ≡ least_place n (cost_in w x d allowed) = rw machines is.option in
+    omega (arith, least_place_below n (cost_in w x d allowed) (option_some x m d some))

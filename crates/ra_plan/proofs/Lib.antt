@@ -1,0 +1,2 @@
+pub mod OptionSizes
+pub mod Bests

@@ -1,0 +1,103 @@
+-- The options by kind: how many steps each has, and what is read for all of them.
+use Rattle.std.proofs.Common.{◌≡◌, ◌≢◌, ℕ, zero, suc, ◌*◌, ◌<◌, ◌≤◌, arith, Bool, true, false, cond, [], ◌∷◌, List, length, Option, refl, sym, ap, ◌∙◌}
+use Rattle.std.specs.Prelude.{slice_index}
+use Rattle.ra_base.specs.Searches.{is_better, least, least_place}
+use Rattle.ra_base.specs.declared.ids.Machine.{Machine}
+use Rattle.ra_base.specs.declared.causes.Drawing.{Drawing}
+use Rattle.ra_base.specs.declared.causes.Drawing.TheVariants.{One, Two}
+use Rattle.ra_moves.specs.declared.steps.MoveKind.{MoveKind}
+use Rattle.ra_moves.specs.declared.steps.MoveKind.TheVariants.{Shift, Swap, Chain}
+use Rattle.ra_moves.specs.MoveSteps.{MoveSteps, step_count}
+use Rattle.ra_moves.specs.Steps.{step_at}
+use Rattle.ra_moves.specs.Options.{kind_of, count_of, option_count, drawn, target, leaving, shift_of, swap_of, chain_of, option_of, option_at}
+
+kind_in : (k : MoveKind) (a : List Machine) (x : List ℕ) (m : ℕ) (d : Drawing) (i : ℕ) → (option_of k a x m d i).kind ≡ k
+unfolding option_of shift_of swap_of chain_of
+kind_in Shift a x m d i = refl
+kind_in Swap a x m d i = refl
+kind_in Chain a x m d i = refl
+
+-- an option's kind
+pub option_kind : (a : List Machine) (x : List ℕ) (m : ℕ) (d : Drawing) (i : ℕ) → (option_at a x m d i).kind ≡ kind_of x
+unfolding option_at
+option_kind a x m d i = kind_in (kind_of x) a x m d i
+
+length_in : (k : MoveKind) (a : List Machine) (x : List ℕ) (m : ℕ) (d : Drawing) (i : ℕ) → length (option_of k a x m d i).steps ≡ step_count k
+unfolding option_of shift_of swap_of chain_of step_count
+length_in Shift a x m d i = refl
+length_in Swap a x m d i = refl
+length_in Chain a x m d i = refl
+
+-- how many steps it has
+pub option_length : (a : List Machine) (x : List ℕ) (m : ℕ) (d : Drawing) (i : ℕ) → length (option_at a x m d i).steps ≡ step_count (kind_of x)
+unfolding option_at
+option_length a x m d i = length_in (kind_of x) a x m d i
+
+few_steps : (k : MoveKind) → step_count k ≤ 3
+unfolding step_count
+few_steps Shift = omega arith
+few_steps Swap = omega arith
+few_steps Chain = omega arith
+
+pub option_few : (a : List Machine) (x : List ℕ) (m : ℕ) (d : Drawing) (i : ℕ) → length (option_at a x m d i).steps ≤ 3
+option_few a x m d i = omega (arith, option_length a x m d i, few_steps (kind_of x))
+
+-- what is read for all options of a swap or a chain, where two numbers are read for each step and each of r resources
+few_reads : (k : MoveKind) (d : Drawing) (m r : ℕ) → k ≢ Shift → count_of k d m * (2 * (step_count k * r)) ≤ 16 * r
+unfolding count_of step_count
+few_reads Shift d m r other = absurd (other refl)
+few_reads Swap d m r other = omega arith
+few_reads Chain d m r other = omega arith
+
+pub all_reads : (x : List ℕ) (m : ℕ) (d : Drawing) (r : ℕ) → kind_of x ≢ Shift → option_count x m d * (2 * (step_count (kind_of x) * r)) ≤ 16 * r
+unfolding option_count
+all_reads x m d r other = few_reads (kind_of x) d m r other
+
+some_options : (k : MoveKind) (d : Drawing) (m : ℕ) → 1 ≤ m → 0 < count_of k d m
+unfolding count_of
+some_options Shift One m some = omega arith
+some_options Shift Two m some = omega arith
+some_options Swap d m some = omega arith
+some_options Chain d m some = omega arith
+
+pub option_some : (x : List ℕ) (m : ℕ) (d : Drawing) → 1 ≤ m → 0 < option_count x m d
+unfolding option_count
+option_some x m d some = some_options (kind_of x) d m some
+
+-- a shift's options differ by their machines
+pub shift_steps : (a : List Machine) (x : List ℕ) (m : ℕ) (d : Drawing) (i p to : ℕ) → kind_of x ≡ Shift → p ≡ drawn a x 1 → to ≡ target d x m i → (option_at a x m d i).steps ≡ leaving a p to ∷ []
+unfolding option_at option_of shift_of
+shift_steps a x m d i p to is process machine = rw (is, process, machine) refl
+
+first_drawn : (a : List Machine) (x : List ℕ) (m : ℕ) (d : Drawing) (i : ℕ) → kind_of x ≡ Shift → (step_at (option_at a x m d i).steps 0).process.0 ≡ drawn a x 1
+unfolding option_at option_of shift_of step_at leaving
+first_drawn a x m d i is = rw is refl
+
+-- a resolved shift, and its process
+pub is_shift : (a : List Machine) (x : List ℕ) (m : ℕ) (d : Drawing) (i : ℕ) (mv : MoveSteps) → mv ≡ option_at a x m d i → kind_of x ≡ Shift → mv.kind ≡ Shift
+is_shift a x m d i mv option is = ap (λ (v : MoveSteps). v.kind) option ∙ option_kind a x m d i ∙ is
+
+pub asks_shift : (a : List Machine) (x : List ℕ) (m : ℕ) (d : Drawing) (i : ℕ) (mv : MoveSteps) → mv ≡ option_at a x m d i → mv.kind ≡ Shift → kind_of x ≡ Shift
+asks_shift a x m d i mv option is = sym (ap (λ (v : MoveSteps). v.kind) option ∙ option_kind a x m d i) ∙ is
+
+pub process_drawn : (a : List Machine) (x : List ℕ) (m : ℕ) (d : Drawing) (i : ℕ) (mv : MoveSteps) → mv ≡ option_at a x m d i → mv.kind ≡ Shift → (step_at mv.steps 0).process.0 ≡ drawn a x 1
+process_drawn a x m d i mv option is = ap (λ (v : MoveSteps). (step_at v.steps 0).process.0) option ∙ first_drawn a x m d i (asks_shift a x m d i mv option is)
+
+pub drawn_below : (a : List Machine) (x : List ℕ) (j : ℕ) → 0 < length a → drawn a x j < length a
+unfolding drawn
+drawn_below a x j some = omega arith
+
+-- the first place of the least answer is below n, where there is a place
+pub least_place_below : (n : ℕ) (f : ℕ → Option ℕ) → 0 < n → least_place n f < n
+unfolding least_place
+least_place_below zero f some = absurd (omega arith)
+least_place_below (suc zero) f some = by_test (is_better (f 0) (least 0 f))
+  where
+    by_test : (better : Bool) → cond better 0 0 < 1
+    by_test true = omega arith
+    by_test false = omega arith
+least_place_below (suc (suc n)) f some = by_test (is_better (f (suc n)) (least (suc n) f)) (least_place_below (suc n) f (omega arith))
+  where
+    by_test : (better : Bool) → least_place (suc n) f < suc n → cond better (suc n) (least_place (suc n) f) < suc (suc n)
+    by_test true before = omega arith
+    by_test false before = omega arith

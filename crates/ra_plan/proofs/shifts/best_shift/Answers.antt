@@ -1,0 +1,27 @@
+use Rattle.std.proofs.Common.{◌≡◌, ◌<◌, arith, sym, ap, ◌∙◌}
+use Rattle.ra_base.specs.declared.ids.Process.{Process}
+use Rattle.ra_model.specs.Numbers.{machine_count}
+use Rattle.ra_moves.specs.Options.{option_count, drawn}
+use Rattle.ra_moves.proofs.OptionLemmas.{shift_named}
+use Rattle.ra_plan.proofs.Bests.{shift_in, steps_offered}
+use Rattle.ra_plan.proofs.shifts.best_shift.Goals as goal
+
+pub loop-option-init : goal.loop-option-init
+loop-option-init g c = c.none-best.ensures _ _ _ _
+
+pub target-to-requires-clause-named : goal.target-to-requires-clause-named
+target-to-requires-clause-named g c = shift_named _ _ _ _ c.requires.shift (rw (← c.options-count.ensures.value) c.loop-option-test.true)
+
+pub with_shift-best-requires-clause-offered : goal.with_shift-best-requires-clause-offered
+with_shift-best-requires-clause-offered g c =
+    let world = c.args.world.now in
+    let machines : c.machines-machines.result ≡ machine_count world.inst.now.tables = rw c.instance.ensures at c.machines-machines.ensures in
+    let process : c.make-shift.result.process.0 ≡ drawn world.kept.assignment.items c.args.words.now 1 = ap (λ (p : Process). p.0) c.make-shift.ensures.process ∙ c.requires.named in
+    steps_offered world c.args.words.now c.args.drawing c.loop-option.option _ (shift_in world _ _ _ _ _ _ machines c.requires.shift process c.target-to.ensures.value)
+
+pub loop-option-preserved : goal.loop-option-preserved
+loop-option-preserved g c =
+    let world = c.args.world.now in
+    let machines : c.machines-machines.result ≡ machine_count world.inst.now.tables = rw c.instance.ensures at c.machines-machines.ensures in
+    let process : c.make-shift.result.process.0 ≡ drawn world.kept.assignment.items c.args.words.now 1 = ap (λ (p : Process). p.0) c.make-shift.ensures.process ∙ c.requires.named in
+    c.with_shift-best.ensures _ _ c.loop-option.invariant (shift_in world _ _ _ _ _ _ machines c.requires.shift process c.target-to.ensures.value)

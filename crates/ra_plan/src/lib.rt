@@ -1,0 +1,10 @@
+//! The plan for a proposal: of the moves that its words name, the first of least cost among those that the judge calls
+//! Done, with its weighing. All of it is found by changes on a replica.
+#![tactic(auto)]
+
+mod best;
+mod moves;
+mod planning;
+mod shifts;
+
+pub use planning::plan;

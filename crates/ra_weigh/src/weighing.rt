@@ -1,0 +1,40 @@
+ghost use Rattle.std.specs.Prelude.{◌≡◌, ◌+◌, ◌*◌, ◌≤◌, pos, Some, None};
+ghost use Rattle.ra_model.specs.Numbers.{resource_count};
+ghost use Rattle.ra_local.specs.Moving.{IsOffered};
+ghost use Rattle.ra_local.specs.Weighing.{weighed_of};
+
+use ra_base::{Cause, Steps};
+use ra_causes::broken_of;
+use ra_changes::changed_by;
+use ra_moves::{Move, Weighed};
+use ra_world::World;
+use std::sync::ledger::Ledger;
+
+/// The weighing of a move: the cause other than a rise for which it is refused, and nothing else; or the change of
+/// load, balance, process and machine cost together, with the moved counts of its different services in the order of
+/// its steps. At most six requirements are read for each resource, and no memory is taken.
+pub fn weigh<L: Ledger>(world: &World<'_>, mv: &Move, steps: &mut Steps<L>) -> Weighed
+    requires { IsOffered world.now.inst.now.tables world.now.kept.assignment.items mv.now.steps }
+    ensures value { result ≡ weighed_of world.now.inst.now.tables world.now.start.now.items
+        world.now.kept.assignment.items mv.now.steps }
+    ensures counted { steps.new ≤ steps.old + 6 * resource_count world.now.inst.now.tables }
+{
+    match broken_of(world, mv, steps) {
+        Some(cause) => bare(cause),
+        None => changed_by(world, mv, steps),
+    }
+}
+
+/// The weighing of a move that is refused for a cause.
+fn bare(cause: Cause) -> Weighed
+    ensures { result ≡
+        record { broken = Some cause; local = pos 0; first = None; second = None; third = None } }
+{
+    Weighed {
+        broken: Some(cause),
+        local: 0,
+        first: None,
+        second: None,
+        third: None,
+    }
+}
