@@ -1,12 +1,9 @@
 -- Capacity and transient use in one pass: a transient resource whose transient use is within its capacity is used within
 -- it too.
-use Rattle.std.proofs.Common.{◌≡◌, ℕ, ◌+◌, ◌<◌, ◌≤◌, true, false, cond, eqb, ◌||◌, List, Some, None, length, sym, refl, ⊎_elim, arith}
+use Rattle.std.proofs.Common.{◌≡◌, ℕ, ◌+◌, ◌<◌, ◌≤◌, true, false, cond, eqb, ◌||◌, List, length, sym, refl, ⊎_elim, arith}
 use Rattle.std.proofs.lemmas.Bool.{cases_Bool}
-use Rattle.ra_base.specs.Searches.{first}
 use Rattle.ra_base.specs.Sums.{is_named}
 use Rattle.ra_base.specs.declared.ids.Machine.{Machine}
-use Rattle.ra_base.specs.declared.causes.Cause.{Cause}
-use Rattle.ra_base.specs.declared.causes.Cause.TheVariants.{Capacity, Transient}
 use Rattle.ra_base.proofs.Searches.{first_none, first_none_at, first_more_none}
 use Rattle.ra_model.specs.declared.raw.Tables.{Tables}
 use Rattle.ra_model.specs.Numbers.{resource_count, machine_count, process_count, transient_at, capacity_of, requirement_of}
@@ -19,14 +16,17 @@ use Rattle.ra_moves.specs.Steps.{to_in}
 use Rattle.ra_local.specs.Laws.{OnlyWhere}
 use Rattle.ra_causes.specs.Holding.{FitsAt, FitsBelow, FitsAll}
 use Rattle.ra_causes.proofs.TestLemmas.{capacity_over, capacity_within, transient_over, transient_within, transient_once}
-use Rattle.ra_causes.proofs.HoldLemmas.{NoneAt, none_start, none_more, none_all, found_there}
+use Rattle.ra_causes.proofs.HoldLemmas.{NoneAt, none_start, none_more, none_all}
 
 share_no_more : (i : Tables) (a0 : List Machine) (m r p at : ℕ) → use_share i m r p at ≤ transient_share i a0 m r p at
 unfolding use_share transient_share
-share_no_more i a0 m r p at = elim (eqb (machine_at a0 p) m) as (λ h. cond (eqb at m) (requirement_of i p r) 0 ≤ cond (h || eqb at m) (requirement_of i p r) 0) [ true ↦ ⊎_elim
-    (λ (here : eqb at m ≡ true). rw here (omega arith))
-    (λ (away : eqb at m ≡ false). rw away (omega arith))
-    (cases_Bool (eqb at m)) | false ↦ omega arith ]
+share_no_more i a0 m r p at = elim (eqb (machine_at a0 p) m) as (λ h. cond (eqb at m) (requirement_of i p r) 0 ≤ cond (h || eqb at m) (requirement_of i p r) 0) [
+  | true ↦ ⊎_elim
+      (λ (here : eqb at m ≡ true). rw here (omega arith))
+      (λ (away : eqb at m ≡ false). rw away (omega arith))
+      (cases_Bool (eqb at m))
+  | false ↦ omega arith
+]
 
 -- what is used is used in between
 pub use_no_more : (i : Tables) (a0 a : List Machine) (m r : ℕ) → use_of i a m r ≤ transient_of i a0 a m r

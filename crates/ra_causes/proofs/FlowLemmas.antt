@@ -1,5 +1,5 @@
 -- What the steps of a move add to a sum over the processes and take from it, and the sum after it.
-use Rattle.std.proofs.Common.{◌≡◌, ℕ, ◌+◌, ◌-◌, ◌*◌, ◌<◌, ◌≤◌, List, length, sym, arith}
+use Rattle.std.proofs.Common.{◌≡◌, ℕ, ◌+◌, ◌-◌, ◌*◌, ◌≤◌, List, length, sym, arith}
 use Rattle.ra_base.specs.Sums.{total}
 use Rattle.ra_base.proofs.Sums.{total_none, total_more}
 use Rattle.ra_base.specs.declared.ids.Machine.{Machine}

@@ -1,8 +1,8 @@
 -- What a move can't break holds where each step keeps it: capacity on machines that are entered, conflict of a process
 -- that enters a machine, spread of services that move, and closed machines of processes that move.
-use Rattle.std.proofs.Common.{◌≡◌, ◌≢◌, ◌↔◌, ℕ, ◌+◌, ◌<◌, ◌≤◌, Bool, true, false, cond, eqb, ltb, nat_le, ◌&&◌, ◌||◌, List, Option, Some, None, length, sym, refl, ap, ◌∙◌, ⊎_elim, arith, ne_eqb, le-ltb}
-use Rattle.std.proofs.lemmas.Bool.{cases_Bool, cases_lt, cond-true, cond-false, and_left, and_right, and_parts, or_from, ltb-false, eqb-true, both_ways, leb-true, le-leb}
-use Rattle.ra_base.specs.Sums.{total, one_if, count, is_named}
+use Rattle.std.proofs.Common.{◌≡◌, ◌≢◌, ◌↔◌, ℕ, ◌+◌, ◌<◌, ◌≤◌, true, false, eqb, ltb, nat_le, ◌&&◌, ◌||◌, List, Option, Some, None, length, sym, refl, ap, ◌∙◌, ⊎_elim, arith, ne_eqb, le-ltb}
+use Rattle.std.proofs.lemmas.Bool.{cases_Bool, cases_lt, cond-false, and_left, and_right, and_parts, or_from, ltb-false, eqb-true, both_ways, leb-true, le-leb}
+use Rattle.ra_base.specs.Sums.{count, is_named}
 use Rattle.ra_base.specs.Searches.{or_else, first}
 use Rattle.ra_base.specs.declared.ids.Machine.{Machine}
 use Rattle.ra_base.specs.declared.causes.Cause.{Cause}
@@ -11,11 +11,11 @@ use Rattle.ra_base.proofs.Counts.{one_if_false, count_zero_at, count_positive}
 use Rattle.ra_base.proofs.Named.{is_named_at, is_named_from}
 use Rattle.ra_base.proofs.Searches.{first_none_at, first_none_from, or_else_none, or_else_some, left_none, right_none}
 use Rattle.ra_model.specs.declared.raw.Tables.{Tables}
-use Rattle.ra_model.specs.Numbers.{resource_count, machine_count, service_count, process_count, transient_at, capacity_of, requirement_of, service_of, spread_of}
+use Rattle.ra_model.specs.Numbers.{resource_count, machine_count, service_count, transient_at, capacity_of, requirement_of, service_of, spread_of}
 use Rattle.ra_model.specs.Assignments.{machine_at}
 use Rattle.ra_model.specs.Usage.{use_share, use_of, transient_share, transient_of}
 use Rattle.ra_model.specs.Services.{is_of, of_service, members_at, on_machine, locations_of}
-use Rattle.ra_model.specs.Broken.{cause_if, capacity_test, row_capacity, broken_capacity, transient_test, row_transient, broken_transient, conflict_test, service_conflict, broken_conflict, spread_test, first_broken}
+use Rattle.ra_model.specs.Broken.{capacity_test, row_capacity, transient_test, row_transient, conflict_test, service_conflict, broken_conflict, spread_test, first_broken}
 use Rattle.ra_model.proofs.BrokenLemmas.{Fine, cause_none, cause_free, capacity_met, transient_met}
 use Rattle.ra_moves.specs.declared.steps.Step.{Step}
 use Rattle.ra_moves.specs.Steps.{process_in, from_in, to_in}
@@ -192,10 +192,13 @@ same_no i a0 a steps x is none =
 
 -- a comparison that tells
 pub told_le : {P : Type 0} → (x y : ℕ) → (x ≤ y → P) → (y < x → P → ⊥) → (nat_le x y ≡ true) ↔ P
-told_le x y holds fails = (λ yes. holds (leb-true x y yes), λ fact. ⊎_elim
-    (λ (over : y < x). absurd (fails over fact))
-    (λ (within : x ≤ y). le-leb x y within)
-    (cases_lt y x))
+told_le x y holds fails = (
+  λ yes. holds (leb-true x y yes),
+  λ fact. ⊎_elim
+      (λ (over : y < x). absurd (fails over fact))
+      (λ (within : x ≤ y). le-leb x y within)
+      (cases_lt y x),
+)
 
 pub spread_over : (i : Tables) (b : List Machine) (s has wants : ℕ) → has ≡ locations_of i b s → wants ≡ spread_of i s → has < wants → spread_test i b s ≡ None → ⊥
 spread_over i b s has wants has_is wants_is fewer none = absurd (cc (spread_few i b s has wants has_is wants_is fewer, none))

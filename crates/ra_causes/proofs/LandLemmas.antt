@@ -1,12 +1,12 @@
 -- Where a process is after a move.
-use Rattle.std.proofs.Common.{◌≡◌, ℕ, ◌<◌, ◌≤◌, false, List, length, sym, ap, ◌∙◌, arith}
+use Rattle.std.proofs.Common.{◌≡◌, ℕ, ◌<◌, false, List, length, sym, ap, ◌∙◌, arith}
 use Rattle.ra_base.specs.Sums.{is_named}
 use Rattle.ra_base.specs.declared.ids.Machine.{Machine}
 use Rattle.ra_model.specs.declared.raw.Tables.{Tables}
 use Rattle.ra_model.specs.Numbers.{machine_count, process_count}
 use Rattle.ra_model.specs.Assignments.{machine_at}
 use Rattle.ra_moves.specs.declared.steps.Step.{Step}
-use Rattle.ra_moves.specs.Steps.{step_at, process_in, to_in}
+use Rattle.ra_moves.specs.Steps.{step_at, process_in}
 use Rattle.ra_moves.specs.Replacing.{applied}
 use Rattle.ra_moves.proofs.ValueLemmas.{fits_after}
 use Rattle.ra_local.specs.Moving.{IsMove}

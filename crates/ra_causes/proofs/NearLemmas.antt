@@ -1,12 +1,11 @@
 -- Dependencies hold after a move where each process finds what its service needs in the neighbourhood that it enters, and
 -- leaves none of a service that needs it alone in the one that it leaves.
-use Rattle.std.proofs.Common.{◌≡◌, ◌≢◌, ℕ, ◌+◌, ◌<◌, ◌≤◌, true, false, List, None, length, get_or, sym, refl, ap, ◌∙◌, ⊎_elim, subst, arith}
+use Rattle.std.proofs.Common.{◌≡◌, ◌≢◌, ℕ, ◌+◌, ◌<◌, ◌≤◌, true, false, List, None, length, sym, refl, ap, ◌∙◌, ⊎_elim, subst, arith}
 use Rattle.std.proofs.lemmas.Bool.{cases_Bool, cases_lt}
 use Rattle.ra_base.specs.Sums.{is_named}
 use Rattle.ra_base.specs.declared.ids.Machine.{Machine}
 use Rattle.ra_base.proofs.Named.{is_named_at, is_named_from}
 use Rattle.ra_model.specs.declared.raw.Tables.{Tables}
-use Rattle.ra_model.specs.Limits.{WellFormed}
 use Rattle.ra_model.specs.Numbers.{service_count, process_count, dependency_count, need_of, service_of, neighbourhood_of}
 use Rattle.ra_model.specs.Assignments.{machine_at}
 use Rattle.ra_model.specs.Relations.{depends}

@@ -1,9 +1,9 @@
 -- The steps of a move, as they are read.
-use Rattle.std.proofs.Common.{◌≡◌, ℕ, ◌+◌, ◌-◌, ◌<◌, ◌≤◌, ◌^◌, ◌||◌, cond, eqb, List, length, sym, ap, ◌∙◌, arith}
+use Rattle.std.proofs.Common.{◌≡◌, ℕ, ◌+◌, ◌<◌, ◌||◌, cond, eqb, List, length, sym, ap, ◌∙◌, arith}
 use Rattle.ra_base.specs.declared.ids.Machine.{Machine}
 use Rattle.ra_model.specs.declared.raw.Tables.{Tables}
 use Rattle.ra_model.specs.Limits.{WellFormed}
-use Rattle.ra_model.specs.Numbers.{machine_count, service_count, process_count, requirement_of, service_of, dependency_start, dependency_end, dependency_count, need_of}
+use Rattle.ra_model.specs.Numbers.{machine_count, service_count, process_count, requirement_of, service_of, dependency_start, dependency_count, need_of}
 use Rattle.ra_model.specs.Assignments.{machine_at}
 use Rattle.ra_model.specs.Usage.{use_share, transient_share}
 use Rattle.ra_moves.specs.declared.steps.Step.{Step}

@@ -1,13 +1,12 @@
 -- What the values after a move say of each test.
-use Rattle.std.proofs.Common.{◌≡◌, ◌≢◌, ℕ, ◌<◌, ◌≤◌, Bool, true, false, not, eqb, ltb, ◌&&◌, List, Option, Some, None, length, sym, refl, ap, ◌∙◌, arith, lt-ltb, le-ltb, ne_eqb, eq-eqb}
+use Rattle.std.proofs.Common.{◌≡◌, ◌≢◌, ℕ, ◌<◌, ◌≤◌, Bool, true, false, eqb, ◌&&◌, List, Some, None, sym, ap, ◌∙◌, arith, lt-ltb, le-ltb, ne_eqb, eq-eqb}
 use Rattle.std.proofs.lemmas.Bool.{cond-true, cond-false, and_from, and_left, and_right, not_from_true, not_from_false}
 use Rattle.ra_base.specs.declared.ids.Machine.{Machine}
-use Rattle.ra_base.specs.declared.ids.Service.{Service}
 use Rattle.ra_base.specs.declared.causes.Cause.{Cause}
 use Rattle.ra_base.specs.declared.causes.Cause.TheVariants.{Repeat, Same, Capacity, Transient, Conflict, Spread, Dependency, Closed}
 use Rattle.ra_base.specs.Sums.{one_if, is_named}
 use Rattle.ra_model.specs.declared.raw.Tables.{Tables}
-use Rattle.ra_model.specs.Numbers.{resource_count, transient_at, capacity_of, spread_of, need_of, neighbourhood_of, closed_at, service_of}
+use Rattle.ra_model.specs.Numbers.{transient_at, capacity_of, spread_of, need_of, neighbourhood_of, closed_at, service_of}
 use Rattle.ra_model.specs.Assignments.{machine_at}
 use Rattle.ra_model.specs.Usage.{use_of, transient_of}
 use Rattle.ra_model.specs.Services.{is_of, of_service, on_machine, in_neighbourhood, locations_of, in_location}

@@ -1,5 +1,4 @@
 -- A trial of the move tells whether a constraint is broken.
-use Rattle.ra_moves.specs.Judging.{broken_by}
 use Rattle.ra_causes.proofs.HoldLemmas.{told_false, repeats_no, same_no, judged}
 use Rattle.ra_causes.proofs.broken.is_unbroken.Goals as goal
 

@@ -1,5 +1,5 @@
 -- The middle divides the services.
-use Rattle.std.proofs.Common.{ℕ, ◌+◌, ◌-◌, ◌/◌, ◌<◌, ◌≤◌, length, arith}
+use Rattle.std.proofs.Common.{ℕ, ◌+◌, ◌-◌, ◌/◌, ◌<◌, arith}
 use Rattle.ra_topology.specs.Lists.{service_at}
 use Rattle.ra_causes.proofs.NextLemmas.{below_middle, above_middle}
 use Rattle.ra_causes.proofs.ends.first_from.Goals as goal

@@ -1,9 +1,8 @@
 -- One more row.
-use Rattle.std.proofs.Common.{◌≡◌, ◌<◌, length, arith}
-use Rattle.ra_causes.proofs.ReadLemmas.{rows_none, rows_more, rows_all, counted_on, counted_few}
+use Rattle.std.proofs.Common.{arith}
+use Rattle.ra_causes.proofs.ReadLemmas.{rows_more, counted_on}
 use Rattle.ra_causes.proofs.StepLemmas.{process_read}
 use Rattle.ra_moves.specs.Steps.{process_in}
-use Rattle.ra_moves.specs.Steps.{step_at}
 use Rattle.ra_causes.proofs.required.read_required.Goals as goal
 
 pub read_row-requires-clause-process : goal.read_row-requires-clause-process

@@ -1,7 +1,6 @@
 -- One more column.
-use Rattle.std.proofs.Common.{◌≡◌, ◌<◌, ◌≤◌, ◌∙◌, arith}
+use Rattle.std.proofs.Common.{◌<◌, ◌∙◌, arith}
 use Rattle.std.proofs.lemmas.List.{length-set}
-use Rattle.ra_model.specs.Numbers.{resource_count}
 use Rattle.ra_causes.proofs.ReadLemmas.{read_none, read_more}
 use Rattle.ra_causes.proofs.required.read_row.Goals as goal
 

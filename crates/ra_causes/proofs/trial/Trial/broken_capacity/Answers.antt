@@ -1,11 +1,9 @@
 -- The search goes from one place that the move touches to the next.
-use Rattle.std.proofs.Common.{◌<◌, ◌≤◌, length, sym, arith}
-use Rattle.ra_base.specs.Sums.{is_named}
+use Rattle.std.proofs.Common.{sym, arith}
 use Rattle.ra_model.specs.Numbers.{machine_count}
 use Rattle.ra_model.specs.Broken.{row_capacity, broken_capacity}
-use Rattle.ra_moves.specs.Steps.{process_in}
 use Rattle.ra_local.specs.Touched.{ends_at}
-use Rattle.ra_causes.specs.Trials.{tables_of, initial_of, steps_of, after_of}
+use Rattle.ra_causes.specs.Trials.{tables_of, steps_of, after_of}
 use Rattle.ra_causes.proofs.SeekLemmas.{sought_start, sought_on, sought_found, sought_all}
 use Rattle.ra_causes.proofs.trial.Trial.broken_capacity.Goals as goal
 

@@ -1,5 +1,5 @@
 -- The search goes from one place that the move touches to the next.
-use Rattle.std.proofs.Common.{◌<◌, ◌≤◌, length, sym, arith}
+use Rattle.std.proofs.Common.{length, sym, arith}
 use Rattle.ra_base.specs.Sums.{is_named}
 use Rattle.ra_model.specs.Numbers.{process_count}
 use Rattle.ra_model.specs.Broken.{closed_test, broken_closed}

@@ -3,7 +3,7 @@ use Rattle.std.proofs.Common.{◌-◌}
 use Rattle.ra_model.specs.Numbers.{service_count}
 use Rattle.ra_model.specs.Broken.{service_conflict}
 use Rattle.ra_causes.specs.Searching.{Sought}
-use Rattle.ra_causes.specs.Trials.{tables_of, initial_of, after_of}
+use Rattle.ra_causes.specs.Trials.{tables_of, after_of}
 use Rattle.ra_causes.proofs.trial.Trial.broken_conflict.Given as goal
 
 abbrev pub invariant-loop-low : goal.invariant-loop-low

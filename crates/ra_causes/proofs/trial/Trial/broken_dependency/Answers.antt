@@ -1,9 +1,7 @@
 -- The search goes from one place that the move touches to the next.
-use Rattle.std.proofs.Common.{◌<◌, ◌≤◌, length, sym, arith}
-use Rattle.ra_base.specs.Sums.{is_named}
+use Rattle.std.proofs.Common.{sym, arith}
 use Rattle.ra_model.specs.Numbers.{service_count}
 use Rattle.ra_model.specs.Broken.{service_dependency, broken_dependency}
-use Rattle.ra_moves.specs.Steps.{process_in}
 use Rattle.ra_causes.specs.Touching.{touches_service}
 use Rattle.ra_causes.proofs.NextLemmas.{dependency_touched}
 use Rattle.ra_causes.specs.Trials.{tables_of, initial_of, steps_of, after_of}

@@ -1,9 +1,9 @@
 -- What the steps add and take, and what that makes.
-use Rattle.std.proofs.Common.{◌≡◌, ◌^◌, length, arith}
+use Rattle.std.proofs.Common.{◌≡◌, length, arith}
 use Rattle.ra_model.specs.Services.{of_service, members_at}
 use Rattle.ra_causes.specs.Marks.{has_mark, marked}
 use Rattle.ra_causes.proofs.StepLemmas.{come_read, gone_read}
-use Rattle.ra_causes.specs.Trials.{tables_of, initial_of, steps_of, before_of, after_of}
+use Rattle.ra_causes.specs.Trials.{tables_of, steps_of, before_of}
 use Rattle.ra_causes.proofs.FlowLemmas.{flows_none, flows_more, flowed_enough, flowed}
 use Rattle.ra_causes.proofs.trial.Trial.count_after.Goals as goal
 

@@ -1,10 +1,10 @@
 -- One need after another.
-use Rattle.std.proofs.Common.{◌≡◌, ◌<◌, length, get_or, sym, refl, arith}
+use Rattle.std.proofs.Common.{get_or, refl, arith}
 use Rattle.ra_base.specs.declared.ids.Service.{Service}
-use Rattle.ra_model.specs.Numbers.{dependency_count, neighbourhood_of}
+use Rattle.ra_model.specs.Numbers.{neighbourhood_of}
 use Rattle.ra_causes.specs.Trials.{tables_of, after_of}
 use Rattle.ra_causes.specs.Nearness.{FindsNeeds}
-use Rattle.ra_causes.proofs.StepLemmas.{service_there, need_there}
+use Rattle.ra_causes.proofs.StepLemmas.{need_there}
 use Rattle.ra_causes.proofs.HoldLemmas.{told_true, told_false}
 use Rattle.ra_causes.proofs.NearLemmas.{needs_start, need_next, needs_all, need_missing}
 use Rattle.ra_causes.proofs.trial.Trial.finds_needs.Goals as goal

@@ -2,7 +2,7 @@
 use Rattle.std.proofs.Common.{◌≡◌, true, None}
 use Rattle.std.proofs.lemmas.Bool.{both_ways}
 use Rattle.ra_model.specs.Broken.{first_broken}
-use Rattle.ra_model.proofs.BrokenLemmas.{Fine, fine_from_unbroken, unbroken_from_fine}
+use Rattle.ra_model.proofs.BrokenLemmas.{fine_from_unbroken, unbroken_from_fine}
 use Rattle.ra_causes.specs.Trials.{tables_of, initial_of, after_of}
 use Rattle.ra_causes.proofs.HoldLemmas.{told_false}
 use Rattle.ra_causes.proofs.trial.Trial.is_unbroken.Goals as goal

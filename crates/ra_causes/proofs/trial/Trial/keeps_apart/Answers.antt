@@ -1,6 +1,5 @@
 -- Two processes of a service are on one machine only where one of them enters it.
-use Rattle.std.proofs.Common.{◌≡◌, ◌≢◌, None, length, sym, arith}
-use Rattle.ra_model.specs.Broken.{conflict_test}
+use Rattle.std.proofs.Common.{◌≡◌, length, sym, arith}
 use Rattle.ra_causes.specs.Trials.{tables_of, initial_of, steps_of, before_of, after_of}
 use Rattle.ra_causes.proofs.StepLemmas.{step_process, step_to, to_read, service_read, service_there}
 use Rattle.ra_causes.proofs.HoldLemmas.{conflict_start, conflict_more, conflict_all, conflict_there, told_true, told_false}

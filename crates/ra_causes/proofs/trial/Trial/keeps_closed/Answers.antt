@@ -4,7 +4,7 @@ use Rattle.ra_model.specs.Numbers.{process_count}
 use Rattle.ra_model.specs.Broken.{closed_test, broken_closed}
 use Rattle.ra_moves.specs.Steps.{process_in}
 use Rattle.ra_causes.specs.Trials.{tables_of, initial_of, steps_of, before_of, after_of}
-use Rattle.ra_causes.proofs.StepLemmas.{process_read, step_process, step_to, service_there}
+use Rattle.ra_causes.proofs.StepLemmas.{process_read, step_process}
 use Rattle.ra_causes.proofs.HoldLemmas.{none_start, none_more, none_all, told_true, told_false, found_there}
 use Rattle.ra_causes.proofs.trial.Trial.keeps_closed.Goals as goal
 

@@ -1,5 +1,4 @@
 -- Nothing is broken where the steps so far lead.
-use Rattle.std.proofs.Common.{length}
 use Rattle.ra_model.specs.Broken.{closed_test}
 use Rattle.ra_moves.specs.Steps.{process_in}
 use Rattle.ra_causes.specs.Trials.{tables_of, initial_of, steps_of, after_of}

@@ -4,7 +4,7 @@ use Rattle.std.proofs.lemmas.Bool.{both_ways}
 use Rattle.ra_model.specs.Numbers.{neighbourhood_of}
 use Rattle.ra_model.specs.Broken.{broken_dependency}
 use Rattle.ra_causes.specs.Trials.{tables_of, initial_of, steps_of, before_of, after_of}
-use Rattle.ra_causes.proofs.StepLemmas.{step_process, step_to, step_from, service_there, service_read, to_read, from_read}
+use Rattle.ra_causes.proofs.StepLemmas.{step_process, service_there, service_read, to_read, from_read}
 use Rattle.ra_causes.proofs.LandLemmas.{lands_read}
 use Rattle.ra_causes.proofs.HoldLemmas.{told_true, told_false}
 use Rattle.ra_causes.proofs.NearLemmas.{keep_start, keep_next, near_all, needs_found, none_left}

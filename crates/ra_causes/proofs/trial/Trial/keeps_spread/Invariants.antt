@@ -1,8 +1,7 @@
 -- Nothing is broken where the steps so far lead.
-use Rattle.std.proofs.Common.{length}
 use Rattle.ra_model.specs.Broken.{spread_test}
-use Rattle.ra_local.specs.Touched.{service_in, moves_service}
-use Rattle.ra_causes.specs.Trials.{tables_of, initial_of, steps_of, after_of}
+use Rattle.ra_local.specs.Touched.{service_in}
+use Rattle.ra_causes.specs.Trials.{tables_of, steps_of, after_of}
 use Rattle.ra_causes.proofs.HoldLemmas.{NoneAt}
 use Rattle.ra_causes.proofs.trial.Trial.keeps_spread.Given as goal
 

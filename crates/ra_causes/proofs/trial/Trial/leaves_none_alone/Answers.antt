@@ -1,11 +1,10 @@
 -- One dependant after another.
-use Rattle.std.proofs.Common.{◌≡◌, ◌<◌, length, get_or, sym, refl, arith}
+use Rattle.std.proofs.Common.{get_or, refl, arith}
 use Rattle.ra_base.specs.declared.ids.Service.{Service}
 use Rattle.ra_model.specs.Numbers.{neighbourhood_of}
 use Rattle.ra_topology.specs.Lists.{service_at}
 use Rattle.ra_causes.specs.Trials.{tables_of, after_of}
 use Rattle.ra_causes.specs.Nearness.{LeavesNone}
-use Rattle.ra_causes.proofs.StepLemmas.{service_there}
 use Rattle.ra_causes.proofs.NextLemmas.{listed, dependant_at}
 use Rattle.ra_causes.proofs.HoldLemmas.{told_true, told_false}
 use Rattle.ra_causes.proofs.NearLemmas.{near_start, near_next, alone_all, alone_found, not_alone}

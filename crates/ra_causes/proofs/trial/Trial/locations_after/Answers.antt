@@ -1,5 +1,5 @@
 -- The locations of the ends, each once.
-use Rattle.std.proofs.Common.{◌≡◌, ◌+◌, ◌<◌, length, arith}
+use Rattle.std.proofs.Common.{◌≡◌, ◌+◌, length, arith}
 use Rattle.ra_moves.specs.Values.{end_count}
 use Rattle.ra_causes.specs.Marks.{held_in, end_location}
 use Rattle.ra_causes.specs.Trials.{tables_of, initial_of, steps_of, before_of, after_of}

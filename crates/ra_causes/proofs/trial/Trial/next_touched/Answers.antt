@@ -1,8 +1,6 @@
 -- One more step.
-use Rattle.std.proofs.Common.{◌<◌, length, arith}
-use Rattle.ra_model.specs.Numbers.{service_count}
+use Rattle.std.proofs.Common.{arith}
 use Rattle.ra_local.specs.Touched.{service_in}
-use Rattle.ra_causes.specs.Touching.{needs_moved}
 use Rattle.ra_causes.specs.Trials.{tables_of, steps_of}
 use Rattle.ra_causes.proofs.SeekLemmas.{clear_none, clear_nearer, clear_more}
 use Rattle.ra_causes.proofs.StepLemmas.{service_read}

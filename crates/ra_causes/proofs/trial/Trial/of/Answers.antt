@@ -1,5 +1,4 @@
 -- What a world keeps is what a trial needs.
-use Rattle.std.proofs.Common.{sym, ap, ◌∙◌}
 use Rattle.ra_model.proofs.BrokenLemmas.{fine_from_unbroken}
 use Rattle.ra_local.proofs.Local.{failures_are_local}
 use Rattle.ra_causes.proofs.trial.Trial.of.Goals as goal

@@ -2,7 +2,7 @@
 use Rattle.std.proofs.Common.{◌≡◌, None}
 use Rattle.ra_base.specs.Searches.{first}
 use Rattle.ra_model.specs.Broken.{capacity_test}
-use Rattle.ra_causes.specs.Trials.{tables_of, initial_of, after_of}
+use Rattle.ra_causes.specs.Trials.{tables_of, after_of}
 use Rattle.ra_causes.proofs.trial.Trial.row_capacity.Given as goal
 
 abbrev pub invariant-loop-r : goal.invariant-loop-r

@@ -1,5 +1,5 @@
 -- One resource after another.
-use Rattle.std.proofs.Common.{◌≡◌, ◌<◌, sym, ap, arith}
+use Rattle.std.proofs.Common.{◌≡◌, ◌<◌, arith}
 use Rattle.std.proofs.lemmas.Bool.{both_ways}
 use Rattle.ra_model.specs.Numbers.{resource_count}
 use Rattle.ra_causes.specs.Holding.{FitsBelow}

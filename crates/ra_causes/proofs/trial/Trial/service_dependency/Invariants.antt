@@ -2,7 +2,7 @@
 use Rattle.std.proofs.Common.{◌≡◌, None}
 use Rattle.ra_base.specs.Searches.{first}
 use Rattle.ra_model.specs.Broken.{pair_dependency}
-use Rattle.ra_causes.specs.Trials.{tables_of, initial_of, after_of}
+use Rattle.ra_causes.specs.Trials.{tables_of, after_of}
 use Rattle.ra_causes.proofs.trial.Trial.service_dependency.Given as goal
 
 abbrev pub invariant-loop-k : goal.invariant-loop-k

@@ -1,8 +1,6 @@
 -- Where more than enough locations are held before the move, it can't leave too many.
-use Rattle.std.proofs.Common.{◌≡◌, ◌+◌, ◌<◌, ◌≤◌, None, length, sym, refl, arith}
-use Rattle.ra_model.specs.Numbers.{spread_of}
+use Rattle.std.proofs.Common.{◌<◌, ◌≤◌, sym, refl, arith}
 use Rattle.ra_model.specs.Services.{locations_of}
-use Rattle.ra_model.specs.Broken.{spread_test}
 use Rattle.ra_causes.specs.Trials.{tables_of, initial_of, steps_of, before_of, after_of}
 use Rattle.ra_causes.proofs.HoldLemmas.{told_true, told_le, spread_over}
 use Rattle.ra_causes.proofs.LocationLemmas.{left_few}

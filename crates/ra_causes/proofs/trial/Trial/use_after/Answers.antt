@@ -2,7 +2,7 @@
 use Rattle.std.proofs.Common.{◌≡◌, ◌^◌, length, arith}
 use Rattle.ra_model.specs.Usage.{use_share, use_of}
 use Rattle.ra_causes.proofs.StepLemmas.{use_comes, use_goes}
-use Rattle.ra_causes.specs.Trials.{tables_of, initial_of, steps_of, before_of, after_of}
+use Rattle.ra_causes.specs.Trials.{tables_of, steps_of, before_of}
 use Rattle.ra_causes.proofs.FlowLemmas.{flows_none, flows_more, flowed_enough, flowed}
 use Rattle.ra_causes.proofs.trial.Trial.use_after.Goals as goal
 
