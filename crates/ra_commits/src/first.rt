@@ -87,7 +87,12 @@ fn weigh<L: Ledger>(
 #[tactic(auto, unfolding(crate::specs::FirstPlans::is_rise))]
 fn bare(cause: &Cause) -> Option<Weighed>
     ensures broken { IfSome result (λ weighed. weighed ≡ record {
-        broken = Some cause.now; local = pos 0; first = None; second = None; third = None }) }
+      broken = Some cause.now;
+      local = pos 0;
+      first = None;
+      second = None;
+      third = None;
+    }) }
     ensures other { IfSome result (λ weighed. is_rise cause.now ≡ false) }
 {
     match cause {

@@ -37,12 +37,15 @@ fn shifting(rt: &impl Abort, alloc: Global, process: u64, to: u64) -> Lot
 /// Two workers, each of which shifts a process to a machine; a first proposal may raise the cost by 4.
 fn two_lots(rt: &impl Abort, alloc: Global, first: [u64; 2], second: [u64; 2]) -> Lots {
     let mut lots = Vec::new(alloc);
-    lots.push(shifting(rt, alloc, first[0], first[1])).expect(rt, "no memory");
-    lots.push(shifting(rt, alloc, second[0], second[1])).expect(rt, "no memory");
+    lots.push(shifting(rt, alloc, first[0], first[1]))
+        .expect(rt, "no memory");
+    lots.push(shifting(rt, alloc, second[0], second[1]))
+        .expect(rt, "no memory");
     Lots::of(8, Drawing::One, lots)
 }
 
 /// A worker's first plan at the start.
+#[tactic(auto, unfolding(ra_journal::specs::Entries::worker_count, ra_journal::specs::Entries::budget, ra_draws::specs::Lots::budget_of))]
 fn planned<L: Ledger>(
     rt: &impl Abort,
     world: &World<'_>,
