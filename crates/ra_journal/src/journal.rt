@@ -193,6 +193,13 @@ impl<'a> Journal<'a> {
         self.book.entries.get(at as usize)
     }
 
+    /// All entries, in order.
+    pub fn entries(&self) -> &[Entry]
+        ensures { result.now ≡ self.now.book.entries.items }
+    {
+        self.book.entries.as_slice()
+    }
+
     /// How many entries a worker has made.
     pub fn made_by(&self, worker: u32) -> u64
         requires { worker < worker_count self.now.lots.now }

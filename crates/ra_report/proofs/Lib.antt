@@ -4,3 +4,4 @@ pub mod NumberTexts
 pub mod EntryTexts
 pub mod JournalTexts
 pub mod HeadLines
+pub mod ReportTexts

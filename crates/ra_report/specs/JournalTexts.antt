@@ -16,6 +16,7 @@ use Rattle.ra_moves.specs.declared.steps.Step.{Step}
 use Rattle.ra_moves.specs.declared.verdicts.Verdict.{Verdict}
 use Rattle.ra_moves.specs.declared.verdicts.Verdict.TheVariants.{Done, Refused}
 use Rattle.ra_journal.specs.declared.entries.Entry.{Entry}
+use Rattle.ra_journal.specs.declared.journal.Journal.{Journal}
 use Rattle.ra_journal.specs.Entries.{entry_at}
 use Rattle.ra_journal.specs.States.{state}
 use Rattle.ra_journal.specs.Best.{best_of}
@@ -91,6 +92,13 @@ report_text i a0 l h =
     let j = best_of i a0 h in
     let best = state a0 h j in
     report_lines (parts_of i a0 best) (bound_of i).total j best l.drawing h
+
+-- the best state of a journal, and its report
+unfoldable pub best_state : Journal → List Machine
+best_state j = state j.a0.now.items j.book.entries.items (best_of j.inst.now.tables j.a0.now.items j.book.entries.items)
+
+unfoldable pub text_of : Journal → List ℕ
+text_of j = report_text j.inst.now.tables j.a0.now.items j.lots.now j.book.entries.items
 
 -- the three lines of a bound: its total, its load and its balance
 unfoldable pub bound_text : Bound → List ℕ

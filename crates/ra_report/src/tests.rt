@@ -1,3 +1,4 @@
+use super::writing::write_lines;
 use super::*;
 use ra_base::{Assignment, Cause, Drawing, Fixed, Machine, Parts, Process, Resource, Service};
 use ra_bounds::Bound;
@@ -74,7 +75,7 @@ fn the_report_of_the_sample(rt: HostRuntime) -> Result<(), Fail> {
     let mut out = sound(&rt)?;
     let machines = best(&rt)?;
     assert_eq!(rt;
-        write_report(
+        write_lines(
             &mut out,
             &machines,
             &PARTS,
@@ -98,7 +99,7 @@ fn a_report_with_no_entry_has_ten_lines(rt: HostRuntime) -> Result<(), Fail> {
     let mut out = sound(&rt)?;
     let machines: Assignment = Fixed::make(rt.alloc(), 0)?;
     assert_eq!(rt;
-        write_report(
+        write_lines(
             &mut out,
             &machines,
             &PARTS,
@@ -220,7 +221,7 @@ fn a_failed_put_ends_the_report(rt: HostRuntime) -> Result<(), Fail> {
     let mut out = sink(&rt, 28, 2)?;
     let machines = best(&rt)?;
     assert_eq!(rt;
-        write_report(
+        write_lines(
             &mut out,
             &machines,
             &PARTS,

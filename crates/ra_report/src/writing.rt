@@ -1,7 +1,9 @@
-ghost use Rattle.std.specs.Prelude.{◌≤◌, OnOk, OnErr};
+ghost use Rattle.std.specs.Prelude.{◌≡◌, ◌≤◌, OnOk, OnErr};
 ghost use Rattle.std.specs.Io.KnownBytes.{Appends};
 ghost use Rattle.ra_report.specs.FaultTexts.{fault_text};
-ghost use Rattle.ra_report.specs.JournalTexts.{report_lines, bound_text};
+ghost use Rattle.ra_model.specs.Costs.{parts_of};
+ghost use Rattle.ra_bounds.specs.Bounds.{bound_of};
+ghost use Rattle.ra_report.specs.JournalTexts.{report_lines, best_state, text_of, bound_text};
 ghost use Rattle.ra_report.specs.Pieces.{Breaks};
 ghost use Rattle.ra_report.specs.Texts.{parts_text, cause_text};
 
@@ -12,7 +14,7 @@ use crate::texts::{add_cause, add_parts};
 use ra_base::{Assignment, Cause, Drawing, Parts};
 use ra_bounds::Bound;
 use ra_io::Sink;
-use ra_journal::Entry;
+use ra_journal::{Entry, Journal};
 
 /// Writes the six lines of the parts: `cost`, `load`, `balance`, `process`, `service`, `machine`.
 pub fn write_parts<O: Sink>(sink: &mut O, parts: &Parts) -> Result<(), WriteFault>
@@ -41,8 +43,39 @@ pub fn write_cause<O: Sink>(sink: &mut O, cause: &Cause) -> Result<(), WriteFaul
 }
 
 /// Writes the report of a run: the parts of the best assignment, the total of the bound, the place of the best
-/// assignment, the assignment itself, the drawing, and a line for each entry of the journal.
+/// assignment, the assignment itself, the drawing, and a line for each entry of the journal. `best` and `parts` are those
+/// of the journal's best state, and `bound` that of its instance.
 pub fn write_report<O: Sink>(
+    sink: &mut O,
+    best: &Assignment,
+    parts: &Parts,
+    bound: &Bound,
+    journal: &Journal<'_>,
+) -> Result<(), WriteFault>
+    requires best { best.now.items ≡ best_state journal.now }
+    requires parts { parts.now ≡
+        parts_of journal.now.inst.now.tables journal.now.a0.now.items best.now.items }
+    requires bound { bound.now ≡ bound_of journal.now.inst.now.tables }
+    ensures whole { OnOk result (Appends (O.taken sink.old) (O.taken sink.new)
+        (text_of journal.now)) }
+    ensures part { OnErr result (Breaks (O.taken sink.old) (O.taken sink.new) (O.faults sink.old)
+        (O.faults sink.new) (text_of journal.now)) }
+    ensures never_falls { O.faults sink.old ≤ O.faults sink.new }
+{
+    let drawing = journal.lots().drawing();
+    write_lines(
+        sink,
+        best,
+        parts,
+        bound,
+        journal.best_at(),
+        drawing,
+        journal.entries(),
+    )
+}
+
+/// Writes the lines of a report, whatever its numbers are.
+pub(crate) fn write_lines<O: Sink>(
     sink: &mut O,
     best: &Assignment,
     parts: &Parts,
