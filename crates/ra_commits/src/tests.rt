@@ -35,13 +35,16 @@ fn shifting(rt: &impl Abort, alloc: Global, process: u64, to: u64) -> Lot
 }
 
 /// Two workers, each of which shifts a process to a machine; a first proposal may raise the cost by 4.
-fn two_lots(rt: &impl Abort, alloc: Global, first: [u64; 2], second: [u64; 2]) -> Lots {
+fn two_lots(
+    rt: &impl Abort,
+    alloc: Global,
+    first: [u64; 2],
+    second: [u64; 2],
+) -> Result<Lots, NoMemory> {
     let mut lots = Vec::new(alloc);
-    lots.push(shifting(rt, alloc, first[0], first[1]))
-        .expect(rt, "no memory");
-    lots.push(shifting(rt, alloc, second[0], second[1]))
-        .expect(rt, "no memory");
-    Lots::of(8, Drawing::One, lots)
+    lots.push(shifting(rt, alloc, first[0], first[1]))?;
+    lots.push(shifting(rt, alloc, second[0], second[1]))?;
+    Ok(Lots::of(8, Drawing::One, lots))
 }
 
 /// A worker's first plan at the start.
@@ -132,7 +135,7 @@ fn answers(
     second: [u64; 2],
 ) -> ([Reply; 2], u64, u128, u64, u32) {
     let inst = eight_machines(alloc).expect(rt, "no instance");
-    let lots = two_lots(rt, alloc, first, second);
+    let lots = two_lots(rt, alloc, first, second).expect(rt, "no memory");
     let result = run::<Brand>(rt, alloc, &inst, &lots, Blank::new(1));
     drop(inst);
     result
