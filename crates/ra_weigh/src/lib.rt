@@ -6,3 +6,6 @@ mod weighing;
 
 pub use verdicts::verdict;
 pub use weighing::weigh;
+
+#[cfg(test)]
+mod tests;
