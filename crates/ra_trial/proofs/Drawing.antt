@@ -1,13 +1,13 @@
 -- Words drawn one after another.
-use Rattle.std.proofs.Common.{◌≡◌, ℕ, ◌+◌, List, [], ◌∷◌, ◌++◌, refl, sym, ap, ◌∙◌, add-one}
+use Rattle.std.proofs.Common.{◌≡◌, ℕ, ◌+◌, ◌<◌, get_or, List, [], ◌∷◌, ◌++◌, refl, sym, ap, ◌∙◌, add-one}
 use Rattle.rand_core.specs.Stream.{Stream, next_u64}
 use Rattle.rand_core.specs.Steps.{stream_of, steps_u64_high}
 use Rattle.rand_xoshiro.specs.SplitMix64.{splitmix_seed}
 use Rattle.rand_xoshiro.specs.Xoshiro256.{of_seed, plus_plus}
 use Rattle.ra_draws.specs.Words.{after_words, stream_word, seed_stream}
 use Rattle.ra_trial.specs.Lines.{listed}
-use Rattle.ra_trial.specs.Numbers.{trial_words}
-use Rattle.ra_trial.proofs.LineLemmas.{listed_more}
+use Rattle.ra_trial.specs.Numbers.{trial_word}
+use Rattle.ra_trial.proofs.LineLemmas.{listed_more, listed_at}
 
 -- the first n words were drawn, and the rest of the stream is left
 pub record Drawn (all : Stream) (n : ℕ) (rest : Stream) (words : List ℕ) : Type 0 where
@@ -38,6 +38,10 @@ pub drawn_all : (all : Stream) (n m : ℕ) (rest : Stream) (words : List ℕ) �
 drawn_all all n m rest words last drawn = drawn.words_are ∙ ap (λ (k : ℕ). listed k (stream_word all)) last
 
 -- the words of the generator that a number seeds
-pub seeded : (number : ℕ) (state items : List ℕ) → state ≡ of_seed (splitmix_seed 32 number) → items ≡ listed 5650 (stream_word (stream_of (steps_u64_high plus_plus) state)) → items ≡ trial_words number
-unfolding trial_words seed_stream
+pub seeded : (number : ℕ) (state items : List ℕ) → state ≡ of_seed (splitmix_seed 32 number) → items ≡ listed 5650 (stream_word (stream_of (steps_u64_high plus_plus) state)) → items ≡ listed 5650 (trial_word number)
+unfolding trial_word seed_stream
 seeded number state items made drawn = drawn ∙ ap (λ (s : List ℕ). listed 5650 (stream_word (stream_of (steps_u64_high plus_plus) s))) made
+
+-- a word that was drawn
+pub word_at : (items : List ℕ) (n number i word : ℕ) → items ≡ listed n (trial_word number) → i < n → word ≡ get_or items i word → word ≡ trial_word number i
+word_at items n number i word drawn within read = read ∙ (ap (λ (xs : List ℕ). get_or xs i word) drawn ∙ listed_at n (trial_word number) i word within)

@@ -1,7 +1,8 @@
 -- Texts of lines, one number and one line after another.
-use Rattle.std.proofs.Common.{◌≡◌, ℕ, zero, suc, ◌+◌, ◌*◌, ◌<◌, ◌≤◌, List, [], ◌∷◌, ◌++◌, length, refl, sym, ap, ◌∙◌, get_or, arith, add-one, append_assoc, length-append}
-use Rattle.std.proofs.lemmas.List.{drop_all, append-nil}
-use Rattle.std.proofs.Math.Seq.{drop-cons}
+use Rattle.std.proofs.Common.{◌≡◌, ⊎_elim, ℕ, zero, suc, ◌+◌, ◌*◌, ◌<◌, ◌≤◌, List, [], ◌∷◌, ◌++◌, length, refl, sym, ap, ◌∙◌, get_or, arith, add-one, append_assoc, length-append}
+use Rattle.std.proofs.lemmas.List.{drop_all, append-nil, get_or_append_left}
+use Rattle.std.proofs.lemmas.Bool.{cases_lt}
+use Rattle.std.proofs.Math.Seq.{drop-cons, get_or-append_seam}
 use Rattle.std.specs.Prelude.{drop}
 use Rattle.std.specs.Fmt.{decimal}
 use Rattle.ra_base.specs.Listed.{Listed}
@@ -79,6 +80,17 @@ pub length_listed : {X : Type 0} (n : ℕ) (f : ℕ → X) → length (listed n 
 unfolding listed
 length_listed zero f = refl
 length_listed (suc n) f = omega (arith, length-append (listed n f) (f n ∷ []), length_listed n f)
+
+-- item i
+pub listed_at : {X : Type 0} (n : ℕ) (f : ℕ → X) (i : ℕ) (d : X) → i < n → get_or (listed n f) i d ≡ f i
+unfolding listed
+listed_at zero f i d within = absurd (omega arith)
+listed_at {X} (suc n) f i d within = ⊎_elim
+    (λ (before : i < n). get_or_append_left (listed n f) (f n ∷ []) d i (let l : length (listed n f) ≡ n = length_listed n f in omega arith) ∙ listed_at n f i d before)
+    (λ (behind : n ≤ i). let here : i ≡ n = omega arith in
+    let l : length (listed n f) ≡ n = length_listed n f in
+    ap (λ (k : ℕ). get_or (listed n f ++ f n ∷ []) k d) (here ∙ sym l) ∙ (get_or-append_seam (listed n f) (f n) [] d ∙ ap f (sym here)))
+    (cases_lt i n)
 
 -- one more item behind a list, and behind other items
 pub listed_pushed : {X : Type 0} (n : ℕ) (f : ℕ → X) (items after : List X) (v : X) → items ≡ listed n f → v ≡ f n → after ≡ items ++ v ∷ [] → after ≡ listed (n + 1) f

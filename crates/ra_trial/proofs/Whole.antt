@@ -3,7 +3,7 @@ use Rattle.std.proofs.Common.{◌≡◌, ℕ, List, [], ◌∷◌, ◌++◌, sym
 use Rattle.std.proofs.lemmas.List.{append-nil}
 use Rattle.ra_base.specs.Listed.{Listed}
 use Rattle.ra_trial.specs.Lines.{line_text, lines_text, Adds}
-use Rattle.ra_trial.specs.Numbers.{trial_words}
+use Rattle.ra_trial.specs.Numbers.{trial_word}
 use Rattle.ra_trial.specs.Trials.{resource_lines, machine_lines, service_lines, process_lines, last_lines, text_over, model_text}
 use Rattle.ra_trial.proofs.LineLemmas.{adds_as, adds_then}
 
@@ -16,10 +16,10 @@ chain a b c d e f r m s p l i j k n o none first second third fourth fifth =
     fifth.items ∙ ap (λ (t : List ℕ). t ++ l) four
 
 -- the whole text
-pub model_done : (a b c d e f : Listed ℕ) (number : ℕ) (ws : List ℕ) (i j k n o : ℕ) → ws ≡ trial_words number → a.items ≡ [] → Adds a b (lines_text resource_lines) i → Adds b c (lines_text (machine_lines ws)) j → Adds c d (lines_text (service_lines ws)) k → Adds d e (lines_text (process_lines ws)) n → Adds e f (lines_text last_lines) o → f.items ≡ model_text number
+pub model_done : (a b c d e f : Listed ℕ) (seed number : ℕ) (i j k n o : ℕ) → seed ≡ number → a.items ≡ [] → Adds a b (lines_text resource_lines) i → Adds b c (lines_text (machine_lines (trial_word seed))) j → Adds c d (lines_text (service_lines (trial_word seed))) k → Adds d e (lines_text (process_lines (trial_word seed))) n → Adds e f (lines_text last_lines) o → f.items ≡ model_text number
 unfolding model_text text_over
-model_done a b c d e f number ws i j k n o drawn none first second third fourth fifth =
-    chain a b c d e f _ _ _ _ _ i j k n o none first second third fourth fifth ∙ ap text_over drawn
+model_done a b c d e f seed number i j k n o same none first second third fourth fifth =
+    chain a b c d e f _ _ _ _ _ i j k n o none first second third fourth fifth ∙ ap (λ (s : ℕ). text_over (trial_word s)) same
 
 -- the last four lines
 pub last_done : (a b c d e : Listed ℕ) → Adds a b (line_text (1 ∷ [])) 12 → Adds b c (line_text (0 ∷ 1 ∷ 2 ∷ [])) 34 → Adds c d (line_text (10 ∷ [])) 12 → Adds d e (line_text (1 ∷ 10 ∷ 100 ∷ [])) 34 → Adds a e (lines_text last_lines) 92

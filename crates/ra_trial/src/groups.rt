@@ -1,6 +1,6 @@
 ghost use Rattle.std.specs.Prelude.{◌≡◌, ◌+◌, ◌<◌, ◌≤◌, length};
 ghost use Rattle.ra_trial.specs.Lines.{Adds, line_text, lines_text};
-ghost use Rattle.ra_trial.specs.Numbers.{transient_of};
+ghost use Rattle.ra_trial.specs.Numbers.{trial_word, transient_of};
 ghost use Rattle.ra_trial.specs.Trials.{resource_line, resource_lines, service_line, service_lines, process_line, process_lines, last_lines};
 
 use crate::lines::push_line;
@@ -47,7 +47,7 @@ fn transient_flag(r: u32) -> u32
 /// Adds the count of services and the line of each.
 pub(crate) fn push_services(text: &mut Fixed<u8>, words: &Words)
     requires { length text.old.items + 8512 ≤ text.old.room }
-    ensures { Adds text.old text.new (lines_text (service_lines words.now.drawn.items)) 8512 }
+    ensures { Adds text.old text.new (lines_text (service_lines (trial_word words.now.number))) 8512 }
 {
     push_line(text, &[SERVICES]);
     for s in 0..SERVICES {
@@ -59,7 +59,7 @@ pub(crate) fn push_services(text: &mut Fixed<u8>, words: &Words)
 fn push_service(text: &mut Fixed<u8>, words: &Words, s: u32)
     requires service { s < 250 }
     requires room { length text.old.items + 34 ≤ text.old.room }
-    ensures { Adds text.old text.new (line_text (service_line words.now.drawn.items s)) 34 }
+    ensures { Adds text.old text.new (line_text (service_line (trial_word words.now.number) s)) 34 }
 {
     let wants = spread(words, s);
     if s % 5 == 0 {
@@ -72,7 +72,7 @@ fn push_service(text: &mut Fixed<u8>, words: &Words, s: u32)
 /// Adds the count of processes and the line of each.
 pub(crate) fn push_processes(text: &mut Fixed<u8>, words: &Words)
     requires { length text.old.items + 67012 ≤ text.old.room }
-    ensures { Adds text.old text.new (lines_text (process_lines words.now.drawn.items)) 67012 }
+    ensures { Adds text.old text.new (lines_text (process_lines (trial_word words.now.number))) 67012 }
 {
     push_line(text, &[PROCESSES]);
     for p in 0..PROCESSES {
@@ -84,7 +84,7 @@ pub(crate) fn push_processes(text: &mut Fixed<u8>, words: &Words)
 fn push_process(text: &mut Fixed<u8>, words: &Words, p: u32)
     requires process { p < 1000 }
     requires room { length text.old.items + 67 ≤ text.old.room }
-    ensures { Adds text.old text.new (line_text (process_line words.now.drawn.items p)) 67 }
+    ensures { Adds text.old text.new (line_text (process_line (trial_word words.now.number) p)) 67 }
 {
     push_line(
         text,

@@ -11,4 +11,3 @@ mod trials;
 mod words;
 
 pub use trials::{TrialText, trial_text};
-

@@ -1,6 +1,6 @@
 ghost use Rattle.std.specs.Prelude.{◌≡◌, ◌+◌, ◌<◌, ◌≤◌, ◌++◌, length, IfOk};
 ghost use Rattle.ra_trial.specs.Lines.{Adds, listed, line_text, lines_text};
-ghost use Rattle.ra_trial.specs.Numbers.{move_cost_of};
+ghost use Rattle.ra_trial.specs.Numbers.{trial_word, move_cost_of};
 ghost use Rattle.ra_trial.specs.Trials.{machine_front, machine_line, machine_lines};
 
 use crate::lines::push_line;
@@ -23,7 +23,7 @@ pub(crate) fn make_line(alloc: Global) -> Result<Fixed<u32>, NoMemory>
 pub(crate) fn push_machines(text: &mut Fixed<u8>, line: &mut Fixed<u32>, words: &Words)
     requires room { length text.old.items + 121112 ≤ text.old.room }
     requires line { line.old.room ≡ 110 }
-    ensures { Adds text.old text.new (lines_text (machine_lines words.now.drawn.items)) 121112 }
+    ensures { Adds text.old text.new (lines_text (machine_lines (trial_word words.now.number))) 121112 }
 {
     push_line(text, &[MACHINES]);
     for m in 0..MACHINES {
@@ -36,7 +36,7 @@ fn push_machine(text: &mut Fixed<u8>, line: &mut Fixed<u32>, words: &Words, m: u
     requires machine { m < 100 }
     requires room { length text.old.items + 1211 ≤ text.old.room }
     requires line { line.old.room ≡ 110 }
-    ensures adds { Adds text.old text.new (line_text (machine_line words.now.drawn.items m)) 1211 }
+    ensures adds { Adds text.old text.new (line_text (machine_line (trial_word words.now.number) m)) 1211 }
     ensures line { line.new.room ≡ 110 }
 {
     gather_machine(line, words, m);
@@ -47,7 +47,7 @@ fn push_machine(text: &mut Fixed<u8>, line: &mut Fixed<u32>, words: &Words, m: u
 fn gather_machine(line: &mut Fixed<u32>, words: &Words, m: u32)
     requires machine { m < 100 }
     requires room { line.old.room ≡ 110 }
-    ensures items { line.new.items ≡ machine_line words.now.drawn.items m }
+    ensures items { line.new.items ≡ machine_line (trial_word words.now.number) m }
     ensures many { length line.new.items ≡ 110 }
     ensures room { line.new.room ≡ 110 }
 {
@@ -60,7 +60,7 @@ fn gather_machine(line: &mut Fixed<u32>, words: &Words, m: u32)
 /// The numbers of machine `m` before its move costs.
 fn front(words: &Words, m: u32) -> [u32; 10]
     requires { m < 100 }
-    ensures { result ≡ machine_front words.now.drawn.items m }
+    ensures { result ≡ machine_front (trial_word words.now.number) m }
 {
     let c = [
         capacity(words, m, 0),

@@ -1,5 +1,5 @@
 ghost use Rattle.std.specs.Prelude.{◌≡◌, ◌<◌, ◌≤◌};
-ghost use Rattle.ra_trial.specs.Numbers.{requirement_of, process_cost_of, start_share, start_use_of, capacity_of, move_cost_of, spread_of};
+ghost use Rattle.ra_trial.specs.Numbers.{trial_word, requirement_of, process_cost_of, start_share, start_use_of, capacity_of, move_cost_of, spread_of};
 
 use crate::words::Words;
 
@@ -14,7 +14,7 @@ pub(crate) const MACHINES: u32 = 100;
 pub(crate) fn requirement(words: &Words, p: u32, r: u32) -> u32
     requires process { p < 1000 }
     requires resource { r < 4 }
-    ensures value { result ≡ requirement_of words.now.drawn.items p r }
+    ensures value { result ≡ requirement_of (trial_word words.now.number) p r }
     ensures most { result ≤ 100 }
 {
     1 + (words.get(4 * p + r) % 100) as u32
@@ -24,7 +24,7 @@ pub(crate) fn requirement(words: &Words, p: u32, r: u32) -> u32
 #[tactic(auto, unfolding(crate::specs::Numbers::process_cost_of))]
 pub(crate) fn process_cost(words: &Words, p: u32) -> u32
     requires { p < 1000 }
-    ensures { result ≡ process_cost_of words.now.drawn.items p }
+    ensures { result ≡ process_cost_of (trial_word words.now.number) p }
 {
     1 + (words.get(4000 + p) % 10) as u32
 }
@@ -34,7 +34,7 @@ pub(crate) fn process_cost(words: &Words, p: u32) -> u32
 fn share(words: &Words, m: u32, r: u32, p: u32) -> u32
     requires process { p < 1000 }
     requires resource { r < 4 }
-    ensures value { result ≡ start_share words.now.drawn.items m r p }
+    ensures value { result ≡ start_share (trial_word words.now.number) m r p }
     ensures most { result ≤ 100 }
 {
     if p % MACHINES == m {
@@ -48,7 +48,7 @@ fn share(words: &Words, m: u32, r: u32, p: u32) -> u32
 #[tactic(auto, using(ra_base::proofs::Sums::total_none, ra_base::proofs::Sums::total_more), unfolding(crate::specs::Numbers::start_use_of))]
 fn start_use(words: &Words, m: u32, r: u32) -> u32
     requires { r < 4 }
-    ensures value { result ≡ start_use_of words.now.drawn.items m r }
+    ensures value { result ≡ start_use_of (trial_word words.now.number) m r }
     ensures most { result ≤ 100000 }
 {
     let mut sum = 0;
@@ -63,7 +63,7 @@ fn start_use(words: &Words, m: u32, r: u32) -> u32
 pub(crate) fn capacity(words: &Words, m: u32, r: u32) -> u32
     requires machine { m < 100 }
     requires resource { r < 4 }
-    ensures value { result ≡ capacity_of words.now.drawn.items m r }
+    ensures value { result ≡ capacity_of (trial_word words.now.number) m r }
     ensures most { result ≤ 100299 }
 {
     start_use(words, m, r) + 100 + (words.get(5000 + 4 * m + r) % 200) as u32
@@ -83,7 +83,7 @@ pub(crate) fn move_cost(a: u32, b: u32) -> u32
 #[tactic(auto, unfolding(crate::specs::Numbers::spread_of))]
 pub(crate) fn spread(words: &Words, s: u32) -> u32
     requires { s < 250 }
-    ensures { result ≡ spread_of words.now.drawn.items s }
+    ensures { result ≡ spread_of (trial_word words.now.number) s }
 {
     1 + (words.get(5400 + s) % 3) as u32
 }

@@ -13,6 +13,4 @@ loop-i-preserved g c = record {
 }
 
 pub returns : goal.returns
-returns g c =
-    let all : c.loop-i._i ≡ 5650 = omega arith in
-    record { items = drawn_all _ _ _ _ _ all c.loop-i.invariant.drawn; many = c.loop-i.invariant.many ∙ all }
+returns g c = drawn_all _ _ _ _ _ (let all : c.loop-i._i ≡ 5650 = omega arith in all) c.loop-i.invariant.drawn
