@@ -11,3 +11,6 @@ mod trials;
 mod words;
 
 pub use trials::{TrialText, trial_text};
+
+#[cfg(test)]
+mod tests;

@@ -56,8 +56,8 @@ fn gather_machine(line: &mut Fixed<u32>, words: &Words, m: u32)
     add_move_costs(line, m);
 }
 
-#[tactic(auto, unfolding(crate::specs::Trials::machine_front, crate::specs::Lines::listed, crate::specs::Numbers::safety_of))]
 /// The numbers of machine `m` before its move costs.
+#[tactic(auto, unfolding(crate::specs::Trials::machine_front, crate::specs::Lines::listed, crate::specs::Numbers::safety_of))]
 fn front(words: &Words, m: u32) -> [u32; 10]
     requires { m < 100 }
     ensures { result ≡ machine_front (trial_word words.now.number) m }

@@ -18,7 +18,7 @@ const MODEL_ROOM: usize = 196_832;
 pub struct TrialText {
     /// The model file.
     pub model: Fixed<u8>,
-    /// The assignment file of the start, which is feasible for the model.
+    /// The assignment file of the start.
     pub start: Fixed<u8>,
 }
 
