@@ -37,7 +37,11 @@ fn the_first_lines_of_a_model_are_known(rt: HostRuntime) -> Result<(), Fail> {
     assert!(rt; text.model.as_slice().starts_with(first));
     let last = b"\n249 58 85 77 17 5\n1\n0 1 2\n10\n1 10 100\n";
     assert!(rt; text.model.as_slice().ends_with(last));
-    assert!(rt; text.start.as_slice().starts_with(b"0 1 2 3 4 5 6 7 8 9 10 "));
+    assert!(rt;
+        text.start
+            .as_slice()
+            .starts_with(b"0 1 2 3 4 5 6 7 8 9 10 ")
+    );
     assert!(rt; text.start.as_slice().ends_with(b" 97 98 99\n"));
     Ok(())
 }
