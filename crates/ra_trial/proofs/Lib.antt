@@ -1,0 +1,4 @@
+pub mod LineLemmas
+pub mod Drawing
+pub mod OneLine
+pub mod Whole
