@@ -53,7 +53,7 @@ pub(crate) fn machine_after(inst: &Instance, start: &Assignment, step: Step, bef
 
 /// What a process costs on a machine that isn't its initial one.
 #[tactic(auto, unfolding(ra_model::specs::Costs::process_share))]
-fn process_share(inst: &Instance, start: &Assignment, p: Process, at: Machine) -> u32
+pub fn process_share(inst: &Instance, start: &Assignment, p: Process, at: Machine) -> u32
     requires process { p.0 < process_count inst.now.tables }
     requires start { IsAssignment inst.now.tables start.now.items }
     ensures { result ≡ process_share inst.now.tables start.now.items p.0 at.0 }
@@ -68,7 +68,7 @@ fn process_share(inst: &Instance, start: &Assignment, p: Process, at: Machine) -
 
 /// What the way of a process from its initial machine costs.
 #[tactic(auto, unfolding(ra_model::specs::Costs::way_share))]
-fn way_share(inst: &Instance, start: &Assignment, p: Process, at: Machine) -> u32
+pub fn way_share(inst: &Instance, start: &Assignment, p: Process, at: Machine) -> u32
     requires process { p.0 < process_count inst.now.tables }
     requires machine { at.0 < machine_count inst.now.tables }
     requires start { IsAssignment inst.now.tables start.now.items }

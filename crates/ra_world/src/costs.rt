@@ -7,7 +7,7 @@ use ra_model::Instance;
 
 /// The load cost of a machine of which this much is used, a number for each resource.
 #[tactic(auto, using(ra_base::proofs::Sums::sums), unfolding(ra_model::specs::MachineCosts::row_load))]
-pub(crate) fn row_load(inst: &Instance, m: Machine, row: &[u64]) -> u128
+pub fn row_load(inst: &Instance, m: Machine, row: &[u64]) -> u128
     requires machine { m.0 < machine_count inst.now.tables }
     requires width { length row.now ≡ resource_count inst.now.tables }
     ensures value { result ≡ row_load inst.now.tables m.0 (slice_index row.now) }
@@ -35,7 +35,7 @@ fn load_share(inst: &Instance, m: Machine, row: &[u64], r: Resource) -> u128
 
 /// The balance cost of a machine of which this much is used, a number for each resource.
 #[tactic(auto, using(ra_base::proofs::Sums::sums), unfolding(ra_model::specs::MachineCosts::row_balance))]
-pub(crate) fn row_balance(inst: &Instance, m: Machine, row: &[u64]) -> u128
+pub fn row_balance(inst: &Instance, m: Machine, row: &[u64]) -> u128
     requires machine { m.0 < machine_count inst.now.tables }
     requires width { length row.now ≡ resource_count inst.now.tables }
     ensures value { result ≡ row_balance inst.now.tables m.0 (slice_index row.now) }

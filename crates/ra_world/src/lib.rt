@@ -9,4 +9,6 @@ mod kept;
 mod renewal;
 mod world;
 
+pub use changes::{process_share, way_share};
+pub use costs::{row_balance, row_load};
 pub use world::World;
