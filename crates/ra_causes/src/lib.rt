@@ -12,10 +12,9 @@ mod marks;
 mod required;
 mod services;
 mod steps;
-mod trial;
-mod values;
-
 #[cfg(test)]
 mod tests;
+mod trial;
+mod values;
 
 pub use broken::{broken_of, is_unbroken};
