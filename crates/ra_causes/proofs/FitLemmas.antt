@@ -23,13 +23,10 @@ use Rattle.ra_causes.proofs.HoldLemmas.{NoneAt, none_start, none_more, none_all,
 
 share_no_more : (i : Tables) (a0 : List Machine) (m r p at : ℕ) → use_share i m r p at ≤ transient_share i a0 m r p at
 unfolding use_share transient_share
-share_no_more i a0 m r p at = elim (eqb (machine_at a0 p) m) as (λ h. cond (eqb at m) (requirement_of i p r) 0 ≤ cond (h || eqb at m) (requirement_of i p r) 0) [
-  | true ↦ ⊎_elim
-      (λ (here : eqb at m ≡ true). rw here (omega arith))
-      (λ (away : eqb at m ≡ false). rw away (omega arith))
-      (cases_Bool (eqb at m))
-  | false ↦ omega arith
-]
+share_no_more i a0 m r p at = elim (eqb (machine_at a0 p) m) as (λ h. cond (eqb at m) (requirement_of i p r) 0 ≤ cond (h || eqb at m) (requirement_of i p r) 0) [ true ↦ ⊎_elim
+    (λ (here : eqb at m ≡ true). rw here (omega arith))
+    (λ (away : eqb at m ≡ false). rw away (omega arith))
+    (cases_Bool (eqb at m)) | false ↦ omega arith ]
 
 -- what is used is used in between
 pub use_no_more : (i : Tables) (a0 a : List Machine) (m r : ℕ) → use_of i a m r ≤ transient_of i a0 a m r

@@ -191,10 +191,7 @@ same_no i a0 a steps x is none =
 
 -- a comparison that tells
 pub told_le : {P : Type 0} → (x y : ℕ) → (x ≤ y → P) → (y < x → P → ⊥) → (nat_le x y ≡ true) ↔ P
-told_le x y holds fails = (
-  λ yes. holds (leb-true x y yes),
-  λ fact. ⊎_elim
-      (λ (over : y < x). absurd (fails over fact))
-      (λ (within : x ≤ y). le-leb x y within)
-      (cases_lt y x),
-)
+told_le x y holds fails = (λ yes. holds (leb-true x y yes), λ fact. ⊎_elim
+    (λ (over : y < x). absurd (fails over fact))
+    (λ (within : x ≤ y). le-leb x y within)
+    (cases_lt y x))

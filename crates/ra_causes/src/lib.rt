@@ -12,9 +12,10 @@ mod marks;
 mod required;
 mod services;
 mod steps;
-#[cfg(test)]
-mod tests;
 mod trial;
 mod values;
+
+#[cfg(test)]
+mod tests;
 
 pub use broken::{broken_of, is_unbroken};
