@@ -1,2 +1,4 @@
 pub mod Recording
+pub mod Handing
 pub mod Following
+pub mod Ending

@@ -17,7 +17,6 @@ use Rattle.ra_moves.specs.declared.verdicts.Verdict.{Verdict}
 use Rattle.ra_moves.specs.Judging.{judge}
 use Rattle.ra_moves.specs.Options.{plan_of}
 use Rattle.ra_local.specs.Weighing.{weighed_of}
-use Rattle.ra_guards.specs.declared.newest.Newer.{Newer}
 use Rattle.ra_guards.specs.Guards.{is_guard}
 use Rattle.ra_guards.specs.Newest.{newer_at, first_that, first_newer}
 use Rattle.ra_journal.specs.declared.entries.Entry.{Entry}
@@ -29,6 +28,7 @@ use Rattle.ra_journal.specs.Laws.{IsSoloRun}
 use Rattle.ra_journal.specs.Legal.{Legal, Whole}
 use Rattle.ra_journal.specs.Solo.{solo}
 use Rattle.ra_journal.specs.States.{state}
+use Rattle.ra_solo.specs.Together.{IsJudged}
 use Rattle.ra_journal.proofs.AddedLemmas.{version_few}
 use Rattle.ra_journal.proofs.SoloLemmas.{one_lot}
 
@@ -83,6 +83,31 @@ abbrev pub entry_of : Tables → List Machine → Lots → List Entry → Plan �
 entry_of i a0 l h plan = record { worker = 0; k = plan.k; q = plan.q; mv = plan.mv; verdict = judge i a0 (state a0 h (length h)) plan.mv.steps (allowed l 0 plan.k) }
 
 -- and it is recorded
-pub is_recorded : (i : Tables) (a0 : List Machine) (l : Lots) (h : List Entry) (plan : Plan) → IsCommit i a0 l h 0 plan → plan.q ≡ length h → committed i a0 l h 0 plan.q ≡ record { journal = h ++ entry_of i a0 l h plan ∷ []; reply = Recorded (length h) (entry_of i a0 l h plan).verdict }
+is_recorded : (i : Tables) (a0 : List Machine) (l : Lots) (h : List Entry) (plan : Plan) → IsCommit i a0 l h 0 plan → plan.q ≡ length h → committed i a0 l h 0 plan.q ≡ record { journal = h ++ entry_of i a0 l h plan ∷ []; reply = Recorded (length h) (entry_of i a0 l h plan).verdict }
 unfolding committed committed_by next_entry next_move
 is_recorded i a0 l h plan may at_end = rw (never_stale i h plan.q _ at_end, may.planned, may.number) refl
+
+-- so the answer is never stale, and its verdict is the judge's
+reply_is : (i : Tables) (a0 : List Machine) (l : Lots) (h : List Entry) (plan : Plan) (reply : Reply) → IsCommit i a0 l h 0 plan → plan.q ≡ length h → reply ≡ (committed i a0 l h 0 plan.q).reply → reply ≡ Recorded (length h) (judge i a0 (state a0 h (length h)) plan.mv.steps (allowed l 0 plan.k))
+reply_is i a0 l h plan reply may at_end is = is ∙ ap (λ (c : Committed). c.reply) (is_recorded i a0 l h plan may at_end)
+
+pub not_stale : (i : Tables) (a0 : List Machine) (l : Lots) (h : List Entry) (plan : Plan) (g : Guard) (at : ℕ) → IsCommit i a0 l h 0 plan → plan.q ≡ length h → Stale g at ≡ (committed i a0 l h 0 plan.q).reply → ⊥
+not_stale i a0 l h plan g at may at_end is = let reply = reply_is i a0 l h plan (Stale g at) may at_end is in absurd (cc)
+
+verdict_is : (at m : ℕ) (v w : Verdict) → Recorded at v ≡ Recorded m w → v ≡ w
+verdict_is at m v w is = cc
+
+pub answered : (i : Tables) (a0 : List Machine) (l : Lots) (h : List Entry) (plan : Plan) (steps : List Step) (at : ℕ) (verdict : Verdict) → steps ≡ plan.mv.steps → IsCommit i a0 l h 0 plan → plan.q ≡ length h → Recorded at verdict ≡ (committed i a0 l h 0 plan.q).reply → IsJudged i a0 (state a0 h (length h)) steps verdict
+answered i a0 l h plan steps at verdict steps_is may at_end is = record {
+  allowed = allowed l 0 plan.k;
+  judged = rw steps_is (verdict_is at (length h) verdict _ (reply_is i a0 l h plan (Recorded at verdict) may at_end is));
+}
+
+-- and the entry stands at the end
+same_record : (i : Tables) (a0 : List Machine) (l : Lots) (h : List Entry) (plan : Plan) (verdict : Verdict) → verdict ≡ (entry_of i a0 l h plan).verdict → entry_of i a0 l h plan ≡ record { worker = 0; k = plan.k; q = plan.q; mv = plan.mv; verdict = verdict }
+same_record i a0 l h plan verdict is = rw is refl
+
+pub added : (i : Tables) (a0 : List Machine) (l : Lots) (h : List Entry) (plan : Plan) (g : List Entry) (at : ℕ) (verdict : Verdict) → IsCommit i a0 l h 0 plan → plan.q ≡ length h → Recorded at verdict ≡ (committed i a0 l h 0 plan.q).reply → g ≡ (committed i a0 l h 0 plan.q).journal → g ≡ h ++ record { worker = 0; k = plan.k; q = plan.q; mv = plan.mv; verdict = verdict } ∷ []
+added i a0 l h plan g at verdict may at_end reply is =
+    let judged = verdict_is at (length h) verdict _ (reply_is i a0 l h plan (Recorded at verdict) may at_end reply) in
+    is ∙ ap (λ (c : Committed). c.journal) (is_recorded i a0 l h plan may at_end) ∙ ap (λ (e : Entry). h ++ e ∷ []) (same_record i a0 l h plan verdict judged)

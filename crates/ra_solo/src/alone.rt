@@ -68,7 +68,15 @@ impl<'a> Alone<'a> {
         let mut steps = Steps::<L>::make(blank);
         let lots = self.journal.lots();
         let allowed = allow(lots.slack(), lots.lot(0).budget, k);
-        let plan = plan(&self.world, drawn, lots.drawing(), allowed, k, k, &mut steps);
+        let plan = plan(
+            &self.world,
+            drawn,
+            lots.drawing(),
+            allowed,
+            k,
+            k,
+            &mut steps,
+        );
         match self.journal.commit(0, &plan) {
             Reply::Recorded { verdict, .. } => {
                 follow(&mut self.world, &plan.mv, &verdict, &mut steps)
