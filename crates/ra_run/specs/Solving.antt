@@ -1,12 +1,15 @@
 -- The stages of `solve`.
-use Rattle.std.specs.Prelude.{List}
+use Rattle.std.specs.Prelude.{◌≡◌, ℕ, List, Some}
 use Rattle.ra_base.specs.declared.ids.Machine.{Machine}
 use Rattle.ra_draws.specs.declared.budgets.Lots.{Lots}
 use Rattle.ra_model.specs.declared.raw.Tables.{Tables}
 use Rattle.ra_model.specs.Assignments.{IsAssignment}
 use Rattle.ra_model.specs.Feasible.{Feasible}
-use Rattle.ra_solo.specs.declared.run.Run.{Run}
-use Rattle.ra_solo.specs.Runs.{IsRun}
+use Rattle.ra_model.specs.Broken.{first_broken}
+use Rattle.ra_journal.specs.Solo.{solo}
+use Rattle.ra_report.specs.JournalTexts.{report_text}
+use Rattle.ra_run.specs.declared.refusals.Refusal.{Refusal}
+use Rattle.ra_run.specs.declared.refusals.Refusal.TheVariants.{InitialBroken, Write, Memory}
 use Rattle.ra_run.specs.Files.{Held, Names, Accepts}
 
 -- all files were accepted, and the initial list fits the instance
@@ -14,7 +17,14 @@ pub record IsStart (held : Held) (names : Names) (i : Tables) (a0 : List Machine
   pub accepts : Accepts held names i a0 a0
   pub fits : IsAssignment i a0
 
--- the initial list is feasible, and this is the run of the one worker from it
-pub record HasRun (i : Tables) (a0 : List Machine) (l : Lots) (run : Run) : Type 0 where
+-- the initial list is feasible, and the report of the run of the one worker from it went this way
+pub record IsReported (i : Tables) (a0 : List Machine) (l : Lots) (way : List ℕ → Type 0) : Type 0 where
   pub start : Feasible i a0 a0
-  pub ran : IsRun i a0 l run
+  pub text : way (report_text i a0 l (solo i a0 l))
+
+-- what a refusal of a run says, where a part of its report was written
+abbrev pub RunSays : Tables → List Machine → Type 0 → Refusal → Type 0
+RunSays i a0 written (InitialBroken cause) = first_broken i a0 a0 ≡ Some cause
+RunSays i a0 written Write = written
+RunSays i a0 written Memory = Unit {0}
+RunSays i a0 written refusal = ⊥

@@ -1,6 +1,7 @@
-ghost use Rattle.std.specs.Prelude.{◌≡◌, IfOk, IfErr};
+ghost use Rattle.std.specs.Prelude.{◌≡◌, None, IfOk, IfErr};
 ghost use Rattle.ra_model.specs.Assignments.{IsAssignment};
 ghost use Rattle.ra_check.specs.Made.{IsMadeFor};
+ghost use Rattle.ra_model.specs.Broken.{first_broken};
 ghost use Rattle.ra_model.specs.Feasible.{Feasible};
 ghost use Rattle.ra_run.specs.Stages.{Judged, JudgeSays, StartSays};
 
@@ -38,6 +39,8 @@ pub(crate) fn judge_start(
     requires { IsAssignment inst.now.tables initial.now.items }
     ensures feasible { IfOk result (λ _.
         Feasible inst.now.tables initial.now.items initial.now.items) }
+    ensures unbroken { IfOk result (λ _.
+        first_broken inst.now.tables initial.now.items initial.now.items ≡ None) }
     ensures made { IfOk result (λ scratch. IsMadeFor scratch inst.now.tables) }
     ensures refused { IfErr result (StartSays inst.now.tables initial.now.items) }
 {

@@ -1,19 +1,22 @@
-ghost use Rattle.std.specs.Prelude.{◌≡◌, ◌≢◌, ◌⊎◌, ℕ, ◌≤◌, List, OnOk, OnErr, IfOk, IfErr};
+ghost use Rattle.std.specs.Prelude.{◌≡◌, ◌≢◌, ◌⊎◌, ℕ, ◌≤◌, List, None, OnOk, OnErr, IfOk, IfErr};
 ghost use Rattle.std.specs.Io.KnownBytes.{Appends};
 ghost use Rattle.std.specs.Option.{option_copied};
 ghost use Rattle.ra_io.specs.Faults.{Rose};
-ghost use Rattle.ra_bounds.specs.Bounds.{bound_of};
+ghost use Rattle.ra_check.specs.Made.{IsMadeFor};
 ghost use Rattle.ra_journal.specs.Entries.{worker_count};
 ghost use Rattle.ra_model.specs.Assignments.{IsAssignment};
-ghost use Rattle.ra_report.specs.JournalTexts.{report_lines};
+ghost use Rattle.ra_model.specs.Broken.{first_broken};
+ghost use Rattle.ra_model.specs.Costs.{parts_of};
+ghost use Rattle.ra_model.specs.Feasible.{Feasible};
+ghost use Rattle.ra_topology.specs.Fits.{IsTopologyOf};
+ghost use Rattle.ra_report.specs.JournalTexts.{best_state, text_of};
 ghost use Rattle.ra_report.specs.Pieces.{Breaks, Puts};
 ghost use Rattle.ra_run.specs.Complete.{AreValid, NoFault};
 ghost use Rattle.ra_run.specs.Ends.{Ends};
 ghost use Rattle.ra_run.specs.Files.{solve_names};
 ghost use Rattle.ra_run.specs.Outputs.{Solved};
 ghost use Rattle.ra_run.specs.Refusals.{Says};
-ghost use Rattle.ra_run.specs.Solving.{IsStart, HasRun};
-ghost use Rattle.ra_run.specs.Stages.{StartSays};
+ghost use Rattle.ra_run.specs.Solving.{IsStart, IsReported, RunSays};
 
 use crate::judging::judge_start;
 use crate::lists::{Which, read_list};
@@ -23,11 +26,13 @@ use crate::refusing::finish;
 use crate::status::Status;
 use ra_base::{Assignment, Name};
 use ra_bounds::bound;
+use ra_check::{Scratch, parts};
 use ra_draws::Lots;
 use ra_io::{Files, Gate, Sink};
 use ra_model::Instance;
 use ra_report::{WriteFault, write_report};
 use ra_solo::{Run, run_alone};
+use ra_topology::Topology;
 use std::alloc::Global;
 use std::marker::Sync;
 use std::sync::Wait;
@@ -101,11 +106,9 @@ fn solve<F: Files, O: Sink>(
     ensures never_fall { (other : List ℕ) → F.faults files.old other ≤ F.faults files.new other }
 {
     let start = read_start(alloc, model, initial, closed, files)?;
-    let run = run_from(alloc, &start.inst, &start.initial, lots)?;
-    match report(out, &start.inst, lots, &run) {
-        Ok(()) => Ok(()),
-        Err(_) => Err(Refusal::Write),
-    }
+    let ended = run_from(alloc, &start.inst, &start.initial, lots, out);
+    drop(start);
+    ended
 }
 
 /// An instance, and the assignment from which a run starts.
@@ -137,42 +140,77 @@ fn read_start<F: Files>(
     Ok(Start { inst, initial })
 }
 
-/// The run of the one worker, where the initial list is feasible.
-fn run_from(
+/// The run of the one worker and its report, where the initial list is feasible.
+fn run_from<O: Sink>(
     alloc: Global,
     inst: &Instance,
     initial: &Assignment,
     lots: &Lots,
-) -> Result<Run, Refusal>
+    out: &mut O,
+) -> Result<(), Refusal>
     requires one { worker_count lots.now ≡ 1 }
     requires fits { IsAssignment inst.now.tables initial.now.items }
-    ensures run { IfOk result (HasRun inst.now.tables initial.now.items lots.now) }
-    ensures refused { IfErr result (StartSays inst.now.tables initial.now.items) }
+    ensures printed { OnOk result (IsReported inst.now.tables initial.now.items lots.now
+        (Appends (O.taken out.old) (O.taken out.new))) }
+    ensures refused { IfErr result (RunSays inst.now.tables initial.now.items
+        (IsReported inst.now.tables initial.now.items lots.now
+        (Breaks (O.taken out.old) (O.taken out.new) (O.faults out.old) (O.faults out.new)))) }
+    ensures untouched { IfErr result (λ refusal. refusal ≢ Refusal.Write → out.new ≡ out.old) }
 {
     let mut scratch = judge_start(alloc, inst, initial)?;
-    match run_alone(alloc, inst, initial, lots, &mut scratch) {
-        Ok(run) => Ok(run),
-        Err(_) => Err(Refusal::Memory),
+    let Ok(topo) = Topology::make(alloc, inst) else {
+        return Err(Refusal::Memory);
+    };
+    let ended = run_over(alloc, inst, &topo, initial, lots, &mut scratch, out);
+    drop(topo);
+    ended
+}
+
+/// The run of the one worker and its report, over the topology of the instance.
+fn run_over<O: Sink>(
+    alloc: Global,
+    inst: &Instance,
+    topo: &Topology,
+    initial: &Assignment,
+    lots: &Lots,
+    scratch: &mut Scratch,
+    out: &mut O,
+) -> Result<(), Refusal>
+    requires one { worker_count lots.now ≡ 1 }
+    requires fits { IsAssignment inst.now.tables initial.now.items }
+    requires feasible { Feasible inst.now.tables initial.now.items initial.now.items }
+    requires unbroken { first_broken inst.now.tables initial.now.items initial.now.items ≡ None }
+    requires topology { IsTopologyOf topo.now inst.now.tables }
+    requires made { IsMadeFor scratch.old inst.now.tables }
+    ensures printed { OnOk result (IsReported inst.now.tables initial.now.items lots.now
+        (Appends (O.taken out.old) (O.taken out.new))) }
+    ensures refused { IfErr result (RunSays inst.now.tables initial.now.items
+        (IsReported inst.now.tables initial.now.items lots.now
+        (Breaks (O.taken out.old) (O.taken out.new) (O.faults out.old) (O.faults out.new)))) }
+    ensures untouched { IfErr result (λ refusal. refusal ≢ Refusal.Write → out.new ≡ out.old) }
+{
+    let start = parts(inst, initial, initial, scratch);
+    let Ok(run) = run_alone(alloc, inst, topo, initial, start, lots, scratch) else {
+        return Err(Refusal::Memory);
+    };
+    let ended = report(out, inst, &run);
+    drop(run);
+    match ended {
+        Ok(()) => Ok(()),
+        Err(_) => Err(Refusal::Write),
     }
 }
 
 /// Writes the report of a run.
-fn report<O: Sink>(out: &mut O, inst: &Instance, lots: &Lots, run: &Run) -> Result<(), WriteFault>
+fn report<O: Sink>(out: &mut O, inst: &Instance, run: &Run<'_>) -> Result<(), WriteFault>
+    requires instance { run.now.journal.inst.now.tables ≡ inst.now.tables }
+    requires best { run.now.best.items ≡ best_state run.now.journal }
+    requires parts { run.now.parts ≡
+        parts_of run.now.journal.inst.now.tables run.now.journal.a0.now.items run.now.best.items }
     ensures whole { OnOk result (Appends (O.taken out.old) (O.taken out.new)
-        (report_lines run.now.parts (bound_of inst.now.tables).total run.now.best_at
-        run.now.best.items lots.now.drawing run.now.entries.items)) }
+        (text_of run.now.journal)) }
     ensures part { OnErr result (Breaks (O.taken out.old) (O.taken out.new) (O.faults out.old)
-        (O.faults out.new)
-        (report_lines run.now.parts (bound_of inst.now.tables).total run.now.best_at
-        run.now.best.items lots.now.drawing run.now.entries.items)) }
+        (O.faults out.new) (text_of run.now.journal)) }
 {
-    write_report(
-        out,
-        &run.best,
-        &run.parts,
-        &bound(inst),
-        run.best_at,
-        lots.drawing(),
-        run.entries.as_slice(),
-    )
+    write_report(out, &run.best, &run.parts, &bound(inst), &run.journal)
 }
