@@ -4,6 +4,7 @@
 #![tactic(auto)]
 
 mod jobs;
+mod line;
 mod lots;
 mod numbers;
 mod pieces;
