@@ -5,3 +5,4 @@ pub mod LotLaws
 pub mod RowLaws
 pub mod LineWalk
 pub mod LineLaws
+pub mod JobLines
