@@ -1,7 +1,8 @@
 -- The words of each job are a line, and what is found in it is what the job says.
-use Rattle.std.proofs.Common.{◌≡◌, ◌∙◌, ◌<◌, ◌≤◌, ◌+◌, ◌++◌, ◌&&◌, ◌||◌, ◌==◌, ℕ, suc, ap, ap₂, sym, refl, true≢false, inl, inr, codes, arith, if◌then◌else◌, Bool, true, false, not, List, [], ◌∷◌, Option, Some, None, length, drop, take, map}
+use Rattle.std.proofs.Common.{◌≡◌, ◌∙◌, ◌<◌, ◌≤◌, ◌+◌, ◌++◌, ◌&&◌, ◌||◌, ◌==◌, ℕ, zero, suc, ap, ap₂, sym, refl, true≢false, inl, inr, codes, arith, if◌then◌else◌, Bool, true, false, not, List, [], ◌∷◌, Option, Some, None, length, drop, take, map}
 use Rattle.std.proofs.Common.{add-one}
 use Rattle.std.specs.List.{list_all}
+use Rattle.std.specs.Option.{option_map_or}
 use Rattle.std.specs.Str.{bytes_eq, all_ascii_digits}
 use Rattle.std.proofs.Math.Seq.{drop-cons}
 use Rattle.std.proofs.lemmas.Bool.{cases_lt, ne_eqb}
@@ -15,7 +16,7 @@ use Rattle.clap.specs.declared.parser.matches.Found.{Found}
 use Rattle.ra_words.specs.Words.{behind, has_option, is_name, value_at, word_at}
 use Rattle.ra_words.specs.Numbers.{has_digits, is_number}
 use Rattle.ra_words.specs.LotTexts.{are_lots, first_place, is_lot, is_seed_lot, is_written, is_written_lot, lot_says, seed_text}
-use Rattle.ra_words.specs.Lines.{Finds, Line, Spells, is_named, option_words, plain_of, words_of}
+use Rattle.ra_words.specs.Lines.{Finds, Line, Spells, option_words, plain_of, words_of}
 use Rattle.ra_words.proofs.LotLaws.{lots_told}
 use Rattle.ra_words.specs.Jobs.{Bounds, Checks, JobSays, Solves, bound_says, check_says, closed_place, closed_text, draws_place, draws_text, drawing_says, is_bound, is_check, is_closed, is_drawing, is_slack, is_solve, lot_words, lots_place, slack_says, slack_text, solve_says}
 
@@ -29,13 +30,9 @@ digits_named (x ∷ xs) number =
     let first = tells_all_ascii_digits.parts x xs digits in
     ap not (ne_eqb x 45 (λ e. omega (arith, first.0.0, e)))
 
-drawing_named : (text : Option (List ℕ)) → is_drawing text ≡ true → is_named text ≡ true
-drawing_named None drawing = refl
-drawing_named (Some text) drawing = go (bytes_eq text (codes "1")) refl drawing
-  where
-    go : (b : Bool) → bytes_eq text (codes "1") ≡ b → (b || bytes_eq text (codes "2")) ≡ true → is_name text ≡ true
-    go true is e = ap is_name ((bytes_eq-Decides text (codes "1")).0 is)
-    go false is e = ap is_name ((bytes_eq-Decides text (codes "2")).0 e)
+-- the value of an option, where it is given, is a name
+abbrev is_named : Option (List ℕ) → Bool
+is_named text = option_map_or is_name text true
 
 slack_named : (text : Option (List ℕ)) → is_slack text ≡ true → is_named text ≡ true
 slack_named None slack = refl
@@ -44,6 +41,14 @@ slack_named (Some text) slack = digits_named text slack
 closed_named : (text : Option (List ℕ)) → is_closed text ≡ true → is_named text ≡ true
 closed_named None closed = refl
 closed_named (Some text) closed = closed
+
+draws_named : (text : Option (List ℕ)) → is_drawing text ≡ true → is_named text ≡ true
+draws_named None drawing = refl
+draws_named (Some text) drawing = go (bytes_eq text (codes "1")) refl drawing
+  where
+    go : (b : Bool) → bytes_eq text (codes "1") ≡ b → (b || bytes_eq text (codes "2")) ≡ true → is_name text ≡ true
+    go true is e = ap is_name ((bytes_eq-Decides text (codes "1")).0 is)
+    go false is e = ap is_name ((bytes_eq-Decides text (codes "2")).0 e)
 
 seed_named : (word : List ℕ) → is_name (seed_text word) ≡ true → is_name word ≡ true
 unfolding seed_text first_place
@@ -95,6 +100,21 @@ word_here : (words : List (List ℕ)) (place : ℕ) → place < length words →
 unfolding word_at
 word_here words place within = rw add-one (drop-cons words place [] within)
 
+-- so many words from a place on
+abbrev words_from : ℕ → List (List ℕ) → ℕ → List (List ℕ)
+words_from place words zero = []
+words_from place words (suc n) = word_at words place ∷ words_from (suc place) words n
+
+words_here : (n place : ℕ) (words : List (List ℕ)) → n + place ≤ length words → drop place words ≡ words_from place words n ++ drop (n + place) words
+words_here zero place words within = let none : place ≡ 0 + place = omega arith in ap (λ k. drop k words) none
+words_here (suc n) place words within =
+    let next : place + 1 ≡ suc place = omega arith in
+    let far : n + suc place ≡ suc n + place = omega arith in
+    word_here words place (omega (arith, within))
+    ∙ ap (λ k. word_at words place ∷ drop k words) next
+    ∙ ap (λ ws. word_at words place ∷ ws) (words_here n (suc place) words (omega (arith, within)))
+    ∙ ap (λ k. word_at words place ∷ (words_from (suc place) words n ++ drop k words)) far
+
 -- an option and its value, where it stands at a place, and the words behind
 option_here : (option : List ℕ) (words : List (List ℕ)) (place : ℕ) → is_named (value_at option words place) ≡ true
     → drop place words ≡ option_words option (value_at option words place) ++ drop (behind option words place) words
@@ -112,12 +132,27 @@ option_here option words place named = go (bytes_eq (word_at words place) option
         ∙ ap (λ k. option ∷ word_at words (place + 1) ∷ drop k words) two
     go false is name = refl
 
+-- the options in their order from a place on, and the words behind
+options_here : (words : List (List ℕ)) (slack closed draws : ℕ) → closed ≡ behind (codes "--slack") words slack → draws ≡ behind (codes "--closed") words closed
+    → is_named (value_at (codes "--slack") words slack) ≡ true → is_named (value_at (codes "--closed") words closed) ≡ true → is_named (value_at (codes "--draws") words draws) ≡ true
+    → drop slack words ≡ option_words (codes "--slack") (value_at (codes "--slack") words slack)
+    ++ (option_words (codes "--closed") (value_at (codes "--closed") words closed)
+    ++ (option_words (codes "--draws") (value_at (codes "--draws") words draws) ++ drop (behind (codes "--draws") words draws) words))
+options_here words slack closed draws behind_slack behind_closed one two three =
+    let first = option_words (codes "--slack") (value_at (codes "--slack") words slack) in
+    let second = option_words (codes "--closed") (value_at (codes "--closed") words closed) in
+    option_here (codes "--slack") words slack one
+    ∙ ap (λ k. first ++ drop k words) (sym behind_slack)
+    ∙ ap (λ ws. first ++ ws) (option_here (codes "--closed") words closed two)
+    ∙ ap (λ k. first ++ (second ++ drop k words)) (sym behind_closed)
+    ∙ ap (λ ws. first ++ (second ++ ws)) (option_here (codes "--draws") words draws three)
+
 -- ---- check
 
 abbrev check_line : List (List ℕ) → Line
 check_line words = record {
   command = word_at words 0;
-  files = word_at words 1 ∷ word_at words 2 ∷ word_at words 3 ∷ [];
+  files = words_from 1 words 3;
   slack = None;
   closed = value_at (codes "--closed") words 4;
   draws = None;
@@ -150,12 +185,9 @@ check_spelled words check =
     let none : drop (behind (codes "--closed") words 4) words ≡ [] = drop_all (behind (codes "--closed") words 4) words (omega (arith, is.last)) in
     record {
       is =
-          word_here words 0 (omega (arith, third))
-          ∙ ap (λ ws. word_at words 0 ∷ ws) (word_here words 1 (omega (arith, third)))
-          ∙ ap (λ ws. word_at words 0 ∷ word_at words 1 ∷ ws) (word_here words 2 (omega (arith, third)))
-          ∙ ap (λ ws. word_at words 0 ∷ word_at words 1 ∷ word_at words 2 ∷ ws) (word_here words 3 third)
-          ∙ ap (λ ws. word_at words 0 ∷ word_at words 1 ∷ word_at words 2 ∷ word_at words 3 ∷ ws) (option_here (codes "--closed") words 4 named)
-          ∙ ap (λ ws. word_at words 0 ∷ word_at words 1 ∷ word_at words 2 ∷ word_at words 3 ∷ (option_words (codes "--closed") (value_at (codes "--closed") words 4) ++ ws)) none;
+          words_here 4 0 words (omega (arith, third))
+          ∙ ap (λ ws. words_from 0 words 4 ++ ws) (option_here (codes "--closed") words 4 named)
+          ∙ ap (λ ws. words_from 0 words 4 ++ (option_words (codes "--closed") (value_at (codes "--closed") words 4) ++ ws)) none;
       files = rw (is.model, is.initial, is.changed) refl;
       slack = refl;
       closed = named;
@@ -176,7 +208,7 @@ check_found words found check finds =
 -- ---- bound
 
 abbrev bound_line : List (List ℕ) → Line
-bound_line words = record { command = word_at words 0; files = word_at words 1 ∷ []; slack = None; closed = None; draws = None; behind = [] }
+bound_line words = record { command = word_at words 0; files = words_from 1 words 1; slack = None; closed = None; draws = None; behind = [] }
 
 bound_spelled : (words : List (List ℕ)) → is_bound words ≡ true → Spells (bound_line words) words
 unfolding is_bound words_of option_words
@@ -184,10 +216,7 @@ bound_spelled words bound =
     let name : is_name (word_at words 1) ≡ true = grind (arith, common_steps) in
     let two : length words ≡ 2 = grind (arith, common_steps) in
     record {
-      is =
-          word_here words 0 (omega (arith, two))
-          ∙ ap (λ ws. word_at words 0 ∷ ws) (word_here words 1 (omega (arith, two)))
-          ∙ ap (λ ws. word_at words 0 ∷ word_at words 1 ∷ ws) (drop_all 2 words (omega (arith, two)));
+      is = words_here 2 0 words (omega (arith, two)) ∙ ap (λ ws. words_from 0 words 2 ++ ws) (drop_all 2 words (omega (arith, two)));
       files = rw name refl;
       slack = refl;
       closed = refl;
@@ -210,7 +239,7 @@ bound_found words found bound finds =
 abbrev solve_line : List (List ℕ) → Line
 solve_line words = record {
   command = word_at words 0;
-  files = word_at words 1 ∷ word_at words 2 ∷ [];
+  files = words_from 1 words 2;
   slack = slack_text words;
   closed = closed_text words;
   draws = draws_text words;
@@ -236,32 +265,17 @@ solve_parts words solve = record {
   lots = grind (arith, common_steps);
 }
 
--- the options behind `solve` and two names, and the lots behind them
-options_here : (words : List (List ℕ)) → is_named (slack_text words) ≡ true → is_named (closed_text words) ≡ true → is_named (draws_text words) ≡ true
-    → drop 3 words ≡ option_words (codes "--slack") (slack_text words)
-    ++ (option_words (codes "--closed") (closed_text words) ++ (option_words (codes "--draws") (draws_text words) ++ lot_words words))
-unfolding slack_text closed_text draws_text lot_words closed_place draws_place lots_place
-options_here words slack closed draws =
-    let first = option_words (codes "--slack") (slack_text words) in
-    let second = option_words (codes "--closed") (closed_text words) in
-    option_here (codes "--slack") words 3 slack
-    ∙ ap (λ ws. first ++ ws) (option_here (codes "--closed") words (closed_place words) closed)
-    ∙ ap (λ ws. first ++ (second ++ ws)) (option_here (codes "--draws") words (draws_place words) draws)
-
 solve_spelled : (words : List (List ℕ)) → is_solve words ≡ true → Spells (solve_line words) words
-unfolding words_of
+unfolding words_of slack_text closed_text draws_text lot_words closed_place draws_place lots_place
 solve_spelled words solve =
     let is = solve_parts words solve in
-    let second = name_within words 2 is.initial in
     let slack = slack_named (slack_text words) is.slack in
     let closed = closed_named (closed_text words) is.closed in
-    let draws = drawing_named (draws_text words) is.draws in
+    let draws = draws_named (draws_text words) is.draws in
     record {
       is =
-          word_here words 0 (omega (arith, second))
-          ∙ ap (λ ws. word_at words 0 ∷ ws) (word_here words 1 (omega (arith, second)))
-          ∙ ap (λ ws. word_at words 0 ∷ word_at words 1 ∷ ws) (word_here words 2 second)
-          ∙ ap (λ ws. word_at words 0 ∷ word_at words 1 ∷ word_at words 2 ∷ ws) (options_here words slack closed draws);
+          words_here 3 0 words (omega (arith, name_within words 2 is.initial))
+          ∙ ap (λ ws. words_from 0 words 3 ++ ws) (options_here words 3 (closed_place words) (draws_place words) refl refl slack closed draws);
       files = rw (is.model, is.initial) refl;
       slack = slack;
       closed = closed;
@@ -269,15 +283,15 @@ solve_spelled words solve =
       behind = lots_named (lot_words words) (lots_told (lot_words words) is.lots);
     }
 
+pub solve_is_line : (words : List (List ℕ)) → is_solve words ≡ true → (line : Line) × Spells line words
+solve_is_line words is = (solve_line words, solve_spelled words is)
+
 -- what is found of a run of the solver
 pub record IsSolveFound (words : List (List ℕ)) (found : Found) : Type 0 where
   pub slack : is_slack (first_value found (codes "slack")) ≡ true
   pub lots : are_lots (drop 2 (plain_of found)) ≡ true
   pub says : Solves (word_at (plain_of found) 0) (word_at (plain_of found) 1) (first_value found (codes "closed")) (slack_says (first_value found (codes "slack")))
       (drawing_says (first_value found (codes "draws"))) (map lot_says (drop 2 (plain_of found))) ≡ solve_says words
-
-pub solve_is_line : (words : List (List ℕ)) → is_solve words ≡ true → (line : Line) × Spells line words
-solve_is_line words is = (solve_line words, solve_spelled words is)
 
 pub solve_found : (words : List (List ℕ)) (found : Found) → is_solve words ≡ true → ((line : Line) → Spells line words → Finds line found) → IsSolveFound words found
 unfolding solve_says word_at

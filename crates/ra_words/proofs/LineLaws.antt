@@ -12,7 +12,7 @@ use Rattle.clap.proofs.SimpleLemmas.{is_nil}
 use Rattle.clap.proofs.TakesLemmas.{leaf_takes}
 use Rattle.clap.proofs.WalkLemmas.{both, first_value-rows, raw_values-rows}
 use Rattle.ra_words.specs.Words.{is_name}
-use Rattle.ra_words.specs.Lines.{Finds, Line, Spells, is_named, line_app, option_words, plain_of, words_of}
+use Rattle.ra_words.specs.Lines.{Finds, Line, Spells, line_app, option_words, plain_of, words_of}
 use Rattle.ra_words.proofs.RowLaws.{first_all}
 use Rattle.ra_words.proofs.LineWalk.{Closed, Draws, Given, Goes, Holds, Reads, Seen, Slack, end_goes, held, id_of, line_rules, line_shape, maybe_goes, plains_go, seen_of, some_words, standing, with_seen}
 

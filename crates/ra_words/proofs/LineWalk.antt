@@ -13,7 +13,7 @@ use Rattle.clap.specs.Walk.{Held, Row, Rule, Step, Text, Waiting, Walk, after_fl
 use Rattle.clap.specs.declared.builder.value_parser.Reading.TheVariants.{AsWritten}
 use Rattle.clap.specs.declared.parser.matches.ValueSource.TheVariants.{CommandLine}
 use Rattle.ra_words.specs.Words.{is_name}
-use Rattle.ra_words.specs.Lines.{is_named, line_app, option_rule, option_words, plain_rule}
+use Rattle.ra_words.specs.Lines.{line_app, option_rule, option_words, plain_rule}
 use Rattle.ra_words.proofs.RowLaws.{has_row_all, none_out, others_kept, same_id, values_added}
 
 -- the one command as it is built, and its arguments
@@ -386,7 +386,7 @@ plains_go w seen all (word ∷ plain) words h names more =
     (λ u last. more u (subst (λ ps. Holds u (record seen { plain = ps })) (append_assoc seen.plain (word ∷ []) plain) last)))
 
 -- an option, where it is given
-pub maybe_goes : (w : Walk) (seen all : Seen) (given : Given) (text : Option Text) (words : List Text) → Holds w seen → is_named text ≡ true → seen_of given seen ≡ None
+pub maybe_goes : (w : Walk) (seen all : Seen) (given : Given) (text : Option Text) (words : List Text) → Holds w seen → option_map_or is_name text true ≡ true → seen_of given seen ≡ None
     → ((v : Walk) → Holds v (with_seen given text seen) → Goes v words all) → Goes w (option_words (flag_of given) text ++ words) all
 unfolding option_words
 maybe_goes w seen all given None words h named none more = more w (same given none)

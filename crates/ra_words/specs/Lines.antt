@@ -1,6 +1,7 @@
 -- The lines of words that one command of `clap` takes apart: a line of any job.
-use Rattle.std.specs.Prelude.{◌≡◌, ℕ, List, [], ◌∷◌, ◌++◌, Bool, true, codes, Option, Some, None, option_map, unwrap_or}
+use Rattle.std.specs.Prelude.{◌≡◌, ℕ, List, [], ◌∷◌, ◌++◌, true, codes, Option, Some, None, option_map, unwrap_or}
 use Rattle.std.specs.List.{list_all}
+use Rattle.std.specs.Option.{option_map_or}
 use Rattle.clap.specs.Words.{App, Rule, first_value, matched_of, new_app, new_rule, raw_values, with_rule}
 use Rattle.clap.specs.declared.builder.action.ArgAction.TheVariants.{Append}
 use Rattle.clap.specs.declared.parser.matches.Found.{Found}
@@ -26,18 +27,13 @@ words_of line =
     line.command ∷ (line.files ++ (option_words (codes "--slack") line.slack
     ++ (option_words (codes "--closed") line.closed ++ (option_words (codes "--draws") line.draws ++ line.behind))))
 
--- the value of an option, where it is given, is a name
-abbrev pub is_named : Option (List ℕ) → Bool
-is_named None = true
-is_named (Some text) = is_name text
-
 -- the words are those of the line, and none behind the command is taken for an option
 pub record Spells (line : Line) (words : List (List ℕ)) : Type 0 where
   pub is : words ≡ words_of line
   pub files : list_all is_name line.files ≡ true
-  pub slack : is_named line.slack ≡ true
-  pub closed : is_named line.closed ≡ true
-  pub draws : is_named line.draws ≡ true
+  pub slack : option_map_or is_name line.slack true ≡ true
+  pub closed : option_map_or is_name line.closed true ≡ true
+  pub draws : option_map_or is_name line.draws true ≡ true
   pub behind : list_all is_name line.behind ≡ true
 
 -- an option with a value, written `--NAME VALUE`
