@@ -18,7 +18,7 @@ use Rattle.ra_words.specs.Numbers.{has_digits, is_number}
 use Rattle.ra_words.specs.LotTexts.{are_lots, first_place, is_lot, is_seed_lot, is_written, is_written_lot, lot_says, seed_text}
 use Rattle.ra_words.specs.Lines.{Finds, Line, Spells, option_words, plain_of, words_of}
 use Rattle.ra_words.proofs.LotLaws.{lots_told}
-use Rattle.ra_words.specs.Jobs.{Bounds, Checks, JobSays, Solves, bound_says, check_says, closed_place, closed_text, draws_place, draws_text, drawing_says, is_bound, is_check, is_closed, is_drawing, is_slack, is_solve, lot_words, lots_place, slack_says, slack_text, solve_says}
+use Rattle.ra_words.specs.Jobs.{Bounds, Checks, Solves, bound_says, check_says, closed_place, closed_text, draws_place, draws_text, drawing_says, is_bound, is_check, is_closed, is_drawing, is_slack, is_solve, lot_words, lots_place, slack_says, slack_text, solve_says}
 
 -- ---- words that are no option
 

@@ -1,20 +1,19 @@
 -- The one command takes the words of a line, and finds in them what the line has.
-use Rattle.std.proofs.Common.{◌≡◌, ◌∙◌, ◌++◌, ◌&&◌, ap, ap₂, sym, subst, refl, codes, Bool, true, false, List, [], ◌∷◌, Option, Some, None, option_map, append-nil, if◌then◌else◌}
+use Rattle.std.proofs.Common.{◌≡◌, ◌∙◌, ◌++◌, ◌&&◌, ap, ap₂, subst, refl, codes, Bool, true, false, List, [], ◌∷◌, Option, Some, None, option_map, append-nil, if◌then◌else◌}
 use Rattle.std.specs.Prelude.{fold, unwrap_or, option_and_then, slice_get}
 use Rattle.std.specs.List.{list_all}
-use Rattle.clap.specs.Words.{App, HasMatchesOf, all_of, app_of, first_of, first_value, found_of, is_simple, matched_of, matches_of, raw_values, rows_of, takes}
+use Rattle.clap.specs.Words.{App, HasMatchesOf, all_of, first_of, first_value, found_of, is_simple, matches_of, rows_of, takes}
 use Rattle.clap.specs.Simple.{argument_words, built}
-use Rattle.clap.specs.Takes.{built_takes, default_passes, is_valid, level_passes, settle_passes}
+use Rattle.clap.specs.Takes.{built_takes, level_passes, settle_passes}
 use Rattle.clap.specs.Walk.{Row, Rule, Text, Walk, default_rows, finished, idle, is_empty, nothing_held, reading_by, settled_rows, walked, with_default, has_row}
 use Rattle.clap.specs.declared.parser.matches.ArgMatches.{ArgMatches}
 use Rattle.clap.proofs.OnLiterals.{clap_on_literals}
 use Rattle.clap.proofs.SimpleLemmas.{is_nil}
 use Rattle.clap.proofs.TakesLemmas.{leaf_takes}
 use Rattle.clap.proofs.WalkLemmas.{both, first_value-rows, raw_values-rows}
-use Rattle.ra_words.specs.Words.{is_name}
-use Rattle.ra_words.specs.Lines.{Finds, Line, Spells, line_app, option_words, plain_of, words_of}
+use Rattle.ra_words.specs.Lines.{Finds, Line, Spells, line_app, option_words, words_of}
 use Rattle.ra_words.proofs.RowLaws.{first_all}
-use Rattle.ra_words.proofs.LineWalk.{Closed, Draws, Given, Goes, Holds, Reads, Seen, Slack, end_goes, held, id_of, line_rules, line_shape, maybe_goes, plains_go, seen_of, some_words, standing, with_seen}
+use Rattle.ra_words.proofs.LineWalk.{Closed, Draws, Given, Goes, Holds, Reads, Seen, Slack, end_goes, id_of, line_rules, line_shape, maybe_goes, plains_go, seen_of, some_words, standing, with_seen}
 
 -- the words behind the command word
 abbrev behind_command : Line → List Text
@@ -28,7 +27,6 @@ seen_in line = record { plain = line.files ++ line.behind; slack = line.slack; c
 
 abbrev nothing_seen : Seen
 nothing_seen = record { plain = []; slack = None; closed = None; draws = None }
-
 
 at_start : Holds (standing [] None idle) nothing_seen
 at_start = record {

@@ -1,5 +1,5 @@
 -- The lots of the words from a place on.
-use Rattle.std.proofs.Common.{◌≡◌, ℕ, zero, suc, ◌+◌, ◌*◌, ◌/◌, ◌%◌, ◌<◌, ◌≤◌, Option, Some, None, Bool, true, false, ◌&&◌, if◌then◌else◌, nat_le, ◌-◌, append_assoc, append-nil, List, [], ◌∷◌, ◌++◌, map, length, drop, sum_by, refl, sym, ap, ◌∙◌, arith, add-one}
+use Rattle.std.proofs.Common.{◌≡◌, ℕ, zero, suc, ◌+◌, ◌*◌, ◌/◌, ◌%◌, ◌<◌, ◌≤◌, Some, None, Bool, true, false, ◌&&◌, if◌then◌else◌, nat_le, ◌-◌, append_assoc, append-nil, List, [], ◌∷◌, ◌++◌, map, length, drop, sum_by, refl, sym, ap, ◌∙◌, arith, add-one}
 use Rattle.std.proofs.Math.Nat.{div-add-mod}
 use Rattle.std.proofs.Math.Seq.{drop-cons}
 use Rattle.std.proofs.lemmas.Grind.{common_steps}

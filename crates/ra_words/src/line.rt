@@ -10,7 +10,6 @@ ghost use Rattle.ra_words.specs.Said.{said_lot};
 use crate::lots::read_lots;
 use crate::numbers::number;
 use crate::words::str_at;
-
 use clap::error::ErrorKind;
 use clap::{Arg, ArgAction, ArgMatches, Command};
 use ra_base::{Drawing, Name, NoMemory};
@@ -61,7 +60,11 @@ pub(crate) fn plain_at<'a>(taken: &ArgMatches<'a>, place: usize) -> &'a str
 }
 
 /// The plain word at a place as a name.
-pub(crate) fn plain_name(alloc: Global, taken: &ArgMatches<'_>, place: usize) -> Result<Name, NoMemory>
+pub(crate) fn plain_name(
+    alloc: Global,
+    taken: &ArgMatches<'_>,
+    place: usize,
+) -> Result<Name, NoMemory>
     ensures { IfOk result (λ name. name ≡ word_at (plain_of (found_of taken.now)) place) }
 {
     Name::make(alloc, plain_at(taken, place))
@@ -99,7 +102,11 @@ pub(crate) fn drawing(taken: &ArgMatches<'_>) -> Drawing
 }
 
 /// The lots that the plain words from a place on say.
-pub(crate) fn lots(alloc: Global, taken: &ArgMatches<'_>, place: usize) -> Result<Vec<Lot>, NoMemory>
+pub(crate) fn lots(
+    alloc: Global,
+    taken: &ArgMatches<'_>,
+    place: usize,
+) -> Result<Vec<Lot>, NoMemory>
     requires { are_lots (drop place (plain_of (found_of taken.now))) ≡ true }
     ensures said { IfOk result (λ lots. map said_lot lots.items ≡
         map lot_says (drop place (plain_of (found_of taken.now)))) }

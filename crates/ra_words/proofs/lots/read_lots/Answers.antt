@@ -1,6 +1,5 @@
 use Rattle.std.proofs.Common.{ℕ, List, Bor, map, ◌∙◌, arith}
 use Rattle.std.proofs.lemmas.List.{length-map}
-
 use Rattle.ra_words.proofs.LotLaws.{none_read, lot_told, one_read, lots_said, lots_fit}
 use Rattle.ra_words.proofs.lots.read_lots.Goals as goal
 
