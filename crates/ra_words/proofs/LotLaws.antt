@@ -1,5 +1,5 @@
 -- The lots of the words from a place on.
-use Rattle.std.proofs.Common.{◌≡◌, ℕ, zero, suc, ◌+◌, ◌*◌, ◌/◌, ◌%◌, ◌<◌, ◌≤◌, Option, Some, None, Bool, true, false, ◌&&◌, if◌then◌else◌, nat_le, ◌-◌, append_assoc, append-nil, List, [], ◌∷◌, ◌++◌, map, length, drop, sum_by, refl, sym, ap, ◌∙◌, arith, add-one}
+use Rattle.std.proofs.Common.{◌≡◌, ℕ, zero, suc, ◌+◌, ◌*◌, ◌/◌, ◌%◌, ◌<◌, ◌≤◌, Some, None, Bool, true, false, ◌&&◌, if◌then◌else◌, nat_le, ◌-◌, append_assoc, append-nil, List, [], ◌∷◌, ◌++◌, map, length, drop, sum_by, refl, sym, ap, ◌∙◌, arith, add-one}
 use Rattle.std.proofs.Math.Nat.{div-add-mod}
 use Rattle.std.proofs.Math.Seq.{drop-cons}
 use Rattle.std.proofs.lemmas.Grind.{common_steps}
@@ -99,7 +99,7 @@ pub record IsRead (words : List (List ℕ)) (place k : ℕ) (lots : List Lot) : 
   pub all : list_all is_lot (drop k words) ≡ true
   pub said : map said_lot lots ++ map lot_says (drop k words) ≡ map lot_says (drop place words)
 
-lots_told : (words : List (List ℕ)) → are_lots words ≡ true → list_all is_lot words ≡ true
+pub lots_told : (words : List (List ℕ)) → are_lots words ≡ true → list_all is_lot words ≡ true
 unfolding are_lots
 lots_told words h = grind (arith, common_steps)
 

@@ -1,5 +1,6 @@
 pub mod Words
 pub mod Numbers
 pub mod LotTexts
+pub mod Lines
 pub mod Jobs
 pub mod Said

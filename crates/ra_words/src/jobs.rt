@@ -5,10 +5,11 @@ ghost use Rattle.ra_words.specs.Numbers.{is_number, worth};
 ghost use Rattle.ra_words.specs.Jobs.{job_of, is_check, check_says, is_bound, bound_says, is_solve, solve_says, is_closed, is_slack, slack_says, is_drawing, drawing_says, closed_place, draws_place, lots_place, slack_text, closed_text, draws_text, lot_words};
 ghost use Rattle.ra_words.specs.Said.{said};
 
-use crate::lots::{are_lots, read_lots};
-use crate::numbers::{is_number, number};
+use crate::line::{closed_name, drawing, lots, plain_name, slack, take_line};
+use crate::lots::are_lots;
+use crate::numbers::is_number;
 use crate::words::{behind, has_option, names_file, text_at};
-use ra_base::{Drawing, Name, NoMemory};
+use ra_base::{Name, NoMemory};
 use ra_draws::Lots;
 use std::alloc::Global;
 
@@ -88,15 +89,17 @@ fn is_check(words: &[String]) -> bool
         && words.len() == behind(words, 4, "--closed")
 }
 
-#[tactic(auto, unfolding(crate::specs::Jobs::check_says))]
+#[tactic(auto, using(crate::proofs::JobLines::check_is_line, crate::proofs::JobLines::check_found))]
 fn check_job(alloc: Global, words: &[String]) -> Result<Job, NoMemory>
+    requires { is_check (texts words.now) ≡ true }
     ensures { IfOk result (λ job. said job ≡ check_says (texts words.now)) }
 {
+    let taken = take_line(alloc, words)?;
     Ok(Job::Check {
-        model: name_at(alloc, words, 1)?,
-        initial: name_at(alloc, words, 2)?,
-        changed: name_at(alloc, words, 3)?,
-        closed: closed_name(alloc, words, 4)?,
+        model: plain_name(alloc, &taken, 0)?,
+        initial: plain_name(alloc, &taken, 1)?,
+        changed: plain_name(alloc, &taken, 2)?,
+        closed: closed_name(alloc, &taken)?,
     })
 }
 
@@ -108,12 +111,14 @@ fn is_bound(words: &[String]) -> bool
     words.len() == 2 && text_at(words, 0) == "bound" && names_file(text_at(words, 1))
 }
 
-#[tactic(auto, unfolding(crate::specs::Jobs::bound_says))]
+#[tactic(auto, using(crate::proofs::JobLines::bound_is_line, crate::proofs::JobLines::bound_found))]
 fn bound_job(alloc: Global, words: &[String]) -> Result<Job, NoMemory>
+    requires { is_bound (texts words.now) ≡ true }
     ensures { IfOk result (λ job. said job ≡ bound_says (texts words.now)) }
 {
+    let taken = take_line(alloc, words)?;
     Ok(Job::Bound {
-        model: name_at(alloc, words, 1)?,
+        model: plain_name(alloc, &taken, 0)?,
     })
 }
 
@@ -131,22 +136,21 @@ fn is_solve(words: &[String]) -> bool
         && are_lots(words, lots_place(words))
 }
 
-#[tactic(auto, unfolding(crate::specs::Jobs::is_solve, crate::specs::Jobs::solve_says, crate::specs::Jobs::slack_text, crate::specs::Jobs::closed_text, crate::specs::Jobs::draws_text, crate::specs::Jobs::lot_words))]
+#[tactic(auto, using(crate::proofs::JobLines::solve_is_line, crate::proofs::JobLines::solve_found))]
 fn solve_job(alloc: Global, words: &[String]) -> Result<Job, NoMemory>
     requires { is_solve (texts words.now) ≡ true }
     ensures { IfOk result (λ job. said job ≡ solve_says (texts words.now)) }
 {
-    let model = name_at(alloc, words, 1)?;
-    let initial = name_at(alloc, words, 2)?;
-    let closed = closed_name(alloc, words, closed_place(words))?;
-    let slack = slack(words, 3);
-    let drawing = drawing(words, draws_place(words));
-    let lots = read_lots(alloc, words, lots_place(words))?;
+    let taken = take_line(alloc, words)?;
+    let model = plain_name(alloc, &taken, 0)?;
+    let initial = plain_name(alloc, &taken, 1)?;
+    let closed = closed_name(alloc, &taken)?;
+    let lots = lots(alloc, &taken, 2)?;
     Ok(Job::Solve {
         model,
         initial,
         closed,
-        lots: Lots::of(slack, drawing, lots),
+        lots: Lots::of(slack(&taken), drawing(&taken), lots),
     })
 }
 
@@ -186,18 +190,6 @@ fn fits_closed(words: &[String], place: usize) -> bool
     !has_option(words, place, "--closed") || names_file(text_at(words, place + 1))
 }
 
-/// The file that `--closed` names at a place, where it stands there.
-#[tactic(auto, unfolding(crate::specs::Words::value_at))]
-fn closed_name(alloc: Global, words: &[String], place: usize) -> Result<Option<Name>, NoMemory>
-    requires { place ≤ 16 }
-    ensures { IfOk result (λ name. name ≡ value_at (codes "--closed") (texts words.now) place) }
-{
-    if has_option(words, place, "--closed") {
-        return Ok(Some(name_at(alloc, words, place + 1)?));
-    }
-    Ok(None)
-}
-
 /// Whether the value of `--slack` at a place, where it stands there, is a number.
 #[tactic(auto, unfolding(crate::specs::Words::value_at))]
 fn fits_slack(words: &[String], place: usize) -> bool
@@ -205,20 +197,6 @@ fn fits_slack(words: &[String], place: usize) -> bool
     ensures { result ≡ is_slack (value_at (codes "--slack") (texts words.now) place) }
 {
     !has_option(words, place, "--slack") || is_number(text_at(words, place + 1).as_bytes())
-}
-
-/// The value of `--slack` at a place, and 0 where it doesn't stand there.
-#[tactic(auto, unfolding(crate::specs::Words::value_at))]
-fn slack(words: &[String], place: usize) -> u64
-    requires near { place ≤ 16 }
-    requires fits { is_slack (value_at (codes "--slack") (texts words.now) place) ≡ true }
-    ensures { result ≡ slack_says (value_at (codes "--slack") (texts words.now) place) }
-{
-    if has_option(words, place, "--slack") {
-        number(text_at(words, place + 1).as_bytes())
-    } else {
-        0
-    }
 }
 
 /// Whether the value of `--draws` at a place, where it stands there, is `1` or `2`.
@@ -230,23 +208,4 @@ fn fits_drawing(words: &[String], place: usize) -> bool
     !has_option(words, place, "--draws")
         || text_at(words, place + 1) == "1"
         || text_at(words, place + 1) == "2"
-}
-
-/// The drawing that `--draws` names at a place, and the second where it doesn't stand there.
-#[tactic(auto, unfolding(crate::specs::Words::value_at))]
-fn drawing(words: &[String], place: usize) -> Drawing
-    requires { place ≤ 16 }
-    ensures { result ≡ drawing_says (value_at (codes "--draws") (texts words.now) place) }
-{
-    if has_option(words, place, "--draws") && text_at(words, place + 1) == "1" {
-        Drawing::One
-    } else {
-        Drawing::Two
-    }
-}
-
-fn name_at(alloc: Global, words: &[String], place: usize) -> Result<Name, NoMemory>
-    ensures { IfOk result (λ name. name ≡ word_at (texts words.now) place) }
-{
-    Name::make(alloc, text_at(words, place))
 }

@@ -1,9 +1,10 @@
 //! The command words: which job a list of words is, with the names of its files and the lots of its workers.
 //!
-//! `read_words` refuses what is no job before it asks for memory.
+//! `read_words` refuses what is no job before it asks for memory; one command of `clap` takes the words of a job apart.
 #![tactic(auto)]
 
 mod jobs;
+mod line;
 mod lots;
 mod numbers;
 mod pieces;

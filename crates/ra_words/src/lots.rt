@@ -8,7 +8,7 @@ ghost use Rattle.ra_words.specs.Said.{said_source, said_lot};
 
 use crate::numbers::{is_number, number};
 use crate::pieces::{count_numbers, first_place, put_numbers, text_from};
-use crate::words::text_at;
+use crate::words::{str_at, text_at};
 use ra_base::{Fixed, NoMemory};
 use ra_draws::{Lot, Source};
 use std::alloc::Global;
@@ -103,15 +103,15 @@ fn budget_of(text: &[u8]) -> Option<u64>
 }
 
 /// The lots that the words from a place on say.
-pub(crate) fn read_lots(alloc: Global, words: &[String], place: usize) -> Result<Vec<Lot>, NoMemory>
-    requires { are_lots (drop place (texts words.now)) ≡ true }
+pub(crate) fn read_lots(alloc: Global, words: &[&str], place: usize) -> Result<Vec<Lot>, NoMemory>
+    requires { are_lots (drop place (map (λ word. word.now) words.now)) ≡ true }
     ensures said { IfOk result (λ lots. map said_lot lots.items ≡
-        map lot_says (drop place (texts words.now))) }
+        map lot_says (drop place (map (λ word. word.now) words.now))) }
     ensures fitting { IfOk result (λ lots. IsLots lots.items) }
 {
     let mut lots = Vec::new(alloc);
     for k in place..words.len() {
-        lots.push(read_lot(alloc, text_at(words, k).as_bytes())?)?;
+        lots.push(read_lot(alloc, str_at(words, k).as_bytes())?)?;
     }
     Ok(lots)
 }

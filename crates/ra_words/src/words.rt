@@ -14,6 +14,18 @@ pub(crate) fn text_at(words: &[String], place: usize) -> &str
     }
 }
 
+/// The text at a place, and the empty text behind the last.
+#[tactic(auto, using(crate::proofs::WordLaws::str_read, crate::proofs::WordLaws::str_past))]
+pub(crate) fn str_at<'a>(words: &[&'a str], place: usize) -> &'a str
+    ensures { result.now ≡ word_at (map (λ word. word.now) words.now) place }
+{
+    if place < words.len() {
+        words[place]
+    } else {
+        ""
+    }
+}
+
 /// Whether an option stands at a place.
 #[tactic(auto, unfolding(crate::specs::Words::has_option))]
 pub(crate) fn has_option(words: &[String], place: usize, option: &str) -> bool

@@ -1,0 +1,305 @@
+-- The words of each job are a line, and what is found in it is what the job says.
+use Rattle.std.proofs.Common.{◌≡◌, ◌∙◌, ◌<◌, ◌≤◌, ◌+◌, ◌++◌, ◌&&◌, ◌||◌, ◌==◌, ℕ, zero, suc, ap, ap₂, sym, refl, true≢false, inl, inr, codes, arith, if◌then◌else◌, Bool, true, false, not, List, [], ◌∷◌, Option, Some, None, length, drop, take, map}
+use Rattle.std.proofs.Common.{add-one}
+use Rattle.std.specs.List.{list_all}
+use Rattle.std.specs.Option.{option_map_or}
+use Rattle.std.specs.Str.{bytes_eq, all_ascii_digits}
+use Rattle.std.proofs.Math.Seq.{drop-cons}
+use Rattle.std.proofs.lemmas.Bool.{cases_lt, ne_eqb}
+use Rattle.std.proofs.lemmas.Grind.{common_steps}
+use Rattle.std.proofs.lemmas.List.{drop_all, get_or_past}
+use Rattle.std.proofs.lemmas.Slice.Eq.{bytes_eq-Decides}
+use Rattle.std.proofs.lemmas.Str.Parse.{tells_all_ascii_digits}
+use Rattle.clap.proofs.WalkLemmas.{both}
+use Rattle.clap.specs.Words.{first_value}
+use Rattle.clap.specs.declared.parser.matches.Found.{Found}
+use Rattle.ra_words.specs.Words.{behind, has_option, is_name, value_at, word_at}
+use Rattle.ra_words.specs.Numbers.{has_digits, is_number}
+use Rattle.ra_words.specs.LotTexts.{are_lots, first_place, is_lot, is_seed_lot, is_written, is_written_lot, lot_says, seed_text}
+use Rattle.ra_words.specs.Lines.{Finds, Line, Spells, option_words, plain_of, words_of}
+use Rattle.ra_words.proofs.LotLaws.{lots_told}
+use Rattle.ra_words.specs.Jobs.{Bounds, Checks, Solves, bound_says, check_says, closed_place, closed_text, draws_place, draws_text, drawing_says, is_bound, is_check, is_closed, is_drawing, is_slack, is_solve, lot_words, lots_place, slack_says, slack_text, solve_says}
+
+-- ---- words that are no option
+
+digits_named : (text : List ℕ) → is_number text ≡ true → is_name text ≡ true
+unfolding is_number has_digits
+digits_named [] number = cc
+digits_named (x ∷ xs) number =
+    let digits : all_ascii_digits (x ∷ xs) ≡ true = grind (arith, common_steps) in
+    let first = tells_all_ascii_digits.parts x xs digits in
+    ap not (ne_eqb x 45 (λ e. omega (arith, first.0.0, e)))
+
+-- the value of an option, where it is given, is a name
+abbrev is_named : Option (List ℕ) → Bool
+is_named text = option_map_or is_name text true
+
+slack_named : (text : Option (List ℕ)) → is_slack text ≡ true → is_named text ≡ true
+slack_named None slack = refl
+slack_named (Some text) slack = digits_named text slack
+
+closed_named : (text : Option (List ℕ)) → is_closed text ≡ true → is_named text ≡ true
+closed_named None closed = refl
+closed_named (Some text) closed = closed
+
+draws_named : (text : Option (List ℕ)) → is_drawing text ≡ true → is_named text ≡ true
+draws_named None drawing = refl
+draws_named (Some text) drawing = go (bytes_eq text (codes "1")) refl drawing
+  where
+    go : (b : Bool) → bytes_eq text (codes "1") ≡ b → (b || bytes_eq text (codes "2")) ≡ true → is_name text ≡ true
+    go true is e = ap is_name ((bytes_eq-Decides text (codes "1")).0 is)
+    go false is e = ap is_name ((bytes_eq-Decides text (codes "2")).0 e)
+
+seed_named : (word : List ℕ) → is_name (seed_text word) ≡ true → is_name word ≡ true
+unfolding seed_text first_place
+seed_named [] named = cc
+seed_named (x ∷ xs) named = go (x == 58) named
+  where
+    go : (b : Bool) → is_name (take (if b then 0 else suc (first_place 58 xs)) (x ∷ xs)) ≡ true → is_name (x ∷ xs) ≡ true
+    go true e = cc
+    go false e = e
+
+take_named : (word : List ℕ) → is_name (take 2 word) ≡ is_name word
+take_named [] = refl
+take_named (x ∷ xs) = refl
+
+written_named : (word : List ℕ) → is_written word ≡ true → is_name word ≡ true
+unfolding is_written
+written_named word written = sym (take_named word) ∙ ap is_name ((bytes_eq-Decides (take 2 word) (codes "w:")).0 written)
+
+seed_lot_named : (word : List ℕ) → is_seed_lot word ≡ true → is_name word ≡ true
+unfolding is_seed_lot
+seed_lot_named word lot = let seed : is_number (seed_text word) ≡ true = grind (arith, common_steps) in seed_named word (digits_named (seed_text word) seed)
+
+lot_named : (word : List ℕ) → is_lot word ≡ true → is_name word ≡ true
+unfolding is_lot
+lot_named word lot = go (is_written word) refl lot
+  where
+    go : (b : Bool) → is_written word ≡ b → (if b then is_written_lot word else is_seed_lot word) ≡ true → is_name word ≡ true
+    go true is e = written_named word is
+    go false is e = seed_lot_named word e
+
+lots_named : (words : List (List ℕ)) → list_all is_lot words ≡ true → list_all is_name words ≡ true
+lots_named [] lots = refl
+lots_named (word ∷ words) lots =
+    let parts = both (is_lot word) (list_all is_lot words) lots in
+    ap₂ (λ a b. a && b) (lot_named word parts.0) (lots_named words parts.1)
+
+-- ---- words by their places
+
+name_within : (words : List (List ℕ)) (place : ℕ) → is_name (word_at words place) ≡ true → place < length words
+unfolding word_at
+name_within words place name = elim (cases_lt place (length words)) [
+  | inl within ↦ within
+  | inr past ↦
+      let none : is_name (word_at words place) ≡ false = ap is_name (get_or_past words place [] past) in
+      absurd (true≢false (sym name ∙ none))
+]
+
+word_here : (words : List (List ℕ)) (place : ℕ) → place < length words → drop place words ≡ word_at words place ∷ drop (place + 1) words
+unfolding word_at
+word_here words place within = rw add-one (drop-cons words place [] within)
+
+-- so many words from a place on
+abbrev words_from : ℕ → List (List ℕ) → ℕ → List (List ℕ)
+words_from place words zero = []
+words_from place words (suc n) = word_at words place ∷ words_from (suc place) words n
+
+words_here : (n place : ℕ) (words : List (List ℕ)) → n + place ≤ length words → drop place words ≡ words_from place words n ++ drop (n + place) words
+words_here zero place words within = let none : place ≡ 0 + place = omega arith in ap (λ k. drop k words) none
+words_here (suc n) place words within =
+    let next : place + 1 ≡ suc place = omega arith in
+    let far : n + suc place ≡ suc n + place = omega arith in
+    word_here words place (omega (arith, within))
+    ∙ ap (λ k. word_at words place ∷ drop k words) next
+    ∙ ap (λ ws. word_at words place ∷ ws) (words_here n (suc place) words (omega (arith, within)))
+    ∙ ap (λ k. word_at words place ∷ (words_from (suc place) words n ++ drop k words)) far
+
+-- an option and its value, where it stands at a place, and the words behind
+option_here : (option : List ℕ) (words : List (List ℕ)) (place : ℕ) → is_named (value_at option words place) ≡ true
+    → drop place words ≡ option_words option (value_at option words place) ++ drop (behind option words place) words
+unfolding value_at behind has_option option_words
+option_here option words place named = go (bytes_eq (word_at words place) option) refl named
+  where
+    go : (b : Bool) → bytes_eq (word_at words place) option ≡ b → is_named (if b then Some (word_at words (place + 1)) else None) ≡ true
+        → drop place words ≡ option_words option (if b then Some (word_at words (place + 1)) else None) ++ drop (if b then place + 2 else place) words
+    go true is name =
+        let within = name_within words (place + 1) name in
+        let two : place + 1 + 1 ≡ place + 2 = omega arith in
+        word_here words place (omega (arith, within))
+        ∙ ap (λ ws. word_at words place ∷ ws) (word_here words (place + 1) within)
+        ∙ ap (λ w. w ∷ word_at words (place + 1) ∷ drop (place + 1 + 1) words) ((bytes_eq-Decides (word_at words place) option).0 is)
+        ∙ ap (λ k. option ∷ word_at words (place + 1) ∷ drop k words) two
+    go false is name = refl
+
+-- the options in their order from a place on, and the words behind
+options_here : (words : List (List ℕ)) (slack closed draws : ℕ) → closed ≡ behind (codes "--slack") words slack → draws ≡ behind (codes "--closed") words closed
+    → is_named (value_at (codes "--slack") words slack) ≡ true → is_named (value_at (codes "--closed") words closed) ≡ true → is_named (value_at (codes "--draws") words draws) ≡ true
+    → drop slack words ≡ option_words (codes "--slack") (value_at (codes "--slack") words slack)
+    ++ (option_words (codes "--closed") (value_at (codes "--closed") words closed)
+    ++ (option_words (codes "--draws") (value_at (codes "--draws") words draws) ++ drop (behind (codes "--draws") words draws) words))
+options_here words slack closed draws behind_slack behind_closed one two three =
+    let first = option_words (codes "--slack") (value_at (codes "--slack") words slack) in
+    let second = option_words (codes "--closed") (value_at (codes "--closed") words closed) in
+    option_here (codes "--slack") words slack one
+    ∙ ap (λ k. first ++ drop k words) (sym behind_slack)
+    ∙ ap (λ ws. first ++ ws) (option_here (codes "--closed") words closed two)
+    ∙ ap (λ k. first ++ (second ++ drop k words)) (sym behind_closed)
+    ∙ ap (λ ws. first ++ (second ++ ws)) (option_here (codes "--draws") words draws three)
+
+-- ---- check
+
+abbrev check_line : List (List ℕ) → Line
+check_line words = record {
+  command = word_at words 0;
+  files = words_from 1 words 3;
+  slack = None;
+  closed = value_at (codes "--closed") words 4;
+  draws = None;
+  behind = [];
+}
+
+record IsCheck (words : List (List ℕ)) : Type 0 where
+  model : is_name (word_at words 1) ≡ true
+  initial : is_name (word_at words 2) ≡ true
+  changed : is_name (word_at words 3) ≡ true
+  closed : is_closed (value_at (codes "--closed") words 4) ≡ true
+  last : length words ≡ behind (codes "--closed") words 4
+
+check_parts : (words : List (List ℕ)) → is_check words ≡ true → IsCheck words
+unfolding is_check
+check_parts words check = record {
+  model = grind (arith, common_steps);
+  initial = grind (arith, common_steps);
+  changed = grind (arith, common_steps);
+  closed = grind (arith, common_steps);
+  last = grind (arith, common_steps);
+}
+
+check_spelled : (words : List (List ℕ)) → is_check words ≡ true → Spells (check_line words) words
+unfolding words_of option_words
+check_spelled words check =
+    let is = check_parts words check in
+    let third = name_within words 3 is.changed in
+    let named = closed_named (value_at (codes "--closed") words 4) is.closed in
+    let none : drop (behind (codes "--closed") words 4) words ≡ [] = drop_all (behind (codes "--closed") words 4) words (omega (arith, is.last)) in
+    record {
+      is =
+          words_here 4 0 words (omega (arith, third))
+          ∙ ap (λ ws. words_from 0 words 4 ++ ws) (option_here (codes "--closed") words 4 named)
+          ∙ ap (λ ws. words_from 0 words 4 ++ (option_words (codes "--closed") (value_at (codes "--closed") words 4) ++ ws)) none;
+      files = rw (is.model, is.initial, is.changed) refl;
+      slack = refl;
+      closed = named;
+      draws = refl;
+      behind = refl;
+    }
+
+pub check_is_line : (words : List (List ℕ)) → is_check words ≡ true → (line : Line) × Spells line words
+check_is_line words is = (check_line words, check_spelled words is)
+
+pub check_found : (words : List (List ℕ)) (found : Found) → is_check words ≡ true → ((line : Line) → Spells line words → Finds line found)
+    → Checks (word_at (plain_of found) 0) (word_at (plain_of found) 1) (word_at (plain_of found) 2) (first_value found (codes "closed")) ≡ check_says words
+unfolding check_says word_at
+check_found words found check finds =
+    let f = finds (check_line words) (check_spelled words check) in
+    λ i. Checks (word_at (f.plain i) 0) (word_at (f.plain i) 1) (word_at (f.plain i) 2) (f.closed i)
+
+-- ---- bound
+
+abbrev bound_line : List (List ℕ) → Line
+bound_line words = record { command = word_at words 0; files = words_from 1 words 1; slack = None; closed = None; draws = None; behind = [] }
+
+bound_spelled : (words : List (List ℕ)) → is_bound words ≡ true → Spells (bound_line words) words
+unfolding is_bound words_of option_words
+bound_spelled words bound =
+    let name : is_name (word_at words 1) ≡ true = grind (arith, common_steps) in
+    let two : length words ≡ 2 = grind (arith, common_steps) in
+    record {
+      is = words_here 2 0 words (omega (arith, two)) ∙ ap (λ ws. words_from 0 words 2 ++ ws) (drop_all 2 words (omega (arith, two)));
+      files = rw name refl;
+      slack = refl;
+      closed = refl;
+      draws = refl;
+      behind = refl;
+    }
+
+pub bound_is_line : (words : List (List ℕ)) → is_bound words ≡ true → (line : Line) × Spells line words
+bound_is_line words is = (bound_line words, bound_spelled words is)
+
+pub bound_found : (words : List (List ℕ)) (found : Found) → is_bound words ≡ true → ((line : Line) → Spells line words → Finds line found)
+    → Bounds (word_at (plain_of found) 0) ≡ bound_says words
+unfolding bound_says word_at
+bound_found words found bound finds =
+    let f = finds (bound_line words) (bound_spelled words bound) in
+    λ i. Bounds (word_at (f.plain i) 0)
+
+-- ---- solve
+
+abbrev solve_line : List (List ℕ) → Line
+solve_line words = record {
+  command = word_at words 0;
+  files = words_from 1 words 2;
+  slack = slack_text words;
+  closed = closed_text words;
+  draws = draws_text words;
+  behind = lot_words words;
+}
+
+record IsSolve (words : List (List ℕ)) : Type 0 where
+  model : is_name (word_at words 1) ≡ true
+  initial : is_name (word_at words 2) ≡ true
+  slack : is_slack (slack_text words) ≡ true
+  closed : is_closed (closed_text words) ≡ true
+  draws : is_drawing (draws_text words) ≡ true
+  lots : are_lots (lot_words words) ≡ true
+
+solve_parts : (words : List (List ℕ)) → is_solve words ≡ true → IsSolve words
+unfolding is_solve
+solve_parts words solve = record {
+  model = grind (arith, common_steps);
+  initial = grind (arith, common_steps);
+  slack = grind (arith, common_steps);
+  closed = grind (arith, common_steps);
+  draws = grind (arith, common_steps);
+  lots = grind (arith, common_steps);
+}
+
+solve_spelled : (words : List (List ℕ)) → is_solve words ≡ true → Spells (solve_line words) words
+unfolding words_of slack_text closed_text draws_text lot_words closed_place draws_place lots_place
+solve_spelled words solve =
+    let is = solve_parts words solve in
+    let slack = slack_named (slack_text words) is.slack in
+    let closed = closed_named (closed_text words) is.closed in
+    let draws = draws_named (draws_text words) is.draws in
+    record {
+      is =
+          words_here 3 0 words (omega (arith, name_within words 2 is.initial))
+          ∙ ap (λ ws. words_from 0 words 3 ++ ws) (options_here words 3 (closed_place words) (draws_place words) refl refl slack closed draws);
+      files = rw (is.model, is.initial) refl;
+      slack = slack;
+      closed = closed;
+      draws = draws;
+      behind = lots_named (lot_words words) (lots_told (lot_words words) is.lots);
+    }
+
+pub solve_is_line : (words : List (List ℕ)) → is_solve words ≡ true → (line : Line) × Spells line words
+solve_is_line words is = (solve_line words, solve_spelled words is)
+
+-- what is found of a run of the solver
+pub record IsSolveFound (words : List (List ℕ)) (found : Found) : Type 0 where
+  pub slack : is_slack (first_value found (codes "slack")) ≡ true
+  pub lots : are_lots (drop 2 (plain_of found)) ≡ true
+  pub says : Solves (word_at (plain_of found) 0) (word_at (plain_of found) 1) (first_value found (codes "closed")) (slack_says (first_value found (codes "slack")))
+      (drawing_says (first_value found (codes "draws"))) (map lot_says (drop 2 (plain_of found))) ≡ solve_says words
+
+pub solve_found : (words : List (List ℕ)) (found : Found) → is_solve words ≡ true → ((line : Line) → Spells line words → Finds line found) → IsSolveFound words found
+unfolding solve_says word_at
+solve_found words found solve finds =
+    let is = solve_parts words solve in
+    let f = finds (solve_line words) (solve_spelled words solve) in
+    record {
+      slack = ap is_slack f.slack ∙ is.slack;
+      lots = ap (λ ws. are_lots (drop 2 ws)) f.plain ∙ is.lots;
+      says = λ i. Solves (word_at (f.plain i) 0) (word_at (f.plain i) 1) (f.closed i) (slack_says (f.slack i)) (drawing_says (f.draws i)) (map lot_says (drop 2 (f.plain i)));
+    }

@@ -1,0 +1,116 @@
+ghost use Rattle.std.specs.Prelude.{◌≡◌, true, codes, IfOk, drop, map};
+ghost use Rattle.clap.specs.Words.{app_of, first_value, found_of};
+ghost use Rattle.ra_words.specs.Words.{texts, word_at};
+ghost use Rattle.ra_draws.specs.Lots.{IsLots};
+ghost use Rattle.ra_words.specs.Lines.{Line, Spells, Finds, line_app, plain_of};
+ghost use Rattle.ra_words.specs.LotTexts.{are_lots, lot_says};
+ghost use Rattle.ra_words.specs.Jobs.{is_slack, slack_says, drawing_says};
+ghost use Rattle.ra_words.specs.Said.{said_lot};
+
+use crate::lots::read_lots;
+use crate::numbers::number;
+use crate::words::str_at;
+use clap::error::ErrorKind;
+use clap::{Arg, ArgAction, ArgMatches, Command};
+use ra_base::{Drawing, Name, NoMemory};
+use ra_draws::Lot;
+use std::alloc::{AllocError, Global};
+
+/// The one command that takes the words of every job apart.
+fn line_command<'a>(alloc: Global) -> Result<Command<'a>, AllocError>
+    ensures { IfOk result (λ command. app_of command ≡ line_app) }
+{
+    let slack = Arg::new(alloc, "slack").long("slack");
+    let closed = Arg::new(alloc, "closed").long("closed");
+    let draws = Arg::new(alloc, "draws").long("draws");
+    let plain = Arg::new(alloc, "plain").action(ArgAction::Append);
+    let command = Command::new(alloc, "reassign")
+        .arg(slack)?
+        .arg(closed)?
+        .arg(draws)?
+        .arg(plain)?;
+    Ok(command)
+}
+
+/// The words of a line taken apart. They are judged before, so only memory can be refused.
+pub(crate) fn take_line<'a>(alloc: Global, words: &'a [String]) -> Result<ArgMatches<'a>, NoMemory>
+    requires { (line : Line) × Spells line (texts words.now) }
+    ensures { IfOk result (λ taken. (line : Line) → Spells line (texts words.now)
+        → Finds line (found_of taken)) }
+{
+    let command = line_command(alloc)?;
+    match command.try_get_matches_from(words) {
+        Ok(taken) => Ok(taken),
+        Err(error) => {
+            prove!(matches!(&error.kind(), ErrorKind::OutOfMemory));
+            Err(NoMemory)
+        }
+    }
+}
+
+/// The plain word at a place, and the empty text behind the last.
+#[tactic(auto, using(crate::proofs::WordLaws::some_plain, crate::proofs::WordLaws::no_plain))]
+pub(crate) fn plain_at<'a>(taken: &ArgMatches<'a>, place: usize) -> &'a str
+    ensures { result.now ≡ word_at (plain_of (found_of taken.now)) place }
+{
+    match taken.get_strs("plain") {
+        Some(words) => str_at(words, place),
+        None => "",
+    }
+}
+
+/// The plain word at a place as a name.
+pub(crate) fn plain_name(
+    alloc: Global,
+    taken: &ArgMatches<'_>,
+    place: usize,
+) -> Result<Name, NoMemory>
+    ensures { IfOk result (λ name. name ≡ word_at (plain_of (found_of taken.now)) place) }
+{
+    Name::make(alloc, plain_at(taken, place))
+}
+
+/// The file that `--closed` names, where it is given.
+pub(crate) fn closed_name(alloc: Global, taken: &ArgMatches<'_>) -> Result<Option<Name>, NoMemory>
+    ensures { IfOk result (λ name. name ≡ first_value (found_of taken.now) (codes "closed")) }
+{
+    match taken.get_str("closed") {
+        Some(file) => Ok(Some(Name::make(alloc, file)?)),
+        None => Ok(None),
+    }
+}
+
+/// The number that `--slack` gives, and 0 where it isn't given.
+pub(crate) fn slack(taken: &ArgMatches<'_>) -> u64
+    requires { is_slack (first_value (found_of taken.now) (codes "slack")) ≡ true }
+    ensures { result ≡ slack_says (first_value (found_of taken.now) (codes "slack")) }
+{
+    match taken.get_str("slack") {
+        Some(text) => number(text.as_bytes()),
+        None => 0,
+    }
+}
+
+/// The drawing that `--draws` names, and the second where it isn't given.
+pub(crate) fn drawing(taken: &ArgMatches<'_>) -> Drawing
+    ensures { result ≡ drawing_says (first_value (found_of taken.now) (codes "draws")) }
+{
+    match taken.get_str("draws") {
+        Some(text) if text == "1" => Drawing::One,
+        _ => Drawing::Two,
+    }
+}
+
+/// The lots that the plain words from a place on say.
+pub(crate) fn lots(
+    alloc: Global,
+    taken: &ArgMatches<'_>,
+    place: usize,
+) -> Result<Vec<Lot>, NoMemory>
+    requires { are_lots (drop place (plain_of (found_of taken.now))) ≡ true }
+    ensures said { IfOk result (λ lots. map said_lot lots.items ≡
+        map lot_says (drop place (plain_of (found_of taken.now)))) }
+    ensures fitting { IfOk result (λ lots. IsLots lots.items) }
+{
+    read_lots(alloc, taken.get_strs("plain").unwrap_or(&[]), place)
+}
