@@ -6,6 +6,3 @@ mod weighing;
 
 pub use verdicts::verdict;
 pub use weighing::weigh;
-
-#[cfg(test)]
-mod tests;

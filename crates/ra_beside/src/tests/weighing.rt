@@ -1,13 +1,14 @@
+//! A weighing at a world that has taken in a move.
 ghost use Rattle.std.specs.Prelude.{◌≡◌, ◌<◌};
 ghost use Rattle.ra_local.specs.Moving.{IsOffered};
 
-use super::*;
 use ra_base::{Drawing, MovedCount, Service, Steps};
 use ra_compare::Beside;
 use ra_model::Instance;
 use ra_moves::{Move, Verdict, Weighed, options, resolve};
 use ra_samples::{assignment, sample};
 use ra_topology::Topology;
+use ra_weigh::{verdict, weigh};
 use ra_world::World;
 use std::alloc::Global;
 use std::marker::Brand;
