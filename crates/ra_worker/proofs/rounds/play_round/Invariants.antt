@@ -1,0 +1,17 @@
+-- The first workers have an entry for this round too.
+use Rattle.std.proofs.Common.{◌≡◌, ◌+◌}
+use Rattle.ra_journal.specs.Entries.{worker_count}
+use Rattle.ra_worker.specs.Replicas.{AreAt}
+use Rattle.ra_worker.specs.Rounds.{HaveMade}
+use Rattle.ra_worker.proofs.rounds.play_round.Given as goal
+
+abbrev pub invariant-loop-w : goal.invariant-loop-w
+invariant-loop-w l = record {
+  all : HaveMade l.fn.journal.lots.now l.journal.book.entries.items (worker_count l.fn.journal.lots.now) l.fn._round;
+  first : HaveMade l.fn.journal.lots.now l.journal.book.entries.items l.w (l.fn._round + 1);
+  at : AreAt l.fn.journal.inst.now.tables l.fn.journal.a0.now.items l.fn.journal.lots.now l.journal.book.entries.items l.replicas.items;
+  instance : l.journal.inst.now ≡ l.fn.journal.inst.now;
+  topology : l.journal.topo.now ≡ l.fn.journal.topo.now;
+  initial : l.journal.a0.now ≡ l.fn.journal.a0.now;
+  lots : l.journal.lots.now ≡ l.fn.journal.lots.now;
+}

@@ -1,0 +1,76 @@
+ghost use Rattle.std.specs.Prelude.{◌≡◌, ◌+◌, ◌<◌, ◌≤◌};
+ghost use Rattle.ra_draws.specs.Words.{proposal_words};
+ghost use Rattle.ra_journal.specs.Entries.{worker_count, budget};
+ghost use Rattle.ra_worker.specs.Proposals.{AreDrawn};
+
+use ra_draws::{Draws, Lot, Lots};
+
+/// The proposals of a worker: the number of the next one, and its words.
+#[derive(Drop)]
+pub(crate) struct Proposals<'a> {
+    pub(crate) lots: &'a Lots,
+    pub(crate) worker: u32,
+    draws: Draws<'a>,
+    pub(crate) number: u64,
+    pub(crate) words: [u64; 8],
+    pub ghost drawn: { AreDrawn lots.now worker draws number words },
+}
+
+impl<'a> Proposals<'a> {
+    /// All proposals of a worker.
+    pub(crate) fn make(lots: &'a Lots, worker: u32) -> Proposals<'a>
+        requires { worker < worker_count lots.now }
+        ensures lots { result.lots.now ≡ lots.now }
+        ensures worker { result.worker ≡ worker }
+        ensures number { result.number ≡ 0 }
+    {
+        let lot = lots.lot(worker);
+        let mut draws = Draws::make(lot);
+        let words = draw(&mut draws, lot, 0);
+        Proposals {
+            lots,
+            worker,
+            draws,
+            number: 0,
+            words,
+        }
+    }
+
+    /// The next proposal is made.
+    pub(crate) fn advance(&mut self)
+        requires { self.old.number < budget self.old.lots.now self.old.worker }
+        ensures lots { self.new.lots.now ≡ self.old.lots.now }
+        ensures worker { self.new.worker ≡ self.old.worker }
+        ensures number { self.new.number ≡ self.old.number + 1 }
+    {
+        let _fits = self.budget();
+        let lot = self.lots.lot(self.worker);
+        self.number += 1;
+        let words = draw(&mut self.draws, lot, self.number);
+        self.words = words;
+    }
+
+    /// How many proposals the worker makes.
+    pub(crate) fn budget(&self) -> u64
+        ensures value { result ≡ budget self.now.lots.now self.now.worker }
+        ensures few { result ≤ 1000000 }
+        ensures within { self.now.number ≤ result }
+    {
+        self.lots.lot(self.worker).budget
+    }
+}
+
+/// The words of a proposal, where it is one of the budget; the words before it are drawn already.
+fn draw(draws: &mut Draws<'_>, lot: &Lot, number: u64) -> [u64; 8]
+    requires lot { draws.old.lot ≡ lot.now }
+    requires drawn { number < lot.now.budget → draws.old.made ≡ number }
+    ensures lot { draws.new.lot ≡ draws.old.lot }
+    ensures drawn { number < lot.now.budget → draws.new.made ≡ number + 1 }
+    ensures words { number < lot.now.budget → result ≡ proposal_words lot.now.source number }
+{
+    if number < lot.budget {
+        draws.words_for_next()
+    } else {
+        [0; 8]
+    }
+}

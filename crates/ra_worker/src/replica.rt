@@ -1,0 +1,183 @@
+ghost use Rattle.std.specs.Prelude.{◌≡◌, ◌+◌, ◌-◌, ◌*◌, ◌^◌, ◌<◌, ◌≤◌, ◌==◌, None, List, length, IfOk};
+ghost use Rattle.ra_base.specs.Sums.{one_if};
+ghost use Rattle.ra_base.specs.declared.causes.Drawing.TheVariants.{One, Two};
+ghost use Rattle.ra_model.specs.Numbers.{resource_count};
+ghost use Rattle.ra_model.specs.Assignments.{IsAssignment};
+ghost use Rattle.ra_model.specs.Broken.{first_broken};
+ghost use Rattle.ra_model.specs.Costs.{parts_of};
+ghost use Rattle.ra_topology.specs.Fits.{IsTopologyOf};
+ghost use Rattle.ra_moves.specs.Options.{plan_of};
+ghost use Rattle.ra_local.specs.Weighing.{weighed_of};
+ghost use Rattle.ra_journal.specs.declared.entries.Entry.{Entry as Recorded};
+ghost use Rattle.ra_journal.specs.Entries.{worker_count, budget, words, allowed, made_by};
+ghost use Rattle.ra_journal.specs.States.{after_made};
+ghost use Rattle.ra_worker.specs.Following.{IsJudged};
+ghost use Rattle.ra_worker.specs.Replicas.{IsAt, AreTold, HasTaken};
+
+use crate::following::follow;
+use crate::proposals::Proposals;
+use ra_base::{Assignment, NoMemory, Parts, Steps};
+use ra_draws::{Lots, allow};
+use ra_journal::{Batch, Entry};
+use ra_model::Instance;
+use ra_moves::Plan;
+use ra_plan::plan;
+use ra_topology::Topology;
+use ra_world::World;
+use std::alloc::Global;
+use std::sync::ledger::Ledger;
+
+/// What a worker has of its own: the world, which it brings from one state of the journal to the next, and its
+/// proposals. It knows of the journal what it was told in batches.
+#[derive(Drop)]
+pub struct Replica<'a> {
+    world: World<'a>,
+    proposals: Proposals<'a>,
+    place: u64,
+}
+
+impl<'a> Replica<'a> {
+    /// The replica of a worker at place 0, over an initial assignment that is feasible, whose cost has these parts.
+    pub fn make(
+        alloc: Global,
+        inst: &'a Instance,
+        topo: &'a Topology,
+        a0: &'a Assignment,
+        start: Parts,
+        lots: &'a Lots,
+        worker: u32,
+    ) -> Result<Replica<'a>, NoMemory>
+        requires fits { IsAssignment inst.now.tables a0.now.items }
+        requires topology { IsTopologyOf topo.now inst.now.tables }
+        requires unbroken { first_broken inst.now.tables a0.now.items a0.now.items ≡ None }
+        requires parts { start ≡ parts_of inst.now.tables a0.now.items a0.now.items }
+        requires worker { worker < worker_count lots.now }
+        ensures place { IfOk result (λ replica. replica.place ≡ 0) }
+        ensures worker { IfOk result (λ replica. replica.proposals.worker ≡ worker) }
+        ensures at { IfOk result (λ replica. (h : List Recorded) →
+            IsAt inst.now.tables a0.now.items lots.now h replica) }
+    {
+        let world = World::make(alloc, inst, topo, a0, start)?;
+        let proposals = Proposals::make(lots, worker);
+        Ok(Replica {
+            world,
+            proposals,
+            place: 0,
+        })
+    }
+
+    /// How many entries it has taken in.
+    pub fn place(&self) -> u64
+        ensures { result ≡ self.now.place }
+    {
+        self.place
+    }
+
+    /// The number of its worker's next proposal, counted from 0.
+    pub fn next(&self) -> u64
+        ensures { result ≡ self.now.proposals.number }
+    {
+        self.proposals.number
+    }
+
+    /// How many proposals its worker has left.
+    pub fn left(&self) -> u64
+        ensures { result ≡ budget self.now.proposals.lots.now self.now.proposals.worker - self.now.proposals.number }
+    {
+        self.proposals.budget() - self.proposals.number
+    }
+
+    /// How many proposals its worker makes.
+    pub(crate) fn budget(&self) -> u64
+        ensures { result ≡ budget self.now.proposals.lots.now self.now.proposals.worker }
+    {
+        self.proposals.budget()
+    }
+
+    /// The worker.
+    pub fn worker(&self) -> u32
+        ensures value { result ≡ self.now.proposals.worker }
+        ensures exists { result < worker_count self.now.proposals.lots.now }
+    {
+        self.proposals.worker
+    }
+
+    /// Plans its worker's next proposal, with its number and with how many entries it has taken in.
+    pub fn offer<L: Ledger>(&self, steps: &mut Steps<L>) -> Plan
+        requires left { self.now.proposals.number <
+            budget self.now.proposals.lots.now self.now.proposals.worker }
+        ensures place { result.q ≡ self.now.place }
+        ensures number { result.k ≡ self.now.proposals.number }
+        ensures planned { result.mv ≡ plan_of self.now.world.inst.now.tables
+            self.now.world.start.now.items self.now.world.kept.assignment.items
+            (words self.now.proposals.lots.now self.now.proposals.worker self.now.proposals.number)
+            self.now.proposals.lots.now.drawing
+            (allowed self.now.proposals.lots.now self.now.proposals.worker self.now.proposals.number) }
+        ensures weighed { result.weighed ≡ weighed_of self.now.world.inst.now.tables
+            self.now.world.start.now.items self.now.world.kept.assignment.items result.mv.steps }
+        ensures counted_one { self.now.proposals.lots.now.drawing ≡ One →
+            steps.new ≤ steps.old + 24 * resource_count self.now.world.inst.now.tables }
+        ensures counted_two { self.now.proposals.lots.now.drawing ≡ Two →
+            steps.new ≤ steps.old + 384 * resource_count self.now.world.inst.now.tables }
+    {
+        let lots = self.proposals.lots;
+        let number = self.proposals.number;
+        let allowed = allow(lots.slack(), self.proposals.budget(), number);
+        plan(
+            &self.world,
+            &self.proposals.words,
+            lots.drawing(),
+            allowed,
+            self.place,
+            number,
+            steps,
+        )
+    }
+
+    /// Takes in the next entries of the journal. It stands for the state behind them afterwards.
+    pub fn take_in<L: Ledger>(&mut self, batch: &Batch, steps: &mut Steps<L>)
+        requires told { AreTold self.old batch.now }
+        ensures { HasTaken self.old self.new batch.now (length batch.now) }
+    {
+        for j in 0..batch.len() {
+            let entry = batch.entry(j);
+            self.take_entry(&entry, steps);
+        }
+    }
+
+    /// Takes in one entry.
+    fn take_entry<L: Ledger>(&mut self, entry: &Entry, steps: &mut Steps<L>)
+        requires judged { IsJudged self.old.world.inst.now.tables self.old.world.start.now.items
+            self.old.world.kept.assignment.items entry.now.mv.steps entry.now.verdict }
+        requires left { entry.now.worker ≡ self.old.proposals.worker → self.old.proposals.number <
+            budget self.old.proposals.lots.now self.old.proposals.worker }
+        requires few { self.old.place < 2 ^ 63 }
+        ensures assignment { self.new.world.kept.assignment.items ≡
+            after_made self.old.world.kept.assignment.items (made_by entry.now) }
+        ensures instance { self.new.world.inst.now ≡ self.old.world.inst.now }
+        ensures initial { self.new.world.start.now ≡ self.old.world.start.now }
+        ensures lots { self.new.proposals.lots.now ≡ self.old.proposals.lots.now }
+        ensures worker { self.new.proposals.worker ≡ self.old.proposals.worker }
+        ensures number { self.new.proposals.number ≡
+            self.old.proposals.number + one_if (entry.now.worker == self.old.proposals.worker) }
+        ensures place { self.new.place ≡ self.old.place + 1 }
+    {
+        follow(&mut self.world, &entry.mv, &entry.verdict, steps);
+        count_own(&mut self.proposals, entry.worker);
+        self.place += 1;
+    }
+}
+
+/// Counts an entry of a worker, where that is the worker of these proposals.
+fn count_own(proposals: &mut Proposals<'_>, worker: u32)
+    requires left { worker ≡ proposals.old.worker →
+        proposals.old.number < budget proposals.old.lots.now proposals.old.worker }
+    ensures lots { proposals.new.lots.now ≡ proposals.old.lots.now }
+    ensures worker { proposals.new.worker ≡ proposals.old.worker }
+    ensures number { proposals.new.number ≡
+        proposals.old.number + one_if (worker == proposals.old.worker) }
+{
+    if worker == proposals.worker {
+        proposals.advance();
+    }
+}
