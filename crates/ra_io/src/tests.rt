@@ -2,7 +2,7 @@ use super::*;
 use ra_base::Fixed;
 use std::io::Write;
 use std::test::Fail;
-use std::{fs, io};
+use std::{fs, io, thread};
 
 fn numbers(rt: &impl AllocGlobal, items: &[u64]) -> Result<Fixed<u64>, Fail> {
     let mut list = Fixed::make(rt.alloc(), 8)?;
@@ -145,5 +145,20 @@ fn an_err_sink_writes(rt: HostRuntime) -> Result<(), Fail> {
     assert_eq!(rt; put_all(&mut sink, b"012"), Ok(()));
     assert_eq!(rt; sink.put(b"3"), Err(Failed));
     assert_eq!(rt; bytes.as_slice(), b"012".as_slice());
+    Ok(())
+}
+
+#[test]
+fn two_workers_meet_at_a_pair_gate(rt: HostRuntime) -> Result<(), Fail> {
+    let gate = PairGate::make();
+    gate.before_commit(0, 1);
+    gate.before_commit(2, 0);
+    assert!(rt; !gate.met());
+    thread::join(
+        &rt,
+        || gate.before_commit(0, 0),
+        || gate.before_commit(1, 0),
+    );
+    assert!(rt; gate.met());
     Ok(())
 }

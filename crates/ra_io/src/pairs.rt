@@ -1,0 +1,69 @@
+use crate::outside::Gate;
+use std::hint::spin_loop;
+use std::sync::atomic::{AtomicBool, Ordering};
+
+/// How often a worker looks for the other one.
+const MOST_LOOKS: u32 = 100_000_000;
+
+/// A gate at which workers 0 and 1 wait for each other, each with its first proposal, and no longer than it takes to
+/// look 100,000,000 times. It shows whether they ran beside each other.
+#[derive(Drop)]
+pub struct PairGate {
+    first: Place,
+    second: Place,
+}
+
+/// Where one of the two stands.
+#[derive(Drop)]
+struct Place {
+    /// It has come.
+    here: AtomicBool,
+    /// It saw the other one.
+    saw: AtomicBool,
+}
+
+impl PairGate {
+    /// The gate at which nobody has come.
+    pub fn make() -> PairGate {
+        PairGate {
+            first: Place::empty(),
+            second: Place::empty(),
+        }
+    }
+
+    /// Whether each of the two saw the other.
+    pub fn met(&self) -> bool {
+        self.first.saw.load(Ordering::SeqCst) && self.second.saw.load(Ordering::SeqCst)
+    }
+}
+
+impl Place {
+    fn empty() -> Place {
+        Place {
+            here: AtomicBool::new(false),
+            saw: AtomicBool::new(false),
+        }
+    }
+
+    /// Comes, and looks for the other one.
+    fn meet(&self, other: &Place) {
+        self.here.store(true, Ordering::SeqCst);
+        for _ in 0..MOST_LOOKS {
+            if other.here.load(Ordering::SeqCst) {
+                self.saw.store(true, Ordering::SeqCst);
+                return;
+            }
+            spin_loop();
+        }
+    }
+}
+
+impl Gate for PairGate {
+    fn before_commit(&self, worker: u32, k: u64) {
+        match (worker, k) {
+            (0, 0) => self.first.meet(&self.second),
+            (1, 0) => self.second.meet(&self.first),
+            _ => {}
+        }
+    }
+}
