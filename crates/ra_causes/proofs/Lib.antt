@@ -2,7 +2,6 @@ mod SeekLemmas
 mod FlowLemmas
 mod LocationLemmas
 mod StepLemmas
-mod ReadLemmas
 mod HoldLemmas
 mod NearLemmas
 mod TestLemmas

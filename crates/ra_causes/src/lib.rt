@@ -9,7 +9,6 @@ mod ends;
 mod holding;
 mod locations;
 mod marks;
-mod required;
 mod services;
 mod steps;
 #[cfg(test)]

@@ -9,16 +9,15 @@ ghost use Rattle.ra_local.specs.Moving.{IsMove};
 ghost use Rattle.ra_local.specs.Laws.{AreLocal};
 ghost use Rattle.ra_rows.specs.Rows as row_words;
 ghost use Rattle.ra_cells.specs.Stands as cell_words;
-ghost use Rattle.ra_causes.specs.Requirements.{AreRequired};
+ghost use Rattle.ra_world.specs.Required.{AreRequired};
 
-use crate::required::read_required;
 use ra_base::{Assignment, Resource, Steps};
 use ra_cells::Cells;
 use ra_model::Instance;
 use ra_moves::Move;
 use ra_rows::Rows;
 use ra_topology::Topology;
-use ra_world::World;
+use ra_world::{World, requirements};
 use std::sync::ledger::Ledger;
 
 /// A move on trial: what is kept of the assignment that it would change, and what its processes require, by step, then
@@ -65,7 +64,7 @@ impl<'a, 'b> Trial<'a, 'b> {
         ensures onwards { steps.old ≤ steps.new }
     {
         let inst = world.instance();
-        let required = read_required(inst, mv, steps);
+        let required = requirements(inst, mv, steps);
         Trial {
             inst,
             topo: world.topology(),

@@ -7,7 +7,8 @@ use mirror::Mirror;
 use plain::{in_location, in_neighbourhood, locations, moved, on_machine};
 use ra_base::{Assignment, Machine, Service};
 use ra_model::Instance;
-use samples::{assignment, crowd, large, mixed, sample};
+use ra_samples::{assignment, sample};
+use samples::{crowd, large, mixed};
 use std::alloc::Global;
 use std::process::Abort;
 use std::test::Fail;
@@ -116,8 +117,8 @@ fn shift_and_back(
 
 #[test]
 fn a_process_of_the_sample_leaves_and_comes_home(rt: HostRuntime) -> Result<(), Fail> {
-    let inst = sample(rt.alloc())?.ok_or("the lists are no instance")?;
-    let start = assignment(rt.alloc(), &[0, 3, 0])?;
+    let inst = sample(rt.alloc()).expect(&rt, "no instance");
+    let start = assignment(rt.alloc(), &[0, 3, 0]).expect(&rt, "no memory");
     let result = shift_and_back(&rt, rt.alloc(), &inst, &start);
     drop(inst);
     result
@@ -125,8 +126,8 @@ fn a_process_of_the_sample_leaves_and_comes_home(rt: HostRuntime) -> Result<(), 
 
 #[test]
 fn cells_tell_what_plain_counts_do(rt: HostRuntime) -> Result<(), Fail> {
-    let inst = mixed(rt.alloc())?.ok_or("the lists are no instance")?;
-    let start = assignment(rt.alloc(), &[0, 1, 2, 3, 4, 0, 0, 2])?;
+    let inst = mixed(rt.alloc()).expect(&rt, "no instance");
+    let start = assignment(rt.alloc(), &[0, 1, 2, 3, 4, 0, 0, 2]).expect(&rt, "no memory");
     let result = walk(&rt, rt.alloc(), &inst, &start, 400, 1);
     drop(inst);
     result
@@ -134,8 +135,8 @@ fn cells_tell_what_plain_counts_do(rt: HostRuntime) -> Result<(), Fail> {
 
 #[test]
 fn cells_of_thousands_of_processes_tell_it_too(rt: HostRuntime) -> Result<(), Fail> {
-    let inst = large(rt.alloc())?.ok_or("the lists are no instance")?;
-    let start = crowd(rt.alloc())?;
+    let inst = large(rt.alloc()).expect(&rt, "no instance");
+    let start = crowd(rt.alloc()).expect(&rt, "no memory");
     let result = walk(&rt, rt.alloc(), &inst, &start, 4000, 1000);
     drop(inst);
     result

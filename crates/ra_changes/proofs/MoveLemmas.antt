@@ -15,12 +15,9 @@ use Rattle.ra_moves.specs.Values.{gone, come, end_count, end_in}
 use Rattle.ra_moves.proofs.ValueLemmas.{tally_after, fits_after, end_from, end_to}
 use Rattle.ra_local.specs.Touched.{service_in}
 use Rattle.ra_local.specs.Moving.{IsMove}
+use Rattle.ra_world.proofs.RequiredLaws.{process_read}
 
 -- the numbers of a step
-pub process_read : (steps : List Step) (j : ℕ) (s : Step) → s ≡ step_at steps j → s.process.0 ≡ process_in steps j
-unfolding process_in
-process_read steps j s is = ap (λ (x : Step). x.process.0) is
-
 pub from_read : (steps : List Step) (j : ℕ) (s : Step) → s ≡ step_at steps j → s.from.0 ≡ from_in steps j
 unfolding from_in
 from_read steps j s is = ap (λ (x : Step). x.from.0) is

@@ -8,22 +8,11 @@ use Rattle.ra_model.specs.declared.raw.Tables.{Tables}
 use Rattle.ra_model.specs.Numbers.{requirement_of}
 use Rattle.std.proofs.Common.{take, drop}
 use Rattle.std.proofs.lemmas.List.{get_or-take, get_or-drop}
-use Rattle.ra_changes.specs.Required.{ReadTo}
 use Rattle.ra_changes.specs.RowChanges.{share_at, HasMore, HasMoreAt, HasFollowed, CanFollow}
 
 -- a row of requirements, as it is read
 pub required_cell : (width j r : ℕ) (table : List ℕ) → r < width → get_or (take (j * 20 + width - j * 20) (drop (j * 20) table)) r 0 ≡ cell 20 table j r
 required_cell width j r table inside = get_or-take (j * 20 + width - j * 20) (drop (j * 20) table) r 0 (omega arith) ∙ get_or-drop (j * 20) table r 0 ∙ sym (cell_is 20 table j r)
-
--- one more requirement is read
-pub read_more : (i : Tables) (p j n x : ℕ) (old mid : List ℕ) → ReadTo i p j n old mid → n < 20 → j * 20 + n < length mid → x ≡ requirement_of i p n → ReadTo i p j (n + 1) old (set mid (j * 20 + n) x)
-read_more i p j n x old mid before inside within is = record {
-  here = λ r below. ⊎_elim
-      (λ (earlier : r < n). cell_write_other 20 mid j n x j r inside (omega arith) (inr (λ same. absurd (omega arith))) ∙ before.here r earlier)
-      (λ (now : n ≤ r). let same : r ≡ n = omega arith in rw same (cell_write_same 20 mid j n x within ∙ is))
-      (cases_lt r n);
-  others = λ k r apart few. cell_write_other 20 mid j n x k r inside few (inl apart) ∙ before.others k r apart few;
-}
 
 -- the first n numbers are more by their amounts
 pub record MoreTo (n : ℕ) (old new amounts : List ℕ) : Type 0 where

@@ -13,7 +13,7 @@ use Rattle.ra_moves.specs.declared.steps.Step.{Step}
 use Rattle.ra_moves.specs.Steps.{step_at, process_in, from_in, to_in}
 use Rattle.ra_moves.specs.Replacing.{after_steps}
 use Rattle.ra_local.specs.Moving.{IsMove}
-use Rattle.ra_changes.specs.Required.{AreRequired, ReadTo}
+use Rattle.ra_world.specs.Required.{AreRequired}
 use Rattle.ra_changes.specs.RowChanges.{share_at, HasFollowed, CanFollow}
 use Rattle.ra_changes.proofs.MoveLemmas.{from_read, to_read, tally_next}
 
@@ -52,13 +52,4 @@ can_follow i a steps j m s row amounts limits small move within is required widt
 pub row_next : (i : Tables) (a : List Machine) (steps : List Step) (j m : ℕ) (s : Step) (old new amounts : List ℕ) → IsMove i a steps → j < length steps → s ≡ step_at steps j → IsRequiredRow i steps j amounts → length old ≡ resource_count i → IsUsageRow i (after_steps a steps j) m old → HasFollowed s.from.0 s.to.0 m old new amounts → IsUsageRow i (after_steps a steps (j + 1)) m new
 row_next i a steps j m s old new amounts move within is required width usage follows = record {
   each = λ r here. omega (arith, usage.each r here, follows.each r (omega arith), left_is i steps j m r s amounts is required here, entered_is i steps j m r s amounts is required here, use_next i a steps j m r move within);
-}
-
--- the requirements of one more step are read
-pub required_next : (i : Tables) (steps : List Step) (j p : ℕ) (old new : List ℕ) → WellFormed i → AreRequired i steps j old → p ≡ process_in steps j → ReadTo i p j (resource_count i) old new → AreRequired i steps (j + 1) new
-required_next i steps j p old new limits before is read = record {
-  each = λ k r below inside. ⊎_elim
-      (λ (earlier : k < j). read.others k r (omega arith) (omega (arith, limits.few_resources)) ∙ before.each k r earlier inside)
-      (λ (now : j ≤ k). let same : k ≡ j = omega arith in rw same (read.here r inside ∙ ap (λ q. requirement_of i q r) is))
-      (cases_lt k j);
 }

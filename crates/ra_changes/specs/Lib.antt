@@ -1,4 +1,3 @@
-pub mod Required
 pub mod RowChanges
 pub mod PlaceCosts
 pub mod CountLists

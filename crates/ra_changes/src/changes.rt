@@ -7,11 +7,10 @@ ghost use Rattle.ra_local.specs.Weighing.{weighed_of};
 use crate::amounts::difference;
 use crate::counts::counts_of;
 use crate::ends::change_at_ends;
-use crate::required::requirements;
 use crate::ways::change_of_ways;
 use ra_base::Steps;
 use ra_moves::{Move, Weighed};
-use ra_world::World;
+use ra_world::{World, requirements};
 use std::sync::ledger::Ledger;
 
 /// The weighing of a move that breaks nothing: the change of load, balance, process and machine cost together, and the

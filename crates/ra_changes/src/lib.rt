@@ -6,7 +6,6 @@ mod amounts;
 mod changes;
 mod counts;
 mod ends;
-mod required;
 mod rows;
 mod ways;
 

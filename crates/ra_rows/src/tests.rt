@@ -3,13 +3,11 @@ ghost use Rattle.ra_model.specs.Numbers.{resource_count, machine_count, process_
 ghost use Rattle.ra_model.specs.Assignments.{IsAssignment, machine_at};
 ghost use Rattle.ra_rows.specs.Rows.{HasAt};
 
-mod samples;
-
 use super::*;
 use crate::sums::machine_of;
 use ra_base::{Assignment, Machine, Process, Resource, Steps};
 use ra_model::Instance;
-use samples::{assignment, instance_at_limits, sample};
+use ra_samples::{assignment, pair_at_limits, sample};
 use std::alloc::Global;
 use std::marker::Brand;
 use std::process::Abort;
@@ -87,7 +85,7 @@ fn rows_at_start<'a>(
 
 /// The rows at the start, and while process 1 goes and comes.
 fn follow_sample(rt: &impl Abort, alloc: Global, inst: &Instance) {
-    let a0 = assignment(rt, alloc, &[0, 3, 0]);
+    let a0 = assignment(alloc, &[0, 3, 0]).expect(rt, "no memory");
     assert!(rt; inst.is_assignment(&a0));
     assert_eq!(rt; inst.resources(), 2);
     assert_eq!(rt; inst.machines(), 4);
@@ -100,7 +98,7 @@ fn follow_sample(rt: &impl Abort, alloc: Global, inst: &Instance) {
 }
 
 fn compare_at_limits(rt: &impl Abort, alloc: Global, inst: &Instance) {
-    let a0 = assignment(rt, alloc, &[0, 1]);
+    let a0 = assignment(alloc, &[0, 1]).expect(rt, "no memory");
     assert!(rt; inst.is_assignment(&a0));
     assert_eq!(rt; inst.resources(), 2);
     assert_eq!(rt; inst.machines(), 2);
@@ -111,14 +109,14 @@ fn compare_at_limits(rt: &impl Abort, alloc: Global, inst: &Instance) {
 
 #[test]
 fn rows_follow_a_process(rt: HostRuntime) {
-    let inst = sample(&rt, rt.alloc());
+    let inst = sample(rt.alloc()).expect(&rt, "no instance");
     follow_sample(&rt, rt.alloc(), &inst);
     drop(inst);
 }
 
 #[test]
 fn rows_of_numbers_at_their_limits(rt: HostRuntime) {
-    let inst = instance_at_limits(&rt, rt.alloc());
+    let inst = pair_at_limits(rt.alloc()).expect(&rt, "no instance");
     compare_at_limits(&rt, rt.alloc(), &inst);
     drop(inst);
 }

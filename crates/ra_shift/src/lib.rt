@@ -7,6 +7,3 @@ mod reads;
 mod shift;
 
 pub use shift::Shift;
-
-#[cfg(test)]
-mod tests;

@@ -64,7 +64,7 @@ fn compare_tangle(rt: &impl Abort, alloc: Global, inst: &Instance) {
 
 #[test]
 fn each_service_has_its_lists(rt: HostRuntime) {
-    let inst = tangle(&rt, rt.alloc());
+    let inst = tangle(rt.alloc()).expect(&rt, "no instance");
     compare_tangle(&rt, rt.alloc(), &inst);
     drop(inst);
 }

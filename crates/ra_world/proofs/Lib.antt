@@ -2,3 +2,4 @@ pub mod CostLaws
 pub mod RenewalLaws
 pub mod StepLaws
 pub mod FollowLaws
+pub mod RequiredLaws

@@ -1,3 +1,4 @@
 pub mod Costs
 pub mod Keeping
 pub mod Following
+pub mod Required

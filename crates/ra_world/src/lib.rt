@@ -7,8 +7,10 @@ mod costs;
 mod following;
 mod kept;
 mod renewal;
+mod required;
 mod world;
 
 pub use changes::{process_share, way_share};
 pub use costs::{row_balance, row_load};
+pub use required::requirements;
 pub use world::World;

@@ -3,7 +3,8 @@ use Rattle.ra_base.specs.Listed.{Listed}
 use Rattle.ra_base.specs.declared.ids.Machine.{Machine}
 use Rattle.ra_model.specs.Assignments.{machine_at}
 use Rattle.ra_model.proofs.TallyLemmas.{machine_at_read}
-use Rattle.ra_changes.proofs.MoveLemmas.{process_known, process_read, from_read, to_read}
+use Rattle.ra_world.proofs.RequiredLaws.{process_read}
+use Rattle.ra_changes.proofs.MoveLemmas.{process_known, from_read, to_read}
 use Rattle.ra_changes.proofs.MovedNext.{moved_kept, moved_step, away_few, moved_few}
 use Rattle.ra_changes.proofs.counts.moved_next.Goals as goal
 

@@ -1,5 +1,6 @@
 use Rattle.std.proofs.Common.{arith}
-use Rattle.ra_changes.proofs.MoveLemmas.{process_known, from_known, to_known, process_read, from_read, to_read}
+use Rattle.ra_world.proofs.RequiredLaws.{process_read}
+use Rattle.ra_changes.proofs.MoveLemmas.{process_known, from_known, to_known, from_read, to_read}
 use Rattle.ra_changes.proofs.ChangeLaws.{place_come, place_gone}
 use Rattle.ra_changes.proofs.ways.change_of_ways.Goals as goal
 

@@ -15,5 +15,5 @@ invariant_of-result g c = record {
   rows_stand = rw c.assignment.ensures.value c.rows.ensures.stand;
   cells_tables = rw c.instance-inst.ensures c.cells.ensures.instance;
   cells_stand = rw (c.instance-inst.ensures, c.initial.ensures, c.assignment.ensures.value) c.cells.ensures.stand;
-  known = c.read_required-required.ensures.required;
+  known = c.requirements-required.ensures.required;
 }

@@ -1,7 +1,7 @@
 ghost use Rattle.std.specs.Prelude.{◌≡◌, ℕ, ◌+◌, ◌*◌, ◌<◌, length};
 ghost use Rattle.ra_model.specs.Numbers.{resource_count, process_count};
 ghost use Rattle.ra_moves.specs.Steps.{process_in};
-ghost use Rattle.ra_changes.specs.Required.{AreRequired, ReadTo};
+ghost use Rattle.ra_world.specs.Required.{AreRequired, ReadTo};
 
 use ra_base::{Process, Resource, Steps};
 use ra_model::Instance;
@@ -10,7 +10,7 @@ use std::sync::ledger::Ledger;
 
 /// The requirements of the processes of a move, in rows of twenty numbers, a row for each step. Each is read once.
 #[inline(always)]
-pub(crate) fn requirements<L: Ledger>(inst: &Instance, mv: &Move, steps: &mut Steps<L>) -> [u32; 60]
+pub fn requirements<L: Ledger>(inst: &Instance, mv: &Move, steps: &mut Steps<L>) -> [u32; 60]
     requires { (j : ℕ) → j < length mv.now.steps →
         process_in mv.now.steps j < process_count inst.now.tables }
     ensures required { AreRequired inst.now.tables mv.now.steps (length mv.now.steps) result }

@@ -1,6 +1,6 @@
 use Rattle.std.proofs.Common.{arith}
-use Rattle.ra_changes.proofs.RowLemmas.{read_more}
-use Rattle.ra_changes.proofs.required.read_row.Goals as goal
+use Rattle.ra_world.proofs.RequiredLaws.{read_more}
+use Rattle.ra_world.proofs.required.read_row.Goals as goal
 
 pub loop-r-preserved : goal.loop-r-preserved
 loop-r-preserved g c = record {

@@ -1,8 +1,7 @@
 use Rattle.std.proofs.Common.{arith}
 use Rattle.ra_world.proofs.StepLaws.{counted_more}
-use Rattle.ra_changes.proofs.MoveLemmas.{process_read}
-use Rattle.ra_changes.proofs.RowUse.{required_next}
-use Rattle.ra_changes.proofs.required.requirements.Goals as goal
+use Rattle.ra_world.proofs.RequiredLaws.{process_read, required_next}
+use Rattle.ra_world.proofs.required.requirements.Goals as goal
 
 pub read_row-requires-clause-process : goal.read_row-requires-clause-process
 read_row-requires-clause-process g c = omega (arith, process_read c.args.mv.now.steps c.loop-j.j c.step.result c.step.ensures, c.requires c.loop-j.j (omega arith))
