@@ -1,11 +1,11 @@
 -- What a value that was read keeps to: the limits of a field, and what holds after each step of many.
-use Rattle.std.proofs.Common.{◌≡◌, ℕ, suc, ◌+◌, ◌<◌, ◌≤◌, refl, ap, ◌∙◌, sym, subst, List, [], ◌∷◌, ◌++◌, length, arith, add-zero, ⊎_elim, inl, inr}
+use Rattle.std.proofs.Common.{◌≡◌, ℕ, suc, ◌+◌, ◌<◌, ◌≤◌, ap, ◌∙◌, sym, subst, List, [], ◌∷◌, ◌++◌, length, arith, add-zero, ⊎_elim, inl, inr}
 use Rattle.std.proofs.lemmas.Bool.{cases_lt}
 use Rattle.std.proofs.lemmas.List.{length_push}
 use Rattle.ra_token.specs.declared.answers.Token.{Token}
 use Rattle.ra_model_read.specs.declared.faults.Field.{Field}
 use Rattle.ra_model_read.specs.declared.faults.ModelFault.{ModelFault}
-use Rattle.ra_model_read.specs.Formats.{Left, Read, Format, pure, refuse, ◌>>=◌, next_token, any, limited, field, along, number_more, numbers}
+use Rattle.ra_model_read.specs.Formats.{Left, Read, Format, refuse, ◌>>=◌, next_token, any, limited, field, along, number_more, numbers}
 use Rattle.ra_model_read.proofs.Inversion.{bind_back, pure_back, along_known}
 use Rattle.ra_model_read.proofs.Limited.{limited_fits, limited_out}
 
