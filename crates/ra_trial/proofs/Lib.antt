@@ -2,3 +2,4 @@ pub mod LineLemmas
 pub mod Drawing
 pub mod OneLine
 pub mod Whole
+pub mod LineTokens
