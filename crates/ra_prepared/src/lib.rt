@@ -1,8 +1,0 @@
-//! A stand-in.
-#![tactic(auto)]
-
-mod prepared;
-mod solved;
-
-pub use prepared::Prepared;
-pub use solved::Solved;
