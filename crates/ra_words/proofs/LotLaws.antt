@@ -9,7 +9,6 @@ use Rattle.std.specs.List.{list_all}
 use Rattle.ra_base.specs.Listed.{Listed}
 use Rattle.ra_draws.specs.declared.sources.Lot.{Lot}
 use Rattle.ra_draws.specs.Lots.{IsFitting, IsLots, lot_at}
-use Rattle.ra_words.specs.declared.lots.TheConstants.{MOST_LOTS, MOST_PROPOSALS}
 use Rattle.ra_words.specs.Words.{word_at}
 use Rattle.ra_words.specs.Numbers.{has_digits, is_number, worth}
 use Rattle.ra_words.specs.LotTexts.{FromSeed, FromWords, first_place, seed_text, budget_text, is_seed_lot, is_written, written_pieces, is_written_lot, is_lot, source_says, budget_says, lot_says, are_lots}
@@ -40,12 +39,12 @@ no_by false x is = refl
 
 -- the lots from a place on fit together
 abbrev pub Together : List (List ℕ) → ℕ → Bool
-Together words place = list_all is_lot (drop place words) && nat_le (sum_by budget_says (drop place words)) MOST_PROPOSALS
+Together words place = list_all is_lot (drop place words) && nat_le (sum_by budget_says (drop place words)) 1000000
 
 -- before the word k all are lots, and so much is left of the budget
 pub record IsLeft (words : List (List ℕ)) (place k left : ℕ) : Type 0 where
   pub all : list_all is_lot (drop k words) ≡ list_all is_lot (drop place words)
-  pub sum : left + sum_by budget_says (drop place words) ≡ MOST_PROPOSALS + sum_by budget_says (drop k words)
+  pub sum : left + sum_by budget_says (drop place words) ≡ 1000000 + sum_by budget_says (drop k words)
 
 pub none_left : (words : List (List ℕ)) (k : ℕ) → length words ≤ k → drop k words ≡ []
 none_left words k past = drop_all k words past
@@ -55,7 +54,7 @@ all_read words place k left is past =
     let none = none_left words k past in
     let all : list_all is_lot (drop place words) ≡ true = sym is.all ∙ ap (list_all is_lot) none in
     let sum : sum_by budget_says (drop k words) ≡ 0 = ap (sum_by budget_says) none in
-    let fits : sum_by budget_says (drop place words) ≤ MOST_PROPOSALS = omega (arith, is.sum) in
+    let fits : sum_by budget_says (drop place words) ≤ 1000000 = omega (arith, is.sum) in
     grind (arith, common_steps)
 
 pub not_lot : (words : List (List ℕ)) (place k left : ℕ) (word : List ℕ) → IsLeft words place k left → k < length words → word ≡ word_at words k
@@ -63,7 +62,7 @@ pub not_lot : (words : List (List ℕ)) (place k left : ℕ) (word : List ℕ) �
 not_lot words place k left word is within read none =
     let no : is_lot (word_at words k) ≡ false = ap is_lot (sym read) ∙ no_by (is_lot word) (budget_says word) none in
     let all : list_all is_lot (drop place words) ≡ false = sym is.all ∙ ap (list_all is_lot) (left_here words k within) ∙ ap (λ b. b && list_all is_lot (drop (k + 1) words)) no in
-    ap (λ b. b && nat_le (sum_by budget_says (drop place words)) MOST_PROPOSALS) (sym all)
+    ap (λ b. b && nat_le (sum_by budget_says (drop place words)) 1000000) (sym all)
 
 -- the sum of the budgets from a word on
 one_summed : (words : List (List ℕ)) (k b : ℕ) (word : List ℕ) → k < length words → word ≡ word_at words k → budget_says word ≡ b
@@ -83,7 +82,7 @@ pub too_much : (words : List (List ℕ)) (place k left b : ℕ) (word : List ℕ
 too_much words place k left b word is within read some above =
     let told = yes_by (is_lot word) b (budget_says word) some in
     let s = one_summed words k b word within read told.1 in
-    above_by (list_all is_lot (drop place words)) (sum_by budget_says (drop place words)) MOST_PROPOSALS (omega (arith, s, is.sum))
+    above_by (list_all is_lot (drop place words)) (sum_by budget_says (drop place words)) 1000000 (omega (arith, s, is.sum))
 
 pub one_lot : (words : List (List ℕ)) (place k left b : ℕ) (word : List ℕ) → IsLeft words place k left → k < length words → word ≡ word_at words k
     → Some b ≡ (if is_lot word then Some (budget_says word) else None) → b ≤ left → IsLeft words place (k + 1) (left - b)
@@ -176,9 +175,9 @@ same_budgets (lot ∷ lots) (word ∷ words) said =
 
 pub record AreLots (words : List (List ℕ)) : Type 0 where
   pub some : 0 < length words
-  pub few : length words ≤ MOST_LOTS
+  pub few : length words ≤ 16
   pub all : list_all is_lot words ≡ true
-  pub together : sum_by budget_says words ≤ MOST_PROPOSALS
+  pub together : sum_by budget_says words ≤ 1000000
 
 are_told : (words : List (List ℕ)) → are_lots words ≡ true → AreLots words
 unfolding are_lots

@@ -2,7 +2,6 @@
 use Rattle.std.specs.Prelude.{ℕ, suc, ◌/◌, ◌%◌, List, [], ◌∷◌, map, length, take, drop, sum_by, codes, Bool, nat_lt, nat_le, ◌==◌, ◌&&◌, if◌then◌else◌}
 use Rattle.std.specs.List.{list_all}
 use Rattle.std.specs.Str.{bytes_eq}
-use Rattle.ra_words.specs.declared.lots.TheConstants.{MOST_LOTS, MOST_PROPOSALS}
 use Rattle.ra_words.specs.Numbers.{is_number, worth}
 
 -- where the words of a lot come from: a seed, or the words that are written
@@ -28,9 +27,9 @@ seed_text word = take (first_place 58 word) word
 unfoldable pub budget_text : List ℕ → List ℕ
 budget_text word = drop (suc (first_place 58 word)) word
 
--- a number, a colon, and a number of proposals
+-- a number, a colon, and a number of proposals, at most 1,000,000
 unfoldable pub is_seed_lot : List ℕ → Bool
-is_seed_lot word = is_number (seed_text word) && is_number (budget_text word) && nat_le (worth (budget_text word)) MOST_PROPOSALS
+is_seed_lot word = is_number (seed_text word) && is_number (budget_text word) && nat_le (worth (budget_text word)) 1000000
 
 -- a byte in front of the first piece
 unfoldable pub in_front : ℕ → List (List ℕ) → List (List ℕ)
@@ -74,6 +73,6 @@ budget_says word = if is_written word then length (written_pieces word) / 8 else
 unfoldable pub lot_says : List ℕ → LotSays
 lot_says word = record { source = source_says word; budget = budget_says word }
 
--- the lots of a run: at least one, not too many, and with budgets that aren't too much together
+-- the lots of a run: 1 to 16 of them, with at most 1,000,000 proposals together
 unfoldable pub are_lots : List (List ℕ) → Bool
-are_lots words = nat_lt 0 (length words) && nat_le (length words) MOST_LOTS && list_all is_lot words && nat_le (sum_by budget_says words) MOST_PROPOSALS
+are_lots words = nat_lt 0 (length words) && nat_le (length words) 16 && list_all is_lot words && nat_le (sum_by budget_says words) 1000000

@@ -13,8 +13,8 @@ use ra_base::{Fixed, NoMemory};
 use ra_draws::{Lot, Source};
 use std::alloc::Global;
 
-/// How many lots a run may have.
-pub(crate) const MOST_LOTS: usize = 1;
+/// How many lots a run may have, one for each worker.
+pub(crate) const MOST_LOTS: usize = 16;
 
 /// How many proposals the lots of a run may have together.
 pub(crate) const MOST_PROPOSALS: u64 = 1_000_000;
@@ -31,7 +31,7 @@ pub(crate) fn are_lots(words: &[String], place: usize) -> bool
 fn fit_together(words: &[String], place: usize) -> bool
     requires { place ≤ length words.now }
     ensures { result ≡ (list_all is_lot (drop place (texts words.now)) && nat_le
-        (sum_by budget_says (drop place (texts words.now))) MOST_PROPOSALS) }
+        (sum_by budget_says (drop place (texts words.now))) 1000000) }
 {
     let mut left = MOST_PROPOSALS;
     for k in place..words.len() {
@@ -92,7 +92,7 @@ fn seed_budget(word: &[u8]) -> Option<u64>
 
 /// The number of proposals that a text is. `None` where it is none, or too much.
 fn budget_of(text: &[u8]) -> Option<u64>
-    ensures { result ≡ (if is_number text.now && nat_le (worth text.now) MOST_PROPOSALS then Some
+    ensures { result ≡ (if is_number text.now && nat_le (worth text.now) 1000000 then Some
         (worth text.now) else None) }
 {
     if is_number(text) && number(text) <= MOST_PROPOSALS {

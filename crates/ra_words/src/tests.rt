@@ -20,7 +20,7 @@ const JOBS: &[(&[&str], &str)] = &[
             "18446744073709551615",
             "7:1000000",
         ],
-        "solve m i closed none slack 18446744073709551615 drawing Two budget 1000000 seed 7",
+        "solve m i closed none slack 18446744073709551615 drawing Two lots 1 budget 1000000 seed 7",
     ),
     (
         &[
@@ -35,7 +35,11 @@ const JOBS: &[(&[&str], &str)] = &[
             "1",
             "w:8,7,6,5,4,3,2,18446744073709551615",
         ],
-        "solve m i closed c slack 5 drawing One budget 1 words [8, 7, 6, 5, 4, 3, 2, 18446744073709551615]",
+        "solve m i closed c slack 5 drawing One lots 1 budget 1 words [8, 7, 6, 5, 4, 3, 2, 18446744073709551615]",
+    ),
+    (
+        &["solve", "m", "i", "7:1", "w:8,7,6,5,4,3,2,1", "9:999998"],
+        "solve m i closed none slack 0 drawing Two lots 3 budget 999998 seed 9",
     ),
 ];
 
@@ -86,12 +90,13 @@ fn tell(alloc: Global, job: &Job) -> Result<String, AllocError> {
         } => {
             let last = tell_lot(alloc, lots.lot(lots.len() - 1))?;
             format!(in alloc;
-                "solve {} {} closed {} slack {} drawing {:?} {}",
+                "solve {} {} closed {} slack {} drawing {:?} lots {} {}",
                 model.as_str(),
                 initial.as_str(),
                 name_of(closed),
                 lots.slack(),
                 lots.drawing(),
+                lots.len(),
                 last.as_str()
             )
         }
