@@ -6,11 +6,10 @@ use Rattle.ra_base.specs.Sums.{one_if}
 use Rattle.ra_model.specs.declared.raw.Tables.{Tables}
 use Rattle.ra_model.specs.Numbers as model
 use Rattle.ra_model_read.specs.FieldOrder.{joined, row_of, counted, resource_numbers, machine_numbers, service_numbers, process_numbers, balance_numbers, numbers_of}
+use Rattle.ra_trial.specs.InstanceNumbers.{HasNumbers}
 use Rattle.ra_trial.specs.Lines.{listed}
 use Rattle.ra_trial.specs.Numbers.{transient_of, requirement_of, process_cost_of, capacity_of, safety_of, move_cost_of, spread_of}
 use Rattle.ra_trial.specs.Trials.{resource_line, machine_front, machine_line, service_line, process_line, resource_lines, machine_lines, service_lines, process_lines, last_lines}
-use Rattle.ra_trial.proofs.TrialNumbers.{HasNumbers}
-use Rattle.ra_trial.proofs.StartFeasible.{needs_start, need_is}
 
 -- all lines of the model file
 unfoldable pub all_lines : (ℕ → ℕ) → List (List ℕ)
@@ -60,10 +59,6 @@ module _ (g : ℕ → ℕ) (i : Tables) (has : HasNumbers g i) where
       hundred : ((b : ℕ) → b < 100 → model.way_cost_of i m b ≡ move_cost_of m b) → listed 100 (move_cost_of m) ≡ row_of (model.machine_count i) (model.way_cost_of i m)
       hundred same = row_same 100 (move_cost_of m) (model.way_cost_of i m) (λ b b_in. sym (same b b_in)) ∙ ap (λ n. row_of n (model.way_cost_of i m)) (sym has.machines)
 
-  needs_counted : (s : ℕ) → s < 250 → model.dependency_count i s ≡ s / 5 + 1 - (s + 4) / 5
-  unfolding model.dependency_count
-  needs_counted s s_in = ap₂ (λ a b. a - b) (has.needs_end s s_in) (needs_start g i has s s_in)
-
   one_row : (n : ℕ) (h : ℕ → ℕ) → n ≡ 1 → n ∷ row_of n h ≡ 1 ∷ h 0 ∷ []
   unfolding joined
   one_row n h one = ap (λ m. m ∷ row_of m h) one
@@ -76,12 +71,12 @@ module _ (g : ℕ → ℕ) (i : Tables) (has : HasNumbers g i) where
   unfolding service_line service_numbers
   service_same s s_in = ⊎_elim
       (λ (fifth : s % 5 ≡ 0).
-      let count : model.dependency_count i s ≡ 1 = omega (arith, needs_counted s s_in) in
+      let count : model.dependency_count i s ≡ 1 = has.dependencies s s_in ∙ cond-true (eqb (s % 5) 0) 1 0 (eq-eqb (s % 5) 0 fifth) in
       cond-true (eqb (s % 5) 0) _ _ (eq-eqb (s % 5) 0 fifth)
-      ∙ ap₂ (λ w n. w ∷ 1 ∷ n ∷ []) (sym (has.spread s s_in)) (sym (need_is g i has s 0 s_in (omega arith)))
+      ∙ ap₂ (λ w n. w ∷ 1 ∷ n ∷ []) (sym (has.spread s s_in)) (sym (has.need s 0 s_in (omega arith)))
       ∙ ap (λ xs. model.spread_of i s ∷ xs) (sym (one_row (model.dependency_count i s) (model.need_of i s) count)))
       (λ (other : s % 5 ≢ 0).
-      let count : model.dependency_count i s ≡ 0 = omega (arith, needs_counted s s_in) in
+      let count : model.dependency_count i s ≡ 0 = has.dependencies s s_in ∙ cond-false (eqb (s % 5) 0) 1 0 (ne_eqb (s % 5) 0 other) in
       cond-false (eqb (s % 5) 0) _ _ (ne_eqb (s % 5) 0 other)
       ∙ ap (λ w. w ∷ 0 ∷ []) (sym (has.spread s s_in))
       ∙ ap (λ xs. model.spread_of i s ∷ xs) (sym (no_row (model.dependency_count i s) (model.need_of i s) count)))
@@ -97,8 +92,8 @@ module _ (g : ℕ → ℕ) (i : Tables) (has : HasNumbers g i) where
   balance_same : 0 ∷ 1 ∷ 2 ∷ 10 ∷ [] ≡ balance_numbers i 0
   unfolding balance_numbers
   balance_same =
-      ap₂ (λ a b. a ∷ b ∷ 2 ∷ 10 ∷ []) (sym (has.first 0 (omega arith))) (sym (has.second 0 (omega arith)))
-      ∙ ap₂ (λ t w. model.first_of i 0 ∷ model.second_of i 0 ∷ t ∷ w ∷ []) (sym (has.target 0 (omega arith))) (sym (has.balance_weight 0 (omega arith)))
+      ap₂ (λ a b. a ∷ b ∷ 2 ∷ 10 ∷ []) (sym has.first) (sym has.second)
+      ∙ ap₂ (λ t w. model.first_of i 0 ∷ model.second_of i 0 ∷ t ∷ w ∷ []) (sym has.target) (sym has.balance_weight)
 
   one_group : (n : ℕ) (h : ℕ → List ℕ) → n ≡ 1 → counted n h ≡ 1 ∷ h 0
   unfolding joined

@@ -14,10 +14,11 @@ use Rattle.ra_model.specs.Numbers as model
 use Rattle.ra_model.proofs.TallyLemmas.{members_count}
 use Rattle.ra_trial.specs.Numbers.{start_of, start_share, start_use_of, requirement_of, capacity_of, spread_of}
 use Rattle.ra_trial.specs.Trials.{start_machine}
+use Rattle.ra_trial.specs.InstanceNumbers.{HasNumbers}
 use Rattle.ra_trial.specs.Instances.{start_list}
 use Rattle.ra_trial.proofs.LineLemmas.{length_listed, listed_at}
 use Rattle.ra_trial.proofs.Places.{apart_in_service, location_of_start, locations_apart, service_later, machine_later, count_distinct}
-use Rattle.ra_trial.proofs.TrialNumbers.{HasNumbers}
+
 
 -- the machine of a process
 start_at : (p : ℕ) → p < 1000 → machine_at start_list p ≡ p % 100
@@ -87,32 +88,13 @@ module _ (g : ℕ → ℕ) (i : Tables) (has : HasNumbers g i) where
   unfolding spread_of
   spread_fits s s_in = omega (arith, has.spread s s_in, three_locations s s_in)
 
-  -- where the dependencies of a service start, and the one that it has
-  pub needs_start : (s : ℕ) → s < 250 → model.dependency_start i s ≡ (s + 4) / 5
-  unfolding model.dependency_start
-  needs_start zero s_in = refl
-  needs_start (suc s) s_in = omega (arith, has.needs_end s (omega arith))
-
-  one_need : (s k : ℕ) → s < 250 → k < model.dependency_count i s → model.dependency_start i s + k ≡ s / 5 × (5 * (s / 5) ≡ s)
-  unfolding model.dependency_count
-  one_need s k s_in k_in =
-      let ends : model.dependency_end i s ≡ s / 5 + 1 = has.needs_end s s_in in
-      let starts : model.dependency_start i s ≡ (s + 4) / 5 = needs_start s s_in in
-      (omega arith, omega arith)
-
-  pub need_is : (s k : ℕ) → s < 250 → k < model.dependency_count i s → model.need_of i s k ≡ (s + 25) % 250
-  unfolding model.need_of
-  need_is s k s_in k_in =
-      let one = one_need s k s_in k_in in
-      ap (model.need_at i) one.0 ∙ has.need (s / 5) (omega arith) ∙ ap (λ n. (n + 25) % 250) one.1
-
   -- the process 100 numbers on is near
   near_is : (s k p : ℕ) → s < 250 → k < model.dependency_count i s → p < 1000 → model.service_of i p ≡ s → HasNear i start_list (model.need_of i s k) (model.neighbourhood_of i (machine_at start_list p))
   near_is s k p s_in k_in p_in its =
       let q_in : (p + 100) % 1000 < 1000 = omega arith in
       ((p + 100) % 1000,
       omega (arith, has.processes),
-      has.service ((p + 100) % 1000) q_in ∙ service_later p p_in ∙ ap (λ t. (t + 25) % 250) (sym (has.service p p_in) ∙ its) ∙ sym (need_is s k s_in k_in),
+      has.service ((p + 100) % 1000) q_in ∙ service_later p p_in ∙ ap (λ t. (t + 25) % 250) (sym (has.service p p_in) ∙ its) ∙ sym (has.need s k s_in k_in),
       ap (model.neighbourhood_of i) (start_at ((p + 100) % 1000) q_in ∙ machine_later p p_in ∙ sym (start_at p p_in)))
 
   pub start_feasible : Feasible i start_list start_list

@@ -26,7 +26,7 @@ use Rattle.ra_trial.specs.Instances.{start_list, IsTrial}
 use Rattle.ra_trial.proofs.LineBounds.{IsSmall, IsShort, AreShort, listed_all, one_short}
 use Rattle.ra_trial.proofs.LineLemmas.{length_listed, lines_one}
 use Rattle.ra_trial.proofs.LineTokens.{lines_told}
-use Rattle.ra_trial.proofs.TrialNumbers.{HasNumbers, has_numbers}
+use Rattle.ra_trial.proofs.TrialNumbers.{has_numbers}
 
 number : Machine → ℕ
 number m = m.0

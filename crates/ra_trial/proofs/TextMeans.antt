@@ -33,7 +33,7 @@ text_has_numbers g i is =
 pub text_means : (g : ℕ → ℕ) → model_of (text_over g) ≡ Ok (trial_lists g)
 text_means g =
     let is = made_is_trial g in
-    text_accepted (made g) (text_over g) (trial_fits g (all_open (made g)) (has_numbers g (all_open (made g)) is)) (text_has_numbers g (all_open (made g)) is)
+    text_accepted (made g) (text_over g) (trial_fits g (all_open (made g)) is) (text_has_numbers g (all_open (made g)) is)
     ∙ ap (λ (l : Lists). Ok l) is.lists
 
 same_lists : (answer : Result Lists ModelFault) (a b : Lists) → answer ≡ Ok a → answer ≡ Ok b → a ≡ b

@@ -1,5 +1,6 @@
--- The numbers of a trial's instance, each by the name that an instance gives it.
-use Rattle.std.proofs.Common.{◌≡◌, ℕ, zero, suc, ◌+◌, ◌*◌, ◌/◌, ◌%◌, ◌<◌, ◌≤◌, eqb, false, List, [], ◌∷◌, length, map, get_or, refl, sym, ap, ◌∙◌, arith}
+-- From the lists of a trial's instance to its numbers.
+use Rattle.std.proofs.Common.{◌≡◌, ◌≢◌, ℕ, zero, suc, ◌+◌, ◌-◌, ◌*◌, ◌/◌, ◌%◌, ◌<◌, ◌≤◌, cond, eqb, false, List, [], ◌∷◌, length, map, get_or, refl, sym, ap, ap₂, ◌∙◌, ⊎_elim, arith, eq-eqb, ne_eqb}
+use Rattle.std.proofs.lemmas.Bool.{cases_eq, cond-true, cond-false}
 use Rattle.std.proofs.lemmas.List.{length-map}
 use Rattle.std.specs.Prelude.{None}
 use Rattle.ra_base.specs.declared.ids.Service.{Service}
@@ -8,42 +9,20 @@ use Rattle.ra_model.specs.Numbers as model
 use Rattle.ra_model_read.specs.Lists.{of_resource, of_machine, of_service, of_process, of_balance, lists_of}
 use Rattle.ra_trial.specs.Lines.{listed}
 use Rattle.ra_trial.specs.Numbers.{requirement_of, process_cost_of, capacity_of, safety_of, move_cost_of, spread_of}
+use Rattle.ra_trial.specs.InstanceNumbers.{HasNumbers}
 use Rattle.ra_trial.specs.Instances.{trial_resource, trial_machine, trial_machines, trial_service, trial_need, trial_services, trial_process, trial_processes, trial_balance, trial_lists, table_of, IsTrial}
 use Rattle.ra_trial.proofs.LineLemmas.{length_listed, listed_at}
 use Rattle.ra_trial.proofs.TableRows.{rows_many, row_is, table_many, cell_at}
 
-pub record HasNumbers (g : ℕ → ℕ) (i : Tables) : Type 0 where
-  pub resources : model.resource_count i ≡ 4
-  pub machines : model.machine_count i ≡ 100
-  pub services : model.service_count i ≡ 250
-  pub processes : model.process_count i ≡ 1000
-  pub balances : model.balance_count i ≡ 1
+-- how long the lists are, and where the dependencies of each service end
+pub record HasLists (i : Tables) : Type 0 where
   pub all_needs : length i.raw.dependencies.items ≡ 50
   pub all_capacities : length i.raw.capacities.items ≡ 400
   pub all_safeties : length i.raw.safeties.items ≡ 400
   pub all_move_costs : length i.raw.move_costs.items ≡ 10000
   pub all_requirements : length i.raw.requirements.items ≡ 4000
-  pub transient : (r : ℕ) → r < 4 → model.transient_at i r ≡ eqb r 0
-  pub load_weight : (r : ℕ) → r < 4 → model.load_weight_of i r ≡ 10
-  pub neighbourhood : (m : ℕ) → m < 100 → model.neighbourhood_of i m ≡ m / 20
-  pub location : (m : ℕ) → m < 100 → model.location_of i m ≡ m % 10
-  pub capacity : (m r : ℕ) → m < 100 → r < 4 → model.capacity_of i m r ≡ capacity_of g m r
-  pub safety : (m r : ℕ) → m < 100 → r < 4 → model.safety_of i m r ≡ safety_of g m r
-  pub move_cost : (a b : ℕ) → a < 100 → b < 100 → model.way_cost_of i a b ≡ move_cost_of a b
-  pub spread : (s : ℕ) → s < 250 → model.spread_of i s ≡ spread_of g s
   pub needs_end : (s : ℕ) → s < 250 → model.dependency_end i s ≡ s / 5 + 1
-  pub need : (k : ℕ) → k < 50 → model.need_at i k ≡ (5 * k + 25) % 250
-  pub service : (p : ℕ) → p < 1000 → model.service_of i p ≡ p / 4
-  pub requirement : (p r : ℕ) → p < 1000 → r < 4 → model.requirement_of i p r ≡ requirement_of g p r
-  pub process_cost : (p : ℕ) → p < 1000 → model.process_cost_of i p ≡ process_cost_of g p
-  pub first : (b : ℕ) → b < 1 → model.first_of i b ≡ 0
-  pub second : (b : ℕ) → b < 1 → model.second_of i b ≡ 1
-  pub target : (b : ℕ) → b < 1 → model.target_of i b ≡ 2
-  pub balance_weight : (b : ℕ) → b < 1 → model.balance_weight_of i b ≡ 10
-  pub process_weight : model.process_weight_of i ≡ 1
-  pub service_weight : model.service_weight_of i ≡ 10
-  pub machine_weight : model.machine_weight_of i ≡ 100
-  pub open_to_all : (m : ℕ) → model.closed_at i m ≡ false
+  pub need_at : (k : ℕ) → k < 50 → model.need_at i k ≡ (5 * k + 25) % 250
 
 module _ (g : ℕ → ℕ) (i : Tables) (is : IsTrial g i) where
   resource_rows : map of_resource i.raw.resources.items ≡ listed 4 trial_resource
@@ -86,9 +65,9 @@ module _ (g : ℕ → ℕ) (i : Tables) (is : IsTrial g i) where
   unfolding trial_lists
   balance_rows = ap (λ l. l.balances) is.lists
 
-  one_balance : (b : ℕ) → b < 1 → map of_balance i.raw.balances.items ≡ listed 1 (λ k. trial_balance)
+  one_balance : map of_balance i.raw.balances.items ≡ listed 1 (λ k. trial_balance)
   unfolding listed
-  one_balance b within = balance_rows
+  one_balance = balance_rows
 
   resource_many : model.resource_count i ≡ 4
   unfolding model.resource_count
@@ -102,19 +81,50 @@ module _ (g : ℕ → ℕ) (i : Tables) (is : IsTrial g i) where
   unfolding model.closed_at model.flag_in
   is_open m = ap (λ flags. model.flag_in flags m) is.open_to_all
 
+  pub has_lists : HasLists i
+  unfolding model.service_row model.dependency_end model.need_at trial_service trial_need
+  has_lists = record {
+    all_needs = ap length need_list ∙ length_listed 50 trial_need;
+    all_capacities = ap length capacity_table ∙ table_many 100 4 (capacity_of g);
+    all_safeties = ap length safety_table ∙ table_many 100 4 (safety_of g);
+    all_move_costs = ap length move_cost_table ∙ table_many 100 100 move_cost_of;
+    all_requirements = ap length requirement_table ∙ table_many 1000 4 (requirement_of g);
+    needs_end = λ s within. ap (λ row. row.dependency_end) (row_is of_service i.raw.services.items 250 (trial_service g) s _ service_rows within);
+    need_at = λ k within. ap (λ (all : List Service). (get_or all k (record { 0 = 0 })).0) need_list ∙ ap (λ service. service.0) (listed_at 50 trial_need k (record { 0 = 0 }) within);
+  }
+
+  -- where the dependencies of a service start, how many it has, and the one that it has
+  pub needs_start : (s : ℕ) → s ≤ 250 → model.dependency_start i s ≡ (s + 4) / 5
+  unfolding model.dependency_start
+  needs_start zero within = refl
+  needs_start (suc s) within = omega (arith, has_lists.needs_end s (omega arith))
+
+  needs_counted : (s : ℕ) → s < 250 → model.dependency_count i s ≡ s / 5 + 1 - (s + 4) / 5
+  unfolding model.dependency_count
+  needs_counted s within = ap₂ (λ a b. a - b) (has_lists.needs_end s within) (needs_start s (omega arith))
+
+  fifths_need : (s : ℕ) → s < 250 → model.dependency_count i s ≡ cond (eqb (s % 5) 0) 1 0
+  fifths_need s within = ⊎_elim
+      (λ (fifth : s % 5 ≡ 0). omega (arith, needs_counted s within, cond-true {A = ℕ} (eqb (s % 5) 0) 1 0 (eq-eqb (s % 5) 0 fifth)))
+      (λ (other : s % 5 ≢ 0). omega (arith, needs_counted s within, cond-false {A = ℕ} (eqb (s % 5) 0) 1 0 (ne_eqb (s % 5) 0 other)))
+      (cases_eq (s % 5) 0)
+
+  need_is : (s k : ℕ) → s < 250 → k < model.dependency_count i s → model.need_of i s k ≡ (s + 25) % 250
+  unfolding model.need_of
+  need_is s k within below =
+      let count : model.dependency_count i s ≡ s / 5 + 1 - (s + 4) / 5 = needs_counted s within in
+      let place : model.dependency_start i s + k ≡ s / 5 = omega (arith, needs_start s (omega arith)) in
+      let owner : 5 * (s / 5) ≡ s = omega arith in
+      ap (model.need_at i) place ∙ has_lists.need_at (s / 5) (omega arith) ∙ ap (λ n. (n + 25) % 250) owner
+
   pub has_numbers : HasNumbers g i
-  unfolding model.service_count model.process_count model.balance_count model.resource_row model.machine_row model.service_row model.process_row model.balance_row model.transient_at model.load_weight_of model.neighbourhood_of model.location_of model.capacity_of model.safety_of model.way_cost_of model.spread_of model.dependency_end model.need_at model.service_of model.requirement_of model.process_cost_of model.first_of model.second_of model.target_of model.balance_weight_of model.process_weight_of model.service_weight_of model.machine_weight_of trial_resource trial_machine trial_service trial_need trial_process trial_balance trial_lists
+  unfolding model.service_count model.process_count model.balance_count model.resource_row model.machine_row model.service_row model.process_row model.balance_row model.transient_at model.load_weight_of model.neighbourhood_of model.location_of model.capacity_of model.safety_of model.way_cost_of model.spread_of model.service_of model.requirement_of model.process_cost_of model.first_of model.second_of model.target_of model.balance_weight_of model.process_weight_of model.service_weight_of model.machine_weight_of trial_resource trial_machine trial_service trial_process trial_balance trial_lists
   has_numbers = record {
     resources = resource_many;
     machines = machine_many;
     services = rows_many of_service i.raw.services.items 250 (trial_service g) service_rows;
     processes = rows_many of_process i.raw.processes.items 1000 (trial_process g) process_rows;
     balances = sym (length-map i.raw.balances.items of_balance) ∙ ap length balance_rows;
-    all_needs = ap length need_list ∙ length_listed 50 trial_need;
-    all_capacities = ap length capacity_table ∙ table_many 100 4 (capacity_of g);
-    all_safeties = ap length safety_table ∙ table_many 100 4 (safety_of g);
-    all_move_costs = ap length move_cost_table ∙ table_many 100 100 move_cost_of;
-    all_requirements = ap length requirement_table ∙ table_many 1000 4 (requirement_of g);
     transient = λ r within. ap (λ row. row.transient) (row_is of_resource i.raw.resources.items 4 trial_resource r _ resource_rows within);
     load_weight = λ r within. ap (λ row. row.load_weight) (row_is of_resource i.raw.resources.items 4 trial_resource r _ resource_rows within);
     neighbourhood = λ m within. ap (λ row. row.neighbourhood) (row_is of_machine i.raw.machines.items 100 trial_machine m _ machine_rows within);
@@ -123,15 +133,15 @@ module _ (g : ℕ → ℕ) (i : Tables) (is : IsTrial g i) where
     safety = λ m r m_in r_in. cell_at _ 100 4 _ (safety_of g) m r resource_many safety_table m_in r_in;
     move_cost = λ a b a_in b_in. cell_at _ 100 100 _ move_cost_of a b machine_many move_cost_table a_in b_in;
     spread = λ s within. ap (λ row. row.spread_min) (row_is of_service i.raw.services.items 250 (trial_service g) s _ service_rows within);
-    needs_end = λ s within. ap (λ row. row.dependency_end) (row_is of_service i.raw.services.items 250 (trial_service g) s _ service_rows within);
-    need = λ k within. ap (λ (all : List Service). (get_or all k (record { 0 = 0 })).0) need_list ∙ ap (λ service. service.0) (listed_at 50 trial_need k (record { 0 = 0 }) within);
+    dependencies = fifths_need;
+    need = need_is;
     service = λ p within. ap (λ row. row.service.0) (row_is of_process i.raw.processes.items 1000 (trial_process g) p _ process_rows within);
     requirement = λ p r p_in r_in. cell_at _ 1000 4 _ (requirement_of g) p r resource_many requirement_table p_in r_in;
     process_cost = λ p within. ap (λ row. row.move_cost) (row_is of_process i.raw.processes.items 1000 (trial_process g) p _ process_rows within);
-    first = λ b within. ap (λ row. row.first.0) (row_is of_balance i.raw.balances.items 1 (λ k. trial_balance) b _ (one_balance b within) within);
-    second = λ b within. ap (λ row. row.second.0) (row_is of_balance i.raw.balances.items 1 (λ k. trial_balance) b _ (one_balance b within) within);
-    target = λ b within. ap (λ row. row.target) (row_is of_balance i.raw.balances.items 1 (λ k. trial_balance) b _ (one_balance b within) within);
-    balance_weight = λ b within. ap (λ row. row.weight) (row_is of_balance i.raw.balances.items 1 (λ k. trial_balance) b _ (one_balance b within) within);
+    first = ap (λ row. row.first.0) (row_is of_balance i.raw.balances.items 1 (λ k. trial_balance) 0 _ one_balance (omega arith));
+    second = ap (λ row. row.second.0) (row_is of_balance i.raw.balances.items 1 (λ k. trial_balance) 0 _ one_balance (omega arith));
+    target = ap (λ row. row.target) (row_is of_balance i.raw.balances.items 1 (λ k. trial_balance) 0 _ one_balance (omega arith));
+    balance_weight = ap (λ row. row.weight) (row_is of_balance i.raw.balances.items 1 (λ k. trial_balance) 0 _ one_balance (omega arith));
     process_weight = ap (λ l. l.weights.process) is.lists;
     service_weight = ap (λ l. l.weights.service) is.lists;
     machine_weight = ap (λ l. l.weights.machine) is.lists;

@@ -8,6 +8,7 @@ use Rattle.ra_model.specs.Limits.{WellFormed}
 use Rattle.ra_model_read.specs.ModelText.{IsModel, model_refusal}
 use Rattle.ra_assign.specs.Lists.{IsAssignmentOf}
 use Rattle.ra_trial.specs.Trials.{text_over, start_text}
+use Rattle.ra_trial.specs.InstanceNumbers.{HasNumbers}
 use Rattle.ra_trial.specs.Instances.{IsTrial, start_list}
 
 -- the text of the model means the trial's instance and no other
@@ -22,7 +23,11 @@ ModelTextsAreAccepted = (g : ℕ → ℕ) → model_refusal (text_over g) ≡ No
 abbrev pub StartTextsAreStarts : Type 0
 StartTextsAreStarts = (g : ℕ → ℕ) (i : Tables) (a : List Machine) → IsTrial g i → IsAssignmentOf start_text i a ↔ (a ≡ start_list)
 
--- the instance is within the limits
+-- the instance has the trial's numbers, by the names that an instance gives them
+abbrev pub TrialsHaveNumbers : Type 0
+TrialsHaveNumbers = (g : ℕ → ℕ) (i : Tables) → IsTrial g i → HasNumbers g i
+
+-- it is within the limits
 abbrev pub TrialsAreWellFormed : Type 0
 TrialsAreWellFormed = (g : ℕ → ℕ) (i : Tables) → IsTrial g i → WellFormed i
 

@@ -1,5 +1,5 @@
 //! Laws of the definitions: each function does nothing, and its contract is a law that was proved.
-ghost use Rattle.ra_trial.specs.Laws.{ModelTextsAreTrials, ModelTextsAreAccepted, StartTextsAreStarts, TrialsAreWellFormed, StartsAreAssignments, StartsAreFeasible};
+ghost use Rattle.ra_trial.specs.Laws.{ModelTextsAreTrials, ModelTextsAreAccepted, StartTextsAreStarts, TrialsHaveNumbers, TrialsAreWellFormed, StartsAreAssignments, StartsAreFeasible};
 
 /// The model file of a trial means the trial's instance and no other.
 pub fn model_texts_are_trials()
@@ -14,6 +14,11 @@ pub fn model_texts_are_accepted()
 /// The assignment file of a trial means its start and no other assignment.
 pub fn start_texts_are_starts()
     ensures { StartTextsAreStarts }
+{}
+
+/// The instance of a trial has the trial's numbers.
+pub fn trials_have_numbers()
+    ensures { TrialsHaveNumbers }
 {}
 
 /// The instance of a trial is within the limits.
