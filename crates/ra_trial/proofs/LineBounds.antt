@@ -1,5 +1,5 @@
 -- How large the numbers in lines are, and how long their text.
-use Rattle.std.proofs.Common.{◌≡◌, ℕ, zero, suc, ◌+◌, ◌*◌, ◌^◌, ◌<◌, ◌≤◌, List, [], ◌∷◌, ◌++◌, length, refl, ap, arith, length-append}
+use Rattle.std.proofs.Common.{◌≡◌, ℕ, zero, suc, ◌+◌, ◌*◌, ◌^◌, ◌<◌, ◌≤◌, List, [], ◌∷◌, ◌++◌, length, ap, arith, length-append}
 use Rattle.std.proofs.lemmas.Fmt.{length-decimal-le}
 use Rattle.std.proofs.lemmas.List.Elements.{All-nil, All-cons, All-append, All-push, All-head, All-tail}
 use Rattle.std.specs.Fmt.{decimal}
@@ -44,17 +44,17 @@ pub one_short : (c : ℕ) (line : List ℕ) → IsShort c line → AreShort (11 
 one_short c line h = record {
   small = All-cons (λ ns. All IsSmall ns) line [] h.small (All-nil (λ ns. All IsSmall ns));
   short = let e : length (lines_text (line ∷ [])) ≡ length (line_text line) = ap length (lines_one line) in
-    let few : length line ≤ c = h.short in
-    omega (arith, e, line_short line h.small);
+      let few : length line ≤ c = h.short in
+      omega (arith, e, line_short line h.small);
 }
 
 pub short_append : (a b c : ℕ) (xs ys : List (List ℕ)) → a + b ≤ c → AreShort a xs → AreShort b ys → AreShort c (xs ++ ys)
 short_append a b c xs ys fits first then = record {
   small = All-append (λ line. All IsSmall line) xs ys first.small then.small;
   short = let e : length (lines_text (xs ++ ys)) ≡ length (lines_text xs ++ lines_text ys) = ap length (lines_append xs ys) in
-    let one : length (lines_text xs) ≤ a = first.short in
-    let two : length (lines_text ys) ≤ b = then.short in
-    omega (arith, e, length-append (lines_text xs) (lines_text ys));
+      let one : length (lines_text xs) ≤ a = first.short in
+      let two : length (lines_text ys) ≤ b = then.short in
+      omega (arith, e, length-append (lines_text xs) (lines_text ys));
 }
 
 -- n lines

@@ -1,5 +1,5 @@
 -- The numbers in the lines of a trial's model file are the numbers of its instance, in field order.
-use Rattle.std.proofs.Common.{◌≡◌, ◌≢◌, ℕ, zero, suc, ◌+◌, ◌-◌, ◌*◌, ◌/◌, ◌%◌, ◌<◌, ◌≤◌, eqb, List, [], ◌∷◌, ◌++◌, refl, sym, ap, ap₂, ◌∙◌, ⊎_elim, arith, append_assoc, eq-eqb, ne_eqb}
+use Rattle.std.proofs.Common.{◌≡◌, ◌≢◌, ℕ, zero, suc, ◌%◌, ◌<◌, eqb, List, [], ◌∷◌, ◌++◌, refl, sym, ap, ap₂, ◌∙◌, ⊎_elim, arith, append_assoc, eq-eqb, ne_eqb}
 use Rattle.std.proofs.lemmas.Bool.{cases_eq, cond-true, cond-false}
 use Rattle.std.specs.List.{concat}
 use Rattle.ra_base.specs.Sums.{one_if}
@@ -8,7 +8,7 @@ use Rattle.ra_model.specs.Numbers as model
 use Rattle.ra_model_read.specs.FieldOrder.{joined, row_of, counted, resource_numbers, machine_numbers, service_numbers, process_numbers, balance_numbers, numbers_of}
 use Rattle.ra_trial.specs.InstanceNumbers.{HasNumbers}
 use Rattle.ra_trial.specs.Lines.{listed}
-use Rattle.ra_trial.specs.Numbers.{transient_of, requirement_of, process_cost_of, capacity_of, safety_of, move_cost_of, spread_of}
+use Rattle.ra_trial.specs.Numbers.{transient_of, requirement_of, capacity_of, safety_of, move_cost_of}
 use Rattle.ra_trial.specs.Trials.{resource_line, machine_front, machine_line, service_line, process_line, resource_lines, machine_lines, service_lines, process_lines, last_lines}
 
 -- all lines of the model file
@@ -56,6 +56,7 @@ module _ (g : ℕ → ℕ) (i : Tables) (has : HasNumbers g i) where
     where
       four : (f h : ℕ → ℕ) → ((r : ℕ) → r < 4 → h r ≡ f r) → listed 4 f ≡ row_of (model.resource_count i) h
       four f h same = row_same 4 f h (λ r r_in. sym (same r r_in)) ∙ ap (λ n. row_of n h) (sym has.resources)
+
       hundred : ((b : ℕ) → b < 100 → model.way_cost_of i m b ≡ move_cost_of m b) → listed 100 (move_cost_of m) ≡ row_of (model.machine_count i) (model.way_cost_of i m)
       hundred same = row_same 100 (move_cost_of m) (model.way_cost_of i m) (λ b b_in. sym (same b b_in)) ∙ ap (λ n. row_of n (model.way_cost_of i m)) (sym has.machines)
 

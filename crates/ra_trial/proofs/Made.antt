@@ -1,5 +1,5 @@
 -- An instance that has the numbers of a trial.
-use Rattle.std.proofs.Common.{◌≡◌, ℕ, zero, suc, ◌+◌, ◌*◌, ◌/◌, ◌%◌, ◌^◌, ◌<◌, ◌≤◌, min, eqb, lit<, List, [], ◌∷◌, ◌++◌, map, refl, sym, ap, ap₂, ◌∙◌, arith}
+use Rattle.std.proofs.Common.{◌≡◌, ℕ, zero, suc, ◌+◌, ◌/◌, ◌%◌, ◌^◌, ◌<◌, min, eqb, lit<, List, [], ◌∷◌, ◌++◌, map, refl, ap, ap₂, ◌∙◌, arith}
 use Rattle.std.proofs.lemmas.List.{map-append}
 use Rattle.ra_base.specs.Listed.{Listed}
 use Rattle.ra_model.specs.declared.raw.MachineRow.{MachineRow}
@@ -8,7 +8,7 @@ use Rattle.ra_model.specs.declared.raw.RawInstance.{RawInstance}
 use Rattle.ra_model.specs.declared.raw.ResourceRow.{ResourceRow}
 use Rattle.ra_model.specs.declared.raw.ServiceRow.{ServiceRow}
 use Rattle.ra_model.specs.Numbers.{all_open}
-use Rattle.ra_model_read.specs.Lists.{MachineLists, ServiceLists, ProcessLists, Lists, of_resource, of_machine, of_service, of_process, of_balance, lists_of}
+use Rattle.ra_model_read.specs.Lists.{of_resource, of_machine, of_service, of_process, lists_of}
 use Rattle.ra_trial.specs.Lines.{listed}
 use Rattle.ra_trial.specs.Numbers.{requirement_of, process_cost_of, capacity_of, safety_of, move_cost_of, spread_of}
 use Rattle.ra_trial.specs.Instances.{table_of, trial_resource, trial_machine, trial_machines, trial_service, trial_need, trial_services, trial_process, trial_processes, trial_balance, trial_lists, IsTrial}

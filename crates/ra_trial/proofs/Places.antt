@@ -1,5 +1,5 @@
 -- Where the processes of a trial start, by arithmetic alone.
-use Rattle.std.proofs.Common.{◌≡◌, ◌≢◌, ℕ, suc, ◌+◌, ◌*◌, ◌/◌, ◌%◌, ◌<◌, ◌≤◌, Bool, true, sym, ap, ◌∙◌, arith}
+use Rattle.std.proofs.Common.{◌≡◌, ◌≢◌, ℕ, ◌+◌, ◌*◌, ◌/◌, ◌%◌, ◌<◌, ◌≤◌, Bool, true, sym, ap, ◌∙◌, arith}
 use Rattle.ra_base.specs.Sums.{total, count, is_named, fresh}
 use Rattle.ra_base.proofs.Sums.{total_same, total_constant}
 use Rattle.ra_base.proofs.Counts.{count_order}

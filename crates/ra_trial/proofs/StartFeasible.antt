@@ -1,8 +1,8 @@
 -- The start of a trial is an assignment and meets all constraints.
-use Rattle.std.proofs.Common.{◌≡◌, ◌≢◌, ℕ, zero, suc, ◌+◌, ◌-◌, ◌*◌, ◌/◌, ◌%◌, ◌^◌, ◌<◌, ◌≤◌, Bool, true, false, cond, eqb, ltb, ◌&&◌, ◌||◌, List, length, get_or, refl, sym, ap, ap₂, ◌∙◌, subst, ⊎_elim, arith, IsTrue, eq-eqb, lt-ltb}
-use Rattle.std.proofs.lemmas.Bool.{cases_eq, both_ways, and_from}
+use Rattle.std.proofs.Common.{◌≡◌, ◌≢◌, ℕ, ◌+◌, ◌*◌, ◌/◌, ◌%◌, ◌^◌, ◌<◌, ◌≤◌, Bool, true, false, cond, eqb, ltb, ◌&&◌, ◌||◌, length, refl, sym, ap, ap₂, ◌∙◌, arith, eq-eqb, lt-ltb}
+use Rattle.std.proofs.lemmas.Bool.{and_from}
 use Rattle.ra_base.specs.declared.ids.Machine.{Machine}
-use Rattle.ra_base.specs.Sums.{total, count}
+use Rattle.ra_base.specs.Sums.{total}
 use Rattle.ra_base.proofs.Sums.{total_same}
 use Rattle.ra_base.proofs.Counts.{count_some}
 use Rattle.ra_model.specs.declared.raw.Tables.{Tables}
@@ -12,13 +12,12 @@ use Rattle.ra_model.specs.Services.{is_of, in_location, locations_of}
 use Rattle.ra_model.specs.Usage.{use_share, use_of, transient_share, transient_of}
 use Rattle.ra_model.specs.Numbers as model
 use Rattle.ra_model.proofs.TallyLemmas.{members_count}
-use Rattle.ra_trial.specs.Numbers.{start_of, start_share, start_use_of, requirement_of, capacity_of, spread_of}
+use Rattle.ra_trial.specs.Numbers.{start_of, start_share, start_use_of, capacity_of, spread_of}
 use Rattle.ra_trial.specs.Trials.{start_machine}
 use Rattle.ra_trial.specs.InstanceNumbers.{HasNumbers}
 use Rattle.ra_trial.specs.Instances.{start_list}
 use Rattle.ra_trial.proofs.LineLemmas.{length_listed, listed_at}
 use Rattle.ra_trial.proofs.Places.{apart_in_service, location_of_start, locations_apart, service_later, machine_later, count_distinct}
-
 
 -- the machine of a process
 start_at : (p : ℕ) → p < 1000 → machine_at start_list p ≡ p % 100
@@ -74,8 +73,11 @@ module _ (g : ℕ → ℕ) (i : Tables) (has : HasNumbers g i) where
       let its : model.service_of i (4 * s + j) ≡ s = has.service (4 * s + j) p_in ∙ (let e : (4 * s + j) / 4 ≡ s = omega arith in e) in
       let there : model.location_of i (machine_at start_list (4 * s + j)) ≡ (4 * s + j) % 10 = ap (model.location_of i) (start_at (4 * s + j) p_in) ∙ has.location ((4 * s + j) % 100) m_in ∙ location_of_start (4 * s + j) in
       let test = λ (p : ℕ). is_of i s p && eqb (model.location_of i (machine_at start_list p)) ((4 * s + j) % 10) in
-      lt-ltb 0 _ (omega (arith, members_count i start_list s (λ p at. eqb (model.location_of i at) ((4 * s + j) % 10)),
-      count_some (model.process_count i) (4 * s + j) test (omega (arith, has.processes)) (and_from _ _ (eq-eqb _ s its) (eq-eqb _ _ there))))
+      lt-ltb 0 _ (omega (
+        arith,
+        members_count i start_list s (λ p at. eqb (model.location_of i at) ((4 * s + j) % 10)),
+        count_some (model.process_count i) (4 * s + j) test (omega (arith, has.processes)) (and_from _ _ (eq-eqb _ s its) (eq-eqb _ _ there)),
+      ))
 
   three_locations : (s : ℕ) → s < 250 → 3 ≤ locations_of i start_list s
   unfolding locations_of
@@ -91,11 +93,12 @@ module _ (g : ℕ → ℕ) (i : Tables) (has : HasNumbers g i) where
   -- the process 100 numbers on is near
   near_is : (s k p : ℕ) → s < 250 → k < model.dependency_count i s → p < 1000 → model.service_of i p ≡ s → HasNear i start_list (model.need_of i s k) (model.neighbourhood_of i (machine_at start_list p))
   near_is s k p s_in k_in p_in its =
-      let q_in : (p + 100) % 1000 < 1000 = omega arith in
-      ((p + 100) % 1000,
-      omega (arith, has.processes),
-      has.service ((p + 100) % 1000) q_in ∙ service_later p p_in ∙ ap (λ t. (t + 25) % 250) (sym (has.service p p_in) ∙ its) ∙ sym (has.need s k s_in k_in),
-      ap (model.neighbourhood_of i) (start_at ((p + 100) % 1000) q_in ∙ machine_later p p_in ∙ sym (start_at p p_in)))
+      let q_in : (p + 100) % 1000 < 1000 = omega arith in (
+        (p + 100) % 1000,
+        omega (arith, has.processes),
+        has.service ((p + 100) % 1000) q_in ∙ service_later p p_in ∙ ap (λ t. (t + 25) % 250) (sym (has.service p p_in) ∙ its) ∙ sym (has.need s k s_in k_in),
+        ap (model.neighbourhood_of i) (start_at ((p + 100) % 1000) q_in ∙ machine_later p p_in ∙ sym (start_at p p_in)),
+      )
 
   pub start_feasible : Feasible i start_list start_list
   start_feasible = record {

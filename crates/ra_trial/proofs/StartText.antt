@@ -1,16 +1,14 @@
 -- The start's text means the start.
-use Rattle.std.proofs.Common.{◌≡◌, ◌↔◌, ℕ, zero, suc, ◌+◌, ◌*◌, ◌%◌, ◌<◌, ◌≤◌, List, [], ◌∷◌, ◌++◌, length, map, get_or, Option, Some, None, refl, sym, ap, ap₂, ◌∙◌, subst, arith}
+use Rattle.std.proofs.Common.{◌≡◌, ◌↔◌, ℕ, ◌<◌, List, [], ◌∷◌, ◌++◌, length, map, get_or, Some, None, refl, sym, ap, ap₂, ◌∙◌, arith}
 use Rattle.std.proofs.lemmas.Bool.{cond-true, lt-ltb}
 use Rattle.std.proofs.lemmas.List.{append-nil, get_or-map, length-map}
-use Rattle.std.proofs.lemmas.List.Elements.{All-cons, All-nil, All-map, All-get_or}
+use Rattle.std.proofs.lemmas.List.Elements.{All-map}
 use Rattle.std.proofs.lemmas.Option.{slice_get-get_or, slice_get_past}
 use Rattle.std.specs.Fmt.{decimal}
 use Rattle.std.specs.List.{All}
 use Rattle.std.specs.Prelude.{slice_get}
-use Rattle.ra_base.specs.Searches.{first, or_else}
 use Rattle.ra_base.proofs.Searches.{first_none_from, both_none}
 use Rattle.ra_base.specs.declared.ids.Machine.{Machine}
-use Rattle.ra_token.specs.declared.answers.TheConstants.{PLACE_LIMIT}
 use Rattle.ra_token.specs.declared.answers.Token.{Token}
 use Rattle.ra_token.specs.Faults.{first_fault}
 use Rattle.ra_token.specs.TokenList.{tokens}
@@ -23,7 +21,7 @@ use Rattle.ra_trial.specs.Lines.{listed, more_text, line_text, lines_text}
 use Rattle.ra_trial.specs.Numbers.{start_of}
 use Rattle.ra_trial.specs.Trials.{start_machine, start_text}
 use Rattle.ra_trial.specs.Instances.{start_list, IsTrial}
-use Rattle.ra_trial.proofs.LineBounds.{IsSmall, IsShort, AreShort, listed_all, one_short}
+use Rattle.ra_trial.proofs.LineBounds.{IsSmall, IsShort, listed_all, one_short}
 use Rattle.ra_trial.proofs.LineLemmas.{length_listed, lines_one}
 use Rattle.ra_trial.proofs.LineTokens.{lines_told}
 use Rattle.ra_trial.proofs.TrialNumbers.{has_numbers}
@@ -64,9 +62,10 @@ start_short = record {
 start_told : (first_fault start_text ≡ None) × (map value_of (tokens start_text) ≡ map number start_list)
 start_told =
     let short = one_short 1000 (map number start_list) start_short in
-    let told = lines_told (map number start_list ∷ []) short.small (omega (arith, short.short)) in
-    (ap first_fault start_is_lines ∙ told.0,
-    ap (λ bytes. map value_of (tokens bytes)) start_is_lines ∙ told.1 ∙ append-nil (map number start_list))
+    let told = lines_told (map number start_list ∷ []) short.small (omega (arith, short.short)) in (
+      ap first_fault start_is_lines ∙ told.0,
+      ap (λ bytes. map value_of (tokens bytes)) start_is_lines ∙ told.1 ∙ append-nil (map number start_list),
+    )
 
 -- the tokens' machines are the start
 token_machines : (ts : List Token) (ms : List Machine) → map value_of ts ≡ map number ms → map machine_of ts ≡ ms
@@ -112,4 +111,5 @@ module _ (g : ℕ → ℕ) (i : Tables) (is : IsTrial g i) where
   pub start_text_is_start : (a : List Machine) → IsAssignmentOf start_text i a ↔ (a ≡ start_list)
   start_text_is_start a = (
     λ told. told.machines ∙ token_machines (tokens start_text) start_list start_told.1,
-    λ same. record { accepted = start_accepted; machines = same ∙ sym (token_machines (tokens start_text) start_list start_told.1) })
+    λ same. record { accepted = start_accepted; machines = same ∙ sym (token_machines (tokens start_text) start_list start_told.1) },
+  )

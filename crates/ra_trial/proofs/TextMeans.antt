@@ -1,7 +1,6 @@
 -- The model's text of a trial means the trial's instance.
-use Rattle.std.proofs.Common.{◌≡◌, ◌↔◌, ℕ, ◌≤◌, ◌++◌, None, Ok, Err, Result, refl, sym, ap, ◌∙◌, subst, arith, append_assoc}
+use Rattle.std.proofs.Common.{◌≡◌, ◌↔◌, ℕ, None, Ok, Result, sym, ap, ◌∙◌, subst, arith, append_assoc}
 use Rattle.std.specs.Result.{result_err}
-use Rattle.ra_token.specs.declared.answers.TheConstants.{PLACE_LIMIT}
 use Rattle.ra_model.specs.declared.raw.Tables.{Tables}
 use Rattle.ra_model.specs.Numbers.{all_open}
 use Rattle.ra_model_read.specs.declared.faults.ModelFault.{ModelFault}
@@ -10,7 +9,7 @@ use Rattle.ra_model_read.specs.Lists.{Lists, lists_of}
 use Rattle.ra_model_read.specs.ModelText.{model_of, IsModel, model_refusal}
 use Rattle.ra_model_read.proofs.TextAccepted.{text_accepted}
 use Rattle.ra_trial.specs.Lines.{lines_text}
-use Rattle.ra_trial.specs.Trials.{resource_lines, machine_lines, service_lines, process_lines, last_lines, text_over}
+use Rattle.ra_trial.specs.Trials.{text_over}
 use Rattle.ra_trial.specs.Instances.{trial_lists, IsTrial}
 use Rattle.ra_trial.proofs.LineLemmas.{lines_append}
 use Rattle.ra_trial.proofs.LineNumbers.{all_lines, numbers_same}
@@ -42,7 +41,8 @@ same_lists answer a b one other = cc
 pub text_is_trial : (g : ℕ → ℕ) (i : Tables) → IsModel (text_over g) i ↔ IsTrial g i
 text_is_trial g i = (
   λ model. record { lists = same_lists (model_of (text_over g)) (lists_of i.raw) (trial_lists g) model.lists (text_means g); open_to_all = model.open_to_all },
-  λ trial. record { lists = text_means g ∙ ap (λ (l : Lists). Ok l) (sym trial.lists); open_to_all = trial.open_to_all })
+  λ trial. record { lists = text_means g ∙ ap (λ (l : Lists). Ok l) (sym trial.lists); open_to_all = trial.open_to_all },
+)
 
 pub text_accepted_whole : (g : ℕ → ℕ) → model_refusal (text_over g) ≡ None
 unfolding model_refusal

@@ -1,7 +1,6 @@
 -- All numbers in a trial's model file are small, and its text is short.
-use Rattle.std.proofs.Common.{◌≡◌, ◌≢◌, ℕ, zero, suc, ◌+◌, ◌*◌, ◌/◌, ◌%◌, ◌^◌, ◌<◌, ◌≤◌, cond, eqb, List, [], ◌∷◌, ◌++◌, refl, sym, subst, ⊎_elim, arith, eq-eqb, ne_eqb}
+use Rattle.std.proofs.Common.{◌≡◌, ◌≢◌, ℕ, zero, suc, ◌+◌, ◌/◌, ◌%◌, ◌^◌, ◌<◌, ◌≤◌, cond, eqb, [], ◌∷◌, refl, sym, subst, ⊎_elim, arith, eq-eqb, ne_eqb}
 use Rattle.std.proofs.lemmas.Bool.{cases_eq, cond-true, cond-false}
-use Rattle.ra_base.specs.Sums.{total}
 use Rattle.ra_base.proofs.Sums.{total_bound}
 use Rattle.ra_trial.specs.Lines.{listed}
 use Rattle.ra_trial.specs.Numbers.{transient_of, requirement_of, process_cost_of, start_of, start_share, start_use_of, capacity_of, safety_of, move_cost_of, spread_of}

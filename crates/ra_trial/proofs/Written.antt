@@ -14,7 +14,7 @@ use Rattle.ra_token.specs.declared.answers.TheConstants.{LARGEST, PLACE_LIMIT}
 use Rattle.ra_token.specs.Faults.{first_fault}
 use Rattle.ra_token.specs.Reads.{IsBetween}
 use Rattle.ra_token.specs.Runs.{is_blank}
-use Rattle.ra_token.specs.Scan.{IsReached, InRun, IsNext}
+use Rattle.ra_token.specs.Scan.{IsReached, InRun}
 use Rattle.ra_token.specs.TokenList.{tokens}
 use Rattle.ra_token.specs.Values.{value_of, values_from, AddsValues}
 use Rattle.ra_token.proofs.Steps.{between_start, reached_here, reached_blank, ended_here, run_begins, run_more, run_ends, next_of}
