@@ -10,4 +10,6 @@ pub mod TextAccepted
 pub mod Inversion
 pub mod TextTaken
 pub mod TextTakenParts
+pub mod ReadLimits
+pub mod ModelLimits
 pub mod Meaning

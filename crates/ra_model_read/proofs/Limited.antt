@@ -12,7 +12,7 @@ pub limited_fits : (what : Field) (least most : ℕ) (t : Token) → least ≤ t
 unfolding limited
 limited_fits what least most t low high = grind arith
 
-limited_out : (what : Field) (least most : ℕ) (t : Token) → (t.value < least) ⊎ (most < t.value) → limited what least most t ≡ refuse (Range what t.at t.value least most)
+pub limited_out : (what : Field) (least most : ℕ) (t : Token) → (t.value < least) ⊎ (most < t.value) → limited what least most t ≡ refuse (Range what t.at t.value least most)
 unfolding limited
 limited_out what least most t out = grind arith
 

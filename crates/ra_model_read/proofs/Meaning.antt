@@ -1,5 +1,5 @@
 -- What a format gives at the start of a file is what the bytes mean.
-use Rattle.std.proofs.Common.{◌≡◌, ℕ, refl, sym, subst, true, List, Option, Some, None, Ok, IfSome}
+use Rattle.std.proofs.Common.{◌≡◌, ℕ, refl, ap, sym, subst, true, List, Option, Some, None, Ok, IfSome}
 use Rattle.std.specs.Prelude.{option_map}
 use Rattle.ra_model.specs.declared.raw.RawInstance.{RawInstance}
 use Rattle.ra_model.specs.declared.raw.Tables.{Tables}
@@ -12,7 +12,8 @@ use Rattle.ra_model_read.specs.Formats.{Left, Read, Refused}
 use Rattle.ra_model_read.specs.Lists.{Lists, lists_of}
 use Rattle.ra_model_read.specs.ModelText.{model, all_of, answer_of, model_of, model_refusal, IsModel}
 use Rattle.ra_model_read.specs.FieldOrder.{IsTextOf}
-use Rattle.ra_model_read.specs.Texts.{TextsAreModels}
+use Rattle.ra_model_read.specs.Texts.{ModelIsItsNumbers}
+use Rattle.ra_model_read.proofs.ModelLimits.{model_well_formed}
 use Rattle.ra_model_read.proofs.TextAccepted.{text_accepted}
 use Rattle.ra_model_read.proofs.TextTakenParts.{text_taken}
 use Rattle.ra_model_read.specs.Reading.{Here, left_from, left_of, Gives, Refuses, is_by_content}
@@ -61,6 +62,22 @@ pub has_text : (told : Option (List ℕ)) (raw : RawInstance) (i : Tables) → W
 has_text None raw i h e meant = tt
 has_text (Some bytes) raw i h e meant = subst (IsTextOf bytes) (sym e) (text_taken raw bytes h meant)
 
-pub texts_are_models : (told : Option (List ℕ)) → IfSome told TextsAreModels
-texts_are_models None = tt
-texts_are_models (Some bytes) = λ raw h text. record { lists = text_accepted raw bytes h text; open_to_all = refl }
+numbers_of_model : (bytes : List ℕ) (raw : RawInstance) → model_of bytes ≡ Ok (lists_of raw) → WellFormed (all_open raw) × IsTextOf bytes (all_open raw)
+numbers_of_model bytes raw meant = let h = model_well_formed raw bytes meant in (h, text_taken raw bytes h meant)
+
+pub model_is_its_numbers : (bytes : List ℕ) → ModelIsItsNumbers bytes
+model_is_its_numbers bytes i = (there, back)
+  where
+    open_is : i.closed ≡ None → i ≡ all_open i.raw
+    open_is e = ap (λ closed. record { raw = i.raw; closed = closed }) e
+
+    there : IsModel bytes i → WellFormed i × (i.closed ≡ None) × IsTextOf bytes i
+    there meant = let both = numbers_of_model bytes i.raw meant.lists in
+        (subst WellFormed (sym (open_is meant.open_to_all)) both.0, meant.open_to_all, subst (IsTextOf bytes) (sym (open_is meant.open_to_all)) both.1)
+
+    back : WellFormed i × (i.closed ≡ None) × IsTextOf bytes i → IsModel bytes i
+    back all = record { lists = text_accepted i.raw bytes (subst WellFormed (open_is all.1) all.0) (subst (IsTextOf bytes) (open_is all.1) all.2); open_to_all = all.1 }
+
+pub told_model_is_its_numbers : (told : Option (List ℕ)) → IfSome told ModelIsItsNumbers
+told_model_is_its_numbers None = tt
+told_model_is_its_numbers (Some bytes) = model_is_its_numbers bytes

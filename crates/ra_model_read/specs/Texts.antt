@@ -1,11 +1,11 @@
--- The law of the model text: reading an instance's numbers in field order gives that instance.
-use Rattle.std.specs.Prelude.{ℕ, List}
-use Rattle.ra_model.specs.declared.raw.RawInstance.{RawInstance}
+-- The law of the model text, which says what a model file means without its formats.
+use Rattle.std.specs.Prelude.{◌≡◌, ◌↔◌, ℕ, List, None}
+use Rattle.ra_model.specs.declared.raw.Tables.{Tables}
 use Rattle.ra_model.specs.Limits.{WellFormed}
-use Rattle.ra_model.specs.Numbers.{all_open}
 use Rattle.ra_model_read.specs.FieldOrder.{IsTextOf}
 use Rattle.ra_model_read.specs.ModelText.{IsModel}
 
--- whatever well-formed instance these bytes are the text of, they mean it
-abbrev pub TextsAreModels : List ℕ → Type 0
-TextsAreModels bytes = (raw : RawInstance) → WellFormed (all_open raw) → IsTextOf bytes (all_open raw) → IsModel bytes (all_open raw)
+-- the bytes mean an instance exactly where it is within the limits, no machine of it is closed, and the bytes are the
+-- text of it
+abbrev pub ModelIsItsNumbers : List ℕ → Type 0
+ModelIsItsNumbers bytes = (i : Tables) → IsModel bytes i ↔ (WellFormed i × (i.closed ≡ None) × IsTextOf bytes i)

@@ -6,6 +6,7 @@
 mod balances;
 mod faults;
 mod fields;
+pub mod laws;
 mod machines;
 mod processes;
 mod reader;

@@ -7,7 +7,7 @@ ghost use Rattle.ra_model_read.specs.Lists.{lists_of};
 ghost use Rattle.ra_model_read.specs.ModelText.{weights, model, IsModel, model_refusal};
 ghost use Rattle.ra_model_read.specs.Reading.{here, Stands, Gives, Refuses, is_by_content};
 ghost use Rattle.ra_model_read.specs.TableShapes.{weight_numbers};
-ghost use Rattle.ra_model_read.specs.Texts.{TextsAreModels};
+ghost use Rattle.ra_model_read.specs.Texts.{ModelIsItsNumbers};
 
 use crate::balances::read_balances;
 use crate::faults::{Field, ModelFault};
@@ -38,11 +38,11 @@ pub fn read_model<F: Files>(
     ensures refused { IfErr result (λ fault. IsTrue (is_by_content fault) →
         IfSome (F.held files.old name.now) (λ bytes. model_refusal bytes ≡ Some fault)) }
 
-    // The told bytes have no fault, and their tokens are the numbers of the instance, no more and no fewer. Whatever
-    // instance has such a text is meant by it.
+    // The told bytes have no fault, and their tokens are the numbers of the instance, no more and no fewer; and they
+    // mean whatever instance this holds of, and no other.
     ensures text { IfOk result (λ inst. IfSome (F.held files.old name.now) (λ bytes.
         IsTextOf bytes inst.tables)) }
-    ensures every_text { IfSome (F.held files.old name.now) TextsAreModels }
+    ensures every_text { IfSome (F.held files.old name.now) ModelIsItsNumbers }
 
     // A failed fetch is counted.
     ensures fault { result ≡ Err ModelFault.ReadFault →

@@ -8,3 +8,4 @@ pub mod Told
 pub mod Scanning
 pub mod ToldByte
 pub mod ValueLaws
+pub mod Written

@@ -1,6 +1,7 @@
 -- The numbers in the lines of a trial's model file are the numbers of its instance, in field order.
 use Rattle.std.proofs.Common.{◌≡◌, ◌≢◌, ℕ, zero, suc, ◌%◌, ◌<◌, eqb, List, [], ◌∷◌, ◌++◌, refl, sym, ap, ap₂, ◌∙◌, ⊎_elim, arith, append_assoc, eq-eqb, ne_eqb}
 use Rattle.std.proofs.lemmas.Bool.{cases_eq, cond-true, cond-false}
+use Rattle.std.proofs.lemmas.List.{append-nil}
 use Rattle.std.specs.List.{concat}
 use Rattle.ra_base.specs.Sums.{one_if}
 use Rattle.ra_model.specs.declared.raw.Tables.{Tables}
@@ -31,11 +32,7 @@ lines_same zero f h same = refl
 lines_same (suc n) f h same =
     concat_append (listed n f) (f n ∷ [])
     ∙ ap₂ (λ xs x. xs ++ (x ++ [])) (lines_same n f h (λ k within. same k (omega arith))) (same n (omega arith))
-    ∙ ap (λ x. joined n h ++ x) (append_nil (h n))
-  where
-    append_nil : (xs : List ℕ) → xs ++ [] ≡ xs
-    append_nil [] = refl
-    append_nil (x ∷ xs) = ap (λ t. x ∷ t) (append_nil xs)
+    ∙ ap (λ x. joined n h ++ x) (append-nil (h n))
 
 group_same : (n count : ℕ) (f h : ℕ → List ℕ) → count ≡ n → ((k : ℕ) → k < n → f k ≡ h k) → concat ((n ∷ []) ∷ listed n f) ≡ counted count h
 group_same n count f h many same = ap (λ xs. n ∷ xs) (lines_same n f h same) ∙ ap (λ m. counted m h) (sym many)

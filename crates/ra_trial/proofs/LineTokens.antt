@@ -7,7 +7,7 @@ use Rattle.ra_token.specs.declared.answers.TheConstants.{PLACE_LIMIT}
 use Rattle.ra_token.specs.Faults.{first_fault}
 use Rattle.ra_token.specs.TokenList.{tokens}
 use Rattle.ra_token.specs.Values.{value_of}
-use Rattle.ra_trial.proofs.Written.{Ahead, ahead_all, ahead_blank, ahead_number, ahead_none}
+use Rattle.ra_token.proofs.Written.{Ahead, ahead_all, ahead_blank, ahead_number, ahead_none}
 use Rattle.ra_trial.specs.Lines.{more_text, line_text, lines_text}
 
 -- each number of a list is below 2^32

@@ -24,7 +24,7 @@ start_at : (p : ℕ) → p < 1000 → machine_at start_list p ≡ p % 100
 unfolding machine_at start_list start_machine start_of
 start_at p within = ap (λ (m : Machine). m.0) (listed_at 1000 start_machine p _ within)
 
-start_many : length start_list ≡ 1000
+pub start_many : length start_list ≡ 1000
 unfolding start_list
 start_many = length_listed 1000 start_machine
 

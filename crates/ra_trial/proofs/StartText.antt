@@ -22,8 +22,9 @@ use Rattle.ra_trial.specs.Numbers.{start_of}
 use Rattle.ra_trial.specs.Trials.{start_machine, start_text}
 use Rattle.ra_trial.specs.Instances.{start_list, IsTrial}
 use Rattle.ra_trial.proofs.LineBounds.{IsSmall, IsShort, listed_all, one_short}
-use Rattle.ra_trial.proofs.LineLemmas.{length_listed, lines_one}
+use Rattle.ra_trial.proofs.LineLemmas.{lines_one}
 use Rattle.ra_trial.proofs.LineTokens.{lines_told}
+use Rattle.ra_trial.proofs.StartFeasible.{start_many}
 use Rattle.ra_trial.proofs.TrialNumbers.{has_numbers}
 
 number : Machine → ℕ
@@ -47,10 +48,6 @@ start_is_lines = text_is_line (listed 1000 start_machine) ∙ sym (lines_one (ma
 machines_low : All (λ (m : Machine). m.0 < 100) start_list
 unfolding start_list start_machine start_of
 machines_low = listed_all (λ (m : Machine). m.0 < 100) 1000 start_machine (λ p within. omega arith)
-
-start_many : length start_list ≡ 1000
-unfolding start_list
-start_many = length_listed 1000 start_machine
 
 start_short : IsShort 1000 (map number start_list)
 unfolding number

@@ -1,4 +1,4 @@
-use Rattle.ra_model_read.proofs.Meaning.{means, refuses_as, is_model, has_text, texts_are_models, no_content}
+use Rattle.ra_model_read.proofs.Meaning.{means, refuses_as, is_model, has_text, told_model_is_its_numbers, no_content}
 use Rattle.ra_model_read.proofs.Steps.{at_exit}
 use Rattle.ra_model_read.proofs.reader.read_model.Goals as goal
 
@@ -15,10 +15,10 @@ pub returns-clause-text : goal.returns-clause-text
 returns-clause-text g c = has_text _ _ _ c.in_ok-raw.ensures.well_formed c.of.ensures (means _ _ _ _ c.in-Ok.ensures.name c.in-Ok.ensures.start c.in_ok-raw.ensures.gives)
 
 pub returns-clause-every_text : goal.returns-clause-every_text
-returns-clause-every_text g c = texts_are_models _
+returns-clause-every_text g c = told_model_is_its_numbers _
 
 pub returns-in_err-raw-clause-every_text : goal.returns-in_err-raw-clause-every_text
-returns-in_err-raw-clause-every_text g c = texts_are_models _
+returns-in_err-raw-clause-every_text g c = told_model_is_its_numbers _
 
 pub returns-in_default-clause-every_text : goal.returns-in_default-clause-every_text
-returns-in_default-clause-every_text g c = texts_are_models _
+returns-in_default-clause-every_text g c = told_model_is_its_numbers _
