@@ -12,4 +12,4 @@ IsConstraint (Dependency service needs neighbourhood) = Unit {0}
 IsConstraint (Closed process machine) = Unit {0}
 IsConstraint (Repeat process) = ⊥
 IsConstraint (Same process) = ⊥
-IsConstraint (Rise before after allowed) = ⊥
+IsConstraint (Rise allowed before after) = ⊥

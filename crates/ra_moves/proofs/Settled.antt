@@ -15,7 +15,7 @@ use Rattle.ra_moves.specs.Settling.{settled_cost}
 
 -- the verdict
 
-pub risen : (before after allowed : ℕ) → before + allowed < after → Refused (Rise before after allowed) ≡ verdict_of (rise_test before after allowed) after
+pub risen : (before after allowed : ℕ) → before + allowed < after → Refused (Rise allowed before after) ≡ verdict_of (rise_test before after allowed) after
 unfolding verdict_of rise_test cause_if
 risen before after allowed more = rw (lt-ltb (before + allowed) after more) refl
 

@@ -35,7 +35,7 @@ broken_by i a0 a steps = or_else (repeat_of steps) (or_else (same_of steps) (fir
 
 -- the cost rises from before to after, which is by more than is allowed
 unfoldable pub rise_test : ℕ → ℕ → ℕ → Option Cause
-rise_test before after allowed = cause_if (nat_lt (before + allowed) after) (Rise before after allowed)
+rise_test before after allowed = cause_if (nat_lt (before + allowed) after) (Rise allowed before after)
 
 -- refused for a cause that is there, else done with a cost
 unfoldable pub verdict_of : Option Cause → ℕ → Verdict

@@ -107,6 +107,9 @@ conflict_cause s m = Conflict (record { 0 = s }) (record { 0 = m })
 abbrev spread_cause : ℕ → ℕ → ℕ → Cause
 spread_cause s h w = Spread (record { 0 = s }) h w
 
+abbrev rise_cause : ℕ → ℕ → ℕ → Cause
+rise_cause before after allowed = Rise allowed before after
+
 abbrev dependency_cause : ℕ → ℕ → ℕ → Cause
 dependency_cause s n h = Dependency (record { 0 = s }) (record { 0 = n }) h
 
@@ -136,9 +139,9 @@ cause_then (Spread s h w) (Spread t i v) x y ends stops e =
 cause_then (Dependency s n h) (Dependency t m g) x y ends stops e =
     let u = three_then (codes "dependency") s.0 t.0 n.0 m.0 h g x y ends stops e in
     record { same = same_three dependency_cause _ _ _ _ _ _ u.0 u.1 u.2; rest = u.3 }
-cause_then (Rise b a l) (Rise c f m) x y ends stops e =
+cause_then (Rise l b a) (Rise m c f) x y ends stops e =
     let u = three_then (codes "rise") b c a f l m x y ends stops e in
-    record { same = same_three Rise _ _ _ _ _ _ u.0 u.1 u.2; rest = u.3 }
+    record { same = same_three rise_cause _ _ _ _ _ _ u.0 u.1 u.2; rest = u.3 }
 cause_then (Closed p m) (Closed q n) x y ends stops e =
     let u = two_then (codes "closed") p.0 q.0 m.0 n.0 x y ends stops e in
     record { same = same_two closed_cause _ _ _ _ u.0 u.1; rest = u.2 }

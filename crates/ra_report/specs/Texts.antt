@@ -52,5 +52,5 @@ cause_text (Transient machine resource used cap) = with_four (codes "transient")
 cause_text (Conflict service machine) = with_two (codes "conflict") service.0 machine.0
 cause_text (Spread service has wants) = with_three (codes "spread") service.0 has wants
 cause_text (Dependency service needs neighbourhood) = with_three (codes "dependency") service.0 needs.0 neighbourhood
-cause_text (Rise before after allowed) = with_three (codes "rise") before after allowed
+cause_text (Rise allowed before after) = with_three (codes "rise") before after allowed
 cause_text (Closed process machine) = with_two (codes "closed") process.0 machine.0
