@@ -1,5 +1,6 @@
 -- The lines on the error sink.
-use Rattle.std.specs.Prelude.{ℕ, List, [], ◌∷◌, ◌++◌, codes}
+use Rattle.std.specs.Prelude.{◌≢◌, ℕ, List, [], ◌∷◌, ◌++◌, codes}
+use Rattle.ra_base.specs.declared.causes.Cause.{Cause}
 use Rattle.ra_assign.specs.declared.faults.AssignFault.{AssignFault}
 use Rattle.ra_assign.specs.declared.faults.AssignFault.TheVariants as assign
 use Rattle.ra_assign.specs.declared.faults.ClosedFault.{ClosedFault}
@@ -98,13 +99,52 @@ about words name detail = line_of (joined (words ∷ name ∷ codes ": " ∷ [])
 abbrev pub read_fault_line : List ℕ → List ℕ
 read_fault_line name = joined (codes "read fault: " ∷ name ∷ line_end ∷ [])
 
+abbrev pub model_line : ModelFault → List ℕ
+model_line fault = line_of (joined (codes "bad model: " ∷ [])) (model_detail fault)
+
+abbrev pub closed_line : List ℕ → ClosedFault → List ℕ
+closed_line name fault = about (codes "bad closed list: ") name (closed_detail fault)
+
+abbrev pub assign_line : List ℕ → AssignFault → List ℕ
+assign_line name fault = about (codes "bad assignment: ") name (assign_detail fault)
+
+abbrev pub infeasible_line : List ℕ → Cause → List ℕ
+infeasible_line name cause = about (codes "infeasible: ") name (cause_text cause)
+
+abbrev pub write_fault_line : List ℕ
+write_fault_line = joined (codes "write fault" ∷ line_end ∷ [])
+
+abbrev pub memory_line : List ℕ
+memory_line = joined (codes "no memory" ∷ line_end ∷ [])
+
 -- the line of a fault
 unfoldable pub fault_text : Fault → List ℕ
 fault_text Usage = joined (usage_line ∷ line_end ∷ [])
 fault_text (Read name) = read_fault_line name.now
-fault_text (Model fault) = line_of (joined (codes "bad model: " ∷ [])) (model_detail fault)
-fault_text (Closed name fault) = about (codes "bad closed list: ") name.now (closed_detail fault)
-fault_text (Assign name fault) = about (codes "bad assignment: ") name.now (assign_detail fault)
-fault_text (Infeasible name cause) = about (codes "infeasible: ") name.now (cause_text cause)
-fault_text Write = joined (codes "write fault" ∷ line_end ∷ [])
-fault_text Memory = joined (codes "no memory" ∷ line_end ∷ [])
+fault_text (Model fault) = model_line fault
+fault_text (Closed name fault) = closed_line name.now fault
+fault_text (Assign name fault) = assign_line name.now fault
+fault_text (Infeasible name cause) = infeasible_line name.now cause
+fault_text Write = write_fault_line
+fault_text Memory = memory_line
+
+-- what a reader refused stands in the file, and has a detail: a failed fetch and want of memory have lines of their own
+abbrev pub IsInModel : ModelFault → Type 0
+IsInModel fault = (fault ≢ model.ReadFault) × (fault ≢ model.NoMemory)
+
+abbrev pub IsInClosed : ClosedFault → Type 0
+IsInClosed fault = (fault ≢ closed.ReadFault) × (fault ≢ closed.NoMemory)
+
+abbrev pub IsInList : AssignFault → Type 0
+IsInList fault = (fault ≢ assign.ReadFault) × (fault ≢ assign.NoMemory)
+
+-- a fault can be told: where a reader refused a file, that stands in the file
+abbrev pub CanBeTold : Fault → Type 0
+CanBeTold (Model fault) = IsInModel fault
+CanBeTold (Closed name fault) = IsInClosed fault
+CanBeTold (Assign name fault) = IsInList fault
+CanBeTold Usage = Unit {0}
+CanBeTold (Read name) = Unit {0}
+CanBeTold (Infeasible name cause) = Unit {0}
+CanBeTold Write = Unit {0}
+CanBeTold Memory = Unit {0}

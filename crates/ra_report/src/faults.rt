@@ -1,5 +1,5 @@
 ghost use Rattle.ra_report.specs.Gathering.{Adds};
-ghost use Rattle.ra_report.specs.FaultTexts.{fault_text, read_fault_line};
+ghost use Rattle.ra_report.specs.FaultTexts.{CanBeTold, fault_text, read_fault_line};
 
 use crate::details::{add_about, add_line};
 use crate::gathered::Gathered;
@@ -9,7 +9,8 @@ use ra_base::{Cause, Name};
 use ra_io::Sink;
 use ra_model_read::ModelFault;
 
-/// Why a job was not done. The names are lent from the job.
+/// Why a job was not done. The names are lent from the job. A reader's `ReadFault` is told as `Read` and its
+/// `NoMemory` as `Memory`: in `Model`, `Closed` and `Assign` they have no line.
 #[derive(Clone, Copy)]
 pub enum Fault<'n> {
     /// The words are no job.
@@ -33,9 +34,10 @@ pub enum Fault<'n> {
 const USAGE: &str =
     "usage: reassign check MODEL INITIAL NEW [--closed FILE] | bound MODEL | solve MODEL INITIAL [--slack N] [--closed FILE] [--draws 1|2] LOT ... | trial N";
 
-/// Adds the line of a fault. A reader's `ReadFault` and `NoMemory` have variants of their own, and no detail.
+/// Adds the line of a fault.
 #[tactic(auto, unfolding(crate::specs::FaultTexts::fault_text))]
 pub(crate) fn add_fault<O: Sink>(text: &mut Gathered<'_, O>, fault: &Fault<'_>)
+    requires { CanBeTold fault.now }
     ensures { Adds O.taken O.faults text.old text.new (fault_text fault.now) }
 {
     match *fault {

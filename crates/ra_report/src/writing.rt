@@ -1,6 +1,6 @@
 ghost use Rattle.std.specs.Prelude.{◌≡◌, ◌≤◌, OnOk, OnErr};
 ghost use Rattle.std.specs.Io.KnownBytes.{Appends};
-ghost use Rattle.ra_report.specs.FaultTexts.{fault_text};
+ghost use Rattle.ra_report.specs.FaultTexts.{CanBeTold, fault_text};
 ghost use Rattle.ra_model.specs.Costs.{parts_of};
 ghost use Rattle.ra_bounds.specs.Bounds.{bound_of};
 ghost use Rattle.ra_report.specs.JournalTexts.{report_lines, best_state, text_of, bound_text};
@@ -109,8 +109,9 @@ pub fn write_bound<O: Sink>(sink: &mut O, bound: &Bound) -> Result<(), WriteFaul
     text.finish()
 }
 
-/// Writes the line of a fault. A reader's `ReadFault` and `NoMemory` have variants of their own, and no detail.
+/// Writes the line of a fault.
 pub fn write_fault<E: Sink>(sink: &mut E, fault: &Fault<'_>) -> Result<(), WriteFault>
+    requires { CanBeTold fault.now }
     ensures whole { OnOk result (Appends (E.taken sink.old) (E.taken sink.new)
         (fault_text fault.now)) }
     ensures part { OnErr result (Breaks (E.taken sink.old) (E.taken sink.new) (E.faults sink.old)

@@ -24,16 +24,16 @@ contradiction (Some other) bytes refusal fault is accepted refused = let same : 
 only_memory : (held : Held) (names : Names) (before now : Faults) (written : Type 0) → AreValid held names → NoFault names before now → (written → ⊥) → (refusal : Refusal) → Says held names before now written refusal → status_of refusal ≡ NoMemory
 unfolding status_of
 only_memory held names before now written valid sound whole (Read f) says = absurd (sound f says.named says.rose)
-only_memory held names before now written valid sound whole (Model fault) says = absurd (contradiction (held names.model) valid.model.0 model_refusal fault valid.model.1 valid.model.2 says)
+only_memory held names before now written valid sound whole (Model fault) says = absurd (contradiction (held names.model) valid.model.0 model_refusal fault valid.model.1 valid.model.2 says.refused)
 only_memory held names before now written valid sound whole (Closed fault) says =
     let accepted = valid.closed says.name says.named says.model says.read in
     absurd (contradiction (held says.name) accepted.0 (λ bytes. closed_refusal bytes says.model) fault accepted.1 accepted.2 says.refused)
 only_memory held names before now written valid sound whole (Initial fault) says =
     let accepted = valid.initial says.name says.named says.tables says.instance in
-    absurd (contradiction (held says.name) accepted.0 (λ bytes. assign_refusal bytes says.tables) fault accepted.1 accepted.2 says.refused)
+    absurd (contradiction (held says.name) accepted.0 (λ bytes. assign_refusal bytes says.tables) fault accepted.1 accepted.2 says.refused.refused)
 only_memory held names before now written valid sound whole (Changed fault) says =
     let accepted = valid.changed says.name says.named says.tables says.instance in
-    absurd (contradiction (held says.name) accepted.0 (λ bytes. assign_refusal bytes says.tables) fault accepted.1 accepted.2 says.refused)
+    absurd (contradiction (held says.name) accepted.0 (λ bytes. assign_refusal bytes says.tables) fault accepted.1 accepted.2 says.refused.refused)
 only_memory held names before now written valid sound whole (InitialBroken cause) says =
     let none = unbroken_from_feasible says.tables says.a0 says.a0 (valid.initial_feasible says.named says.tables says.a0 says.a says.accepts) in
     absurd (let both : None ≡ Some cause = sym none ∙ says.broken in cc)
@@ -43,7 +43,7 @@ only_memory held names before now written valid sound whole (ChangedBroken cause
 only_memory held names before now written valid sound whole Write says = absurd (whole says)
 only_memory held names before now written valid sound whole Memory says = refl
 
-is_done : (status : Status) → (status ≡ Done) ⊎ (status ≢ Done)
+pub is_done : (status : Status) → (status ≡ Done) ⊎ (status ≢ Done)
 is_done Done = inl refl
 is_done Usage = inr (λ e. cc)
 is_done ReadFault = inr (λ e. cc)

@@ -1,5 +1,9 @@
+pub mod RowLemmas
+pub mod BareLemmas
+pub mod MeaningLemmas
 pub mod StageLemmas
 pub mod SolveLemmas
 pub mod EndLemmas
 pub mod CompleteLemmas
+pub mod ComesLemmas
 pub mod RunLemmas

@@ -11,27 +11,60 @@ use Rattle.ra_model_read.specs.declared.faults.ModelFault.{ModelFault}
 use Rattle.ra_model_read.specs.declared.faults.ModelFault.TheVariants as reader
 use Rattle.ra_model_read.specs.ModelText.{model_refusal}
 use Rattle.ra_model_read.specs.Reading.{is_by_content}
+use Rattle.ra_assign.specs.declared.faults.AssignFault.{AssignFault}
+use Rattle.ra_assign.specs.declared.faults.AssignFault.TheVariants as assigner
+use Rattle.ra_assign.specs.declared.faults.ClosedFault.{ClosedFault}
+use Rattle.ra_assign.specs.declared.faults.ClosedFault.TheVariants as closer
+use Rattle.ra_assign.specs.Answers.{IsAssignRefusal, IsClosedRefusal}
 use Rattle.ra_report.specs.JournalTexts.{bound_text}
 use Rattle.ra_report.specs.Texts.{parts_text}
+use Rattle.ra_run.specs.declared.lists.Which.{Which}
+use Rattle.ra_run.specs.declared.lists.Which.TheVariants as which
 use Rattle.ra_run.specs.declared.refusals.File.TheVariants as file
 use Rattle.ra_run.specs.declared.refusals.Refusal.{Refusal}
 use Rattle.ra_run.specs.declared.refusals.Refusal.TheVariants.{Read, Model, Closed, Initial, Changed, InitialBroken, ChangedBroken, Write, Memory}
 use Rattle.ra_run.specs.Files.{Held, Faults, Names, name_of, check_names, solve_names, bound_names, ModelIs, InstanceIs, Accepts}
 use Rattle.ra_run.specs.Outputs.{Printed, BoundPrinted}
 use Rattle.ra_run.specs.Refusals.{Says, CanTell}
-use Rattle.ra_run.specs.Stages.{model_as, ModelSays, ClosedSays, SourceSays, InitialSays, ListsSay, JudgeSays, StartSays, IsClosing, ReadsLists, Passed, Judged}
+use Rattle.ra_run.specs.Stages.{model_as, closed_as, list_as, ModelSays, ClosedSays, SourceSays, InitialSays, ListSays, ListsSay, JudgeSays, StartSays, IsClosing, ReadsLists, Passed, Judged}
 
 pub model_says : (held : Held) (name : List ℕ) (before now : Faults) (fault : ModelFault) → (fault ≡ reader.ReadFault → Rose (before name) (now name)) → (IsTrue (is_by_content fault) → IfSome (held name) (λ bytes. model_refusal bytes ≡ Some fault)) → ModelSays held name before now (model_as fault)
 unfolding is_by_content
 model_says held name before now reader.ReadFault rose told = rose refl
-model_says held name before now (reader.BadByte at byte) rose told = told refl
-model_says held name before now (reader.TooLarge at) rose told = told refl
-model_says held name before now reader.TooLong rose told = told refl
-model_says held name before now (reader.Missing what item) rose told = told refl
-model_says held name before now (reader.Range what at value least most) rose told = told refl
-model_says held name before now (reader.Flag at value) rose told = told refl
-model_says held name before now (reader.Extra at) rose told = told refl
+model_says held name before now (reader.BadByte at byte) rose told = record { in_file = (λ e. cc, λ e. cc); refused = told refl }
+model_says held name before now (reader.TooLarge at) rose told = record { in_file = (λ e. cc, λ e. cc); refused = told refl }
+model_says held name before now reader.TooLong rose told = record { in_file = (λ e. cc, λ e. cc); refused = told refl }
+model_says held name before now (reader.Missing what item) rose told = record { in_file = (λ e. cc, λ e. cc); refused = told refl }
+model_says held name before now (reader.Range what at value least most) rose told = record { in_file = (λ e. cc, λ e. cc); refused = told refl }
+model_says held name before now (reader.Flag at value) rose told = record { in_file = (λ e. cc, λ e. cc); refused = told refl }
+model_says held name before now (reader.Extra at) rose told = record { in_file = (λ e. cc, λ e. cc); refused = told refl }
 model_says held name before now reader.NoMemory rose told = tt
+
+pub closed_says : (held : Held) (name : List ℕ) (i : Tables) (before now : Faults) (fault : ClosedFault) → (fault ≡ closer.ReadFault → Rose (before name) (now name)) → IfSome (held name) (λ bytes. IsClosedRefusal bytes i fault) → ClosedSays held name i before now (closed_as fault)
+closed_says held name i before now closer.ReadFault rose told = rose refl
+closed_says held name i before now (closer.BadByte at byte) rose told = ((λ e. cc, λ e. cc), told)
+closed_says held name i before now (closer.TooLarge at) rose told = ((λ e. cc, λ e. cc), told)
+closed_says held name i before now closer.TooLong rose told = ((λ e. cc, λ e. cc), told)
+closed_says held name i before now (closer.NoMachine at value) rose told = ((λ e. cc, λ e. cc), told)
+closed_says held name i before now closer.NoMemory rose told = tt
+
+pub list_says : (w : Which) (held : Held) (name : List ℕ) (i : Tables) (before now : Faults) (fault : AssignFault) → (fault ≡ assigner.ReadFault → Rose (before name) (now name)) → IfSome (held name) (λ bytes. IsAssignRefusal bytes i fault) → ListSays w held name i before now (list_as w fault)
+list_says which.Initial held name i before now assigner.ReadFault rose told = rose refl
+list_says which.Initial held name i before now (assigner.BadByte at byte) rose told = record { in_file = (λ e. cc, λ e. cc); refused = told }
+list_says which.Initial held name i before now (assigner.TooLarge at) rose told = record { in_file = (λ e. cc, λ e. cc); refused = told }
+list_says which.Initial held name i before now assigner.TooLong rose told = record { in_file = (λ e. cc, λ e. cc); refused = told }
+list_says which.Initial held name i before now (assigner.Missing process) rose told = record { in_file = (λ e. cc, λ e. cc); refused = told }
+list_says which.Initial held name i before now (assigner.NoMachine process value) rose told = record { in_file = (λ e. cc, λ e. cc); refused = told }
+list_says which.Initial held name i before now (assigner.Extra at) rose told = record { in_file = (λ e. cc, λ e. cc); refused = told }
+list_says which.Initial held name i before now assigner.NoMemory rose told = tt
+list_says which.Changed held name i before now assigner.ReadFault rose told = rose refl
+list_says which.Changed held name i before now (assigner.BadByte at byte) rose told = record { in_file = (λ e. cc, λ e. cc); refused = told }
+list_says which.Changed held name i before now (assigner.TooLarge at) rose told = record { in_file = (λ e. cc, λ e. cc); refused = told }
+list_says which.Changed held name i before now assigner.TooLong rose told = record { in_file = (λ e. cc, λ e. cc); refused = told }
+list_says which.Changed held name i before now (assigner.Missing process) rose told = record { in_file = (λ e. cc, λ e. cc); refused = told }
+list_says which.Changed held name i before now (assigner.NoMachine process value) rose told = record { in_file = (λ e. cc, λ e. cc); refused = told }
+list_says which.Changed held name i before now (assigner.Extra at) rose told = record { in_file = (λ e. cc, λ e. cc); refused = told }
+list_says which.Changed held name i before now assigner.NoMemory rose told = tt
 
 -- a count that rose later rose
 rose_later : (a b c : ℕ) → a ≤ b → Rose b c → Rose a c
@@ -65,11 +98,11 @@ source_model held name closed before now Memory says = tt
 
 pub source_closed : (held later : Held) (name : List ℕ) (closed : Option (List ℕ)) (list : List ℕ) (model : Tables) (first before now : Faults) → ((other : List ℕ) → later other ≡ held other) → ((other : List ℕ) → first other ≤ before other) → closed ≡ Some list → ModelIs held name model → (refusal : Refusal) → ClosedSays later list model before now refusal → SourceSays held name closed first now refusal
 source_closed held later name closed list model first before now same never_fell named read (Read file.Model) says = absurd says
-source_closed held later name closed list model first before now same never_fell named read (Read file.Closed) says = (list, named, rose_later (first list) (before list) (now list) (never_fell list) says)
+source_closed held later name closed list model first before now same never_fell named read (Read file.Closed) says = record { tables = model; read = read; name = list; named = named; rose = rose_later (first list) (before list) (now list) (never_fell list) says }
 source_closed held later name closed list model first before now same never_fell named read (Read file.Initial) says = absurd says
 source_closed held later name closed list model first before now same never_fell named read (Read file.Changed) says = absurd says
 source_closed held later name closed list model first before now same never_fell named read (Model fault) says = absurd says
-source_closed held later name closed list model first before now same never_fell named read (Closed fault) says = record { model = model; read = read; name = list; named = named; refused = rw (sym (same list)) says }
+source_closed held later name closed list model first before now same never_fell named read (Closed fault) says = record { model = model; read = read; name = list; named = named; in_file = says.0; refused = rw (sym (same list)) says.1 }
 source_closed held later name closed list model first before now same never_fell named read (Initial fault) says = absurd says
 source_closed held later name closed list model first before now same never_fell named read (Changed fault) says = absurd says
 source_closed held later name closed list model first before now same never_fell named read (InitialBroken cause) says = absurd says
@@ -79,8 +112,8 @@ source_closed held later name closed list model first before now same never_fell
 
 pub says_source : (held : Held) (names : Names) (before now : Faults) (written : Type 0) → (refusal : Refusal) → SourceSays held names.model names.closed before now refusal → Says held names before now written refusal
 unfolding name_of
-says_source held names before now written (Read file.Model) says = record { named = tt; rose = says }
-says_source held names before now written (Read file.Closed) says = record { named = rw says.1 refl; rose = rw says.1 says.2 }
+says_source held names before now written (Read file.Model) says = record { earlier = tt; named = tt; rose = says }
+says_source held names before now written (Read file.Closed) says = record { earlier = (says.tables, says.read); named = rw says.named refl; rose = rw says.named says.rose }
 says_source held names before now written (Read file.Initial) says = absurd says
 says_source held names before now written (Read file.Changed) says = absurd says
 says_source held names before now written (Model fault) says = says
@@ -106,12 +139,12 @@ pub says_lists : (held later : Held) (model : List ℕ) (closed : Option (List �
 unfolding name_of
 says_lists held later model closed initial changed i first before now written same never_fell instance (Read file.Model) says = absurd says
 says_lists held later model closed initial changed i first before now written same never_fell instance (Read file.Closed) says = absurd says
-says_lists held later model closed initial changed i first before now written same never_fell instance (Read file.Initial) says = record { named = refl; rose = rose_later (first initial) (before initial) (now initial) (never_fell initial) says }
-says_lists held later model closed initial changed i first before now written same never_fell instance (Read file.Changed) says = record { named = refl; rose = rose_later (first changed) (before changed) (now changed) (never_fell changed) says }
+says_lists held later model closed initial changed i first before now written same never_fell instance (Read file.Initial) says = record { earlier = (i, instance); named = refl; rose = rose_later (first initial) (before initial) (now initial) (never_fell initial) says }
+says_lists held later model closed initial changed i first before now written same never_fell instance (Read file.Changed) says = record { earlier = (i, says.0, instance, rw (sym (same initial)) says.1); named = refl; rose = rose_later (first changed) (before changed) (now changed) (never_fell changed) says.2 }
 says_lists held later model closed initial changed i first before now written same never_fell instance (Model fault) says = absurd says
 says_lists held later model closed initial changed i first before now written same never_fell instance (Closed fault) says = absurd says
-says_lists held later model closed initial changed i first before now written same never_fell instance (Initial fault) says = record { tables = i; instance = instance; name = initial; named = refl; refused = rw (sym (same initial)) says }
-says_lists held later model closed initial changed i first before now written same never_fell instance (Changed fault) says = record { tables = i; a0 = says.0; instance = instance; initial = rw (sym (same initial)) says.1; name = changed; named = refl; refused = rw (sym (same changed)) says.2 }
+says_lists held later model closed initial changed i first before now written same never_fell instance (Initial fault) says = record { tables = i; instance = instance; name = initial; named = refl; refused = record { in_file = says.in_file; refused = rw (sym (same initial)) says.refused } }
+says_lists held later model closed initial changed i first before now written same never_fell instance (Changed fault) says = record { tables = i; a0 = says.0; instance = instance; initial = rw (sym (same initial)) says.1; name = changed; named = refl; refused = record { in_file = says.2.in_file; refused = rw (sym (same changed)) says.2.refused } }
 says_lists held later model closed initial changed i first before now written same never_fell instance (InitialBroken cause) says = absurd says
 says_lists held later model closed initial changed i first before now written same never_fell instance (ChangedBroken cause) says = absurd says
 says_lists held later model closed initial changed i first before now written same never_fell instance Write says = absurd says
@@ -127,7 +160,7 @@ says_judge held names i a0 a first now written has_initial has_changed accepts (
 says_judge held names i a0 a first now written has_initial has_changed accepts (Initial fault) says = absurd says
 says_judge held names i a0 a first now written has_initial has_changed accepts (Changed fault) says = absurd says
 says_judge held names i a0 a first now written has_initial has_changed accepts (InitialBroken cause) says = record { tables = i; a0 = a0; a = a; named = has_initial; accepts = accepts; broken = says }
-says_judge held names i a0 a first now written has_initial has_changed accepts (ChangedBroken cause) says = record { tables = i; a0 = a0; a = a; named = has_changed; accepts = accepts; initial = says.0; broken = says.1 }
+says_judge held names i a0 a first now written has_initial has_changed accepts (ChangedBroken cause) says = record { tables = i; a0 = a0; a = a; start_named = has_initial; named = has_changed; accepts = accepts; initial = says.0; broken = says.1 }
 says_judge held names i a0 a first now written has_initial has_changed accepts Write says = absurd says
 says_judge held names i a0 a first now written has_initial has_changed accepts Memory says = tt
 
@@ -152,11 +185,11 @@ pub says_initial : (held later : Held) (model : List ℕ) (closed : Option (List
 unfolding name_of
 says_initial held later model closed initial i first before now written same never_fell instance (Read file.Model) says = absurd says
 says_initial held later model closed initial i first before now written same never_fell instance (Read file.Closed) says = absurd says
-says_initial held later model closed initial i first before now written same never_fell instance (Read file.Initial) says = record { named = refl; rose = rose_later (first initial) (before initial) (now initial) (never_fell initial) says }
+says_initial held later model closed initial i first before now written same never_fell instance (Read file.Initial) says = record { earlier = (i, instance); named = refl; rose = rose_later (first initial) (before initial) (now initial) (never_fell initial) says }
 says_initial held later model closed initial i first before now written same never_fell instance (Read file.Changed) says = absurd says
 says_initial held later model closed initial i first before now written same never_fell instance (Model fault) says = absurd says
 says_initial held later model closed initial i first before now written same never_fell instance (Closed fault) says = absurd says
-says_initial held later model closed initial i first before now written same never_fell instance (Initial fault) says = record { tables = i; instance = instance; name = initial; named = refl; refused = rw (sym (same initial)) says }
+says_initial held later model closed initial i first before now written same never_fell instance (Initial fault) says = record { tables = i; instance = instance; name = initial; named = refl; refused = record { in_file = says.in_file; refused = rw (sym (same initial)) says.refused } }
 says_initial held later model closed initial i first before now written same never_fell instance (Changed fault) says = absurd says
 says_initial held later model closed initial i first before now written same never_fell instance (InitialBroken cause) says = absurd says
 says_initial held later model closed initial i first before now written same never_fell instance (ChangedBroken cause) says = absurd says
@@ -208,10 +241,10 @@ some_of name list is = rw is refl
 
 pub can_tell : (held : Held) (names : Names) (before now : Faults) (written : Type 0) (refusal : Refusal) → Says held names before now written refusal → CanTell names refusal
 can_tell held names before now written (Read f) says = says.named
-can_tell held names before now written (Model fault) says = tt
-can_tell held names before now written (Closed fault) says = some_of names.closed says.name says.named
-can_tell held names before now written (Initial fault) says = some_of names.initial says.name says.named
-can_tell held names before now written (Changed fault) says = some_of names.changed says.name says.named
+can_tell held names before now written (Model fault) says = says.in_file
+can_tell held names before now written (Closed fault) says = (some_of names.closed says.name says.named, says.in_file)
+can_tell held names before now written (Initial fault) says = (some_of names.initial says.name says.named, says.refused.in_file)
+can_tell held names before now written (Changed fault) says = (some_of names.changed says.name says.named, says.refused.in_file)
 can_tell held names before now written (InitialBroken cause) says = says.named
 can_tell held names before now written (ChangedBroken cause) says = says.named
 can_tell held names before now written Write says = tt

@@ -1,3 +1,4 @@
+pub mod Comes
 pub mod Commands
 pub mod Complete
 pub mod Ends

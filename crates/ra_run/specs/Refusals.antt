@@ -6,24 +6,41 @@ use Rattle.ra_io.specs.Faults.{Rose}
 use Rattle.ra_model.specs.declared.raw.Tables.{Tables}
 use Rattle.ra_model.specs.Broken.{first_broken}
 use Rattle.ra_model.specs.Feasible.{Feasible}
+use Rattle.ra_model_read.specs.declared.faults.ModelFault.{ModelFault}
 use Rattle.ra_model_read.specs.ModelText.{model_refusal}
 use Rattle.ra_assign.specs.declared.faults.AssignFault.{AssignFault}
 use Rattle.ra_assign.specs.declared.faults.ClosedFault.{ClosedFault}
 use Rattle.ra_assign.specs.Lists.{assign_refusal}
 use Rattle.ra_assign.specs.ClosedLists.{closed_refusal}
+use Rattle.ra_report.specs.FaultTexts.{IsInModel, IsInClosed, IsInList}
 use Rattle.ra_run.specs.declared.refusals.File.{File}
+use Rattle.ra_run.specs.declared.refusals.File.TheVariants as file
 use Rattle.ra_run.specs.declared.refusals.Refusal.{Refusal}
 use Rattle.ra_run.specs.declared.refusals.Refusal.TheVariants.{Read, Model, Closed, Initial, Changed, InitialBroken, ChangedBroken, Write, Memory}
 use Rattle.ra_run.specs.Files.{Held, Faults, Names, name_of, IsNamed, ModelIs, InstanceIs, NamedListIs, Accepts}
 
--- reading a file of the job failed, and its count of faults rose
-pub record ReadFailed (names : Names) (before now : Faults) (f : File) : Type 0 where
+-- what was read before a file of the job: the model, then the closed list, then the initial list, then the new one
+abbrev pub ReadBefore : Held → Names → File → Type 0
+ReadBefore held names file.Model = Unit {0}
+ReadBefore held names file.Closed = (i : Tables) × ModelIs held names.model i
+ReadBefore held names file.Initial = (i : Tables) × InstanceIs held names.model names.closed i
+ReadBefore held names file.Changed = (i : Tables) × (a0 : List Machine) × InstanceIs held names.model names.closed i × NamedListIs held names.initial i a0
+
+-- all before it was read, reading a file of the job failed, and its count of faults rose
+pub record ReadFailed (held : Held) (names : Names) (before now : Faults) (f : File) : Type 0 where
+  pub earlier : ReadBefore held names f
   pub named : IsNamed names f
   pub rose : Rose (before (name_of names f)) (now (name_of names f))
 
+-- the model file is refused as this
+pub record ModelRefused (held : Held) (name : List ℕ) (fault : ModelFault) : Type 0 where
+  pub in_file : IsInModel fault
+  pub refused : IfSome (held name) (λ bytes. model_refusal bytes ≡ Some fault)
+
 -- a list is refused as this
-abbrev pub ListRefused : Held → List ℕ → Tables → AssignFault → Type 0
-ListRefused held name i fault = IfSome (held name) (λ bytes. assign_refusal bytes i ≡ Some fault)
+pub record ListRefused (held : Held) (name : List ℕ) (i : Tables) (fault : AssignFault) : Type 0 where
+  pub in_file : IsInList fault
+  pub refused : IfSome (held name) (λ bytes. assign_refusal bytes i ≡ Some fault)
 
 -- the closed list is refused as this, for the instance of the model file
 pub record ClosedRefused (held : Held) (model_name : List ℕ) (closed_name : Option (List ℕ)) (fault : ClosedFault) : Type 0 where
@@ -31,6 +48,7 @@ pub record ClosedRefused (held : Held) (model_name : List ℕ) (closed_name : Op
   pub read : ModelIs held model_name model
   pub name : List ℕ
   pub named : closed_name ≡ Some name
+  pub in_file : IsInClosed fault
   pub refused : IfSome (held name) (λ bytes. closed_refusal bytes model ≡ Some fault)
 
 -- the initial list is refused as this, where the instance was read
@@ -65,6 +83,7 @@ pub record ChangedBreaks (held : Held) (names : Names) (cause : Cause) : Type 0 
   pub tables : Tables
   pub a0 : List Machine
   pub a : List Machine
+  pub start_named : IsSome names.initial
   pub named : IsSome names.changed
   pub accepts : Accepts held names tables a0 a
   pub initial : Feasible tables a0 a0
@@ -73,8 +92,8 @@ pub record ChangedBreaks (held : Held) (names : Names) (cause : Cause) : Type 0 
 -- what each refusal says of the files of a job, whose counts of faults went from before to now; `written` is what the job
 -- says where writing its output failed
 abbrev pub Says : Held → Names → Faults → Faults → Type 0 → Refusal → Type 0
-Says held names before now written (Read f) = ReadFailed names before now f
-Says held names before now written (Model fault) = IfSome (held names.model) (λ bytes. model_refusal bytes ≡ Some fault)
+Says held names before now written (Read f) = ReadFailed held names before now f
+Says held names before now written (Model fault) = ModelRefused held names.model fault
 Says held names before now written (Closed fault) = ClosedRefused held names.model names.closed fault
 Says held names before now written (Initial fault) = InitialRefused held names fault
 Says held names before now written (Changed fault) = ChangedRefused held names fault
@@ -83,14 +102,14 @@ Says held names before now written (ChangedBroken cause) = ChangedBreaks held na
 Says held names before now written Write = written
 Says held names before now written Memory = Unit {0}
 
--- a refusal can be told: it is of a file that is named
+-- a refusal can be told: it is of a file that is named, and what a reader refused stands in the file
 abbrev pub CanTell : Names → Refusal → Type 0
 CanTell names (Read f) = IsNamed names f
-CanTell names (Closed fault) = IsSome names.closed
-CanTell names (Initial fault) = IsSome names.initial
-CanTell names (Changed fault) = IsSome names.changed
+CanTell names (Model fault) = IsInModel fault
+CanTell names (Closed fault) = IsSome names.closed × IsInClosed fault
+CanTell names (Initial fault) = IsSome names.initial × IsInList fault
+CanTell names (Changed fault) = IsSome names.changed × IsInList fault
 CanTell names (InitialBroken cause) = IsSome names.initial
 CanTell names (ChangedBroken cause) = IsSome names.changed
-CanTell names (Model fault) = Unit {0}
 CanTell names Write = Unit {0}
 CanTell names Memory = Unit {0}

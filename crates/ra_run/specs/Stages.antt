@@ -12,17 +12,20 @@ use Rattle.ra_model.specs.Feasible.{Feasible}
 use Rattle.ra_model.specs.Numbers.{with_closed}
 use Rattle.ra_model_read.specs.declared.faults.ModelFault.{ModelFault}
 use Rattle.ra_model_read.specs.declared.faults.ModelFault.TheVariants as reader
-use Rattle.ra_model_read.specs.ModelText.{model_refusal}
 use Rattle.ra_assign.specs.declared.faults.AssignFault.{AssignFault}
+use Rattle.ra_assign.specs.declared.faults.AssignFault.TheVariants as assigner
+use Rattle.ra_assign.specs.declared.faults.ClosedFault.{ClosedFault}
+use Rattle.ra_assign.specs.declared.faults.ClosedFault.TheVariants as closer
 use Rattle.ra_assign.specs.ClosedLists.{IsClosedOf, closed_refusal}
+use Rattle.ra_report.specs.FaultTexts.{IsInClosed}
 use Rattle.ra_run.specs.declared.lists.Which.{Which}
 use Rattle.ra_run.specs.declared.lists.Which.TheVariants as which
 use Rattle.ra_run.specs.declared.refusals.File.{File}
 use Rattle.ra_run.specs.declared.refusals.File.TheVariants as file
 use Rattle.ra_run.specs.declared.refusals.Refusal.{Refusal}
 use Rattle.ra_run.specs.declared.refusals.Refusal.TheVariants.{Read, Model, Closed, Initial, Changed, InitialBroken, ChangedBroken, Memory}
-use Rattle.ra_run.specs.Files.{Held, Faults, Names, CloseIs, ListIs, Passes}
-use Rattle.ra_run.specs.Refusals.{ListRefused, ClosedRefused}
+use Rattle.ra_run.specs.Files.{Held, Faults, Names, ModelIs, CloseIs, ListIs, Passes}
+use Rattle.ra_run.specs.Refusals.{ModelRefused, ListRefused, ClosedRefused}
 
 -- the instance with the machines of a told closed list closed
 abbrev pub IsClosing : Held → List ℕ → Tables → Tables → Type 0
@@ -40,21 +43,35 @@ model_as fault = Model fault
 
 abbrev pub ModelSays : Held → List ℕ → Faults → Faults → Refusal → Type 0
 ModelSays held name before now (Read file.Model) = Rose (before name) (now name)
-ModelSays held name before now (Model fault) = IfSome (held name) (λ bytes. model_refusal bytes ≡ Some fault)
+ModelSays held name before now (Model fault) = ModelRefused held name fault
 ModelSays held name before now Memory = Unit {0}
 ModelSays held name before now refusal = ⊥
 
+-- a refusal of the reader of closed lists, as one of a job
+abbrev pub closed_as : ClosedFault → Refusal
+closed_as closer.ReadFault = Read file.Closed
+closed_as closer.NoMemory = Memory
+closed_as fault = Closed fault
+
 abbrev pub ClosedSays : Held → List ℕ → Tables → Faults → Faults → Refusal → Type 0
 ClosedSays held name i before now (Read file.Closed) = Rose (before name) (now name)
-ClosedSays held name i before now (Closed fault) = IfSome (held name) (λ bytes. closed_refusal bytes i ≡ Some fault)
+ClosedSays held name i before now (Closed fault) = IsInClosed fault × IfSome (held name) (λ bytes. closed_refusal bytes i ≡ Some fault)
 ClosedSays held name i before now Memory = Unit {0}
 ClosedSays held name i before now refusal = ⊥
+
+-- the model was read, and reading the closed list failed
+pub record ClosedFailed (held : Held) (model : List ℕ) (closed : Option (List ℕ)) (before now : Faults) : Type 0 where
+  pub tables : Tables
+  pub read : ModelIs held model tables
+  pub name : List ℕ
+  pub named : closed ≡ Some name
+  pub rose : Rose (before name) (now name)
 
 -- the model file and the closed list
 abbrev pub SourceSays : Held → List ℕ → Option (List ℕ) → Faults → Faults → Refusal → Type 0
 SourceSays held model closed before now (Read file.Model) = Rose (before model) (now model)
-SourceSays held model closed before now (Read file.Closed) = (name : List ℕ) × (closed ≡ Some name) × Rose (before name) (now name)
-SourceSays held model closed before now (Model fault) = IfSome (held model) (λ bytes. model_refusal bytes ≡ Some fault)
+SourceSays held model closed before now (Read file.Closed) = ClosedFailed held model closed before now
+SourceSays held model closed before now (Model fault) = ModelRefused held model fault
 SourceSays held model closed before now (Closed fault) = ClosedRefused held model closed fault
 SourceSays held model closed before now Memory = Unit {0}
 SourceSays held model closed before now refusal = ⊥
@@ -71,12 +88,14 @@ ChangedSays held name i before now (Changed fault) = ListRefused held name i fau
 ChangedSays held name i before now Memory = Unit {0}
 ChangedSays held name i before now refusal = ⊥
 
--- the file of a list, and a list that is none, as a refusal of a job
+-- the file of a list, and a refusal of the reader of lists, as one of a job
 abbrev pub file_as : Which → File
 file_as which.Initial = file.Initial
 file_as which.Changed = file.Changed
 
 abbrev pub list_as : Which → AssignFault → Refusal
+list_as w assigner.ReadFault = Read (file_as w)
+list_as w assigner.NoMemory = Memory
 list_as which.Initial fault = Initial fault
 list_as which.Changed fault = Changed fault
 
@@ -105,7 +124,7 @@ pub record ReadsLists (held : Held) (first second : List ℕ) (i : Tables) (a0 a
 
 abbrev pub ListsSay : Held → List ℕ → List ℕ → Tables → Faults → Faults → Refusal → Type 0
 ListsSay held first second i before now (Read file.Initial) = Rose (before first) (now first)
-ListsSay held first second i before now (Read file.Changed) = Rose (before second) (now second)
+ListsSay held first second i before now (Read file.Changed) = (a0 : List Machine) × ListIs held first i a0 × Rose (before second) (now second)
 ListsSay held first second i before now (Initial fault) = ListRefused held first i fault
 ListsSay held first second i before now (Changed fault) = (a0 : List Machine) × ListIs held first i a0 × ListRefused held second i fault
 ListsSay held first second i before now Memory = Unit {0}

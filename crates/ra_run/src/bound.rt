@@ -2,6 +2,7 @@ ghost use Rattle.std.specs.Prelude.{◌≡◌, ◌≢◌, ◌⊎◌, ℕ, ◌≤
 ghost use Rattle.std.specs.Io.KnownBytes.{Appends};
 ghost use Rattle.ra_io.specs.Faults.{Rose};
 ghost use Rattle.ra_report.specs.Pieces.{Breaks, Puts};
+ghost use Rattle.ra_run.specs.Comes.{Comes};
 ghost use Rattle.ra_run.specs.Complete.{AreValid, NoFault};
 ghost use Rattle.ra_run.specs.Ends.{Ends};
 ghost use Rattle.ra_run.specs.Files.{bound_names};
@@ -36,6 +37,13 @@ pub fn bound_run<F: Files, O: Sink, E: Sink>(
         (out.new ≡ out.old) (err.new ≡ err.old) result }
     ensures not_usage { result ≢ Status.Usage }
 
+    // Each status but `Done` comes where its cause stands, and only there.
+    ensures comes { let names = bound_names model.now in
+        Comes (F.held files.old) names (F.faults files.old) (F.faults files.new)
+        (BoundPrinted (F.held files.old) names
+        (Breaks (O.taken out.old) (O.taken out.new) (O.faults out.old) (O.faults out.new)))
+        (out.new ≡ out.old) result }
+
     // Over a valid model file, and where no fault of it or of the output was counted, the bound is printed.
     ensures complete { let names = bound_names model.now in
         AreValid (F.held files.old) names → NoFault names (F.faults files.old) (F.faults files.new)
@@ -43,6 +51,8 @@ pub fn bound_run<F: Files, O: Sink, E: Sink>(
         → (result ≡ Status.Done) ⊎ (result ≡ Status.NoMemory) }
     ensures kept { (other : List ℕ) → F.held files.new other ≡ F.held files.old other }
     ensures never_fall { (other : List ℕ) → F.faults files.old other ≤ F.faults files.new other }
+    ensures out_never_falls { O.faults out.old ≤ O.faults out.new }
+    ensures err_never_falls { E.faults err.old ≤ E.faults err.new }
 {
     let names = JobFiles {
         model,
@@ -70,6 +80,7 @@ fn print_bound<F: Files, O: Sink>(
     ensures untouched { IfErr result (λ refusal. refusal ≢ Refusal.Write → out.new ≡ out.old) }
     ensures kept { (other : List ℕ) → F.held files.new other ≡ F.held files.old other }
     ensures never_fall { (other : List ℕ) → F.faults files.old other ≤ F.faults files.new other }
+    ensures out_never_falls { O.faults out.old ≤ O.faults out.new }
 {
     let inst = read_open(alloc, files, model)?;
     let bound = bound(&inst);

@@ -3,6 +3,7 @@ ghost use Rattle.std.specs.Io.KnownBytes.{Appends};
 ghost use Rattle.std.specs.Option.{option_copied};
 ghost use Rattle.ra_io.specs.Faults.{Rose};
 ghost use Rattle.ra_report.specs.Pieces.{Breaks, Puts};
+ghost use Rattle.ra_run.specs.Comes.{Comes};
 ghost use Rattle.ra_run.specs.Complete.{AreValid, NoFault};
 ghost use Rattle.ra_run.specs.Ends.{Ends};
 ghost use Rattle.ra_run.specs.Files.{check_names};
@@ -43,6 +44,14 @@ pub fn check_run<'n, F: Files, O: Sink, E: Sink>(
         (out.new ≡ out.old) (err.new ≡ err.old) result }
     ensures not_usage { result ≢ Status.Usage }
 
+    // Each status but `Done` comes where its cause stands, and only there.
+    ensures comes { let names = check_names model.now
+        (option_copied closed.entry) initial.now changed.now in
+        Comes (F.held files.old) names (F.faults files.old) (F.faults files.new)
+        (Printed (F.held files.old) names
+        (Breaks (O.taken out.old) (O.taken out.new) (O.faults out.old) (O.faults out.new)))
+        (out.new ≡ out.old) result }
+
     // Over valid files, and where no fault of a file of the check or of the output was counted, the check is done.
     ensures complete { let names = check_names model.now
         (option_copied closed.entry) initial.now changed.now in
@@ -51,6 +60,8 @@ pub fn check_run<'n, F: Files, O: Sink, E: Sink>(
         → (result ≡ Status.Done) ⊎ (result ≡ Status.NoMemory) }
     ensures kept { (other : List ℕ) → F.held files.new other ≡ F.held files.old other }
     ensures never_fall { (other : List ℕ) → F.faults files.old other ≤ F.faults files.new other }
+    ensures out_never_falls { O.faults out.old ≤ O.faults out.new }
+    ensures err_never_falls { E.faults err.old ≤ E.faults err.new }
 {
     let names = JobFiles {
         model,
@@ -84,6 +95,7 @@ fn check<F: Files, O: Sink>(
     ensures untouched { IfErr result (λ refusal. refusal ≢ Refusal.Write → out.new ≡ out.old) }
     ensures kept { (other : List ℕ) → F.held files.new other ≡ F.held files.old other }
     ensures never_fall { (other : List ℕ) → F.faults files.old other ≤ F.faults files.new other }
+    ensures out_never_falls { O.faults out.old ≤ O.faults out.new }
 {
     let parts = weigh(alloc, model, initial, changed, closed, files)?;
     match write_parts(out, &parts) {

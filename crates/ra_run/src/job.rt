@@ -8,6 +8,7 @@ ghost use Rattle.ra_words.specs.Jobs.{job_of};
 ghost use Rattle.ra_words.specs.Said.{said};
 ghost use Rattle.ra_words.specs.Words.{texts};
 ghost use Rattle.ra_run.specs.Commands.{names_in, OutputOf};
+ghost use Rattle.ra_run.specs.Comes.{Comes};
 ghost use Rattle.ra_run.specs.Complete.{AreValid, NoFault};
 ghost use Rattle.ra_run.specs.Ends.{Ends};
 
@@ -46,6 +47,13 @@ pub fn run<R: Threads + Wait + Sync, F: Files, O: Sink, E: Sink, G: Gate>(
         (Breaks (O.taken out.old) (O.taken out.new) (O.faults out.old) (O.faults out.new)))
         (Puts (E.taken err.old) (E.taken err.new) (E.faults err.old) (E.faults err.new))
         (out.new ≡ out.old) (err.new ≡ err.old) result) }
+
+    // Each other status but `Done` comes where its cause stands, and only there.
+    ensures comes { IfSome (job_of (texts words.now))
+        (λ says. Comes (F.held files.old) (names_in says) (F.faults files.old) (F.faults files.new)
+        (OutputOf (F.held files.old) says
+        (Breaks (O.taken out.old) (O.taken out.new) (O.faults out.old) (O.faults out.new)))
+        (out.new ≡ out.old) result) }
     ensures complete { IfSome (job_of (texts words.now))
         (λ says. AreValid (F.held files.old) (names_in says)
         → NoFault (names_in says) (F.faults files.old) (F.faults files.new) →
@@ -53,6 +61,8 @@ pub fn run<R: Threads + Wait + Sync, F: Files, O: Sink, E: Sink, G: Gate>(
         → (result ≡ Status.Done) ⊎ (result ≡ Status.NoMemory)) }
     ensures kept { (other : List ℕ) → F.held files.new other ≡ F.held files.old other }
     ensures never_fall { (other : List ℕ) → F.faults files.old other ≤ F.faults files.new other }
+    ensures out_never_falls { O.faults out.old ≤ O.faults out.new }
+    ensures err_never_falls { E.faults err.old ≤ E.faults err.new }
 {
     match read_words(alloc, words) {
         Ok(job) => do_job(rt, alloc, &job, files, out, err, gate),
@@ -85,6 +95,8 @@ fn do_job<R: Threads + Wait + Sync, F: Files, O: Sink, E: Sink, G: Gate>(
         → (result ≡ Status.Done) ⊎ (result ≡ Status.NoMemory) }
     ensures kept { (other : List ℕ) → F.held files.new other ≡ F.held files.old other }
     ensures never_fall { (other : List ℕ) → F.faults files.old other ≤ F.faults files.new other }
+    ensures out_never_falls { O.faults out.old ≤ O.faults out.new }
+    ensures err_never_falls { E.faults err.old ≤ E.faults err.new }
 {
     match job {
         Job::Check {

@@ -31,9 +31,21 @@ pub(crate) fn read_list<F: Files>(
 {
     match read_assignment(alloc, files, name.as_str(), inst) {
         Ok(list) => Ok(list),
-        Err(AssignFault::ReadFault) => Err(Refusal::Read(file_of(which))),
-        Err(AssignFault::NoMemory) => Err(Refusal::Memory),
-        Err(fault) => Err(refused(which, fault)),
+        Err(fault) => Err(list_refused(which, fault)),
+    }
+}
+
+/// A refusal of the reader of lists, as one of a job.
+fn list_refused(which: Which, fault: AssignFault) -> Refusal
+    ensures { result ≡ list_as which fault }
+{
+    match fault {
+        AssignFault::ReadFault => Refusal::Read(file_of(which)),
+        AssignFault::NoMemory => Refusal::Memory,
+        fault => match which {
+            Which::Initial => Refusal::Initial(fault),
+            Which::Changed => Refusal::Changed(fault),
+        },
     }
 }
 
@@ -44,16 +56,6 @@ fn file_of(which: Which) -> File
     match which {
         Which::Initial => File::Initial,
         Which::Changed => File::Changed,
-    }
-}
-
-/// A list that is none, as a refusal of a job.
-fn refused(which: Which, fault: AssignFault) -> Refusal
-    ensures { result ≡ list_as which fault }
-{
-    match which {
-        Which::Initial => Refusal::Initial(fault),
-        Which::Changed => Refusal::Changed(fault),
     }
 }
 

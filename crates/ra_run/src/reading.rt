@@ -1,7 +1,7 @@
 ghost use Rattle.std.specs.Prelude.{◌≡◌, ℕ, ◌≤◌, List, IfSome, IfOk, IfErr};
 ghost use Rattle.std.specs.Option.{option_copied};
 ghost use Rattle.ra_run.specs.Files.{ModelIs, InstanceIs};
-ghost use Rattle.ra_run.specs.Stages.{model_as, ModelSays, ClosedSays, SourceSays, IsClosing};
+ghost use Rattle.ra_run.specs.Stages.{model_as, closed_as, ModelSays, ClosedSays, SourceSays, IsClosing};
 
 use crate::refusals::{File, Refusal};
 use ra_assign::{ClosedFault, read_closed};
@@ -76,8 +76,17 @@ pub(crate) fn close<F: Files>(
 {
     match read_closed(alloc, files, closed.as_str(), &inst) {
         Ok(flags) => Ok(inst.closing(flags)),
-        Err(ClosedFault::ReadFault) => Err(Refusal::Read(File::Closed)),
-        Err(ClosedFault::NoMemory) => Err(Refusal::Memory),
-        Err(fault) => Err(Refusal::Closed(fault)),
+        Err(fault) => Err(closed_refused(fault)),
+    }
+}
+
+/// A refusal of the reader of closed lists, as one of a job.
+fn closed_refused(fault: ClosedFault) -> Refusal
+    ensures { result ≡ closed_as fault }
+{
+    match fault {
+        ClosedFault::ReadFault => Refusal::Read(File::Closed),
+        ClosedFault::NoMemory => Refusal::Memory,
+        fault => Refusal::Closed(fault),
     }
 }

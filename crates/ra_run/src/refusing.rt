@@ -1,6 +1,6 @@
-ghost use Rattle.std.specs.Prelude.{◌≡◌, ◌≢◌, ◌↔◌, ◌⊎◌, [], ◌∷◌, Ok, IfErr};
+ghost use Rattle.std.specs.Prelude.{◌≡◌, ◌≢◌, ◌↔◌, ◌≤◌, ◌⊎◌, [], ◌∷◌, Ok, IfErr};
 ghost use Rattle.std.specs.IoError.{error_kind};
-ghost use Rattle.ra_report.specs.FaultTexts.{fault_text, usage_line};
+ghost use Rattle.ra_report.specs.FaultTexts.{CanBeTold, fault_text, usage_line};
 ghost use Rattle.ra_report.specs.Pieces.{Puts, joined};
 ghost use Rattle.ra_report.specs.Texts.{line_end};
 ghost use Rattle.ra_run.specs.Files.{Names, names_of};
@@ -29,6 +29,7 @@ pub(crate) fn finish<E: Sink>(
     ensures status { IfErr ended (λ refusal. result ≡ status_of refusal) }
     ensures line { IfErr ended (λ refusal. Puts (E.taken err.old) (E.taken err.new)
         (E.faults err.old) (E.faults err.new) (refusal_line (names_of names.now) refusal)) }
+    ensures never_falls { E.faults err.old ≤ E.faults err.new }
 {
     match ended {
         Ok(()) => Status::Done,
@@ -61,8 +62,9 @@ fn status(refusal: Refusal) -> Status
 #[tactic(auto, unfolding(crate::specs::Lines::refusal_line, ra_report::specs::FaultTexts::fault_text))]
 fn tell<E: Sink>(err: &mut E, names: &JobFiles<'_>, refusal: Refusal)
     requires { CanTell (names_of names.now) refusal }
-    ensures { Puts (E.taken err.old) (E.taken err.new) (E.faults err.old) (E.faults err.new)
+    ensures line { Puts (E.taken err.old) (E.taken err.new) (E.faults err.old) (E.faults err.new)
         (refusal_line (names_of names.now) refusal) }
+    ensures never_falls { E.faults err.old ≤ E.faults err.new }
 {
     match refusal {
         Refusal::Read(file) => {
@@ -97,8 +99,10 @@ fn tell<E: Sink>(err: &mut E, names: &JobFiles<'_>, refusal: Refusal)
 
 /// Puts the line of a fault, or a front of it where a put fails.
 fn put_line<E: Sink>(err: &mut E, fault: &Fault<'_>)
-    ensures { Puts (E.taken err.old) (E.taken err.new) (E.faults err.old) (E.faults err.new)
+    requires { CanBeTold fault.now }
+    ensures line { Puts (E.taken err.old) (E.taken err.new) (E.faults err.old) (E.faults err.new)
         (fault_text fault.now) }
+    ensures never_falls { E.faults err.old ≤ E.faults err.new }
 {
     match write_fault(err, fault) {
         Ok(()) => {}
@@ -112,6 +116,7 @@ pub(crate) fn refuse_words<E: Sink>(err: &mut E) -> Status
     ensures status { result ≡ Status.Usage }
     ensures line { Puts (E.taken err.old) (E.taken err.new) (E.faults err.old) (E.faults err.new)
         (joined (usage_line ∷ line_end ∷ [])) }
+    ensures never_falls { E.faults err.old ≤ E.faults err.new }
 {
     put_line(err, &Fault::Usage);
     Status::Usage
@@ -123,6 +128,7 @@ pub(crate) fn refuse_memory<E: Sink>(err: &mut E) -> Status
     ensures status { result ≡ Status.NoMemory }
     ensures line { (names : Names) → Puts (E.taken err.old) (E.taken err.new) (E.faults err.old)
         (E.faults err.new) (refusal_line names Memory) }
+    ensures never_falls { E.faults err.old ≤ E.faults err.new }
 {
     put_line(err, &Fault::Memory);
     Status::NoMemory
@@ -137,6 +143,7 @@ pub fn refuse_unread<E: Sink>(err: &mut E, error: &io::Error) -> Status
         (refusal_line names Refusal.Memory) }
     ensures usage_line { result ≡ Status.Usage → Puts (E.taken err.old) (E.taken err.new)
         (E.faults err.old) (E.faults err.new) (joined (usage_line ∷ line_end ∷ [])) }
+    ensures never_falls { E.faults err.old ≤ E.faults err.new }
 {
     if error.kind() == ErrorKind::OutOfMemory {
         refuse_memory(err)

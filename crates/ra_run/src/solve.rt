@@ -9,6 +9,7 @@ ghost use Rattle.ra_model.specs.Feasible.{Feasible};
 ghost use Rattle.ra_topology.specs.Fits.{IsTopologyOf};
 ghost use Rattle.ra_report.specs.JournalTexts.{best_state, text_of};
 ghost use Rattle.ra_report.specs.Pieces.{Breaks, Puts};
+ghost use Rattle.ra_run.specs.Comes.{Comes};
 ghost use Rattle.ra_run.specs.Complete.{AreValid, NoFault};
 ghost use Rattle.ra_run.specs.Ends.{Ends};
 ghost use Rattle.ra_run.specs.Files.{solve_names};
@@ -60,6 +61,13 @@ pub fn solve_run<'n, R: Threads + Wait + Sync, F: Files, O: Sink, E: Sink, G: Ga
         (out.new ≡ out.old) (err.new ≡ err.old) result }
     ensures not_usage { result ≢ Status.Usage }
 
+    // Each status but `Done` comes where its cause stands, and only there.
+    ensures comes { let names = solve_names model.now (option_copied closed.entry) initial.now in
+        Comes (F.held files.old) names (F.faults files.old) (F.faults files.new)
+        (Solved (F.held files.old) names lots.now
+        (Breaks (O.taken out.old) (O.taken out.new) (O.faults out.old) (O.faults out.new)))
+        (out.new ≡ out.old) result }
+
     // Over valid files, and where no fault of a file of the job or of the output was counted, the report is printed.
     ensures complete { let names = solve_names model.now (option_copied closed.entry) initial.now in
         AreValid (F.held files.old) names → NoFault names (F.faults files.old) (F.faults files.new)
@@ -67,6 +75,8 @@ pub fn solve_run<'n, R: Threads + Wait + Sync, F: Files, O: Sink, E: Sink, G: Ga
         → (result ≡ Status.Done) ⊎ (result ≡ Status.NoMemory) }
     ensures kept { (other : List ℕ) → F.held files.new other ≡ F.held files.old other }
     ensures never_fall { (other : List ℕ) → F.faults files.old other ≤ F.faults files.new other }
+    ensures out_never_falls { O.faults out.old ≤ O.faults out.new }
+    ensures err_never_falls { E.faults err.old ≤ E.faults err.new }
 {
     let names = JobFiles {
         model,
@@ -102,6 +112,7 @@ fn solve<R: Threads + Wait + Sync, F: Files, O: Sink, G: Gate>(
     ensures untouched { IfErr result (λ refusal. refusal ≢ Refusal.Write → out.new ≡ out.old) }
     ensures kept { (other : List ℕ) → F.held files.new other ≡ F.held files.old other }
     ensures never_fall { (other : List ℕ) → F.faults files.old other ≤ F.faults files.new other }
+    ensures out_never_falls { O.faults out.old ≤ O.faults out.new }
 {
     let start = read_start(alloc, model, initial, closed, files)?;
     let ended = run_from(rt, alloc, &start.inst, &start.initial, lots, out, gate);
@@ -155,6 +166,7 @@ fn run_from<R: Threads + Wait + Sync, O: Sink, G: Gate>(
         (IsReported inst.now.tables initial.now.items lots.now
         (Breaks (O.taken out.old) (O.taken out.new) (O.faults out.old) (O.faults out.new)))) }
     ensures untouched { IfErr result (λ refusal. refusal ≢ Refusal.Write → out.new ≡ out.old) }
+    ensures out_never_falls { O.faults out.old ≤ O.faults out.new }
 {
     let mut scratch = judge_start(alloc, inst, initial)?;
     let Ok(topo) = Topology::make(alloc, inst) else {
@@ -198,6 +210,7 @@ fn run_over<R: Threads + Wait + Sync, O: Sink, G: Gate>(
         (IsReported inst.now.tables initial.now.items lots.now
         (Breaks (O.taken out.old) (O.taken out.new) (O.faults out.old) (O.faults out.new)))) }
     ensures untouched { IfErr result (λ refusal. refusal ≢ Refusal.Write → out.new ≡ out.old) }
+    ensures out_never_falls { O.faults out.old ≤ O.faults out.new }
 {
     let start = parts(inst, initial, initial, scratch);
     let Ok(prepared) = Prepared::make(alloc, inst, topo, initial, start, lots) else {
@@ -220,6 +233,7 @@ fn report<O: Sink>(out: &mut O, inst: &Instance, run: &Run<'_>) -> Result<(), Wr
         (text_of run.now.journal)) }
     ensures part { OnErr result (Breaks (O.taken out.old) (O.taken out.new) (O.faults out.old)
         (O.faults out.new) (text_of run.now.journal)) }
+    ensures out_never_falls { O.faults out.old ≤ O.faults out.new }
 {
     write_report(out, run.best(), &run.parts(), &bound(inst), run.journal())
 }

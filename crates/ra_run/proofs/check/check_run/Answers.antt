@@ -7,6 +7,7 @@ use Rattle.ra_run.specs.Outputs.{Printed}
 use Rattle.ra_report.specs.Pieces.{Breaks, Puts}
 use Rattle.ra_run.proofs.EndLemmas.{ends_so, ends_otherwise}
 use Rattle.ra_run.proofs.CompleteLemmas.{complete}
+use Rattle.ra_run.proofs.ComesLemmas.{comes, printed_went}
 use Rattle.ra_run.proofs.check.check_run.Goals as goal
 
 pub returns-clause-ends : goal.returns-clause-ends
@@ -32,3 +33,6 @@ returns-clause-complete g c = λ valid sound whole. complete (g.F.Files.held c.a
     (Puts (g.E.Sink.taken c.args.err.now) (g.E.Sink.taken c.finish.new.err) (g.E.Sink.faults c.args.err.now) (g.E.Sink.faults c.finish.new.err))
     (c.check-ended.new.out ≡ c.args.out.now) (c.finish.new.err ≡ c.args.err.now)
     c.finish.result (returns-clause-ends g c) valid sound (λ broken. whole broken.text.1)
+
+pub returns-clause-comes : goal.returns-clause-comes
+returns-clause-comes g c = comes (returns-clause-ends g c) (printed_went _ _ _) (printed_went _ _ _)

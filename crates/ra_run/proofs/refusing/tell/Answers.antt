@@ -2,34 +2,34 @@ use Rattle.ra_report.specs.FaultTexts.{fault_text}
 use Rattle.ra_run.specs.Lines.{refusal_line}
 use Rattle.ra_run.proofs.refusing.tell.Goals as goal
 
-pub returns-in-Read : goal.returns-in-Read
+pub returns-in-Read-clause-line : goal.returns-in-Read-clause-line
 unfolding fault_text refusal_line
-returns-in-Read g c = rw c.in-Read.is (rw c.name-name.ensures at c.put_line.ensures)
+returns-in-Read-clause-line g c = rw c.in-Read.is (rw c.name-name.ensures at c.put_line.ensures.line)
 
-pub returns-in-Model : goal.returns-in-Model
+pub returns-in-Model-clause-line : goal.returns-in-Model-clause-line
 unfolding fault_text refusal_line
-returns-in-Model g c = rw c.in-Model.is c.put_line-in-Model.ensures
+returns-in-Model-clause-line g c = rw c.in-Model.is c.put_line-in-Model.ensures.line
 
-pub returns-in-Closed : goal.returns-in-Closed
+pub returns-in-Closed-clause-line : goal.returns-in-Closed-clause-line
 unfolding fault_text refusal_line
-returns-in-Closed g c = rw c.in-Closed.is (rw c.name-name-in-Closed.ensures at c.put_line-in-Closed.ensures)
+returns-in-Closed-clause-line g c = rw c.in-Closed.is (rw c.name-name-in-Closed.ensures at c.put_line-in-Closed.ensures.line)
 
-pub returns-in-Initial : goal.returns-in-Initial
+pub returns-in-Initial-clause-line : goal.returns-in-Initial-clause-line
 unfolding fault_text refusal_line
-returns-in-Initial g c = rw c.in-Initial.is (rw c.name-name-in-Initial.ensures at c.put_line-in-Initial.ensures)
+returns-in-Initial-clause-line g c = rw c.in-Initial.is (rw c.name-name-in-Initial.ensures at c.put_line-in-Initial.ensures.line)
 
-pub returns-in-Changed : goal.returns-in-Changed
+pub returns-in-Changed-clause-line : goal.returns-in-Changed-clause-line
 unfolding fault_text refusal_line
-returns-in-Changed g c = rw c.in-Changed.is (rw c.name-name-in-Changed.ensures at c.put_line-in-Changed.ensures)
+returns-in-Changed-clause-line g c = rw c.in-Changed.is (rw c.name-name-in-Changed.ensures at c.put_line-in-Changed.ensures.line)
 
-pub returns-in-InitialBroken : goal.returns-in-InitialBroken
+pub returns-in-InitialBroken-clause-line : goal.returns-in-InitialBroken-clause-line
 unfolding fault_text refusal_line
-returns-in-InitialBroken g c = rw c.in-InitialBroken.is (rw c.name-name-in-InitialBroken.ensures at c.put_line-in-InitialBroken.ensures)
+returns-in-InitialBroken-clause-line g c = rw c.in-InitialBroken.is (rw c.name-name-in-InitialBroken.ensures at c.put_line-in-InitialBroken.ensures.line)
 
-pub returns-in-ChangedBroken : goal.returns-in-ChangedBroken
+pub returns-in-ChangedBroken-clause-line : goal.returns-in-ChangedBroken-clause-line
 unfolding fault_text refusal_line
-returns-in-ChangedBroken g c = rw c.in-ChangedBroken.is (rw c.name-name-in-ChangedBroken.ensures at c.put_line-in-ChangedBroken.ensures)
+returns-in-ChangedBroken-clause-line g c = rw c.in-ChangedBroken.is (rw c.name-name-in-ChangedBroken.ensures at c.put_line-in-ChangedBroken.ensures.line)
 
-pub returns-in-Write : goal.returns-in-Write
+pub returns-in-Write-clause-line : goal.returns-in-Write-clause-line
 unfolding fault_text refusal_line
-returns-in-Write g c = rw c.in-Write.is c.put_line-in-Write.ensures
+returns-in-Write-clause-line g c = rw c.in-Write.is c.put_line-in-Write.ensures.line
