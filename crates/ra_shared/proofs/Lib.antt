@@ -1,1 +1,4 @@
 pub mod Agree
+pub mod Own
+pub mod Gripping
+pub mod Handing
