@@ -2,3 +2,4 @@ pub mod Agree
 pub mod Own
 pub mod Gripping
 pub mod Handing
+pub mod Resting
