@@ -3,3 +3,4 @@ pub mod Own
 pub mod Gripping
 pub mod Handing
 pub mod Resting
+pub mod Turned
