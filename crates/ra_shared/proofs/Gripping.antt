@@ -98,6 +98,10 @@ module _ (i : Tables) (steps : List Step) (guards : List Guard) (q : ℕ) (limit
   unfolding guard_at
   listed_known k lt = written_known i steps (guard_at guards k) limits within ((are.exactly (guard_at guards k)).0 (Contains-get_or guards k _ lt))
 
+  pub listed_written : (k : ℕ) → k < length guards → writes i steps (guard_at guards k) ≡ true
+  unfolding guard_at
+  listed_written k lt = (are.exactly (guard_at guards k)).0 (Contains-get_or guards k _ lt)
+
   pub holds_none : HoldsFirst i guards q 0 []
   holds_none = record { count = refl; held = λ j lt. absurd (omega arith); below = λ j ge lt k d inside. absurd (omega arith) }
 

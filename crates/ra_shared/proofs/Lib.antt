@@ -4,3 +4,4 @@ pub mod Gripping
 pub mod Handing
 pub mod Resting
 pub mod Turned
+pub mod Back
