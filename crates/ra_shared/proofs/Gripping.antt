@@ -68,9 +68,9 @@ touched_guard : (i : Tables) (made : Option (List Step)) (n : ℕ) → touches_n
 unfolding guard_count
 touched_guard i made n is = ⊎_elim
     (λ (below : n < guard_count i).
-        let g = guard_of (machine_count i) n in
-        let number = number_back i n in
-        record { guard = g; number = number; touched = sym (touches_agree i made g (known_number i n below)) ∙ (ap (touches_number i made) number ∙ is) })
+    let g = guard_of (machine_count i) n in
+    let number = number_back i n in
+    record { guard = g; number = number; touched = sym (touches_agree i made g (known_number i n below)) ∙ (ap (touches_number i made) number ∙ is) })
     (λ (above : guard_count i ≤ n). absurd (both_ways (touches_number i made n) (none_above i made n above) is))
     (cases_lt n (guard_count i))
 
@@ -113,7 +113,7 @@ module _ (i : Tables) (steps : List Step) (guards : List Guard) (q : ℕ) (limit
         held = λ j below. ⊎_elim
             (λ (before : j < k). let h = holds.held j before in (h.0, h.1, Contains-append_left grips (new ∷ []) (grip (number_at i guards j) h.0) h.2))
             (λ (after : k ≤ j). let here : k ≡ j = omega arith in
-                (v, le, subst (λ (m : ℕ). Contains (grips ++ new ∷ []) (grip (number_at i guards m) v)) here (Contains-push grips new)))
+            (v, le, subst (λ (m : ℕ). Contains (grips ++ new ∷ []) (grip (number_at i guards m) v)) here (Contains-push grips new)))
             (cases_lt j k);
         below = λ j ge inside. All-push (λ g. g.guard < number_at i guards j) grips new (holds.below j (omega arith) inside)
             (before_less i (guard_at guards k) (guard_at guards j) (listed_known k lt) (are.ascend k j (omega arith) inside));
@@ -167,9 +167,9 @@ module _ (o : Opening) (h : List Entry) (g : Guard) (known : IsKnown o.inst.tabl
   unfolding version
   held_version w q v le only before = greatest_least (length h) q (stamp i (made_in h) g) (λ j lt. ⊎_elim
       (λ (touched : touches i (made_at (made_in h) j) g ≡ true). ⊎_elim
-          (λ (early : j < q). omega (arith, stamp_touched i (made_in h) g j touched))
-          (λ (late : q ≤ j). let early = before j lt (only j (entry_at h j) (omega arith) (entry_get h j lt) (sym (same_touch j) ∙ touched)) in absurd (omega arith))
-          (cases_lt j q))
+      (λ (early : j < q). omega (arith, stamp_touched i (made_in h) g j touched))
+      (λ (late : q ≤ j). let early = before j lt (only j (entry_at h j) (omega arith) (entry_get h j lt) (sym (same_touch j) ∙ touched)) in absurd (omega arith))
+      (cases_lt j q))
       (λ (untouched : touches i (made_at (made_in h) j) g ≡ false). omega (arith, stamp_untouched i (made_in h) g j untouched))
       (cases_Bool (touches i (made_at (made_in h) j) g)))
 

@@ -95,15 +95,18 @@ answered_by o h w plan (Some newer) commit is =
 answered_by o h w plan None commit is =
     let i = o.inst.tables in let a0 = o.a0.items in let l = o.lots in
     let all = committed_recorded i a0 l h w plan commit is in
-    inr (added i a0 l h w plan commit, record {
-      none = is;
-      journal = ap (λ (x : Committed). x.journal) all;
-      reply = ap (λ (x : Committed). x.reply) all;
-      worker = added_worker i a0 l h w plan commit;
-      q = added_q i a0 l h w plan commit;
-      k = added_k i a0 l h w plan commit;
-      mv = added_move i a0 l h w plan commit;
-    })
+    inr (
+      added i a0 l h w plan commit,
+      record {
+        none = is;
+        journal = ap (λ (x : Committed). x.journal) all;
+        reply = ap (λ (x : Committed). x.reply) all;
+        worker = added_worker i a0 l h w plan commit;
+        q = added_q i a0 l h w plan commit;
+        k = added_k i a0 l h w plan commit;
+        mv = added_move i a0 l h w plan commit;
+      },
+    )
 
 pub answered : (o : Opening) (h : List Entry) (w : ℕ) (plan : Plan) → IsCommitOf o h w plan → Answered o h w plan
 answered o h w plan commit = answered_by o h w plan (newer_since o.inst.tables h plan.q plan.mv.steps) commit refl
@@ -142,6 +145,7 @@ touched_version touched h e is =
     here : (h : List Entry) (e : Entry) → slice_get (h ++ e ∷ []) (length h) ≡ Some e
     here [] e = refl
     here (x ∷ xs) e = here xs e
+
     at_last : (h : List Entry) (e : Entry) (n : ℕ) → n ≡ length h → slice_get (h ++ e ∷ []) n ≡ Some e
     at_last h e n is = ap (slice_get (h ++ e ∷ [])) is ∙ here h e
 
@@ -168,18 +172,18 @@ module _ (o : Opening) (w : ℕ) (plan : Plan) (g : Guard) (known : IsKnown o.in
       let whole = λ (p : IsPrefix h seen'). version_whole touched (λ (e : Entry). e.worker) w seen h mine v v done.later own done.own le (only_shorter touched (λ (e : Entry). e.worker) w h seen' v p only) before in
       ⊎_elim
       (λ stale. (let same : seen' ≡ h = done.journal ∙ stale.1.journal in
-          let now : IsVersion touched h v = whole (subst (IsPrefix h) (sym same) (prefix_self h)) in
-          subst (λ (r : Reply). IsVersion touched seen' (then_version (Some r) v (length seen'))) (sym (done.answer ∙ stale.1.reply))
-          (subst (λ (n : ℕ). IsVersion touched seen' n) (sym (stale_version stale.0.guard stale.0.at v (length seen')))
-          (subst (λ (xs : List Entry). IsVersion touched xs v) (sym same) now))))
+      let now : IsVersion touched h v = whole (subst (IsPrefix h) (sym same) (prefix_self h)) in
+      subst (λ (r : Reply). IsVersion touched seen' (then_version (Some r) v (length seen'))) (sym (done.answer ∙ stale.1.reply))
+      (subst (λ (n : ℕ). IsVersion touched seen' n) (sym (stale_version stale.0.guard stale.0.at v (length seen')))
+      (subst (λ (xs : List Entry). IsVersion touched xs v) (sym same) now))))
       (λ more. (let e = more.0 in
-          let same : seen' ≡ h ++ e ∷ [] = done.journal ∙ more.1.journal in
-          let now : IsVersion touched h v = whole (subst (IsPrefix h) (sym same) (e ∷ [], refl)) in
-          let touch : touched e ≡ touches o.inst.tables (steps_made e.verdict e.mv.steps) g = touches_agree o.inst.tables (made_by e) g known in
-          let writes' : writes o.inst.tables e.mv.steps g ≡ true = ap (λ (mv : MoveSteps). writes o.inst.tables mv.steps g) more.1.mv ∙ written in
-          let there = refused_nothing o.inst.tables e.verdict e.mv.steps g (length h) v (length seen') touched h e refl touch writes' (ap length same) now in
-          subst (λ (r : Reply). IsVersion touched seen' (then_version (Some r) v (length seen'))) (sym (done.answer ∙ more.1.reply))
-          (subst (λ (xs : List Entry). IsVersion touched xs (then_version (Some (Recorded (length h) e.verdict)) v (length seen'))) (sym same) there)))
+      let same : seen' ≡ h ++ e ∷ [] = done.journal ∙ more.1.journal in
+      let now : IsVersion touched h v = whole (subst (IsPrefix h) (sym same) (e ∷ [], refl)) in
+      let touch : touched e ≡ touches o.inst.tables (steps_made e.verdict e.mv.steps) g = touches_agree o.inst.tables (made_by e) g known in
+      let writes' : writes o.inst.tables e.mv.steps g ≡ true = ap (λ (mv : MoveSteps). writes o.inst.tables mv.steps g) more.1.mv ∙ written in
+      let there = refused_nothing o.inst.tables e.verdict e.mv.steps g (length h) v (length seen') touched h e refl touch writes' (ap length same) now in
+      subst (λ (r : Reply). IsVersion touched seen' (then_version (Some r) v (length seen'))) (sym (done.answer ∙ more.1.reply))
+      (subst (λ (xs : List Entry). IsVersion touched xs (then_version (Some (Recorded (length h) e.verdict)) v (length seen'))) (sym same) there)))
       (answered o h w plan later)
 
 -- what the worker has made is then what stands there of its own
@@ -198,21 +202,21 @@ recorded_stands o w plan seen mine seen' mine' j verdict own commit done =
     ⊎_elim
     (λ stale. absurd (let clash : Recorded j verdict ≡ Stale stale.0.guard stale.0.at = done.answer ∙ stale.1.reply in cc clash))
     (λ more. (let e = more.0 in
-        let same : seen' ≡ h ++ e ∷ [] = done.journal ∙ more.1.journal in
-        let answer : Recorded j verdict ≡ Recorded (length h) e.verdict = done.answer ∙ more.1.reply in
-        let place : j ≡ length h = cc answer in
-        let judged : verdict ≡ e.verdict = cc answer in
-        let last : entry_at seen' j ≡ e = ap (λ (xs : List Entry). entry_at xs j) same ∙ (ap (entry_at (h ++ e ∷ [])) place ∙ entry_added h e) in
-        let tail : drop (length h) seen' ≡ e ∷ [] = ap (drop (length h)) same ∙ drop-append_seam h (e ∷ []) in
-        record {
-          last = omega (arith, ap length same, length_push h e);
-          worker = ap (λ (x : Entry). x.worker) last ∙ more.1.worker;
-          k = ap (λ (x : Entry). x.k) last ∙ more.1.k;
-          q = ap (λ (x : Entry). x.q) last ∙ more.1.q;
-          mv = ap (λ (x : Entry). x.mv) last ∙ more.1.mv;
-          judged = ap (λ (x : Entry). x.verdict) last ∙ sym judged;
-          made = done.made ∙ (ap (λ (ys : List Entry). mine ++ ys) tail ∙ ap (λ (x : Entry). mine ++ x ∷ []) (sym last));
-        }))
+    let same : seen' ≡ h ++ e ∷ [] = done.journal ∙ more.1.journal in
+    let answer : Recorded j verdict ≡ Recorded (length h) e.verdict = done.answer ∙ more.1.reply in
+    let place : j ≡ length h = cc answer in
+    let judged : verdict ≡ e.verdict = cc answer in
+    let last : entry_at seen' j ≡ e = ap (λ (xs : List Entry). entry_at xs j) same ∙ (ap (entry_at (h ++ e ∷ [])) place ∙ entry_added h e) in
+    let tail : drop (length h) seen' ≡ e ∷ [] = ap (drop (length h)) same ∙ drop-append_seam h (e ∷ []) in
+    record {
+      last = omega (arith, ap length same, length_push h e);
+      worker = ap (λ (x : Entry). x.worker) last ∙ more.1.worker;
+      k = ap (λ (x : Entry). x.k) last ∙ more.1.k;
+      q = ap (λ (x : Entry). x.q) last ∙ more.1.q;
+      mv = ap (λ (x : Entry). x.mv) last ∙ more.1.mv;
+      judged = ap (λ (x : Entry). x.verdict) last ∙ sym judged;
+      made = done.made ∙ (ap (λ (ys : List Entry). mine ++ ys) tail ∙ ap (λ (x : Entry). mine ++ x ∷ []) (sym last));
+    }))
     (answered o h w plan (later_commit w seen h mine done.later own done.own o.inst.tables o.a0.items o.lots plan commit))
 
 -- the first newer guard is a guard of the move whose version is above q, and its place is the one before that version
@@ -237,9 +241,9 @@ newer_found : (i : Tables) (test : Guard → Bool) (v : Guard → ℕ) (q : ℕ)
 unfolding first_that newer_at
 newer_found i test v q newer is = ⊎_elim
     (λ machines. (let at = first_some_at (machine_count i) (λ m. newer_at test v q (guard.Machine (record { 0 = m }))) newer machines in
-        found_at test v q (guard.Machine (record { 0 = at.0 })) newer _ refl at.2))
+    found_at test v q (guard.Machine (record { 0 = at.0 })) newer _ refl at.2))
     (λ services. (let at = first_some_at (service_count i) (λ s. newer_at test v q (guard.Service (record { 0 = s }))) newer services.1 in
-        found_at test v q (guard.Service (record { 0 = at.0 })) newer _ refl at.2))
+    found_at test v q (guard.Service (record { 0 = at.0 })) newer _ refl at.2))
     (or_else_cases (first (machine_count i) (λ m. newer_at test v q (guard.Machine (record { 0 = m })))) (first (service_count i) (λ s. newer_at test v q (guard.Service (record { 0 = s })))) newer is)
 
 -- the entry before a version touches the guard
@@ -248,12 +252,12 @@ stamped : (i : Tables) (h : List Entry) (g : Guard) → 0 < version i (made_in h
 unfolding version
 stamped i h g more =
     let some : 0 < length h = ⊎_elim (λ (lt : 0 < length h). lt) (λ (le : length h ≤ 0). absurd (let none : length h ≡ 0 = omega arith in
-        omega (arith, ap (λ n. greatest n (stamp i (made_in h) g)) none, greatest_none (stamp i (made_in h) g)))) (cases_lt 0 (length h)) in
+    omega (arith, ap (λ n. greatest n (stamp i (made_in h) g)) none, greatest_none (stamp i (made_in h) g)))) (cases_lt 0 (length h)) in
     let top = greatest_reached (length h) (stamp i (made_in h) g) some in
     ⊎_elim
     (λ (touched : touches i (made_at (made_in h) top.0) g ≡ true).
-        let here : version i (made_in h) (length h) g - 1 ≡ top.0 = omega (arith, stamp_touched i (made_in h) g top.0 touched, top.2) in
-        (omega (arith, top.1), ap (λ (n : ℕ). touches i (made_by (entry_at h n)) g) here ∙ (ap (λ (m : Option (List Step)). touches i m g) (sym (made_place h top.0)) ∙ touched)))
+    let here : version i (made_in h) (length h) g - 1 ≡ top.0 = omega (arith, stamp_touched i (made_in h) g top.0 touched, top.2) in
+    (omega (arith, top.1), ap (λ (n : ℕ). touches i (made_by (entry_at h n)) g) here ∙ (ap (λ (m : Option (List Step)). touches i m g) (sym (made_place h top.0)) ∙ touched)))
     (λ (untouched : touches i (made_at (made_in h) top.0) g ≡ false). absurd (omega (arith, stamp_untouched i (made_in h) g top.0 untouched, top.2)))
     (cases_Bool (touches i (made_at (made_in h) top.0) g))
 
@@ -265,22 +269,22 @@ stale_stands o w plan seen mine seen' mine' guard at own commit done =
     let later = later_commit w seen h mine done.later own done.own i o.a0.items o.lots plan commit in
     ⊎_elim
     (λ stale. (let same : seen' ≡ h = done.journal ∙ stale.1.journal in
-        let answer : Stale guard at ≡ Stale stale.0.guard stale.0.at = done.answer ∙ stale.1.reply in
-        let g : guard ≡ stale.0.guard = cc answer in
-        let place : at ≡ stale.0.at = cc answer in
-        let found = newer_found i (is_guard i plan.mv.steps) (version i (made_in h) (length h)) plan.q stale.0 stale.1.newer_is in
-        let there = stamped i h stale.0.guard (let a = found.above in omega arith) in
-        let here : at ≡ version i (made_in h) (length h) stale.0.guard - 1 = place ∙ found.place in
-        let from : plan.q ≤ at = (let a = found.above in omega arith) in
-        let inside : at < length h = (let b = there.0 in omega arith) in
-        let touched : touches i (made_by (entry_at h at)) stale.0.guard ≡ true = ap (λ (n : ℕ). touches i (made_by (entry_at h n)) stale.0.guard) here ∙ there.1 in
-        record {
-          made = done.made ∙ (ap (λ (xs : List Entry). mine ++ drop (length h) xs) same ∙ (ap (λ (ys : List Entry). mine ++ ys) (drop-length h) ∙ append-nil mine));
-          guarded = ap (is_guard i plan.mv.steps) g ∙ found.passes;
-          from = from;
-          within = omega (arith, ap length same);
-          touched = ap (λ (x : Guard). touches i (made_by (entry_at seen' at)) x) g ∙ (ap (λ (xs : List Entry). touches i (made_by (entry_at xs at)) stale.0.guard) same ∙ touched);
-          other = λ own'. (let before = later.seen at inside (ap (λ (xs : List Entry). (entry_at xs at).worker) (sym same) ∙ own') in absurd (omega arith));
-        }))
+    let answer : Stale guard at ≡ Stale stale.0.guard stale.0.at = done.answer ∙ stale.1.reply in
+    let g : guard ≡ stale.0.guard = cc answer in
+    let place : at ≡ stale.0.at = cc answer in
+    let found = newer_found i (is_guard i plan.mv.steps) (version i (made_in h) (length h)) plan.q stale.0 stale.1.newer_is in
+    let there = stamped i h stale.0.guard (let a = found.above in omega arith) in
+    let here : at ≡ version i (made_in h) (length h) stale.0.guard - 1 = place ∙ found.place in
+    let from : plan.q ≤ at = (let a = found.above in omega arith) in
+    let inside : at < length h = (let b = there.0 in omega arith) in
+    let touched : touches i (made_by (entry_at h at)) stale.0.guard ≡ true = ap (λ (n : ℕ). touches i (made_by (entry_at h n)) stale.0.guard) here ∙ there.1 in
+    record {
+      made = done.made ∙ (ap (λ (xs : List Entry). mine ++ drop (length h) xs) same ∙ (ap (λ (ys : List Entry). mine ++ ys) (drop-length h) ∙ append-nil mine));
+      guarded = ap (is_guard i plan.mv.steps) g ∙ found.passes;
+      from = from;
+      within = omega (arith, ap length same);
+      touched = ap (λ (x : Guard). touches i (made_by (entry_at seen' at)) x) g ∙ (ap (λ (xs : List Entry). touches i (made_by (entry_at xs at)) stale.0.guard) same ∙ touched);
+      other = λ own'. (let before = later.seen at inside (ap (λ (xs : List Entry). (entry_at xs at).worker) (sym same) ∙ own') in absurd (omega arith));
+    }))
     (λ more. absurd (let clash : Stale guard at ≡ Recorded (length h) more.0.verdict = done.answer ∙ more.1.reply in cc clash))
     (answered o h w plan later)

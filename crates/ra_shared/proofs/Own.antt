@@ -66,7 +66,7 @@ module _ (w : ℕ) (seen h mine : List Entry) (p : IsPrefix seen h) (told : Know
       let long : length h ≡ length seen + length p.0 = ap length (sym p.1) ∙ length-append seen p.0 in
       ap (λ n. entries_of h n w) long
       ∙ (counted (length seen) (length p.0) (λ j. eqb (entry_at h j).worker w) (λ j ge lt. false_from_ne_true (eqb (entry_at h j).worker w) (λ own.
-          let before = own_seen j (omega arith) (eqb-true (entry_at h j).worker w own) in absurd (omega arith)))
+      let before = own_seen j (omega arith) (eqb-true (entry_at h j).worker w own) in absurd (omega arith)))
       ∙ sym (same_entries_of (length seen) w seen h (same_front seen h p)))
 
   -- and the worker may still hand in its plan

@@ -27,10 +27,12 @@ pub(crate) fn then_version(reply: &Option<Reply>, version: u64, seen: u64) -> u6
     ensures { result ≡ then_version reply.now version seen }
 {
     match reply {
-        Some(Reply::Recorded {
-            verdict: Verdict::Done { .. },
-            ..
-        }) => seen,
+        Some(
+            Reply::Recorded {
+                verdict: Verdict::Done { .. },
+                ..
+            },
+        ) => seen,
         _ => version,
     }
 }

@@ -56,9 +56,9 @@ hold-requires-clause-guard g t c =
     let lt : c.args.k < length guards = (let a = c.requires.place in let b = c.len.ensures.value in let d = c.if-k-len.false in omega arith) in
     let known : IsKnown o.inst.tables (guard_at guards c.args.k) = listed_known o.inst.tables plan.mv.steps guards plan.q s.started.limits within c.requires.guards c.args.k lt in
     let num : c.number_of-guard.result ≡ number_at o.inst.tables guards c.args.k =
-        c.number_of-guard.ensures ∙ (ap (λ (x : Instance). number_of x.tables c.guard.result) s.instance ∙ ap (number_of o.inst.tables) c.guard.ensures) in
+    c.number_of-guard.ensures ∙ (ap (λ (x : Instance). number_of x.tables c.guard.result) s.instance ∙ ap (number_of o.inst.tables) c.guard.ensures) in
     let below : All (λ k. k.guard < c.number_of-guard.result) p.seat.me.0.grips =
-        subst (λ (m : ℕ). All (λ (k : Grip). k.guard < m) p.seat.me.0.grips) (sym num) (c.requires.held.below c.args.k (omega arith) lt) in
+    subst (λ (m : ℕ). All (λ (k : Grip). k.guard < m) p.seat.me.0.grips) (sym num) (c.requires.held.below c.args.k (omega arith) lt) in
     let number = number_below o.inst.tables (guard_at guards c.args.k) known in
     let count = s.guards ∙ ap (λ (x : Instance). guard_count x.tables) s.instance in
     (omega (arith, num, number, count), below, (let a = c.requires.held.count in let b = c.requires.guards.few in omega arith))
@@ -75,9 +75,9 @@ returns-in_default-clause-none g t c =
     let lt : c.args.k < length guards = (let a = c.requires.place in let b = c.len.ensures.value in let d = c.if-k-len.false in omega arith) in
     let known : IsKnown o.inst.tables (guard_at guards c.args.k) = listed_known o.inst.tables plan.mv.steps guards plan.q s.started.limits within c.requires.guards c.args.k lt in
     let num : c.number_of-guard.result ≡ number_at o.inst.tables guards c.args.k =
-        c.number_of-guard.ensures ∙ (ap (λ (x : Instance). number_of x.tables c.guard.result) s.instance ∙ ap (number_of o.inst.tables) c.guard.ensures) in
+    c.number_of-guard.ensures ∙ (ap (λ (x : Instance). number_of x.tables c.guard.result) s.instance ∙ ap (number_of o.inst.tables) c.guard.ensures) in
     let below : All (λ k. k.guard < c.number_of-guard.result) p.seat.me.0.grips =
-        subst (λ (m : ℕ). All (λ (k : Grip). k.guard < m) p.seat.me.0.grips) (sym num) (c.requires.held.below c.args.k (omega arith) lt) in
+    subst (λ (m : ℕ). All (λ (k : Grip). k.guard < m) p.seat.me.0.grips) (sym num) (c.requires.held.below c.args.k (omega arith) lt) in
     let hp = c.hold.ensures.pass in
     let newer = c.in_default.ensures.answer in
     record {
@@ -106,9 +106,9 @@ commit_from-reply-requires g t c κs within =
     let lt : c.args.k < length guards = (let a = c.requires.place in let b = c.len.ensures.value in let d = c.if-k-len.false in omega arith) in
     let known : IsKnown o.inst.tables (guard_at guards c.args.k) = listed_known o.inst.tables plan.mv.steps guards plan.q s.started.limits inner c.requires.guards c.args.k lt in
     let num : c.number_of-guard.result ≡ number_at o.inst.tables guards c.args.k =
-        c.number_of-guard.ensures ∙ (ap (λ (x : Instance). number_of x.tables c.guard.result) s.instance ∙ ap (number_of o.inst.tables) c.guard.ensures) in
+    c.number_of-guard.ensures ∙ (ap (λ (x : Instance). number_of x.tables c.guard.result) s.instance ∙ ap (number_of o.inst.tables) c.guard.ensures) in
     let below : All (λ k. k.guard < c.number_of-guard.result) p.seat.me.0.grips =
-        subst (λ (m : ℕ). All (λ (k : Grip). k.guard < m) p.seat.me.0.grips) (sym num) (c.requires.held.below c.args.k (omega arith) lt) in
+    subst (λ (m : ℕ). All (λ (k : Grip). k.guard < m) p.seat.me.0.grips) (sym num) (c.requires.held.below c.args.k (omega arith) lt) in
     let q = c.hold.new.pass in
     let hp = c.hold.ensures.pass in
     let gripped = c.in-Held.ensures.answer in
@@ -138,9 +138,9 @@ release-requires-clause-grip g t c =
     let lt : c.args.k < length guards = (let a = c.requires.place in let b = c.len.ensures.value in let d = c.if-k-len.false in omega arith) in
     let known : IsKnown o.inst.tables (guard_at guards c.args.k) = listed_known o.inst.tables plan.mv.steps guards plan.q s.started.limits within c.requires.guards c.args.k lt in
     let num : c.number_of-guard.result ≡ number_at o.inst.tables guards c.args.k =
-        c.number_of-guard.ensures ∙ (ap (λ (x : Instance). number_of x.tables c.guard.result) s.instance ∙ ap (number_of o.inst.tables) c.guard.ensures) in
+    c.number_of-guard.ensures ∙ (ap (λ (x : Instance). number_of x.tables c.guard.result) s.instance ∙ ap (number_of o.inst.tables) c.guard.ensures) in
     let below : All (λ k. k.guard < c.number_of-guard.result) p.seat.me.0.grips =
-        subst (λ (m : ℕ). All (λ (k : Grip). k.guard < m) p.seat.me.0.grips) (sym num) (c.requires.held.below c.args.k (omega arith) lt) in
+    subst (λ (m : ℕ). All (λ (k : Grip). k.guard < m) p.seat.me.0.grips) (sym num) (c.requires.held.below c.args.k (omega arith) lt) in
     let q = c.hold.new.pass in
     let hp = c.hold.ensures.pass in
     let gripped = c.in-Held.ensures.answer in
@@ -150,7 +150,7 @@ release-requires-clause-grip g t c =
     let r = c.commit_from-reply.new.pass in
     let e = c.commit_from-reply.ensures in
     let has : Contains r.seat.me.0.grips (grip c.number_of-guard.result c.in-Held.version) =
-        subst (λ (ks : List Grip). Contains ks (grip c.number_of-guard.result c.in-Held.version)) (sym (grips_back s plan p q r r c.commit_from-reply.result e.some e.none ∙ gripped.grips)) (Contains-push p.seat.me.0.grips (grip c.number_of-guard.result c.in-Held.version)) in
+    subst (λ (ks : List Grip). Contains ks (grip c.number_of-guard.result c.in-Held.version)) (sym (grips_back s plan p q r r c.commit_from-reply.result e.some e.none ∙ gripped.grips)) (Contains-push p.seat.me.0.grips (grip c.number_of-guard.result c.in-Held.version)) in
     let longer = longer_back s plan p q r r c.commit_from-reply.result own commit e.some e.none in
     (c.in-Held.version, has, omega arith)
 
@@ -166,9 +166,9 @@ release-requires-clause-version g t c =
     let lt : c.args.k < length guards = (let a = c.requires.place in let b = c.len.ensures.value in let d = c.if-k-len.false in omega arith) in
     let known : IsKnown o.inst.tables (guard_at guards c.args.k) = listed_known o.inst.tables plan.mv.steps guards plan.q s.started.limits within c.requires.guards c.args.k lt in
     let num : c.number_of-guard.result ≡ number_at o.inst.tables guards c.args.k =
-        c.number_of-guard.ensures ∙ (ap (λ (x : Instance). number_of x.tables c.guard.result) s.instance ∙ ap (number_of o.inst.tables) c.guard.ensures) in
+    c.number_of-guard.ensures ∙ (ap (λ (x : Instance). number_of x.tables c.guard.result) s.instance ∙ ap (number_of o.inst.tables) c.guard.ensures) in
     let below : All (λ k. k.guard < c.number_of-guard.result) p.seat.me.0.grips =
-        subst (λ (m : ℕ). All (λ (k : Grip). k.guard < m) p.seat.me.0.grips) (sym num) (c.requires.held.below c.args.k (omega arith) lt) in
+    subst (λ (m : ℕ). All (λ (k : Grip). k.guard < m) p.seat.me.0.grips) (sym num) (c.requires.held.below c.args.k (omega arith) lt) in
     let q = c.hold.new.pass in
     let hp = c.hold.ensures.pass in
     let gripped = c.in-Held.ensures.answer in
@@ -178,16 +178,16 @@ release-requires-clause-version g t c =
     let r = c.commit_from-reply.new.pass in
     let e = c.commit_from-reply.ensures in
     let has : Contains r.seat.me.0.grips (grip c.number_of-guard.result c.in-Held.version) =
-        subst (λ (ks : List Grip). Contains ks (grip c.number_of-guard.result c.in-Held.version)) (sym (grips_back s plan p q r r c.commit_from-reply.result e.some e.none ∙ gripped.grips)) (Contains-push p.seat.me.0.grips (grip c.number_of-guard.result c.in-Held.version)) in
+    subst (λ (ks : List Grip). Contains ks (grip c.number_of-guard.result c.in-Held.version)) (sym (grips_back s plan p q r r c.commit_from-reply.result e.some e.none ∙ gripped.grips)) (Contains-push p.seat.me.0.grips (grip c.number_of-guard.result c.in-Held.version)) in
     let before : IsVersion (touching entry_touches o (number_at o.inst.tables guards c.args.k)) q.seat.me.0.own.seen c.in-Held.version =
-        subst (λ (m : ℕ). IsVersion (touching entry_touches o m) q.seat.me.0.own.seen c.in-Held.version) num (gripped.version le) in
+    subst (λ (m : ℕ). IsVersion (touching entry_touches o m) q.seat.me.0.own.seen c.in-Held.version) num (gripped.version le) in
     let there = version_back s plan p q r r (guard_at guards c.args.k) c.in-Held.version known (listed_written o.inst.tables plan.mv.steps guards plan.q s.started.limits within c.requires.guards c.args.k lt)
-        c.commit_from-reply.result _ e.shut
-        (λ shut. subst (λ (m : ℕ). OnlyBy (touching entry_touches o m) (λ (x : Entry). x.worker) r.number r.seat.me.0.own.seen c.in-Held.version) num
-            (All-contains (λ (k : Grip). OnlyBy (touching entry_touches o k.guard) (λ (x : Entry). x.worker) r.number r.seat.me.0.own.seen k.version) r.seat.me.0.grips (grip c.number_of-guard.result c.in-Held.version) shut has))
-        e.some e.none own commit le before in
+    c.commit_from-reply.result _ e.shut
+    (λ shut. subst (λ (m : ℕ). OnlyBy (touching entry_touches o m) (λ (x : Entry). x.worker) r.number r.seat.me.0.own.seen c.in-Held.version) num
+    (All-contains (λ (k : Grip). OnlyBy (touching entry_touches o k.guard) (λ (x : Entry). x.worker) r.number r.seat.me.0.own.seen k.version) r.seat.me.0.grips (grip c.number_of-guard.result c.in-Held.version) shut has))
+    e.some e.none own commit le before in
     let now : c.then_version-now.result ≡ then_version c.commit_from-reply.result c.in-Held.version (length r.seat.me.0.own.seen) =
-        c.then_version-now.ensures ∙ ap (then_version c.commit_from-reply.result c.in-Held.version) c.seen.ensures in
+    c.then_version-now.ensures ∙ ap (then_version c.commit_from-reply.result c.in-Held.version) c.seen.ensures in
     subst (λ (m : ℕ). IsVersion (touching entry_touches o m) r.seat.me.0.own.seen c.then_version-now.result) (sym num)
     (subst (IsVersion (touching entry_touches o (number_at o.inst.tables guards c.args.k)) r.seat.me.0.own.seen) (sym now) there)
 
@@ -203,9 +203,9 @@ returns-clause-some g t c =
     let lt : c.args.k < length guards = (let a = c.requires.place in let b = c.len.ensures.value in let d = c.if-k-len.false in omega arith) in
     let known : IsKnown o.inst.tables (guard_at guards c.args.k) = listed_known o.inst.tables plan.mv.steps guards plan.q s.started.limits within c.requires.guards c.args.k lt in
     let num : c.number_of-guard.result ≡ number_at o.inst.tables guards c.args.k =
-        c.number_of-guard.ensures ∙ (ap (λ (x : Instance). number_of x.tables c.guard.result) s.instance ∙ ap (number_of o.inst.tables) c.guard.ensures) in
+    c.number_of-guard.ensures ∙ (ap (λ (x : Instance). number_of x.tables c.guard.result) s.instance ∙ ap (number_of o.inst.tables) c.guard.ensures) in
     let below : All (λ k. k.guard < c.number_of-guard.result) p.seat.me.0.grips =
-        subst (λ (m : ℕ). All (λ (k : Grip). k.guard < m) p.seat.me.0.grips) (sym num) (c.requires.held.below c.args.k (omega arith) lt) in
+    subst (λ (m : ℕ). All (λ (k : Grip). k.guard < m) p.seat.me.0.grips) (sym num) (c.requires.held.below c.args.k (omega arith) lt) in
     let q = c.hold.new.pass in
     let hp = c.hold.ensures.pass in
     let gripped = c.in-Held.ensures.answer in
@@ -224,9 +224,9 @@ returns-clause-none g t c =
     let lt : c.args.k < length guards = (let a = c.requires.place in let b = c.len.ensures.value in let d = c.if-k-len.false in omega arith) in
     let known : IsKnown o.inst.tables (guard_at guards c.args.k) = listed_known o.inst.tables plan.mv.steps guards plan.q s.started.limits within c.requires.guards c.args.k lt in
     let num : c.number_of-guard.result ≡ number_at o.inst.tables guards c.args.k =
-        c.number_of-guard.ensures ∙ (ap (λ (x : Instance). number_of x.tables c.guard.result) s.instance ∙ ap (number_of o.inst.tables) c.guard.ensures) in
+    c.number_of-guard.ensures ∙ (ap (λ (x : Instance). number_of x.tables c.guard.result) s.instance ∙ ap (number_of o.inst.tables) c.guard.ensures) in
     let below : All (λ k. k.guard < c.number_of-guard.result) p.seat.me.0.grips =
-        subst (λ (m : ℕ). All (λ (k : Grip). k.guard < m) p.seat.me.0.grips) (sym num) (c.requires.held.below c.args.k (omega arith) lt) in
+    subst (λ (m : ℕ). All (λ (k : Grip). k.guard < m) p.seat.me.0.grips) (sym num) (c.requires.held.below c.args.k (omega arith) lt) in
     let q = c.hold.new.pass in
     let hp = c.hold.ensures.pass in
     let gripped = c.in-Held.ensures.answer in

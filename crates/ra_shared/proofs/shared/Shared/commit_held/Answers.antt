@@ -18,7 +18,7 @@ commit_held-reply-requires-clause-commit g c =
     let took = c.take-held.ensures in
     let may = c.requires.may in
     let turned : IsTurned p.number p.seat.me.0.own.seen p.seat.me.0.own.mine j.book.entries.items =
-        turned_by p.seat.me.0.own.number p.number q.number p.seat.me.0.own.seen p.seat.me.0.own.mine j.book.entries.items q.seat.me.0.own.seen q.seat.me.0.own.mine took.seen.1 took.seen.0 p.owned p.numbered took.pass.1.2 took.made.1 took.made.0 in
+    turned_by p.seat.me.0.own.number p.number q.number p.seat.me.0.own.seen p.seat.me.0.own.mine j.book.entries.items q.seat.me.0.own.seen q.seat.me.0.own.mine took.seen.1 took.seen.0 p.owned p.numbered took.pass.1.2 took.made.1 took.made.0 in
     turned_commit o (opening_of_journal j) p.number c.number-worker.result p.seat.me.0.own.seen p.seat.me.0.own.mine j.book.entries.items c.args.plan.now took.opening c.number-worker.ensures turned may.commit
 
 pub commit_held-reply-requires-clause-held : goal.commit_held-reply-requires-clause-held
@@ -30,7 +30,7 @@ commit_held-reply-requires-clause-held g c =
     let took = c.take-held.ensures in
     let may = c.requires.may in
     let turned : IsTurned p.number p.seat.me.0.own.seen p.seat.me.0.own.mine j.book.entries.items =
-        turned_by p.seat.me.0.own.number p.number q.number p.seat.me.0.own.seen p.seat.me.0.own.mine j.book.entries.items q.seat.me.0.own.seen q.seat.me.0.own.mine took.seen.1 took.seen.0 p.owned p.numbered took.pass.1.2 took.made.1 took.made.0 in
+    turned_by p.seat.me.0.own.number p.number q.number p.seat.me.0.own.seen p.seat.me.0.own.mine j.book.entries.items q.seat.me.0.own.seen q.seat.me.0.own.mine took.seen.1 took.seen.0 p.owned p.numbered took.pass.1.2 took.made.1 took.made.0 in
     let commit = turned_commit o o p.number p.number p.seat.me.0.own.seen p.seat.me.0.own.mine j.book.entries.items c.args.plan.now refl refl turned may.commit in
     turned_held o (opening_of_journal j) p.number q.number j.book.entries.items q.seat.me.0.own.seen c.args.plan.now p.seat.me.0.grips q.seat.me.0.grips took.opening took.pass.1.2 took.seen.0 took.guards.0.0 j.start j.kept.legal commit c.requires.held took.guards.1
 
@@ -43,7 +43,7 @@ give-requires-clause-notes g c =
     let took = c.take-held.ensures in
     let may = c.requires.may in
     let turned : IsTurned p.number p.seat.me.0.own.seen p.seat.me.0.own.mine j.book.entries.items =
-        turned_by p.seat.me.0.own.number p.number q.number p.seat.me.0.own.seen p.seat.me.0.own.mine j.book.entries.items q.seat.me.0.own.seen q.seat.me.0.own.mine took.seen.1 took.seen.0 p.owned p.numbered took.pass.1.2 took.made.1 took.made.0 in
+    turned_by p.seat.me.0.own.number p.number q.number p.seat.me.0.own.seen p.seat.me.0.own.mine j.book.entries.items q.seat.me.0.own.seen q.seat.me.0.own.mine took.seen.1 took.seen.0 p.owned p.numbered took.pass.1.2 took.made.1 took.made.0 in
     let commit = turned_commit o o p.number p.number p.seat.me.0.own.seen p.seat.me.0.own.mine j.book.entries.items c.args.plan.now refl refl turned may.commit in
     turned_gives o (opening_of_journal j) p.number q.number c.number-worker.result j.book.entries.items q.seat.me.0.own.seen c.commit_held-reply.new.self.book.entries.items c.args.plan.now p.seat.me.0.grips q.seat.me.0.grips took.opening took.pass.1.2 c.number-worker.ensures took.seen.0 took.guards.0.0 commit c.requires.held c.commit_held-reply.ensures.journal
 
@@ -56,7 +56,7 @@ returns-clause-done g c =
     let took = c.take-held.ensures in
     let may = c.requires.may in
     let turned : IsTurned p.number p.seat.me.0.own.seen p.seat.me.0.own.mine j.book.entries.items =
-        turned_by p.seat.me.0.own.number p.number q.number p.seat.me.0.own.seen p.seat.me.0.own.mine j.book.entries.items q.seat.me.0.own.seen q.seat.me.0.own.mine took.seen.1 took.seen.0 p.owned p.numbered took.pass.1.2 took.made.1 took.made.0 in
+    turned_by p.seat.me.0.own.number p.number q.number p.seat.me.0.own.seen p.seat.me.0.own.mine j.book.entries.items q.seat.me.0.own.seen q.seat.me.0.own.mine took.seen.1 took.seen.0 p.owned p.numbered took.pass.1.2 took.made.1 took.made.0 in
     let gave = c.give.ensures in
     let new = c.commit_held-reply.new.self in
     record {

@@ -18,7 +18,7 @@ commit-reply-requires g c =
     let took = c.take-held.ensures in
     let may = c.requires.may in
     let turned : IsTurned p.number p.seat.me.0.own.seen p.seat.me.0.own.mine j.book.entries.items =
-        turned_by p.seat.me.0.own.number p.number q.number p.seat.me.0.own.seen p.seat.me.0.own.mine j.book.entries.items q.seat.me.0.own.seen q.seat.me.0.own.mine took.seen.1 took.seen.0 p.owned p.numbered took.pass.1.2 took.made.1 took.made.0 in
+    turned_by p.seat.me.0.own.number p.number q.number p.seat.me.0.own.seen p.seat.me.0.own.mine j.book.entries.items q.seat.me.0.own.seen q.seat.me.0.own.mine took.seen.1 took.seen.0 p.owned p.numbered took.pass.1.2 took.made.1 took.made.0 in
     record { commit = turned_commit o (opening_of_journal j) p.number c.number-worker.result p.seat.me.0.own.seen p.seat.me.0.own.mine j.book.entries.items c.args.plan.now took.opening c.number-worker.ensures turned may.commit }
 
 pub give-requires-clause-notes : goal.give-requires-clause-notes
@@ -30,7 +30,7 @@ give-requires-clause-notes g c =
     let took = c.take-held.ensures in
     let may = c.requires.may in
     let turned : IsTurned p.number p.seat.me.0.own.seen p.seat.me.0.own.mine j.book.entries.items =
-        turned_by p.seat.me.0.own.number p.number q.number p.seat.me.0.own.seen p.seat.me.0.own.mine j.book.entries.items q.seat.me.0.own.seen q.seat.me.0.own.mine took.seen.1 took.seen.0 p.owned p.numbered took.pass.1.2 took.made.1 took.made.0 in
+    turned_by p.seat.me.0.own.number p.number q.number p.seat.me.0.own.seen p.seat.me.0.own.mine j.book.entries.items q.seat.me.0.own.seen q.seat.me.0.own.mine took.seen.1 took.seen.0 p.owned p.numbered took.pass.1.2 took.made.1 took.made.0 in
     let commit = turned_commit o o p.number p.number p.seat.me.0.own.seen p.seat.me.0.own.mine j.book.entries.items c.args.plan.now refl refl turned may.commit in
     let newer = c.requires.newer in
     let told : Contains q.seat.me.0.news (grip (number_of o.inst.tables newer.guard) newer.version) = subst (λ (ks : List Grip). Contains ks (grip (number_of o.inst.tables newer.guard) newer.version)) (sym took.guards.0.1) newer.told in
@@ -45,7 +45,7 @@ returns g c =
     let took = c.take-held.ensures in
     let may = c.requires.may in
     let turned : IsTurned p.number p.seat.me.0.own.seen p.seat.me.0.own.mine j.book.entries.items =
-        turned_by p.seat.me.0.own.number p.number q.number p.seat.me.0.own.seen p.seat.me.0.own.mine j.book.entries.items q.seat.me.0.own.seen q.seat.me.0.own.mine took.seen.1 took.seen.0 p.owned p.numbered took.pass.1.2 took.made.1 took.made.0 in
+    turned_by p.seat.me.0.own.number p.number q.number p.seat.me.0.own.seen p.seat.me.0.own.mine j.book.entries.items q.seat.me.0.own.seen q.seat.me.0.own.mine took.seen.1 took.seen.0 p.owned p.numbered took.pass.1.2 took.made.1 took.made.0 in
     let gave = c.give.ensures in
     let new = c.commit-reply.new.self in
     record {
