@@ -1,2 +1,5 @@
 pub mod Numbers
+pub mod Books
+pub mod Shares
+pub mod Holding
 pub mod Laws

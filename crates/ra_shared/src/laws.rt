@@ -1,5 +1,5 @@
-//! Laws of guards in the lock: each function does nothing, and its contract is a law that was proved.
-ghost use Rattle.ra_shared.specs.Laws.{VersionsAgree, TouchesAgree, NoneAbove};
+//! Laws of guards in the lock and of answers: each function does nothing, and its contract is a law that was proved.
+ghost use Rattle.ra_shared.specs.Laws.{VersionsAgree, TouchesAgree, NoneAbove, RecordedStands, StaleStands};
 
 /// The number of a guard stands for the guard: what an entry makes touches the one where it touches the other.
 pub fn touches_agree()
@@ -14,4 +14,15 @@ pub fn none_above()
 /// The lock's version of a guard's number in a history is the guard's version, the greatest of its stamps.
 pub fn versions_agree<N>()
     ensures { VersionsAgree N }
+{}
+
+/// A worker that is answered Recorded knows the last entry as its own, with its plan and the verdict.
+pub fn recorded_stands()
+    ensures { RecordedStands }
+{}
+
+/// A worker that is answered Stale sees another worker's entry, from the place of its plan on, that touched a guard of the
+/// plan's move.
+pub fn stale_stands()
+    ensures { StaleStands }
 {}

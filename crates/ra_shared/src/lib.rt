@@ -1,10 +1,16 @@
-//! Several workers over one lock: how they are run, and what guards' numbers in the lock stand for.
+//! Several workers over one lock: the journal that they share, how they are run, and what guards' numbers in the lock
+//! stand for.
 #![tactic(auto)]
 
+mod books;
 mod labour;
 pub mod laws;
+mod numbering;
+mod shared;
 
+pub use books::{Book, Opening, WorkerPass};
 pub use labour::{Labour, all_labour};
+pub use shared::Shared;
 
 #[cfg(test)]
 mod tests;

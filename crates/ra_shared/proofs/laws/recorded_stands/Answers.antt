@@ -1,0 +1,5 @@
+use Rattle.ra_shared.proofs.Handing.{recorded_stands}
+use Rattle.ra_shared.proofs.laws.recorded_stands.Goals as goal
+
+pub returns : goal.returns
+returns c = recorded_stands

@@ -1,0 +1,49 @@
+-- A journal as the value behind a lock.
+use Rattle.std.specs.Prelude.{◌≡◌, ℕ, Bool, List, length}
+use Rattle.ra_model.specs.declared.raw.Tables.{Tables}
+use Rattle.ra_moves.specs.declared.verdicts.Plan.{Plan}
+use Rattle.ra_journal.specs.declared.entries.Entry.{Entry}
+use Rattle.ra_journal.specs.declared.journal.Journal.{Journal}
+use Rattle.ra_journal.specs.Committing.{committed, Committed, IsCommit}
+use Rattle.ra_journal.specs.Entries.{made_by}
+use Rattle.ra_journal.specs.Keeping.{IsStart}
+use Rattle.ra_journal.specs.Legal.{Legal}
+use Rattle.ra_turn.specs.Notes.{by}
+use Rattle.ra_shared.specs.declared.books.Book.{Book}
+use Rattle.ra_shared.specs.declared.books.Opening.{Opening}
+use Rattle.ra_shared.specs.Numbers.{touches_number}
+
+-- what a journal was opened with
+abbrev pub opening_of_journal : Journal → Opening
+opening_of_journal j = record { inst = j.inst.now; a0 = j.a0.now; lots = j.lots.now }
+
+abbrev pub opened_by : Book → Opening
+opened_by b = opening_of_journal b.journal
+
+-- its entries
+abbrev pub entries_in : Book → List Entry
+entries_in b = b.journal.book.entries.items
+
+-- what an entry makes touches the guard of a number; there is none from the guard count on
+abbrev pub entry_touches : Opening → Entry → ℕ → Bool
+entry_touches o e n = touches_number o.inst.tables (made_by e) n
+
+-- a worker's own entries in a history are those that it has made
+abbrev pub KnowsOwn : ℕ → List Entry → List Entry → Type 0
+KnowsOwn w h mine = by (λ (e : Entry). e.worker) w h ≡ mine
+
+-- the initial assignment is one of the instance, and breaks nothing
+abbrev pub IsStartOf : Opening → Type 0
+IsStartOf o = IsStart o.inst.tables o.a0.items
+
+-- the entries are a legal journal
+abbrev pub IsLegalSeen : Opening → List Entry → Type 0
+IsLegalSeen o h = Legal o.inst.tables o.a0.items o.lots h
+
+-- worker w may hand in this plan after the entries
+abbrev pub IsCommitOf : Opening → List Entry → ℕ → Plan → Type 0
+IsCommitOf o h w plan = IsCommit o.inst.tables o.a0.items o.lots h w plan
+
+-- worker w hands in its next proposal, planned at the state of place q
+abbrev pub committed_in : Opening → List Entry → ℕ → ℕ → Committed
+committed_in o h w q = committed o.inst.tables o.a0.items o.lots h w q

@@ -1,0 +1,75 @@
+-- How a worker hands in a plan: it holds the write guards of its move, takes its turn, and gives them back.
+use Rattle.std.specs.Prelude.{◌≡◌, ℕ, ◌+◌, ◌<◌, ◌≤◌, true, List, [], length, All, Contains, Option, Some, None}
+use Rattle.ra_base.specs.declared.ids.Guard.{Guard}
+use Rattle.ra_model.specs.declared.raw.Tables.{Tables}
+use Rattle.ra_moves.specs.declared.steps.Step.{Step}
+use Rattle.ra_moves.specs.declared.verdicts.Plan.{Plan}
+use Rattle.ra_moves.specs.declared.verdicts.Verdict.TheVariants.{Done}
+use Rattle.ra_guards.specs.Guards.{writes}
+use Rattle.ra_guards.specs.Order.{guard_at}
+use Rattle.ra_journal.specs.declared.entries.Entry.{Entry}
+use Rattle.ra_journal.specs.declared.replies.Reply.{Reply}
+use Rattle.ra_journal.specs.declared.replies.Reply.TheVariants.{Recorded}
+use Rattle.ra_turn.specs.declared.pass.Pass.{Pass}
+use Rattle.ra_turn.specs.declared.sight.Grip.{Grip}
+use Rattle.ra_turn.specs.declared.story.Story.{Ghosts}
+use Rattle.ra_turn.specs.Notes.{grip}
+use Rattle.ra_turn.specs.Passes.{seen_by, made_by, grips_of, IsReady, KnowsSame, WillSee}
+use Rattle.ra_shared.specs.declared.books.Book.{Book}
+use Rattle.ra_shared.specs.declared.books.Opening.{Opening}
+use Rattle.ra_shared.specs.declared.shared.Shared.{Shared}
+use Rattle.ra_shared.specs.Books.{IsCommitOf, KnowsOwn, IsLegalSeen}
+use Rattle.ra_shared.specs.Numbers.{number_of}
+use Rattle.ra_shared.specs.Shares.{start_of, IsCommitted}
+
+-- the number of guard k of a list
+abbrev pub number_at : Tables → List Guard → ℕ → ℕ
+number_at i guards k = number_of i (guard_at guards k)
+
+-- the first k guards of a list are held, each at a version of at most q, and all guards that are held come before the rest
+pub record HoldsFirst (i : Tables) (guards : List Guard) (q k : ℕ) (grips : List Grip) : Type 0 where
+  pub count : length grips ≡ k
+  pub held : (j : ℕ) → j < k → (v : ℕ) × (v ≤ q) × Contains grips (grip (number_at i guards j) v)
+  pub below : (j : ℕ) → k ≤ j → j < length guards → All (λ g. g.guard < number_at i guards j) grips
+
+-- each write guard of a move is held, at a version of at most q
+pub record HoldsWrites (i : Tables) (steps : List Step) (q : ℕ) (grips : List Grip) : Type 0 where
+  pub each : (g : Guard) → writes i steps g ≡ true → (v : ℕ) × (v ≤ q) × Contains grips (grip (number_of i g) v)
+
+-- the version of a write guard of a move behind an answer: the number of entries where the move was done, and else what it was before
+unfoldable pub then_version : Option Reply → ℕ → ℕ → ℕ
+then_version (Some (Recorded at (Done cost))) version seen = seen
+then_version _ version seen = version
+
+module _ {g : Ghosts Book Entry Opening} where
+  -- the pass may hand in the plan
+  pub record MayHandIn (s : Shared) (plan : Plan) (p : Pass Book Entry Opening g) : Type 0 where
+    pub ready : IsReady s.turn p
+    pub left : 0 < p.left
+    pub legal : IsLegalSeen (start_of s) (seen_by p)
+    pub commit : IsCommitOf (start_of s) (seen_by p) p.number plan
+
+  -- the pass p, now q, has handed in the plan in one turn, and holds what it held
+  pub record IsHandedIn (s : Shared) (plan : Plan) (p q : Pass Book Entry Opening g) (reply : Reply) : Type 0 where
+    pub ready : IsReady s.turn q
+    pub number : q.number ≡ p.number
+    pub left : q.left + 1 ≡ p.left
+    pub grips : grips_of q ≡ grips_of p
+    pub legal : IsLegalSeen (start_of s) (seen_by q)
+    pub committed : IsCommitted (start_of s) p.number plan.q (seen_by p) (made_by p) (seen_by q) (made_by q) reply
+
+  -- The next turn of the pass shows an entry at place plan.q or later that touched a write guard of the plan's move
+  pub record IsNewer (i : Tables) (plan : Plan) (p : Pass Book Entry Opening g) : Type 0 where
+    pub guard : Guard
+    pub version : ℕ
+    pub written : writes i plan.mv.steps guard ≡ true
+    pub above : plan.q < version
+    pub told : WillSee p (number_of i guard) version
+
+  -- the pass p, now q, was told so; it holds what it held, and has seen and made nothing
+  pub record IsHeldUp (s : Shared) (plan : Plan) (p q : Pass Book Entry Opening g) : Type 0 where
+    pub ready : IsReady s.turn q
+    pub number : q.number ≡ p.number
+    pub same : KnowsSame p q
+    pub grips : grips_of q ≡ grips_of p
+    pub newer : IsNewer (start_of s).inst.tables plan q

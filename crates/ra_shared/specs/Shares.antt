@@ -1,0 +1,48 @@
+-- A journal that workers share, and their passes.
+use Rattle.std.specs.Prelude.{◌≡◌, ℕ, List, [], ◌++◌, length, drop}
+use mathlib.Core.List.{IsPrefix}
+use Rattle.ra_journal.specs.declared.entries.Entry.{Entry}
+use Rattle.ra_journal.specs.declared.replies.Reply.{Reply}
+use Rattle.ra_turn.specs.declared.pass.Pass.{Pass}
+use Rattle.ra_turn.specs.declared.story.Story.{Ghosts}
+use Rattle.ra_turn.specs.Passes.{opening_of, seen_by, made_by, grips_of, IsReady}
+use Rattle.ra_shared.specs.declared.books.Book.{Book}
+use Rattle.ra_shared.specs.declared.books.Opening.{Opening}
+use Rattle.ra_shared.specs.declared.shared.Shared.{Shared}
+use Rattle.ra_shared.specs.Books.{opened_by, committed_in, KnowsOwn, IsLegalSeen}
+
+-- what the journal was opened with
+abbrev pub start_of : Shared → Opening
+start_of s = opening_of opened_by s.turn
+
+module _ {g : Ghosts Book Entry Opening} where
+  -- A pass of these between two calls: it has no turn and holds no guard, it knows which entries it has made, and what it has seen is a legal journal
+  pub record IsAtRest (s : Shared) (p : Pass Book Entry Opening g) : Type 0 where
+    pub ready : IsReady s.turn p
+    pub free : grips_of p ≡ []
+    pub own : KnowsOwn p.number (seen_by p) (made_by p)
+    pub legal : IsLegalSeen (start_of s) (seen_by p)
+
+  -- as `Shared::make` gives the pass n
+  pub record IsNew (s : Shared) (n : ℕ) (p : Pass Book Entry Opening g) : Type 0 where
+    pub rest : IsAtRest s p
+    pub number : p.number ≡ n
+    pub left : p.left ≡ 4000000
+    pub seen : seen_by p ≡ []
+    pub made : made_by p ≡ []
+
+  -- as `Shared::close` wants the pass n
+  pub record IsLast (s : Shared) (n : ℕ) (p : Pass Book Entry Opening g) : Type 0 where
+    pub rest : IsAtRest s p
+    pub number : p.number ≡ n
+
+-- Worker w, which had seen and made these entries, has handed in its next proposal, planned at place q: there was a history in which all that it had made stood,
+-- and this is what it answered. The worker has now seen what the history became, and has made what was added
+pub record IsCommitted (o : Opening) (w q : ℕ) (seen mine seen' mine' : List Entry) (reply : Reply) : Type 0 where
+  pub history : List Entry
+  pub later : IsPrefix seen history
+  pub own : KnowsOwn w history mine
+  pub legal : IsLegalSeen o history
+  pub journal : seen' ≡ (committed_in o history w q).journal
+  pub answer : reply ≡ (committed_in o history w q).reply
+  pub made : mine' ≡ mine ++ drop (length history) seen'

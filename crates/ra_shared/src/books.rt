@@ -1,0 +1,44 @@
+use ra_base::Assignment;
+use ra_draws::Lots;
+use ra_journal::{Entry, Journal};
+use ra_model::Instance;
+use ra_turn::{Pass, Story};
+
+/// What a journal was opened with. Clauses alone name it; no value of it is made.
+pub struct Opening {
+    /// The instance.
+    pub inst: Instance,
+    /// The initial assignment.
+    pub a0: Assignment,
+    /// The lots of the workers.
+    pub lots: Lots,
+}
+
+/// A journal as the value behind a lock: its notes are its entries.
+#[derive(Drop)]
+pub struct Book<'a> {
+    pub(crate) journal: Journal<'a>,
+}
+
+/// The right of one worker to take turns with the journal. It knows which entries it has seen and made.
+pub type WorkerPass<'a> = Pass<Book<'a>>;
+
+impl<'a> Story for Book<'a> {
+    ghost use Rattle.ra_shared.specs.Books.{opened_by, entries_in, entry_touches};
+
+    type Note = Entry;
+
+    type Opening = Opening;
+
+    ghost opening = { opened_by };
+
+    ghost notes = { entries_in };
+
+    ghost author = { λ entry. entry.worker };
+
+    ghost touches = { entry_touches };
+
+    fn note_count(&self) -> u64 {
+        self.journal.len()
+    }
+}

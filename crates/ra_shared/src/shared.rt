@@ -1,0 +1,183 @@
+ghost use Rattle.std.specs.Prelude.{◌≡◌};
+ghost use Rattle.ra_turn.specs.Passes.{opening_of, passes_of, guards_of};
+ghost use Rattle.ra_journal.specs.Entries.{worker_count};
+ghost use Rattle.ra_shared.specs.Books.{opened_by, IsStartOf};
+ghost use Rattle.ra_shared.specs.Numbers.{guard_count};
+
+use crate::books::{Book, WorkerPass};
+use crate::numbering::{number_of, then_version};
+use ra_base::NoMemory;
+use ra_guards::{WriteGuards, writes};
+use ra_journal::{Batch, Journal, Reply};
+use ra_model::Instance;
+use ra_moves::Plan;
+use ra_topology::Topology;
+use ra_turn::{Hold, Turn};
+use std::alloc::Global;
+use std::sync::Wait;
+
+/// How many turns each worker has. It needs at most as many as its budget and twice all budgets together.
+const TURNS: u64 = 4000000;
+
+/// The journal of a run that several workers share. Each takes turns with it by a pass of its own.
+#[derive(Drop)]
+pub struct Shared<'a> {
+    turn: Turn<Book<'a>>,
+    inst: &'a Instance,
+    topo: &'a Topology,
+    pub ghost instance: { inst.now ≡ (opening_of opened_by turn).inst },
+    pub ghost started: { IsStartOf (opening_of opened_by turn) },
+    pub ghost guards: { guards_of turn ≡ guard_count inst.now.tables },
+    pub ghost workers: { passes_of turn ≡ worker_count (opening_of opened_by turn).lots },
+}
+
+impl<'a> Shared<'a> {
+    ghost use Rattle.std.specs.Prelude.{◌≡◌, ◌+◌, ◌-◌, ◌<◌, ◌≤◌, [], length, min, All, IfOk, IfSome, IfNone};
+    ghost use mathlib.Core.List.{IsPrefix};
+    ghost use Rattle.ra_guards.specs.Order.{AreWrites};
+    ghost use Rattle.ra_turn.specs.Passes.{seen_by, made_by, grips_of, EachAt, IsPartOf, Shut};
+    ghost use Rattle.ra_journal.specs.Batches.{batch_from};
+    ghost use Rattle.ra_journal.specs.Entries.{worker_count};
+    ghost use Rattle.ra_shared.specs.Books.{opening_of_journal, IsCommitOf};
+    ghost use Rattle.ra_shared.specs.Holding.{HoldsFirst, HoldsWrites, MayHandIn, IsHandedIn, IsNewer, IsHeldUp};
+    ghost use Rattle.ra_shared.specs.Shares.{start_of, IsAtRest, IsNew, IsLast, IsCommitted};
+
+    /// Shares a journal without entries, and gives each worker's pass, in order. At `Err` the journal was dropped.
+    pub fn make(
+        alloc: Global,
+        journal: Journal<'a>,
+    ) -> Result<(Shared<'a>, Vec<WorkerPass<'a>>), NoMemory>
+        requires { journal.book.entries.items ≡ [] }
+        ensures opened { IfOk result (λ r. start_of r.0 ≡ opening_of_journal journal.entry) }
+        ensures count { IfOk result (λ r. length r.1.items ≡ worker_count journal.entry.lots.now) }
+        ensures passes { IfOk result (λ r. EachAt (IsNew r.0) r.1.items) }
+    {
+        let inst = journal.instance();
+        let topo = journal.topology();
+        let workers = journal.lots().len();
+        let guards = inst.machines() + inst.services();
+        let (turn, passes) = Turn::make(alloc, Book { journal }, workers, TURNS, guards)?;
+        Ok((Shared { turn, inst, topo }, passes))
+    }
+
+    /// Takes a turn to look at the journal. It fills the batch with the entries from a place on, as many as it has room
+    /// for, and tells their number.
+    pub fn catch_up<R: Wait>(
+        &self,
+        rt: &R,
+        pass: &mut WorkerPass<'a>,
+        at: u64,
+        batch: &mut Batch,
+    ) -> u64
+        requires rest { IsAtRest self.now pass.old }
+        requires left { 0 < pass.old.left }
+        requires place { at ≤ length (seen_by pass.old) }
+        ensures rest { IsAtRest self.now pass.new }
+        ensures turn { (pass.new.number ≡ pass.old.number) × (pass.new.left + 1 ≡ pass.old.left) }
+        ensures seen { IsPrefix (seen_by pass.old) (seen_by pass.new) }
+        ensures made { made_by pass.new ≡ made_by pass.old }
+        ensures batch { batch.new ≡ batch_from (seen_by pass.new) at }
+        ensures number { result ≡ min 1024 (length (seen_by pass.new) - at) }
+    {
+        let held = self.turn.take(rt, pass);
+        let number = held.value.journal.copy_from(at, batch);
+        self.turn.give(pass, held);
+        number
+    }
+
+    /// Hands in a plan in one turn: the worker's next proposal is recorded, judged at the state after all entries, unless
+    /// a guard of its move was touched since it was planned.
+    pub fn commit<R: Wait>(&self, rt: &R, pass: &mut WorkerPass<'a>, plan: &Plan) -> Reply
+        requires rest { IsAtRest self.now pass.old }
+        requires left { 0 < pass.old.left }
+        requires commit { IsCommitOf (start_of self.now) (seen_by pass.old) pass.old.number
+            plan.now }
+        ensures rest { IsAtRest self.now pass.new }
+        ensures turn { (pass.new.number ≡ pass.old.number) × (pass.new.left + 1 ≡ pass.old.left) }
+        ensures seen { IsPrefix (seen_by pass.old) (seen_by pass.new) }
+        ensures committed { IsCommitted (start_of self.now) pass.old.number plan.now.q
+            (seen_by pass.old) (made_by pass.old) (seen_by pass.new) (made_by pass.new) result }
+    {
+        let guards = writes(self.topo, self.inst, &plan.mv);
+        match self.commit_from(rt, pass, plan, &guards, 0) {
+            Some(reply) => reply,
+            None => self.commit_newer(rt, pass, plan),
+        }
+    }
+
+    /// Holds the write guards from place k on, hands the plan in, and gives these guards back. `None` where one of them is
+    /// newer than the plan; then it has held none for longer, and the plan is not handed in.
+    fn commit_from<R: Wait>(
+        &self,
+        rt: &R,
+        pass: &mut WorkerPass<'a>,
+        plan: &Plan,
+        guards: &WriteGuards,
+        k: u32,
+    ) -> Option<Reply>
+        requires may { MayHandIn self.now plan.now pass.old }
+        requires guards { AreWrites (start_of self.now).inst.tables plan.now.mv.steps guards.now }
+        requires held { HoldsFirst (start_of self.now).inst.tables guards.now plan.now.q k
+            (grips_of pass.old) }
+        requires place { k ≤ length guards.now }
+        ensures some { IfSome result (IsHandedIn self.now plan.now pass.old pass.new) }
+        ensures shut { IfSome result (λ _. Shut self.now.turn pass.new) }
+        ensures none { IfNone result (IsHeldUp self.now plan.now pass.old pass.new) }
+    {
+        if k == guards.len() {
+            return Some(self.commit_held(rt, pass, plan));
+        }
+        let guard = number_of(self.inst, guards.guard(k));
+        let Hold::Held { version } = self.turn.hold(rt, pass, guard, plan.q) else {
+            return None;
+        };
+        let reply = self.commit_from(rt, pass, plan, guards, k + 1);
+        let now = then_version(&reply, version, pass.seen());
+        self.turn.release(pass, guard, now);
+        reply
+    }
+
+    /// Hands the plan in where all write guards are held.
+    fn commit_held<R: Wait>(&self, rt: &R, pass: &mut WorkerPass<'a>, plan: &Plan) -> Reply
+        requires may { MayHandIn self.now plan.now pass.old }
+        requires held { HoldsWrites (start_of self.now).inst.tables plan.now.mv.steps plan.now.q
+            (grips_of pass.old) }
+        ensures done { IsHandedIn self.now plan.now pass.old pass.new result }
+        ensures shut { Shut self.now.turn pass.new }
+    {
+        let worker = pass.number();
+        let mut held = self.turn.take(rt, pass);
+        let reply = held.value.journal.commit_held(worker, plan);
+        self.turn.give(pass, held);
+        reply
+    }
+
+    /// Hands the plan in where a write guard is newer, so that it is stale.
+    fn commit_newer<R: Wait>(&self, rt: &R, pass: &mut WorkerPass<'a>, plan: &Plan) -> Reply
+        requires may { MayHandIn self.now plan.now pass.old }
+        requires newer { IsNewer (start_of self.now).inst.tables plan.now pass.old }
+        ensures { IsHandedIn self.now plan.now pass.old pass.new result }
+    {
+        let worker = pass.number();
+        let mut held = self.turn.take(rt, pass);
+        let reply = held.value.journal.commit(worker, plan);
+        self.turn.give(pass, held);
+        reply
+    }
+
+    /// Ends the sharing, and gives the journal. It takes all passes, in order.
+    pub fn close(self, passes: Vec<WorkerPass<'a>>) -> Journal<'a>
+        requires count { length passes.items ≡ worker_count (start_of self).lots }
+        requires passes { EachAt (IsLast self) passes.items }
+        ensures opened { opening_of_journal result ≡ start_of self.entry }
+        ensures passes { All (IsPartOf result.book.entries.items) passes.entry.items }
+    {
+        let Shared {
+            turn,
+            inst: _,
+            topo: _,
+        } = self;
+        let Book { journal } = turn.close(passes);
+        journal
+    }
+}
