@@ -18,8 +18,8 @@ use Rattle.ra_run.specs.declared.refusals.Refusal.TheVariants.{Read, Model, Clos
 use Rattle.ra_run.specs.declared.status.Status.{Status}
 use Rattle.ra_run.specs.declared.status.Status.TheVariants.{Done, Usage, ReadFault, BadModel, BadAssignment, Infeasible, WriteFault, NoMemory, BadClosed}
 use Rattle.ra_run.specs.Commands.{names_in, OutputOf}
-use Rattle.ra_run.specs.Comes.{IsKnown, KnownTo, Exactly, BadAssignmentComes, Comes}
-use Rattle.ra_run.specs.Ends.{Refused, Ends}
+use Rattle.ra_run.specs.Comes.{IsKnown, KnownTo, Comes}
+use Rattle.ra_run.specs.Ends.{Ends}
 use Rattle.ra_run.specs.Files.{Held, Faults, Names, name_of, ModelIs, InstanceIs, NamedListIs, Accepts, check_names, bound_names, solve_names}
 use Rattle.ra_run.specs.Outputs.{Printed, BoundPrinted, Solved}
 use Rattle.ra_run.specs.Refusals.{Says, ReadFailed, ModelRefused, ClosedRefused, InitialRefused, ChangedRefused, InitialBreaks, ChangedBreaks}
