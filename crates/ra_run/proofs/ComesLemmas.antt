@@ -18,8 +18,8 @@ use Rattle.ra_run.specs.declared.refusals.Refusal.TheVariants.{Read, Model, Clos
 use Rattle.ra_run.specs.declared.status.Status.{Status}
 use Rattle.ra_run.specs.declared.status.Status.TheVariants.{Done, Usage, ReadFault, BadModel, BadAssignment, Infeasible, WriteFault, NoMemory, BadClosed}
 use Rattle.ra_run.specs.Commands.{names_in, OutputOf}
-use Rattle.ra_run.specs.Comes.{IsKnown, KnownTo, Exactly, BadAssignmentComes, Comes}
-use Rattle.ra_run.specs.Ends.{Refused, Ends}
+use Rattle.ra_run.specs.Comes.{IsKnown, KnownTo, Comes}
+use Rattle.ra_run.specs.Ends.{Ends}
 use Rattle.ra_run.specs.Files.{Held, Faults, Names, name_of, ModelIs, InstanceIs, NamedListIs, Accepts, check_names, bound_names, solve_names}
 use Rattle.ra_run.specs.Outputs.{Printed, BoundPrinted, Solved}
 use Rattle.ra_run.specs.Refusals.{Says, ReadFailed, ModelRefused, ClosedRefused, InitialRefused, ChangedRefused, InitialBreaks, ChangedBreaks}
@@ -170,10 +170,11 @@ unfolding name_of
 closed_stops held names before now written went known fault refused =
     let k = known_model held names before now known.0 in
     let closed = told_of held names.closed _ known.1 in
-    let never = no_closed held names.model names.closed k.0 closed fault refused in
-    (λ done. never done.tables done.accepts.instance,
-     not_closed held names before now written went k.1 (λ named. (known.1 named).1)
-     (λ f r. no_model held names.model k.0 f r refused.model refused.read) never)
+    let never = no_closed held names.model names.closed k.0 closed fault refused in (
+      λ done. never done.tables done.accepts.instance,
+      not_closed held names before now written went k.1 (λ named. (known.1 named).1)
+          (λ f r. no_model held names.model k.0 f r refused.model refused.read) never,
+    )
 
 initial_stops : (held : Held) (names : Names) (before now : Faults) (written : Type 0) → (written → Went held names) → KnownTo held names before now file.Initial → (fault : AssignFault) → InitialRefused held names fault → Stops held names before now written BadAssignment
 unfolding name_of
@@ -181,11 +182,12 @@ initial_stops held names before now written went known fault refused =
     let k = known_model held names before now known.0 in
     let closed = told_of held names.closed _ known.1 in
     let initial = told_of held names.initial _ known.2 in
-    let never = no_initial held names k.0 closed initial fault refused in
-    (λ done. never done.tables done.a0 done.accepts.instance done.accepts.initial,
-     not_initial held names before now written went k.1 (λ named. (known.1 named).1) (λ named. (known.2 named).1)
-     (λ f r. no_model held names.model k.0 f r refused.instance.model refused.instance.read)
-     (λ f r. no_closed held names.model names.closed k.0 closed f r refused.tables refused.instance) never)
+    let never = no_initial held names k.0 closed initial fault refused in (
+      λ done. never done.tables done.a0 done.accepts.instance done.accepts.initial,
+      not_initial held names before now written went k.1 (λ named. (known.1 named).1) (λ named. (known.2 named).1)
+          (λ f r. no_model held names.model k.0 f r refused.instance.model refused.instance.read)
+          (λ f r. no_closed held names.model names.closed k.0 closed f r refused.tables refused.instance) never,
+    )
 
 changed_stops : (held : Held) (names : Names) (before now : Faults) (written : Type 0) → (written → Went held names) → KnownTo held names before now file.Changed → (fault : AssignFault) → ChangedRefused held names fault → Stops held names before now written BadAssignment
 unfolding name_of
@@ -193,11 +195,12 @@ changed_stops held names before now written went known fault refused =
     let k = known_model held names before now known.0 in
     let closed = told_of held names.closed _ known.1 in
     let changed = told_of held names.changed _ known.3 in
-    let never : (i : Tables) (a0 a : List Machine) → Accepts held names i a0 a → ⊥ = λ i a0 a accepts. no_changed held names k.0 closed changed fault refused i a accepts.instance accepts.changed in
-    (λ done. never done.tables done.a0 done.a done.accepts,
-     not_changed held names before now written went k.1 (λ named. (known.1 named).1) (λ named. (known.2 named).1) (λ named. (known.3 named).1)
-     (λ f r. no_model held names.model k.0 f r refused.instance.model refused.instance.read)
-     (λ f r. no_closed held names.model names.closed k.0 closed f r refused.tables refused.instance) never)
+    let never : (i : Tables) (a0 a : List Machine) → Accepts held names i a0 a → ⊥ = λ i a0 a accepts. no_changed held names k.0 closed changed fault refused i a accepts.instance accepts.changed in (
+      λ done. never done.tables done.a0 done.a done.accepts,
+      not_changed held names before now written went k.1 (λ named. (known.1 named).1) (λ named. (known.2 named).1) (λ named. (known.3 named).1)
+          (λ f r. no_model held names.model k.0 f r refused.instance.model refused.instance.read)
+          (λ f r. no_closed held names.model names.closed k.0 closed f r refused.tables refused.instance) never,
+    )
 
 -- where all files were accepted, and no list is feasible that would have to be
 accepted_stops : (held : Held) (names : Names) (before now : Faults) (written : Type 0) → (written → Went held names) → KnownTo held names before now file.Changed → (i : Tables) (a0 a : List Machine) → Accepts held names i a0 a → (Went held names → ⊥) → Stops held names before now written Infeasible
@@ -206,13 +209,14 @@ accepted_stops held names before now written went known i a0 a accepts never =
     let k = known_model held names before now known.0 in
     let closed = told_of held names.closed _ known.1 in
     let initial = told_of held names.initial _ known.2 in
-    let changed = told_of held names.changed _ known.3 in
-    (never,
-     not_feasible held names before now written went k.1 (λ named. (known.1 named).1) (λ named. (known.2 named).1) (λ named. (known.3 named).1)
-     (λ f r. no_model held names.model k.0 f r accepts.instance.model accepts.instance.read)
-     (λ f r. no_closed held names.model names.closed k.0 closed f r i accepts.instance)
-     (λ f r. no_initial held names k.0 closed initial f r i a0 accepts.instance accepts.initial)
-     (λ f r. no_changed held names k.0 closed changed f r i a accepts.instance accepts.changed) never)
+    let changed = told_of held names.changed _ known.3 in (
+      never,
+      not_feasible held names before now written went k.1 (λ named. (known.1 named).1) (λ named. (known.2 named).1) (λ named. (known.3 named).1)
+          (λ f r. no_model held names.model k.0 f r accepts.instance.model accepts.instance.read)
+          (λ f r. no_closed held names.model names.closed k.0 closed f r i accepts.instance)
+          (λ f r. no_initial held names k.0 closed initial f r i a0 accepts.instance accepts.initial)
+          (λ f r. no_changed held names k.0 closed changed f r i a accepts.instance accepts.changed) never,
+    )
 
 initial_break_stops : (held : Held) (names : Names) (before now : Faults) (written : Type 0) → (written → Went held names) → KnownTo held names before now file.Changed → (cause : Cause) → InitialBreaks held names cause → Stops held names before now written Infeasible
 unfolding name_of
@@ -234,8 +238,8 @@ always : {held : Held} {names : Names} {before now : Faults} {output written : T
 always {held} {names} {before} {now} {output} {written} {tells} {out_same} {err_same} {status} ends printed this stops = ⊎_elim
     (λ (done : status ≡ Done). absurd (stops.0 (printed (ends.printed done))))
     (λ (other : status ≢ Done).
-        let refused = ends.refused other in
-        subst (λ (s : Status). (s ≡ this) ⊎ (s ≡ NoMemory)) (sym refused.is) (stops.1 refused.refusal refused.says))
+    let refused = ends.refused other in
+    subst (λ (s : Status). (s ≡ this) ⊎ (s ≡ NoMemory)) (sym refused.is) (stops.1 refused.refusal refused.says))
     (is_done status)
 
 only : {held : Held} {names : Names} {before now : Faults} {output written : Type 0} {tells : List ℕ → Type 0} {out_same err_same : Type 0} {status : Status} → Ends held names before now output written tells out_same err_same status → (this : Status) → this ≢ Done → status ≡ this → CauseOf held names before now written this

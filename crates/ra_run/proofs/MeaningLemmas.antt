@@ -16,7 +16,7 @@ use Rattle.ra_assign.specs.declared.faults.AssignFault.{AssignFault}
 use Rattle.ra_assign.specs.declared.faults.ClosedFault.{ClosedFault}
 use Rattle.ra_assign.specs.Lists.{assign_refusal, IsAssignmentOf}
 use Rattle.ra_assign.specs.ClosedLists.{closed_refusal, IsClosedOf}
-use Rattle.ra_run.specs.Files.{Held, Names, ModelIs, CloseIs, InstanceIs, ListIs, NamedListIs, Accepts}
+use Rattle.ra_run.specs.Files.{Held, Names, ModelIs, CloseIs, InstanceIs, NamedListIs, Accepts}
 use Rattle.ra_run.specs.Refusals.{ModelRefused, ListRefused, ClosedRefused, InitialRefused, ChangedRefused, InitialBreaks, ChangedBreaks}
 use Rattle.ra_run.proofs.RowLemmas.{bare_raw, raw_same}
 use Rattle.ra_run.proofs.BareLemmas.{bare, bare_closed, machines_bare, closed_list_bare, assign_bare, broken_bare}

@@ -115,16 +115,17 @@ map_same f one (x ∷ xs) (y ∷ ys) e =
 pub raw_same : (x y : RawInstance) → lists_of x ≡ lists_of y → bare_raw x ≡ bare_raw y
 unfolding bare_raw
 raw_same x y e = rw (
-    map_same of_resource resource_same x.resources.items y.resources.items (ap (λ (l : Lists). l.resources) e),
-    map_same of_machine machine_same x.machines.items y.machines.items (ap (λ (l : Lists). l.machines.rows) e),
-    ap (λ (l : Lists). l.machines.capacities) e,
-    ap (λ (l : Lists). l.machines.safeties) e,
-    ap (λ (l : Lists). l.machines.move_costs) e,
-    map_same of_service service_same x.services.items y.services.items (ap (λ (l : Lists). l.services.rows) e),
-    ap (λ (l : Lists). l.services.dependencies) e,
-    map_same of_process process_same x.processes.items y.processes.items (ap (λ (l : Lists). l.processes.rows) e),
-    ap (λ (l : Lists). l.processes.requirements) e,
-    map_same of_balance balance_same x.balances.items y.balances.items (ap (λ (l : Lists). l.balances) e),
-    word_same (x.process_weight, x.small_process_weight) (y.process_weight, y.small_process_weight) (ap (λ (l : Lists). l.weights.process) e),
-    word_same (x.service_weight, x.small_service_weight) (y.service_weight, y.small_service_weight) (ap (λ (l : Lists). l.weights.service) e),
-    word_same (x.machine_weight, x.small_machine_weight) (y.machine_weight, y.small_machine_weight) (ap (λ (l : Lists). l.weights.machine) e)) refl
+  map_same of_resource resource_same x.resources.items y.resources.items (ap (λ (l : Lists). l.resources) e),
+  map_same of_machine machine_same x.machines.items y.machines.items (ap (λ (l : Lists). l.machines.rows) e),
+  ap (λ (l : Lists). l.machines.capacities) e,
+  ap (λ (l : Lists). l.machines.safeties) e,
+  ap (λ (l : Lists). l.machines.move_costs) e,
+  map_same of_service service_same x.services.items y.services.items (ap (λ (l : Lists). l.services.rows) e),
+  ap (λ (l : Lists). l.services.dependencies) e,
+  map_same of_process process_same x.processes.items y.processes.items (ap (λ (l : Lists). l.processes.rows) e),
+  ap (λ (l : Lists). l.processes.requirements) e,
+  map_same of_balance balance_same x.balances.items y.balances.items (ap (λ (l : Lists). l.balances) e),
+  word_same (x.process_weight, x.small_process_weight) (y.process_weight, y.small_process_weight) (ap (λ (l : Lists). l.weights.process) e),
+  word_same (x.service_weight, x.small_service_weight) (y.service_weight, y.small_service_weight) (ap (λ (l : Lists). l.weights.service) e),
+  word_same (x.machine_weight, x.small_machine_weight) (y.machine_weight, y.small_machine_weight) (ap (λ (l : Lists). l.weights.machine) e),
+) refl

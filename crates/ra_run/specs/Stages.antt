@@ -1,6 +1,5 @@
 -- What each stage of a job says where it refuses.
-use Rattle.std.specs.Prelude.{◌≡◌, ℕ, List, Bool, Option, Some, IfSome}
-use Rattle.ra_base.specs.Listed.{Listed}
+use Rattle.std.specs.Prelude.{◌≡◌, ℕ, List, Option, Some, IfSome}
 use Rattle.ra_base.specs.declared.costs.Parts.{Parts}
 use Rattle.ra_base.specs.declared.ids.Machine.{Machine}
 use Rattle.ra_io.specs.Faults.{Rose}
@@ -9,14 +8,13 @@ use Rattle.ra_model.specs.Assignments.{IsAssignment}
 use Rattle.ra_model.specs.Broken.{first_broken}
 use Rattle.ra_model.specs.Costs.{parts_of}
 use Rattle.ra_model.specs.Feasible.{Feasible}
-use Rattle.ra_model.specs.Numbers.{with_closed}
 use Rattle.ra_model_read.specs.declared.faults.ModelFault.{ModelFault}
 use Rattle.ra_model_read.specs.declared.faults.ModelFault.TheVariants as reader
 use Rattle.ra_assign.specs.declared.faults.AssignFault.{AssignFault}
 use Rattle.ra_assign.specs.declared.faults.AssignFault.TheVariants as assigner
 use Rattle.ra_assign.specs.declared.faults.ClosedFault.{ClosedFault}
 use Rattle.ra_assign.specs.declared.faults.ClosedFault.TheVariants as closer
-use Rattle.ra_assign.specs.ClosedLists.{IsClosedOf, closed_refusal}
+use Rattle.ra_assign.specs.ClosedLists.{closed_refusal}
 use Rattle.ra_report.specs.FaultTexts.{IsInClosed}
 use Rattle.ra_run.specs.declared.lists.Which.{Which}
 use Rattle.ra_run.specs.declared.lists.Which.TheVariants as which
