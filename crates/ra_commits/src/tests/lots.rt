@@ -21,6 +21,17 @@ fn written(rt: &impl Abort, alloc: Global, words: &[u64], budget: u64) -> Lot
     }
 }
 
+/// One worker with one proposal, which may not raise the cost.
+pub(super) fn lone_proposal(
+    rt: &impl Abort,
+    alloc: Global,
+    words: &[u64; 8],
+) -> Result<Lots, NoMemory> {
+    let mut lots = Vec::new(alloc);
+    lots.push(written(rt, alloc, words, 1))?;
+    Ok(Lots::of(0, Drawing::One, lots))
+}
+
 /// Two workers with one proposal each, which may not raise the cost.
 pub(super) fn single_proposals(
     rt: &impl Abort,
