@@ -7,7 +7,7 @@ use Rattle.ra_crew.proofs.Runs.{all_last, all_whole}
 use Rattle.ra_crew.proofs.crew.Crew.run.Goals as goal
 
 pub run_all-requires-clause-may : goal.run_all-requires-clause-may
-run_all-requires-clause-may g c = λ n k d within. (c.args.self.ready.each k d within).may
+run_all-requires-clause-may g c = λ n outlives k d within. (c.args.self.ready.each k d within).may
 
 pub close-requires-clause-count : goal.close-requires-clause-count
 close-requires-clause-count g c = ap length c.take_passes-passes.ensures ∙ length-map c.run_all.new.workers.items (λ (w : Worker). w.pass) ∙ c.run_all.ensures.one_each
