@@ -2,3 +2,16 @@ pub mod LineLemmas
 pub mod Drawing
 pub mod OneLine
 pub mod Whole
+pub mod TableRows
+pub mod Places
+pub mod TrialNumbers
+pub mod StartFeasible
+pub mod TrialLimits
+pub mod LineNumbers
+pub mod LineBounds
+pub mod TrialBounds
+pub mod Written
+pub mod LineTokens
+pub mod Made
+pub mod TextMeans
+pub mod StartText

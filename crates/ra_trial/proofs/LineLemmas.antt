@@ -105,12 +105,12 @@ unfolding listed
 none_behind f base = sym (append-nil base)
 
 -- lines behind lines
-lines_append : (a b : List (List ℕ)) → lines_text (a ++ b) ≡ lines_text a ++ lines_text b
+pub lines_append : (a b : List (List ℕ)) → lines_text (a ++ b) ≡ lines_text a ++ lines_text b
 unfolding lines_text
 lines_append [] b = refl
 lines_append (x ∷ a) b = ap (λ (t : List ℕ). line_text x ++ t) (lines_append a b) ∙ sym (append_assoc (line_text x) (lines_text a) (lines_text b))
 
-lines_one : (x : List ℕ) → lines_text (x ∷ []) ≡ line_text x
+pub lines_one : (x : List ℕ) → lines_text (x ∷ []) ≡ line_text x
 unfolding lines_text
 lines_one x = append-nil (line_text x)
 

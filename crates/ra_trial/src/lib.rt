@@ -4,6 +4,7 @@
 #![tactic(auto)]
 
 mod groups;
+pub mod laws;
 mod lines;
 mod machines;
 mod numbers;

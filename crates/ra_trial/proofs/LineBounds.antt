@@ -1,0 +1,91 @@
+-- How large the numbers in lines are, and how long their text.
+use Rattle.std.proofs.Common.{◌≡◌, ℕ, zero, suc, ◌+◌, ◌*◌, ◌^◌, ◌<◌, ◌≤◌, List, [], ◌∷◌, ◌++◌, length, ap, arith, length-append}
+use Rattle.std.proofs.lemmas.Fmt.{length-decimal-le}
+use Rattle.std.proofs.lemmas.List.Elements.{All-nil, All-cons, All-append, All-push, All-head, All-tail}
+use Rattle.std.specs.Fmt.{decimal}
+use Rattle.std.specs.List.{All}
+use Rattle.ra_trial.specs.Lines.{listed, more_text, line_text, lines_text}
+use Rattle.ra_trial.proofs.LineLemmas.{length_listed, lines_append, lines_one}
+
+-- a number that a token can have
+abbrev pub IsSmall : ℕ → Type 0
+IsSmall n = n < 2 ^ 32
+
+-- a line of at most c small numbers
+pub record IsShort (c : ℕ) (line : List ℕ) : Type 0 where
+  pub small : All IsSmall line
+  pub short : length line ≤ c
+
+-- lines of small numbers, whose text has at most b bytes
+pub record AreShort (b : ℕ) (lines : List (List ℕ)) : Type 0 where
+  pub small : All (λ line. All IsSmall line) lines
+  pub short : length (lines_text lines) ≤ b
+
+pub listed_all : {X : Type 0} (P : X → Type 0) (n : ℕ) (f : ℕ → X) → ((k : ℕ) → k < n → P (f k)) → All P (listed n f)
+unfolding listed
+listed_all P zero f each = All-nil P
+listed_all P (suc n) f each = All-push P (listed n f) (f n) (listed_all P n f (λ k within. each k (omega arith))) (each n (omega arith))
+
+decimal_short : (n : ℕ) → IsSmall n → length (decimal n) ≤ 10
+decimal_short n small = length-decimal-le 10 n (omega arith) (omega arith) (omega arith)
+
+more_short : (ns : List ℕ) → All IsSmall ns → length (more_text ns) ≤ 11 * length ns + 1
+unfolding more_text
+more_short [] small = omega arith
+more_short (n ∷ ns) small = omega (arith, length-append (decimal n) (more_text ns), decimal_short n (All-head IsSmall n ns small), more_short ns (All-tail IsSmall n ns small))
+
+line_short : (ns : List ℕ) → All IsSmall ns → length (line_text ns) ≤ 11 * length ns + 1
+unfolding line_text
+line_short [] small = omega arith
+line_short (n ∷ ns) small = omega (arith, length-append (decimal n) (more_text ns), decimal_short n (All-head IsSmall n ns small), more_short ns (All-tail IsSmall n ns small))
+
+-- one line, and lines behind lines
+pub one_short : (c : ℕ) (line : List ℕ) → IsShort c line → AreShort (11 * c + 1) (line ∷ [])
+one_short c line h = record {
+  small = All-cons (λ ns. All IsSmall ns) line [] h.small (All-nil (λ ns. All IsSmall ns));
+  short = let e : length (lines_text (line ∷ [])) ≡ length (line_text line) = ap length (lines_one line) in
+      let few : length line ≤ c = h.short in
+      omega (arith, e, line_short line h.small);
+}
+
+pub short_append : (a b c : ℕ) (xs ys : List (List ℕ)) → a + b ≤ c → AreShort a xs → AreShort b ys → AreShort c (xs ++ ys)
+short_append a b c xs ys fits first then = record {
+  small = All-append (λ line. All IsSmall line) xs ys first.small then.small;
+  short = let e : length (lines_text (xs ++ ys)) ≡ length (lines_text xs ++ lines_text ys) = ap length (lines_append xs ys) in
+      let one : length (lines_text xs) ≤ a = first.short in
+      let two : length (lines_text ys) ≤ b = then.short in
+      omega (arith, e, length-append (lines_text xs) (lines_text ys));
+}
+
+-- n lines
+pub listed_short : (n c b : ℕ) (f : ℕ → List ℕ) → 11 * c + 1 ≤ b → ((k : ℕ) → k < n → IsShort c (f k)) → AreShort (n * b) (listed n f)
+unfolding listed lines_text
+listed_short zero c b f enough each = record { small = All-nil (λ line. All IsSmall line); short = omega arith }
+listed_short (suc n) c b f enough each = short_append (n * b) (11 * c + 1) (suc n * b) (listed n f) (f n ∷ []) (omega arith)
+    (listed_short n c b f enough (λ k within. each k (omega arith)))
+    (one_short c (f n) (each n (omega arith)))
+
+-- a count and n lines
+pub group_short : (n c b most : ℕ) (f : ℕ → List ℕ) → 11 * c + 1 ≤ b → 12 + n * b ≤ most → n < 2 ^ 32 → ((k : ℕ) → k < n → IsShort c (f k)) → AreShort most ((n ∷ []) ∷ listed n f)
+group_short n c b most f enough all few each = short_append 12 (n * b) most ((n ∷ []) ∷ []) (listed n f) all
+    (one_short 1 (n ∷ []) (record { small = All-cons IsSmall n [] few (All-nil IsSmall); short = omega arith }))
+    (listed_short n c b f enough each)
+
+-- n numbers
+pub numbers_short : (n : ℕ) (f : ℕ → ℕ) → ((k : ℕ) → k < n → IsSmall (f k)) → IsShort n (listed n f)
+numbers_short n f each = record { small = listed_all IsSmall n f each; short = omega (arith, length_listed n f) }
+
+pub number_short : (c d n : ℕ) (ns : List ℕ) → c + 1 ≤ d → IsSmall n → IsShort c ns → IsShort d (n ∷ ns)
+number_short c d n ns enough small h = record {
+  small = All-cons IsSmall n ns small h.small;
+  short = let few : length ns ≤ c = h.short in omega arith;
+}
+
+pub none_short : IsShort 0 []
+none_short = record { small = All-nil IsSmall; short = omega arith }
+
+pub numbers_append : (a b c : ℕ) (xs ys : List ℕ) → a + b ≤ c → IsShort a xs → IsShort b ys → IsShort c (xs ++ ys)
+numbers_append a b c xs ys enough first then = record {
+  small = All-append IsSmall xs ys first.small then.small;
+  short = let one : length xs ≤ a = first.short in let two : length ys ≤ b = then.short in omega (arith, length-append xs ys);
+}
