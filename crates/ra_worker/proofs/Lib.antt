@@ -6,3 +6,4 @@ pub mod TurnLemmas
 pub mod PlayLemmas
 pub mod RoundLemmas
 pub mod AllLemmas
+pub mod PlayedLemmas

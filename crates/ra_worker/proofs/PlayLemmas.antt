@@ -64,7 +64,7 @@ all_set i a0 l h w rs s at there here = record {
 }
 
 -- the place of a replica in the core
-place_there : (h : List Entry) (rs : List Replica) (w : ℕ) (r : Replica) → w < length rs → get_or rs w r ≡ r → place_of (core_of h rs) w ≡ r.place
+pub place_there : (h : List Entry) (rs : List Replica) (w : ℕ) (r : Replica) → w < length rs → get_or rs w r ≡ r → place_of (core_of h rs) w ≡ r.place
 unfolding place_of core_of
 place_there h rs w r within is = get_or-map (λ (x : Replica). x.place) rs w r 0 within ∙ ap (λ (x : Replica). x.place) is
 
@@ -86,7 +86,7 @@ unfolding step core_of
 step_commit i a0 l h g rs w v r reply within is own g_is reply_is = stepped_commit i a0 l (core_of h rs) (core_of g rs) w r.place reply (place_there h rs w r within is) (g_is ∙ ap (λ k. (turn i a0 l h k r.place).journal) own) (reply_is ∙ ap (λ k. (turn i a0 l h k r.place).reply) own) refl
 
 -- one event more of a list
-core_suc : (i : Tables) (a0 : List Machine) (l : Lots) (c : Core) (events : List CoreEvent) (n : ℕ) → core_after i a0 l c events (suc n) ≡ (step i a0 l (core_after i a0 l c events n) (event_at events n)).after
+pub core_suc : (i : Tables) (a0 : List Machine) (l : Lots) (c : Core) (events : List CoreEvent) (n : ℕ) → core_after i a0 l c events (suc n) ≡ (step i a0 l (core_after i a0 l c events n) (event_at events n)).after
 unfolding core_after
 core_suc i a0 l c events n = refl
 

@@ -2,8 +2,8 @@ ghost use Rattle.std.specs.Prelude.{◌≡◌, ℕ, ◌+◌, ◌<◌, ◌≤◌,
 ghost use Rattle.ra_journal.specs.Entries.{worker_count, budget};
 ghost use Rattle.ra_journal.specs.Legal.{Whole};
 ghost use Rattle.ra_worker.specs.Core.{turn};
-ghost use Rattle.ra_worker.specs.Replicas.{IsAt, AreAt};
-ghost use Rattle.ra_worker.specs.Rounds.{HaveMade};
+ghost use Rattle.ra_worker.specs.Replicas.{IsAt, AreAt, core_of};
+ghost use Rattle.ra_worker.specs.Rounds.{HaveMade, IsPlayed};
 
 use crate::replica::Replica;
 use crate::turns::{catch_up, hand_in};
@@ -13,7 +13,7 @@ use std::marker::Brand;
 use std::sync::ledger::Blank;
 
 /// Plays the workers in turn until the journal is whole: each catches up with the journal and hands in one proposal in
-/// each round.
+/// each round. The entries that were there stay, since what it does are turns of the workers.
 pub fn round_robin<'a>(
     journal: &mut Journal<'a>,
     replicas: &mut Vec<Replica<'a>>,
@@ -22,6 +22,9 @@ pub fn round_robin<'a>(
     requires at { AreAt journal.old.inst.now.tables journal.old.a0.now.items journal.old.lots.now
         journal.old.book.entries.items replicas.old.items }
     ensures whole { Whole journal.old.lots.now journal.new.book.entries.items }
+    ensures played { IsPlayed journal.old.inst.now.tables journal.old.a0.now.items
+        journal.old.lots.now (core_of journal.old.book.entries.items replicas.old.items)
+        (core_of journal.new.book.entries.items replicas.new.items) }
     ensures at { AreAt journal.old.inst.now.tables journal.old.a0.now.items journal.old.lots.now
         journal.new.book.entries.items replicas.new.items }
     ensures instance { journal.new.inst.now ≡ journal.old.inst.now }
@@ -30,8 +33,8 @@ pub fn round_robin<'a>(
     ensures lots { journal.new.lots.now ≡ journal.old.lots.now }
 {
     let rounds = longest(journal.lots());
-    for round in 0..rounds {
-        play_round(journal, replicas, batch, round);
+    for _round in 0..rounds {
+        play_round(journal, replicas, batch);
     }
 }
 
@@ -54,19 +57,16 @@ fn larger(a: u64, b: u64) -> u64
     if a < b { b } else { a }
 }
 
-/// Plays each worker once, each of which has handed in as many proposals as there were rounds, or all of its own.
-fn play_round<'a>(
-    journal: &mut Journal<'a>,
-    replicas: &mut Vec<Replica<'a>>,
-    batch: &mut Batch,
-    _round: u64,
-)
+/// Plays each worker once. Each makes one proposal more, unless it has made all of its own.
+fn play_round<'a>(journal: &mut Journal<'a>, replicas: &mut Vec<Replica<'a>>, batch: &mut Batch)
     requires at { AreAt journal.old.inst.now.tables journal.old.a0.now.items journal.old.lots.now
         journal.old.book.entries.items replicas.old.items }
-    requires made { HaveMade journal.old.lots.now journal.old.book.entries.items
-        (worker_count journal.old.lots.now) _round }
-    ensures made { HaveMade journal.old.lots.now journal.new.book.entries.items
-        (worker_count journal.old.lots.now) (_round + 1) }
+    ensures made { (r : ℕ) → HaveMade journal.old.lots.now journal.old.book.entries.items
+        (worker_count journal.old.lots.now) r → HaveMade journal.old.lots.now
+        journal.new.book.entries.items (worker_count journal.old.lots.now) (r + 1) }
+    ensures played { IsPlayed journal.old.inst.now.tables journal.old.a0.now.items
+        journal.old.lots.now (core_of journal.old.book.entries.items replicas.old.items)
+        (core_of journal.new.book.entries.items replicas.new.items) }
     ensures at { AreAt journal.old.inst.now.tables journal.old.a0.now.items journal.old.lots.now
         journal.new.book.entries.items replicas.new.items }
     ensures instance { journal.new.inst.now ≡ journal.old.inst.now }
@@ -92,6 +92,9 @@ fn take_turn<'a>(
     ensures journal { journal.new.book.entries.items ≡ (turn journal.old.inst.now.tables
         journal.old.a0.now.items journal.old.lots.now journal.old.book.entries.items w
         (length journal.old.book.entries.items)).journal }
+    ensures played { IsPlayed journal.old.inst.now.tables journal.old.a0.now.items
+        journal.old.lots.now (core_of journal.old.book.entries.items replicas.old.items)
+        (core_of journal.new.book.entries.items replicas.new.items) }
     ensures at { AreAt journal.old.inst.now.tables journal.old.a0.now.items journal.old.lots.now
         journal.new.book.entries.items replicas.new.items }
     ensures instance { journal.new.inst.now ≡ journal.old.inst.now }

@@ -1,0 +1,39 @@
+ghost use Rattle.std.specs.Prelude.{◌≡◌};
+ghost use Rattle.ra_model.specs.Costs.{parts_of};
+ghost use Rattle.ra_prepared.specs.Ready.{IsOver};
+
+use ra_base::{Assignment, Parts};
+use ra_journal::Journal;
+use ra_world::World;
+
+/// A run that has ended: its journal, and the first of its states of least cost.
+#[derive(Drop)]
+pub struct Solved<'a> {
+    pub(crate) journal: Journal<'a>,
+    pub(crate) world: World<'a>,
+    pub ghost same: { IsOver journal world },
+}
+
+impl<'a> Solved<'a> {
+    /// The journal, with one entry for each proposal.
+    pub fn journal(&self) -> &Journal<'a>
+        ensures { result.now ≡ self.now.journal }
+    {
+        &self.journal
+    }
+
+    /// The best state.
+    pub fn best(&self) -> &Assignment
+        ensures { result.now ≡ self.now.world.kept.assignment }
+    {
+        self.world.assignment()
+    }
+
+    /// The parts of its cost.
+    pub fn parts(&self) -> Parts
+        ensures { result ≡ parts_of self.now.journal.inst.now.tables self.now.journal.a0.now.items
+            self.now.world.kept.assignment.items }
+    {
+        self.world.parts()
+    }
+}
