@@ -2,7 +2,8 @@
 """Compares the program with a second implementation of docs/PROBLEM.md and docs/FORMATS.md, which stands in this file.
 
 Makes small random instances and lists, runs `bound`, `check` and `solve` on them, and compares the status and every
-byte of both outputs. It stops at the first difference, says on what it was, and leaves the files there.
+byte of both outputs. The order of the entries of several workers is taken from the report, and judged. It stops at the
+first difference, says on what it was, and leaves the files there.
 
 usage: compare.py PROGRAM FIRST_SEED INSTANCES
 """
@@ -234,28 +235,64 @@ def judge(inst, start, at, move, allowed):
     return True, cost
 
 
-def report(inst, start, slack, drawing, proposals):
-    """The report of one worker's run, where `proposals` has eight words for each."""
-    at, entries = start, []
-    best_cost, best_at, best = inst.parts(start, start)[0], 0, start
-    for k, words in enumerate(proposals):
-        allowed = slack * (len(proposals) - 1 - k) // len(proposals)
-        kind, moves = options(inst, at, words, drawing)
-        verdicts = [judge(inst, start, at, move, allowed) for move in moves]
-        done = [i for i, (is_done, _) in enumerate(verdicts) if is_done]
-        plan = min(done, key=lambda i: (verdicts[i][1], i), default=0)
-        is_done, told = verdicts[plan]
-        steps = joined(f"{p}:{left}>{entered}" for p, left, entered in moves[plan])
-        verdict = f"{'done' if is_done else 'refused'} {told}"
-        entries.append(f"{k} 0 {k} {k} {kind} {steps} {verdict}\n")
-        if is_done:
-            at = after(at, moves[plan])
-            if told < best_cost:
-                best_cost, best_at, best = told, k + 1, at
-    head = cost_lines(inst.parts(start, best))
+def guards(inst, move):
+    """The write guards of a move, and all its guards."""
+    services = {inst.services[process] for process, _, _ in move}
+    needed = {need for service in services for need in inst.dependencies[service]}
+    needing = {s for s, needs in enumerate(inst.dependencies) if services & set(needs)}
+    machines = {("machine", m) for _, left, entered in move for m in (left, entered)}
+    writes = machines | {("service", s) for s in services}
+    return writes, writes | {("service", s) for s in needed | needing}
+
+
+def planned(inst, start, at, words, drawing, allowed):
+    """The kind of a proposal and its move, planned at a list."""
+    kind, moves = options(inst, at, words, drawing)
+    verdicts = [judge(inst, start, at, move, allowed) for move in moves]
+    done = [i for i, (is_done, _) in enumerate(verdicts) if is_done]
+    return kind, moves[min(done, key=lambda i: (verdicts[i][1], i), default=0)]
+
+
+def journal(inst, start, slack, drawing, lots, order):
+    """The states and the lines of the journal whose entries are of these workers, and were planned at these places."""
+    states, told, touched = [start], [], []
+    made, behind = [0] * len(lots), [0] * len(lots)
+    for place, (worker, q) in enumerate(order):
+        k, budget = made[worker], len(lots[worker])
+        if not (k < budget and behind[worker] <= q <= place):
+            raise ValueError(f"no worker can have handed in entry {place}")
+        allowed = slack * (budget - 1 - k) // budget
+        kind, move = planned(inst, start, states[q], lots[worker][k], drawing, allowed)
+        writes, every = guards(inst, move)
+        if any(every & newer for newer in touched[q:]):
+            raise ValueError(f"a guard of entry {place} was touched after it was planned")
+        is_done, verdict = judge(inst, start, states[place], move, allowed)
+        steps = joined(f"{p}:{left}>{entered}" for p, left, entered in move)
+        verdict = f"{'done' if is_done else 'refused'} {verdict}"
+        told.append(f"{place} {worker} {k} {q} {kind} {steps} {verdict}\n")
+        states.append(after(states[place], move) if is_done else states[place])
+        touched.append(writes if is_done else set())
+        made[worker], behind[worker] = k + 1, place + 1
+    if made != [len(lot) for lot in lots]:
+        raise ValueError("not all proposals have an entry")
+    return states, told
+
+
+def order_of(printed):
+    """The worker of each entry that a report tells, and the place where it was planned."""
+    entries = [line.split() for line in printed.splitlines()[10:]]
+    return [(int(entry[1]), int(entry[3])) for entry in entries]
+
+
+def report(inst, start, slack, drawing, lots, order):
+    """The report of a run in this order, where each lot has eight words for each of its proposals."""
+    states, told = journal(inst, start, slack, drawing, lots, order)
+    costs = [inst.parts(start, at)[0] for at in states]
+    best_at = costs.index(min(costs))
+    head = cost_lines(inst.parts(start, states[best_at]))
     head += f"bound {inst.bound()[0]}\nbest_at {best_at}\n"
-    head += f"assignment {joined(best)}\ndraws {drawing}\n"
-    return head + "".join(entries)
+    head += f"assignment {joined(states[best_at])}\ndraws {drawing}\n"
+    return head + "".join(told)
 
 
 def random_instance(chance):
@@ -315,7 +352,7 @@ def random_lot(chance):
 
 
 def wanted(inst, start, other, done):
-    """The status and both outputs, where `done` gives the text of a job that is done."""
+    """The status and both outputs, where `done` gives the output of a job that is done."""
     for name, machines in [("i", start), ("n", other)]:
         cause = inst.broken(start, machines)
         if cause:
@@ -323,9 +360,14 @@ def wanted(inst, start, other, done):
     return 0, done(), ""
 
 
-def compare(program, words, want, kinds):
+def compare(program, words, wanted_of, kinds):
+    """Runs the program; `wanted_of` gives the status and both outputs, from the output that came."""
     ran = subprocess.run([program] + words, capture_output=True, text=True, check=False)
     got = ran.returncode, ran.stdout, ran.stderr
+    try:
+        want = wanted_of(ran.stdout)
+    except (IndexError, ValueError) as fault:
+        want = fault
     if got != want:
         sys.exit(f"{joined(words)} in {os.getcwd()}\n  wanted {want}\n  got    {got}")
     for line in (want[1] + want[2]).splitlines():
@@ -346,7 +388,7 @@ def compare_instance(program, chance, kinds):
     write("m", inst.text())
     write("i", joined(start))
     bound = lines(["bound", "load", "balance"], inst.bound())
-    compare(program, ["bound", "m"], (0, bound, ""), kinds)
+    compare(program, ["bound", "m"], lambda _: (0, bound, ""), kinds)
     closing = []
     if chance.random() < 0.4:
         closed = [chance.randrange(len(inst.closed)) for _ in range(chance.randint(0, 3))]
@@ -357,16 +399,22 @@ def compare_instance(program, chance, kinds):
         new = [chance.choice([m, m, chance.randrange(len(inst.closed))]) for m in start]
         write("n", joined(new, "\n"))
         want = wanted(inst, start, new, lambda: cost_lines(inst.parts(start, new)))
-        compare(program, ["check", "m", "i", "n"] + closing, want, kinds)
+        compare(program, ["check", "m", "i", "n"] + closing, lambda _: want, kinds)
     for _ in range(2):
         slack, drawing = chance.choice([0, 5, 50, 1000, LARGEST_WORD]), chance.choice([1, 2])
-        lot, proposals = random_lot(chance)
+        lots = [random_lot(chance) for _ in range(chance.choice([1, 1, 2, 3, 16]))]
+        proposals = [listed for _, listed in lots]
         words = ["solve", "m", "i"]
         words += [] if slack == 0 else ["--slack", str(slack)]
         words += closing
         words += [] if drawing == 2 else ["--draws", str(drawing)]
-        want = wanted(inst, start, start, lambda: report(inst, start, slack, drawing, proposals))
-        compare(program, words + [lot], want, kinds)
+
+        def run(printed):
+            order = order_of(printed)
+            return report(inst, start, slack, drawing, proposals, order)
+
+        words += [lot for lot, _ in lots]
+        compare(program, words, lambda out: wanted(inst, start, start, lambda: run(out)), kinds)
 
 
 def main():

@@ -63,9 +63,14 @@ solved_more held names l way more step p = record {
   text = step _ p.text;
   report = p.report;
   told = p.told;
+  only = p.only;
   legal = p.legal;
   whole = p.whole;
+  alone = p.alone;
   sound = p.sound;
+  best_at = p.best_at;
+  best = p.best;
+  lines = p.lines;
   least = p.least;
 }
 

@@ -1,27 +1,29 @@
--- What is printed of a run of one worker meets the headline.
-use Rattle.std.proofs.Common.{◌≡◌, ℕ, List, Option, IsSome, Result, Ok, Err, OnOk, IfErr, refl, sym, ◌∙◌}
+-- What is printed of a run meets the headline.
+use Rattle.std.proofs.Common.{◌≡◌, ℕ, suc, List, length, Option, Some, IsSome, Result, Ok, Err, OnOk, IfErr, refl, sym, ◌∙◌, arith}
+use Rattle.ra_base.specs.Searches.{least_place}
 use Rattle.ra_base.specs.declared.ids.Machine.{Machine}
+use Rattle.ra_base.proofs.Least.{least_means, least_there}
 use Rattle.ra_bounds.specs.Bounds.{bound_of}
 use Rattle.ra_bounds.proofs.CostLemmas.{none_costs_less}
 use Rattle.ra_draws.specs.declared.budgets.Lots.{Lots}
-use Rattle.ra_journal.specs.Entries.{worker_count}
-use Rattle.ra_journal.specs.Laws.{IsSoloRun}
-use Rattle.ra_journal.specs.Solo.{solo}
+use Rattle.ra_journal.specs.declared.entries.Entry.{Entry}
+use Rattle.ra_journal.specs.Best.{best_place, best_of}
+use Rattle.ra_journal.specs.States.{cost_at}
 use Rattle.ra_journal.proofs.SoloLemmas.{one_lot}
 use Rattle.ra_journal.proofs.SoundLemmas.{sound}
 use Rattle.ra_model.specs.declared.raw.Tables.{Tables}
 use Rattle.ra_model.specs.Limits.{WellFormed}
-use Rattle.ra_model.specs.Costs.{parts_of}
 use Rattle.ra_model.specs.Feasible.{Feasible}
 use Rattle.ra_report.specs.JournalTexts.{report_text, best_state, text_of}
 use Rattle.ra_report.proofs.HeadLines.{report_tells_its_journal}
-use Rattle.ra_solo.specs.declared.run.Run.{Run}
-use Rattle.ra_solo.specs.Runs.{IsRun}
+use Rattle.ra_report.proofs.JournalTexts.{one_journal_of_bytes}
+use Rattle.ra_prepared.specs.declared.solved.Solved.{Solved as Run}
+use Rattle.ra_prepared.specs.Runs.{IsRun}
 use Rattle.ra_run.specs.declared.refusals.Refusal.{Refusal}
 use Rattle.ra_run.specs.declared.refusals.Refusal.TheVariants.{Read, Model, Closed, Initial, Changed, InitialBroken, ChangedBroken, Write, Memory}
 use Rattle.ra_run.specs.Files.{Held, Faults, Names, InstanceIs, solve_names}
 use Rattle.ra_run.specs.Refusals.{Says}
-use Rattle.ra_run.specs.Outputs.{Solved}
+use Rattle.ra_run.specs.Outputs.{IsFirstLeast, Solved}
 use Rattle.ra_run.specs.Solving.{IsStart, IsReported, RunSays}
 use Rattle.ra_run.specs.Stages.{IsList, StartSays}
 
@@ -32,26 +34,41 @@ starts held later model closed initial i a0 same instance list = record {
   fits = list.1;
 }
 
--- the report of a run is that of the journal of the one worker
+-- the report of a run is that of its journal
 pub run_told : (i : Tables) (a0 : List Machine) (l : Lots) (run : Run) (way : List ℕ → Type 0) → IsRun i a0 l run → Feasible i a0 a0 → way (text_of run.journal) → IsReported i a0 l way
 unfolding text_of
 run_told i a0 l run way is start text = record {
   start = start;
-  text = rw (is.instance, is.initial, is.lots, is.entries) at text;
+  journal = run.journal.book.entries.items;
+  legal = is.legal;
+  whole = is.whole;
+  text = rw (is.instance, is.initial, is.lots) at text;
 }
 
 -- what the report asks for is what is known of a run
-pub best_told : (i : Tables) (a0 : List Machine) (l : Lots) (run : Run) → IsRun i a0 l run → run.best.items ≡ best_state run.journal
+pub best_told : (i : Tables) (a0 : List Machine) (l : Lots) (run : Run) → IsRun i a0 l run → run.world.kept.assignment.items ≡ best_state run.journal
 unfolding best_state
 best_told i a0 l run is = is.best ∙ rw (sym is.instance, sym is.initial) refl
 
-pub parts_told : (i : Tables) (a0 : List Machine) (l : Lots) (run : Run) → IsRun i a0 l run → run.parts ≡ parts_of run.journal.inst.now.tables run.journal.a0.now.items run.best.items
-parts_told i a0 l run is = is.parts ∙ rw (sym is.instance, sym is.initial) refl
+-- the best place of a journal is the first of least objective
+first_least : (i : Tables) (a0 : List Machine) (h : List Entry) → IsFirstLeast i a0 h (best_of i a0 h)
+unfolding best_of best_place
+first_least i a0 h =
+    let f : ℕ → Option ℕ = λ j. Some (cost_at i a0 h j) in
+    let n = suc (length h) in
+    let there = least_there n 0 (cost_at i a0 h 0) f (omega arith) refl in
+    let is = least_means n there.0 f there.1 in
+    let cost : cost_at i a0 h (least_place n f) ≡ there.0 = (let e = is.answer in cc) in
+    record {
+      within = omega (arith, is.below);
+      least = λ k within. omega (arith, cost, is.smallest k (cost_at i a0 h k) (omega arith) refl);
+      first = λ k before. omega (arith, cost, is.earliest k (cost_at i a0 h k) before refl);
+    }
 
-pub solved : (held : Held) (names : Names) (i : Tables) (a0 : List Machine) (l : Lots) (way : List ℕ → Type 0) → WellFormed i → worker_count l ≡ 1 → IsStart held names i a0 → IsReported i a0 l way → Solved held names l way
-solved held names i a0 l way limits one start told =
-    let h = solo i a0 l in
-    let whole : IsSoloRun i a0 l h = (one_lot i a0 l one).stands in
+pub solved : (held : Held) (names : Names) (i : Tables) (a0 : List Machine) (l : Lots) (way : List ℕ → Type 0) → WellFormed i → IsStart held names i a0 → IsReported i a0 l way → Solved held names l way
+unfolding report_text
+solved held names i a0 l way limits start told =
+    let h = told.journal in
     record {
       tables = i;
       a0 = a0;
@@ -62,23 +79,28 @@ solved held names i a0 l way limits one start told =
       text = told.text;
       report = refl;
       told = report_tells_its_journal i a0 l h;
-      legal = whole.legal;
-      whole = whole.whole;
-      sound = λ j within. sound i a0 l h limits start.fits told.start whole.legal j within;
+      only = λ other tells. one_journal_of_bytes (report_text i a0 l h) other h tells (report_tells_its_journal i a0 l h);
+      legal = told.legal;
+      whole = told.whole;
+      alone = λ one. (one_lot i a0 l one).no_other h (record { legal = told.legal; whole = told.whole });
+      sound = λ j within. sound i a0 l h limits start.fits told.start told.legal j within;
+      best_at = best_of i a0 h;
+      best = first_least i a0 h;
+      lines = refl;
       least = λ a fits feasible. (none_costs_less i a0 a limits fits feasible).total;
     }
 
 -- what a refusal of a run says of the files
-pub says_run : (held : Held) (names : Names) (i : Tables) (a0 : List Machine) (l : Lots) (first now : Faults) (way : List ℕ → Type 0) → IsSome names.initial → WellFormed i → worker_count l ≡ 1 → IsStart held names i a0 → (refusal : Refusal) → RunSays i a0 (IsReported i a0 l way) refusal → Says held names first now (Solved held names l way) refusal
-says_run held names i a0 l first now way has_initial limits one start (Read file) says = absurd says
-says_run held names i a0 l first now way has_initial limits one start (Model fault) says = absurd says
-says_run held names i a0 l first now way has_initial limits one start (Closed fault) says = absurd says
-says_run held names i a0 l first now way has_initial limits one start (Initial fault) says = absurd says
-says_run held names i a0 l first now way has_initial limits one start (Changed fault) says = absurd says
-says_run held names i a0 l first now way has_initial limits one start (InitialBroken cause) says = record { tables = i; a0 = a0; a = a0; named = has_initial; accepts = start.accepts; broken = says }
-says_run held names i a0 l first now way has_initial limits one start (ChangedBroken cause) says = absurd says
-says_run held names i a0 l first now way has_initial limits one start Write says = solved held names i a0 l way limits one start says
-says_run held names i a0 l first now way has_initial limits one start Memory says = tt
+pub says_run : (held : Held) (names : Names) (i : Tables) (a0 : List Machine) (l : Lots) (first now : Faults) (way : List ℕ → Type 0) → IsSome names.initial → WellFormed i → IsStart held names i a0 → (refusal : Refusal) → RunSays i a0 (IsReported i a0 l way) refusal → Says held names first now (Solved held names l way) refusal
+says_run held names i a0 l first now way has_initial limits start (Read file) says = absurd says
+says_run held names i a0 l first now way has_initial limits start (Model fault) says = absurd says
+says_run held names i a0 l first now way has_initial limits start (Closed fault) says = absurd says
+says_run held names i a0 l first now way has_initial limits start (Initial fault) says = absurd says
+says_run held names i a0 l first now way has_initial limits start (Changed fault) says = absurd says
+says_run held names i a0 l first now way has_initial limits start (InitialBroken cause) says = record { tables = i; a0 = a0; a = a0; named = has_initial; accepts = start.accepts; broken = says }
+says_run held names i a0 l first now way has_initial limits start (ChangedBroken cause) says = absurd says
+says_run held names i a0 l first now way has_initial limits start Write says = solved held names i a0 l way limits start says
+says_run held names i a0 l first now way has_initial limits start Memory says = tt
 
 -- a refusal of the start is one of the run, before anything was written
 pub says_early : (i : Tables) (a0 : List Machine) (written : Type 0) (refusal : Refusal) → StartSays i a0 refusal → RunSays i a0 written refusal

@@ -5,7 +5,6 @@ pub mod Files
 pub mod Lines
 pub mod Outputs
 pub mod Refusals
-pub mod Served
 pub mod Solving
 pub mod Stages
 pub mod Statuses

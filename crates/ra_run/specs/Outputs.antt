@@ -1,5 +1,5 @@
 -- What a job that is done has printed. A way says where a text went: to the output, whole or in part.
-use Rattle.std.specs.Prelude.{◌≡◌, ℕ, ◌≤◌, List, length}
+use Rattle.std.specs.Prelude.{◌≡◌, ℕ, ◌<◌, ◌≤◌, List, length}
 use Rattle.ra_base.specs.declared.ids.Machine.{Machine}
 use Rattle.ra_model.specs.declared.raw.Tables.{Tables}
 use Rattle.ra_model.specs.Assignments.{IsAssignment}
@@ -8,9 +8,12 @@ use Rattle.ra_model.specs.Feasible.{Feasible}
 use Rattle.ra_bounds.specs.Bounds.{bound_of}
 use Rattle.ra_draws.specs.declared.budgets.Lots.{Lots}
 use Rattle.ra_journal.specs.declared.entries.Entry.{Entry}
+use Rattle.ra_journal.specs.Entries.{worker_count}
 use Rattle.ra_journal.specs.Laws.{IsSound}
 use Rattle.ra_journal.specs.Legal.{Legal, Whole}
-use Rattle.ra_report.specs.JournalTexts.{bound_text, report_text, IsJournalOf}
+use Rattle.ra_journal.specs.Solo.{solo}
+use Rattle.ra_journal.specs.States.{state, cost_at}
+use Rattle.ra_report.specs.JournalTexts.{bound_text, report_lines, report_text, IsJournalOf}
 use Rattle.ra_report.specs.Texts.{parts_text}
 use Rattle.ra_run.specs.Files.{Held, Names, ModelIs, Accepts, Passes}
 
@@ -28,6 +31,12 @@ pub record BoundPrinted (held : Held) (names : Names) (way : List ℕ → Type 0
   pub read : ModelIs held names.model tables
   pub text : way (bound_text (bound_of tables))
 
+-- the state at place j of a journal is the first of least objective: no state costs less, and each earlier one costs more
+pub record IsFirstLeast (i : Tables) (a0 : List Machine) (h : List Entry) (j : ℕ) : Type 0 where
+  pub within : j ≤ length h
+  pub least : (n : ℕ) → n ≤ length h → cost_at i a0 h j ≤ cost_at i a0 h n
+  pub first : (n : ℕ) → n < j → cost_at i a0 h j < cost_at i a0 h n
+
 -- `solve`, the headline: the printed journal is one legal history in which every proposal of every worker stands exactly
 -- once; every state in it meets all constraints, and its kept cost is the challenge's objective computed afresh; the
 -- printed assignment is the first of least cost among those states, its parts are exact, and no feasible assignment
@@ -40,14 +49,22 @@ pub record Solved (held : Held) (names : Names) (l : Lots) (way : List ℕ → T
   -- the files mean an instance and an initial assignment, which is feasible
   pub accepts : Accepts held names tables a0 a0
   pub start : Feasible tables a0 a0
-  -- these bytes went this way: they are the report of the journal, which is the one that they tell, and it is legal and
-  -- whole
+  -- these bytes went this way: they are the report of the journal, which is the only one that they tell, and it is legal
+  -- and whole
   pub text : way bytes
   pub report : bytes ≡ report_text tables a0 l journal
   pub told : IsJournalOf bytes journal
+  pub only : (other : List Entry) → IsJournalOf bytes other → other ≡ journal
   pub legal : Legal tables a0 l journal
   pub whole : Whole l journal
+  -- with one lot it is the run of one worker alone
+  pub alone : worker_count l ≡ 1 → journal ≡ solo tables a0 l
   -- every state is a feasible assignment, and the kept cost there is its objective
   pub sound : (j : ℕ) → j ≤ length journal → IsSound tables a0 journal j
+  -- the first of least cost among those states is at this place; the lines tell its parts, the bound's total, the place,
+  -- the state and the drawing, and then the journal
+  pub best_at : ℕ
+  pub best : IsFirstLeast tables a0 journal best_at
+  pub lines : bytes ≡ report_lines (parts_of tables a0 (state a0 journal best_at)) (bound_of tables).total best_at (state a0 journal best_at) l.drawing journal
   -- no feasible assignment costs less than the bound
   pub least : (a : List Machine) → IsAssignment tables a → Feasible tables a0 a → (bound_of tables).total ≤ objective tables a0 a

@@ -6,7 +6,8 @@ use Rattle.ra_model.specs.declared.raw.Tables.{Tables}
 use Rattle.ra_model.specs.Assignments.{IsAssignment}
 use Rattle.ra_model.specs.Feasible.{Feasible}
 use Rattle.ra_model.specs.Broken.{first_broken}
-use Rattle.ra_journal.specs.Solo.{solo}
+use Rattle.ra_journal.specs.declared.entries.Entry.{Entry}
+use Rattle.ra_journal.specs.Legal.{Legal, Whole}
 use Rattle.ra_report.specs.JournalTexts.{report_text}
 use Rattle.ra_run.specs.declared.refusals.Refusal.{Refusal}
 use Rattle.ra_run.specs.declared.refusals.Refusal.TheVariants.{InitialBroken, Write, Memory}
@@ -17,10 +18,13 @@ pub record IsStart (held : Held) (names : Names) (i : Tables) (a0 : List Machine
   pub accepts : Accepts held names i a0 a0
   pub fits : IsAssignment i a0
 
--- the initial list is feasible, and the report of the run of the one worker from it went this way
+-- the initial list is feasible, and the report of a legal whole journal from it went this way
 pub record IsReported (i : Tables) (a0 : List Machine) (l : Lots) (way : List ℕ → Type 0) : Type 0 where
   pub start : Feasible i a0 a0
-  pub text : way (report_text i a0 l (solo i a0 l))
+  pub journal : List Entry
+  pub legal : Legal i a0 l journal
+  pub whole : Whole l journal
+  pub text : way (report_text i a0 l journal)
 
 -- what a refusal of a run says, where a part of its report was written
 abbrev pub RunSays : Tables → List Machine → Type 0 → Refusal → Type 0

@@ -10,7 +10,6 @@ ghost use Rattle.ra_words.specs.Words.{texts};
 ghost use Rattle.ra_run.specs.Commands.{names_in, OutputOf};
 ghost use Rattle.ra_run.specs.Complete.{AreValid, NoFault};
 ghost use Rattle.ra_run.specs.Ends.{Ends};
-ghost use Rattle.ra_run.specs.Served.{IsServed};
 
 use crate::bound::bound_run;
 use crate::check::check_run;
@@ -25,8 +24,8 @@ use std::sync::Wait;
 use std::thread::Threads;
 
 /// Does the job of the command words, which leave out the program's name: `check`, `bound`, or
-/// `solve` with one lot. All other words are a usage fault. On `solve` that is done the output is
-/// the report of one legal journal: see `Solved`.
+/// `solve` with 1 to 16 lots. All other words are a usage fault. On `solve` that is done the output
+/// is the report of one legal journal: see `Solved`.
 pub fn run<R: Threads + Wait + Sync, F: Files, O: Sink, E: Sink, G: Gate>(
     rt: &R,
     alloc: Global,
@@ -72,7 +71,6 @@ fn do_job<R: Threads + Wait + Sync, F: Files, O: Sink, E: Sink, G: Gate>(
     err: &mut E,
     gate: &G,
 ) -> Status
-    requires { IsServed (said job.now) }
     ensures ends { Ends (F.held files.old) (names_in (said job.now)) (F.faults files.old)
         (F.faults files.new)
         (OutputOf (F.held files.old) (said job.now) (Appends (O.taken out.old) (O.taken out.new)))

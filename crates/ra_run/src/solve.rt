@@ -3,10 +3,8 @@ ghost use Rattle.std.specs.Io.KnownBytes.{Appends};
 ghost use Rattle.std.specs.Option.{option_copied};
 ghost use Rattle.ra_io.specs.Faults.{Rose};
 ghost use Rattle.ra_check.specs.Made.{IsMadeFor};
-ghost use Rattle.ra_journal.specs.Entries.{worker_count};
 ghost use Rattle.ra_model.specs.Assignments.{IsAssignment};
 ghost use Rattle.ra_model.specs.Broken.{first_broken};
-ghost use Rattle.ra_model.specs.Costs.{parts_of};
 ghost use Rattle.ra_model.specs.Feasible.{Feasible};
 ghost use Rattle.ra_topology.specs.Fits.{IsTopologyOf};
 ghost use Rattle.ra_report.specs.JournalTexts.{best_state, text_of};
@@ -30,19 +28,19 @@ use ra_check::{Scratch, parts};
 use ra_draws::Lots;
 use ra_io::{Files, Gate, Sink};
 use ra_model::Instance;
+use ra_prepared::{Prepared, Solved as Run};
 use ra_report::{WriteFault, write_report};
-use ra_solo::{Run, run_alone};
 use ra_topology::Topology;
 use std::alloc::Global;
 use std::marker::Sync;
 use std::sync::Wait;
 use std::thread::Threads;
 
-/// Improves the list `initial` of a model by the proposals of a lot: prints a report of the
-/// journal, or puts one line that says why not. Today a run has one lot, whose proposals are made
-/// in turn on the calling thread: the runtime and the gate are those of runs of several workers.
+/// Improves the list `initial` of a model by the proposals of one worker for each lot: prints a
+/// report of their journal, or puts one line that says why not. All memory is taken before the
+/// first proposal is made.
 pub fn solve_run<'n, R: Threads + Wait + Sync, F: Files, O: Sink, E: Sink, G: Gate>(
-    _rt: &R,
+    rt: &R,
     alloc: Global,
     model: &'n Name,
     initial: &'n Name,
@@ -51,9 +49,8 @@ pub fn solve_run<'n, R: Threads + Wait + Sync, F: Files, O: Sink, E: Sink, G: Ga
     files: &mut F,
     out: &mut O,
     err: &mut E,
-    _gate: &G,
+    gate: &G,
 ) -> Status
-    requires one { worker_count lots.now ≡ 1 }
     ensures ends { let names = solve_names model.now (option_copied closed.entry) initial.now in
         Ends (F.held files.old) names (F.faults files.old) (F.faults files.new)
         (Solved (F.held files.old) names lots.now (Appends (O.taken out.old) (O.taken out.new)))
@@ -77,12 +74,13 @@ pub fn solve_run<'n, R: Threads + Wait + Sync, F: Files, O: Sink, E: Sink, G: Ga
         initial: Some(initial),
         changed: None,
     };
-    let ended = solve(alloc, model, initial, closed, lots, files, out);
+    let ended = solve(rt, alloc, model, initial, closed, lots, files, out, gate);
     finish(err, &names, ended)
 }
 
 /// The same but for the line of its refusal.
-fn solve<F: Files, O: Sink>(
+fn solve<R: Threads + Wait + Sync, F: Files, O: Sink, G: Gate>(
+    rt: &R,
     alloc: Global,
     model: &Name,
     initial: &Name,
@@ -90,8 +88,8 @@ fn solve<F: Files, O: Sink>(
     lots: &Lots,
     files: &mut F,
     out: &mut O,
+    gate: &G,
 ) -> Result<(), Refusal>
-    requires one { worker_count lots.now ≡ 1 }
     ensures printed { OnOk result (Solved (F.held files.old)
         (solve_names model.now (option_copied closed.entry) initial.now) lots.now
         (Appends (O.taken out.old) (O.taken out.new))) }
@@ -106,7 +104,7 @@ fn solve<F: Files, O: Sink>(
     ensures never_fall { (other : List ℕ) → F.faults files.old other ≤ F.faults files.new other }
 {
     let start = read_start(alloc, model, initial, closed, files)?;
-    let ended = run_from(alloc, &start.inst, &start.initial, lots, out);
+    let ended = run_from(rt, alloc, &start.inst, &start.initial, lots, out, gate);
     drop(start);
     ended
 }
@@ -140,15 +138,16 @@ fn read_start<F: Files>(
     Ok(Start { inst, initial })
 }
 
-/// The run of the one worker and its report, where the initial list is feasible.
-fn run_from<O: Sink>(
+/// The run and its report, where the initial list is feasible.
+fn run_from<R: Threads + Wait + Sync, O: Sink, G: Gate>(
+    rt: &R,
     alloc: Global,
     inst: &Instance,
     initial: &Assignment,
     lots: &Lots,
     out: &mut O,
+    gate: &G,
 ) -> Result<(), Refusal>
-    requires one { worker_count lots.now ≡ 1 }
     requires fits { IsAssignment inst.now.tables initial.now.items }
     ensures printed { OnOk result (IsReported inst.now.tables initial.now.items lots.now
         (Appends (O.taken out.old) (O.taken out.new))) }
@@ -161,13 +160,24 @@ fn run_from<O: Sink>(
     let Ok(topo) = Topology::make(alloc, inst) else {
         return Err(Refusal::Memory);
     };
-    let ended = run_over(alloc, inst, &topo, initial, lots, &mut scratch, out);
+    let ended = run_over(
+        rt,
+        alloc,
+        inst,
+        &topo,
+        initial,
+        lots,
+        &mut scratch,
+        out,
+        gate,
+    );
     drop(topo);
     ended
 }
 
-/// The run of the one worker and its report, over the topology of the instance.
-fn run_over<O: Sink>(
+/// The run and its report, over the topology of the instance.
+fn run_over<R: Threads + Wait + Sync, O: Sink, G: Gate>(
+    rt: &R,
     alloc: Global,
     inst: &Instance,
     topo: &Topology,
@@ -175,8 +185,8 @@ fn run_over<O: Sink>(
     lots: &Lots,
     scratch: &mut Scratch,
     out: &mut O,
+    gate: &G,
 ) -> Result<(), Refusal>
-    requires one { worker_count lots.now ≡ 1 }
     requires fits { IsAssignment inst.now.tables initial.now.items }
     requires feasible { Feasible inst.now.tables initial.now.items initial.now.items }
     requires unbroken { first_broken inst.now.tables initial.now.items initial.now.items ≡ None }
@@ -190,9 +200,10 @@ fn run_over<O: Sink>(
     ensures untouched { IfErr result (λ refusal. refusal ≢ Refusal.Write → out.new ≡ out.old) }
 {
     let start = parts(inst, initial, initial, scratch);
-    let Ok(run) = run_alone(alloc, inst, topo, initial, start, lots, scratch) else {
+    let Ok(prepared) = Prepared::make(alloc, inst, topo, initial, start, lots) else {
         return Err(Refusal::Memory);
     };
+    let run = prepared.solve(rt, gate);
     let ended = report(out, inst, &run);
     drop(run);
     match ended {
@@ -204,13 +215,11 @@ fn run_over<O: Sink>(
 /// Writes the report of a run.
 fn report<O: Sink>(out: &mut O, inst: &Instance, run: &Run<'_>) -> Result<(), WriteFault>
     requires instance { run.now.journal.inst.now.tables ≡ inst.now.tables }
-    requires best { run.now.best.items ≡ best_state run.now.journal }
-    requires parts { run.now.parts ≡
-        parts_of run.now.journal.inst.now.tables run.now.journal.a0.now.items run.now.best.items }
+    requires best { run.now.world.kept.assignment.items ≡ best_state run.now.journal }
     ensures whole { OnOk result (Appends (O.taken out.old) (O.taken out.new)
         (text_of run.now.journal)) }
     ensures part { OnErr result (Breaks (O.taken out.old) (O.taken out.new) (O.faults out.old)
         (O.faults out.new) (text_of run.now.journal)) }
 {
-    write_report(out, &run.best, &run.parts, &bound(inst), &run.journal)
+    write_report(out, run.best(), &run.parts(), &bound(inst), run.journal())
 }

@@ -1,18 +1,13 @@
-use Rattle.std.proofs.Common.{◌≡◌, List, ℕ, refl, subst}
+use Rattle.std.proofs.Common.{◌≡◌, List, ℕ, refl}
 use Rattle.std.specs.Io.KnownBytes.{Appends}
 use Rattle.ra_report.specs.Pieces.{Breaks, Puts}
-use Rattle.ra_words.specs.declared.jobs.Job.{Job}
 use Rattle.ra_words.specs.declared.jobs.Job.TheVariants.{Solve}
 use Rattle.ra_words.specs.Said.{said}
 use Rattle.ra_run.specs.Files.{solve_names}
 use Rattle.ra_run.specs.Outputs.{Solved}
 use Rattle.ra_run.specs.Commands.{OutputOf}
-use Rattle.ra_run.specs.Served.{IsServed}
-use Rattle.ra_run.proofs.RunLemmas.{ends_more, one_worker}
+use Rattle.ra_run.proofs.RunLemmas.{ends_more}
 use Rattle.ra_run.proofs.job.do_job.Goals as goal
-
-pub solve_run-requires : goal.solve_run-requires
-solve_run-requires g c = (c.type_bounds.sync-R, (c.type_bounds.sync-G, one_worker c.in-Solve.lots (subst (λ (j : Job). IsServed (said j)) c.in-Solve.is c.requires)))
 
 pub returns-in-Check-clause-ends : goal.returns-in-Check-clause-ends
 returns-in-Check-clause-ends g c = rw c.in-Check.is (rw c.as_ref.ensures.value at c.check_run.ensures.ends)

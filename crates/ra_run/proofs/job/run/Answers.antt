@@ -2,13 +2,9 @@ use Rattle.std.proofs.Common.{◌≡◌, refl}
 use Rattle.std.specs.Io.KnownBytes.{Appends}
 use Rattle.ra_report.specs.Pieces.{Breaks, Puts}
 use Rattle.ra_words.specs.Jobs.{job_of}
-use Rattle.ra_words.specs.Said.{said}
 use Rattle.ra_words.specs.Words.{texts}
-use Rattle.ra_run.proofs.RunLemmas.{served, ends_memory_any}
+use Rattle.ra_run.proofs.RunLemmas.{ends_memory_any}
 use Rattle.ra_run.proofs.job.run.Goals as goal
-
-pub do_job-requires : goal.do_job-requires
-do_job-requires g c = (c.type_bounds.sync-R, (c.type_bounds.sync-G, served (texts c.args.words.now) (said c.in-Ok.job) c.in-Ok.ensures.ok))
 
 pub returns-in-Err-NoMemory-clause-ends : goal.returns-in-Err-NoMemory-clause-ends
 returns-in-Err-NoMemory-clause-ends g c = ends_memory_any (job_of (texts c.args.words.now)) (g.F.Files.held c.args.files.now) (g.F.Files.faults c.args.files.now) (g.F.Files.faults c.args.files.now)

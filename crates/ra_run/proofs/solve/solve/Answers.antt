@@ -1,4 +1,4 @@
--- What the run of the one worker says, in the words of the files.
+-- What the run says, in the words of the files.
 use Rattle.std.specs.Option.{option_copied}
 use Rattle.std.proofs.Common.{refl}
 use Rattle.std.specs.Io.KnownBytes.{Appends}
@@ -11,9 +11,9 @@ use Rattle.ra_run.proofs.solve.solve.Goals as goal
 pub returns-clause-printed : goal.returns-clause-printed
 returns-clause-printed g c = on_ok_then c.run_from-ended.result _ _ (solved (g.F.Files.held c.args.files.now) (solve_names c.args.model.now (option_copied c.args.closed) c.args.initial.now) c.in_ok-start.start.inst.tables c.in_ok-start.start.initial.items c.args.lots.now
     (Appends (g.O.Sink.taken c.args.out.now) (g.O.Sink.taken c.run_from-ended.new.out))
-    c.in_ok-start.start.inst.well_formed c.requires.one c.in_ok-start.ensures.read) c.run_from-ended.ensures.printed
+    c.in_ok-start.start.inst.well_formed c.in_ok-start.ensures.read) c.run_from-ended.ensures.printed
 
 pub returns-clause-refused : goal.returns-clause-refused
 returns-clause-refused g c = if_err_then c.run_from-ended.result _ _ (says_run (g.F.Files.held c.args.files.now) (solve_names c.args.model.now (option_copied c.args.closed) c.args.initial.now) c.in_ok-start.start.inst.tables c.in_ok-start.start.initial.items c.args.lots.now (g.F.Files.faults c.args.files.now) (g.F.Files.faults c.read_start.new.files)
     (Breaks (g.O.Sink.taken c.args.out.now) (g.O.Sink.taken c.run_from-ended.new.out) (g.O.Sink.faults c.args.out.now) (g.O.Sink.faults c.run_from-ended.new.out))
-    refl c.in_ok-start.start.inst.well_formed c.requires.one c.in_ok-start.ensures.read) c.run_from-ended.ensures.refused
+    refl c.in_ok-start.start.inst.well_formed c.in_ok-start.ensures.read) c.run_from-ended.ensures.refused

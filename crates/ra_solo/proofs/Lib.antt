@@ -1,4 +1,0 @@
-pub mod Recording
-pub mod Handing
-pub mod Following
-pub mod Ending
