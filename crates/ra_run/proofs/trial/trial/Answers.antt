@@ -4,13 +4,13 @@ use Rattle.ra_run.proofs.TrialLemmas.{start_fitting, start_good, one_worker, ok_
 use Rattle.ra_run.proofs.trial.trial.Goals as goal
 
 pub trial_from-ended-requires-clause-fits : goal.trial_from-ended-requires-clause-fits
-trial_from-ended-requires-clause-fits g c = start_fitting c.args.number _ _ c.in_ok-start.ensures
+trial_from-ended-requires-clause-fits g c = λ _ _. start_fitting c.args.number _ _ c.in_ok-start.ensures
 
 pub trial_from-ended-requires-clause-unbroken : goal.trial_from-ended-requires-clause-unbroken
-trial_from-ended-requires-clause-unbroken g c = start_good c.args.number _ _ c.in_ok-start.ensures
+trial_from-ended-requires-clause-unbroken g c = λ _ _. start_good c.args.number _ _ c.in_ok-start.ensures
 
 pub trial_from-ended-requires-clause-one : goal.trial_from-ended-requires-clause-one
-trial_from-ended-requires-clause-one g c = one_worker c.args.number _ c.in_ok-lots.ensures
+trial_from-ended-requires-clause-one g c = λ _ _. one_worker c.args.number _ c.in_ok-lots.ensures
 
 pub returns-clause-printed : goal.returns-clause-printed
 returns-clause-printed g c = ok_then c.trial_from-ended.result _ _ (trial_printed c.args.number c.in_ok-start.start.inst.tables c.in_ok-start.start.initial.items c.in_ok-lots.lots
