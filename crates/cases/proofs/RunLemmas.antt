@@ -1,15 +1,16 @@
 -- An ending that came is one that the top call promises, and so is the wanted one where they are the same.
 use Rattle.std.proofs.Common.{◌≡◌, ◌↔◌, ℕ, List, [], ◌++◌, Option, Some, None, IfSome, refl, sym, ◌∙◌, subst}
 use Rattle.std.specs.Io.KnownBytes.{Appends}
-use Rattle.ra_words.specs.Jobs.{JobSays, Checks, Bounds, Solves, job_of}
+use Rattle.ra_words.specs.Jobs.{JobSays, Checks, Bounds, Solves, Trials, job_of}
 use Rattle.ra_draws.specs.declared.budgets.Lots.{Lots}
 use Rattle.ra_run.specs.declared.status.Status.{Status}
 use Rattle.ra_run.specs.declared.status.Status.TheVariants.{Done, Usage, ReadFault, BadModel, BadAssignment, Infeasible, WriteFault, NoMemory, BadClosed}
-use Rattle.ra_run.specs.Commands.{names_in, OutputOf}
+use Rattle.ra_run.specs.Commands.{OfJob, OutputOf}
 use Rattle.ra_run.specs.Ends.{Ends}
 use Rattle.ra_run.specs.Files.{Held, Faults, Names}
 use Rattle.ra_run.specs.Outputs.{Printed, BoundPrinted, Solved}
 use Rattle.ra_run.specs.Statuses.{number_of}
+use Rattle.ra_run.specs.Trials.{TrialPrinted, TrialEnds}
 use Rattle.cases.specs.declared.endings.Ending.{Ending}
 use Rattle.cases.specs.Endings.{Same}
 use Rattle.cases.specs.Runs.{Runs}
@@ -74,21 +75,37 @@ solved_more held names l way more step p = record {
   least = p.least;
 }
 
+trial_more : (number : ℕ) (way more : List ℕ → Type 0) → ((text : List ℕ) → way text → more text) → TrialPrinted number way → TrialPrinted number more
+trial_more number way more step p = record { tables = p.tables; lots = p.lots; trial = p.trial; lots_are = p.lots_are; text = step _ p.text }
+
 output_more : (held : Held) (says : JobSays) (way more : List ℕ → Type 0) → ((text : List ℕ) → way text → more text) → OutputOf held says way → OutputOf held says more
 output_more held (Checks model initial changed closed) way more step p = printed_more held _ way more step p
 output_more held (Bounds model) way more step p = bound_more held _ way more step p
 output_more held (Solves model initial closed slack drawing lots) way more step p = (p.0, p.1, solved_more held _ p.0 way more step p.2)
+output_more held (Trials number) way more step p = trial_more number way more step p
 
 -- a job that is done has put its output
 
-output_of : (job : Option JobSays) (held : Held) (before now : Faults) (out taken : List ℕ) (breaks tells : List ℕ → Type 0) (out_same err_same : Type 0) (status : Status) → status ≡ Done → out ≡ [] → IfSome job (λ says. Ends held (names_in says) before now (OutputOf held says (Appends (Some out) (Some taken))) (OutputOf held says breaks) tells out_same err_same status) → IfSome job (λ says. OutputOf held says (λ text. taken ≡ text))
+-- how a job ends that puts to an output which had these bytes and now has those
+abbrev EndsWith : Held → JobSays → Faults → Faults → List ℕ → List ℕ → (List ℕ → Type 0) → (List ℕ → Type 0) → Type 0 → Type 0 → Status → Type 0
+EndsWith held says before now out taken breaks tells out_same err_same status = OfJob says
+    (λ names. Ends held names before now (OutputOf held says (Appends (Some out) (Some taken))) (OutputOf held says breaks) tells out_same err_same status)
+    (λ number. TrialEnds number (Appends (Some out) (Some taken)) breaks tells out_same err_same status)
+
+printed_by : (says : JobSays) (held : Held) (before now : Faults) (out taken : List ℕ) (breaks tells : List ℕ → Type 0) (out_same err_same : Type 0) (status : Status) → status ≡ Done → EndsWith held says before now out taken breaks tells out_same err_same status → OutputOf held says (Appends (Some out) (Some taken))
+printed_by (Checks model initial changed closed) held before now out taken breaks tells out_same err_same status done ends = ends.printed done
+printed_by (Bounds model) held before now out taken breaks tells out_same err_same status done ends = ends.printed done
+printed_by (Solves model initial closed slack drawing lots) held before now out taken breaks tells out_same err_same status done ends = ends.printed done
+printed_by (Trials number) held before now out taken breaks tells out_same err_same status done ends = ends.printed done
+
+output_of : (job : Option JobSays) (held : Held) (before now : Faults) (out taken : List ℕ) (breaks tells : List ℕ → Type 0) (out_same err_same : Type 0) (status : Status) → status ≡ Done → out ≡ [] → IfSome job (λ says. EndsWith held says before now out taken breaks tells out_same err_same status) → IfSome job (λ says. OutputOf held says (λ text. taken ≡ text))
 output_of None held before now out taken breaks tells out_same err_same status done empty ends = tt
 output_of (Some says) held before now out taken breaks tells out_same err_same status done empty ends =
     output_more held says (Appends (Some out) (Some taken)) (λ text. taken ≡ text)
     (λ text (put : taken ≡ out ++ text). put ∙ (rw empty refl))
-    (ends.printed done)
+    (printed_by says held before now out taken breaks tells out_same err_same status done ends)
 
-pub runs : (words : List (List ℕ)) (held : Held) (before now : Faults) (out taken : List ℕ) (breaks tells : List ℕ → Type 0) (out_same err_same : Type 0) (status : Status) (came wanted : Ending) → out ≡ [] → ((status ≡ Usage) ↔ (job_of words ≡ None)) → IfSome (job_of words) (λ says. Ends held (names_in says) before now (OutputOf held says (Appends (Some out) (Some taken))) (OutputOf held says breaks) tells out_same err_same status) → came.out.now ≡ taken → came.status ≡ number_of status → Same came wanted → Runs words held wanted
+pub runs : (words : List (List ℕ)) (held : Held) (before now : Faults) (out taken : List ℕ) (breaks tells : List ℕ → Type 0) (out_same err_same : Type 0) (status : Status) (came wanted : Ending) → out ≡ [] → ((status ≡ Usage) ↔ (job_of words ≡ None)) → IfSome (job_of words) (λ says. EndsWith held says before now out taken breaks tells out_same err_same status) → came.out.now ≡ taken → came.status ≡ number_of status → Same came wanted → Runs words held wanted
 runs words held before now out taken breaks tells out_same err_same status came wanted empty usage ends took number same = record {
   usage = (λ two. usage.0 (usage_of status (sym number ∙ same.status ∙ two)), λ none. sym same.status ∙ number ∙ of_usage status (usage.1 none));
   done = λ zero. subst (λ (x : List ℕ). IfSome (job_of words) (λ says. OutputOf held says (λ text. x ≡ text))) (sym took ∙ same.out)

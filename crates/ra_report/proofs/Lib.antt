@@ -5,3 +5,4 @@ pub mod EntryTexts
 pub mod JournalTexts
 pub mod HeadLines
 pub mod ReportTexts
+pub mod Counts

@@ -77,10 +77,13 @@ drawing_number Two = 2
 abbrev pub drawing_line : Drawing → List ℕ
 drawing_line drawing = number_line (codes "draws") (drawing_number drawing)
 
--- the ten lines before the entries: the parts, the total of the bound, a place, the assignment there, the drawing
+-- the eight lines of what came out of a run: the parts, the total of the bound, a place
+abbrev pub outcome_text : Parts → ℕ → ℕ → List ℕ
+outcome_text parts bound_total best_at = parts_text parts ++ number_line (codes "bound") bound_total ++ number_line (codes "best_at") best_at
+
+-- the ten lines before the entries: these eight, the assignment at that place, the drawing
 unfoldable pub head_text : Parts → ℕ → ℕ → List Machine → Drawing → List ℕ
-head_text parts bound_total best_at a drawing =
-    parts_text parts ++ number_line (codes "bound") bound_total ++ number_line (codes "best_at") best_at ++ assignment_line a ++ drawing_line drawing
+head_text parts bound_total best_at a drawing = outcome_text parts bound_total best_at ++ assignment_line a ++ drawing_line drawing
 
 -- a report of these ten lines and of all entries of a journal
 unfoldable pub report_lines : Parts → ℕ → ℕ → List Machine → Drawing → List Entry → List ℕ

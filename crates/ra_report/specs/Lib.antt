@@ -3,4 +3,5 @@ pub mod Gathering
 pub mod JournalTexts
 pub mod Pieces
 pub mod ReportLaws
+pub mod Summaries
 pub mod Texts

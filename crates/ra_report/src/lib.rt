@@ -9,12 +9,15 @@ mod journal;
 pub mod laws;
 mod pieces;
 mod solved;
+mod summary;
 mod texts;
 mod writing;
 
 pub use faults::Fault;
 pub use gathered::WriteFault;
-pub use writing::{write_bound, write_cause, write_fault, write_parts, write_report};
+pub use writing::{
+    write_bound, write_cause, write_fault, write_parts, write_report, write_summary,
+};
 
 #[cfg(test)]
 mod tests;

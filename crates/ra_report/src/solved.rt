@@ -1,7 +1,7 @@
 ghost use Rattle.std.specs.Prelude.{◌≡◌};
 ghost use Rattle.ra_report.specs.Gathering.{Adds};
 ghost use Rattle.ra_report.specs.Texts.{number_line};
-ghost use Rattle.ra_report.specs.JournalTexts.{machines_text, assignment_line, drawing_number, drawing_line, head_text, report_lines, bound_text};
+ghost use Rattle.ra_report.specs.JournalTexts.{machines_text, outcome_text, assignment_line, drawing_number, drawing_line, head_text, report_lines, bound_text};
 
 use crate::gathered::Gathered;
 use crate::journal::add_entries;
@@ -42,15 +42,28 @@ fn add_head<O: Sink>(
     ensures { Adds O.taken O.faults text.old text.new
         (head_text parts.now bound_total best_at best.now.items drawing) }
 {
-    add_parts(text, parts);
-    add_number(text, "bound", bound_total);
-    add_number(text, "best_at", best_at as u128);
+    add_outcome(text, parts, bound_total, best_at);
     add_assignment(text, best.as_slice());
     add_number(text, "draws", drawing_number(drawing))
 }
 
+/// Adds the eight lines of what came out of a run: the parts, the total of the bound, and a place.
+pub(crate) fn add_outcome<O: Sink>(
+    text: &mut Gathered<'_, O>,
+    parts: &Parts,
+    bound_total: u128,
+    best_at: u64,
+)
+    ensures { Adds O.taken O.faults text.old text.new
+        (outcome_text parts.now bound_total best_at) }
+{
+    add_parts(text, parts);
+    add_number(text, "bound", bound_total);
+    add_number(text, "best_at", best_at as u128)
+}
+
 /// Adds a line of a word and a number.
-fn add_number<O: Sink>(text: &mut Gathered<'_, O>, word: &str, number: u128)
+pub(crate) fn add_number<O: Sink>(text: &mut Gathered<'_, O>, word: &str, number: u128)
     ensures { Adds O.taken O.faults text.old text.new (number_line word.now number) }
 {
     add_pieces(

@@ -1,4 +1,4 @@
-use super::writing::write_lines;
+use super::writing::{write_counts, write_lines};
 use super::*;
 use ra_base::{Assignment, Cause, Drawing, Fixed, Machine, Parts, Process, Resource, Service};
 use ra_bounds::Bound;
@@ -89,6 +89,23 @@ fn the_report_of_the_sample(rt: HostRuntime) -> Result<(), Fail> {
     assert_eq!(rt;
         out.bytes(),
         b"cost 3510\nload 1500\nbalance 1700\nprocess 100\nservice 10\nmachine 200\nbound 1300\nbest_at 1\nassignment 0 2 0\ndraws 1\n0 0 0 0 shift 1:3>2 done 3510\n".as_slice()
+    );
+    Ok(())
+}
+
+#[test]
+fn the_summary_of_one_done_and_two_refused(rt: HostRuntime) -> Result<(), Fail> {
+    let process = Process(1);
+    let entries = [
+        refused(0, Cause::Same { process }),
+        entry(1, Move::shift(step(1, 3, 2)), Verdict::Done { cost: 3510 }),
+        refused(2, Cause::Repeat { process }),
+    ];
+    let mut out = sound(&rt)?;
+    assert_eq!(rt; write_counts(&mut out, &PARTS, &BOUND, 2, &entries), Ok(()));
+    assert_eq!(rt;
+        out.bytes(),
+        b"cost 3510\nload 1500\nbalance 1700\nprocess 100\nservice 10\nmachine 200\nbound 1300\nbest_at 2\ndone 1\nrefused 2\n".as_slice()
     );
     Ok(())
 }

@@ -5,11 +5,13 @@ ghost use Rattle.ra_model.specs.Costs.{parts_of};
 ghost use Rattle.ra_bounds.specs.Bounds.{bound_of};
 ghost use Rattle.ra_report.specs.JournalTexts.{report_lines, best_state, text_of, bound_text};
 ghost use Rattle.ra_report.specs.Pieces.{Breaks};
+ghost use Rattle.ra_report.specs.Summaries.{summary_lines, summary_of};
 ghost use Rattle.ra_report.specs.Texts.{parts_text, cause_text};
 
 use crate::faults::{Fault, add_fault};
 use crate::gathered::{Gathered, WriteFault};
 use crate::solved::{add_bound, add_report};
+use crate::summary::add_summary;
 use crate::texts::{add_cause, add_parts};
 use ra_base::{Assignment, Cause, Drawing, Parts};
 use ra_bounds::Bound;
@@ -93,6 +95,46 @@ pub(crate) fn write_lines<O: Sink>(
 {
     let mut text = Gathered::make(sink);
     add_report(&mut text, best, parts, bound, best_at, drawing, entries);
+    text.finish()
+}
+
+/// Writes the summary of a run: the parts of the best assignment, the total of the bound, the place of the best assignment,
+/// and how many proposals were done and refused. `parts` are those of the journal's best state, and `bound` is that of its
+/// instance.
+pub fn write_summary<O: Sink>(
+    sink: &mut O,
+    parts: &Parts,
+    bound: &Bound,
+    journal: &Journal<'_>,
+) -> Result<(), WriteFault>
+    requires parts { parts.now ≡ parts_of
+        journal.now.inst.now.tables journal.now.a0.now.items (best_state journal.now) }
+    requires bound { bound.now ≡ bound_of journal.now.inst.now.tables }
+    ensures whole { OnOk result (Appends (O.taken sink.old) (O.taken sink.new)
+        (summary_of journal.now)) }
+    ensures part { OnErr result (Breaks (O.taken sink.old) (O.taken sink.new) (O.faults sink.old)
+        (O.faults sink.new) (summary_of journal.now)) }
+    ensures never_falls { O.faults sink.old ≤ O.faults sink.new }
+{
+    write_counts(sink, parts, bound, journal.best_at(), journal.entries())
+}
+
+/// Writes the lines of a summary, whatever its numbers are.
+pub(crate) fn write_counts<O: Sink>(
+    sink: &mut O,
+    parts: &Parts,
+    bound: &Bound,
+    best_at: u64,
+    entries: &[Entry],
+) -> Result<(), WriteFault>
+    ensures whole { OnOk result (Appends (O.taken sink.old) (O.taken sink.new)
+        (summary_lines parts.now bound.now.total best_at entries.now)) }
+    ensures part { OnErr result (Breaks (O.taken sink.old) (O.taken sink.new) (O.faults sink.old)
+        (O.faults sink.new) (summary_lines parts.now bound.now.total best_at entries.now)) }
+    ensures never_falls { O.faults sink.old ≤ O.faults sink.new }
+{
+    let mut text = Gathered::make(sink);
+    add_summary(&mut text, parts, bound.total, best_at, entries);
     text.finish()
 }
 

@@ -10,20 +10,21 @@ use Rattle.ra_model_read.specs.declared.faults.ModelFault.{ModelFault}
 use Rattle.ra_assign.specs.declared.faults.AssignFault.{AssignFault}
 use Rattle.ra_assign.specs.declared.faults.ClosedFault.{ClosedFault}
 use Rattle.ra_draws.specs.declared.budgets.Lots.{Lots}
-use Rattle.ra_words.specs.Jobs.{JobSays, Checks, Bounds, Solves}
+use Rattle.ra_words.specs.Jobs.{JobSays, Checks, Bounds, Solves, Trials}
 use Rattle.ra_run.specs.declared.refusals.File.{File}
 use Rattle.ra_run.specs.declared.refusals.File.TheVariants as file
 use Rattle.ra_run.specs.declared.refusals.Refusal.{Refusal}
 use Rattle.ra_run.specs.declared.refusals.Refusal.TheVariants.{Read, Model, Closed, Initial, Changed, InitialBroken, ChangedBroken, Write, Memory}
 use Rattle.ra_run.specs.declared.status.Status.{Status}
 use Rattle.ra_run.specs.declared.status.Status.TheVariants.{Done, Usage, ReadFault, BadModel, BadAssignment, Infeasible, WriteFault, NoMemory, BadClosed}
-use Rattle.ra_run.specs.Commands.{names_in, OutputOf}
+use Rattle.ra_run.specs.Commands.{OfJob, OutputOf}
 use Rattle.ra_run.specs.Comes.{IsKnown, KnownTo, Comes}
 use Rattle.ra_run.specs.Ends.{Ends}
 use Rattle.ra_run.specs.Files.{Held, Faults, Names, name_of, ModelIs, InstanceIs, NamedListIs, Accepts, check_names, bound_names, solve_names}
 use Rattle.ra_run.specs.Outputs.{Printed, BoundPrinted, Solved}
 use Rattle.ra_run.specs.Refusals.{Says, ReadFailed, ModelRefused, ClosedRefused, InitialRefused, ChangedRefused, InitialBreaks, ChangedBreaks}
 use Rattle.ra_run.specs.Statuses.{status_of}
+use Rattle.ra_run.specs.Trials.{TrialEnds}
 use Rattle.ra_run.proofs.CompleteLemmas.{is_done}
 use Rattle.ra_run.proofs.MeaningLemmas.{Told, no_model, no_closed, no_initial, no_changed, no_initial_break, no_changed_break}
 
@@ -299,12 +300,21 @@ bound_went held name way p = record {
 pub solved_went : (held : Held) (model : List ℕ) (closed : Option (List ℕ)) (initial : List ℕ) (l : Lots) (way : List ℕ → Type 0) → Solved held (solve_names model closed initial) l way → Went held (solve_names model closed initial)
 solved_went held model closed initial l way p = record { tables = p.tables; a0 = p.a0; a = p.a0; accepts = p.accepts; initial = λ named. p.start; changed = λ named. absurd (cc) }
 
-pub output_went : (held : Held) (says : JobSays) (way : List ℕ → Type 0) → OutputOf held says way → Went held (names_in says)
-output_went held (Checks model initial changed closed) way p = printed_went held (check_names model closed initial changed) way p
-output_went held (Bounds model) way p = bound_went held model way p
-output_went held (Solves model initial closed slack drawing lots) way p = solved_went held model closed initial p.0 way p.2
+-- so it is with a job that words say
+pub says_comes : (says : JobSays) (held : Held) (before now : Faults) (prints breaks tells : List ℕ → Type 0) (out_same err_same : Type 0) (status : Status)
+    → OfJob says (λ names. Ends held names before now (OutputOf held says prints) (OutputOf held says breaks) tells out_same err_same status) (λ number. TrialEnds number prints breaks tells out_same err_same status)
+    → OfJob says (λ names. Comes held names before now (OutputOf held says breaks) out_same status) (λ number. Unit {0})
+says_comes (Checks model initial changed closed) held before now prints breaks tells out_same err_same status ends =
+    let went : (way : List ℕ → Type 0) → Printed held (check_names model closed initial changed) way → Went held (check_names model closed initial changed) = printed_went held (check_names model closed initial changed) in
+    comes ends (went prints) (went breaks)
+says_comes (Bounds model) held before now prints breaks tells out_same err_same status ends = comes ends (bound_went held model prints) (bound_went held model breaks)
+says_comes (Solves model initial closed slack drawing lots) held before now prints breaks tells out_same err_same status ends =
+    comes ends (λ p. solved_went held model closed initial p.0 prints p.2) (λ p. solved_went held model closed initial p.0 breaks p.2)
+says_comes (Trials number) held before now prints breaks tells out_same err_same status ends = tt
 
--- so it is with the job of the words
-pub job_comes : (job : Option JobSays) (held : Held) (before now : Faults) (prints breaks tells : List ℕ → Type 0) (out_same err_same : Type 0) (status : Status) → IfSome job (λ says. Ends held (names_in says) before now (OutputOf held says prints) (OutputOf held says breaks) tells out_same err_same status) → IfSome job (λ says. Comes held (names_in says) before now (OutputOf held says breaks) out_same status)
+-- and with the job of the words
+pub job_comes : (job : Option JobSays) (held : Held) (before now : Faults) (prints breaks tells : List ℕ → Type 0) (out_same err_same : Type 0) (status : Status)
+    → IfSome job (λ says. OfJob says (λ names. Ends held names before now (OutputOf held says prints) (OutputOf held says breaks) tells out_same err_same status) (λ number. TrialEnds number prints breaks tells out_same err_same status))
+    → IfSome job (λ says. OfJob says (λ names. Comes held names before now (OutputOf held says breaks) out_same status) (λ number. Unit {0}))
 job_comes None held before now prints breaks tells out_same err_same status ends = tt
-job_comes (Some says) held before now prints breaks tells out_same err_same status ends = comes ends (output_went held says prints) (output_went held says breaks)
+job_comes (Some says) held before now prints breaks tells out_same err_same status ends = says_comes says held before now prints breaks tells out_same err_same status ends

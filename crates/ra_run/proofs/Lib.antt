@@ -6,4 +6,5 @@ pub mod SolveLemmas
 pub mod EndLemmas
 pub mod CompleteLemmas
 pub mod ComesLemmas
+pub mod TrialLemmas
 pub mod RunLemmas

@@ -9,3 +9,4 @@ pub mod Refusals
 pub mod Solving
 pub mod Stages
 pub mod Statuses
+pub mod Trials

@@ -7,16 +7,18 @@ ghost use Rattle.ra_report.specs.Texts.{line_end};
 ghost use Rattle.ra_words.specs.Jobs.{job_of};
 ghost use Rattle.ra_words.specs.Said.{said};
 ghost use Rattle.ra_words.specs.Words.{texts};
-ghost use Rattle.ra_run.specs.Commands.{names_in, OutputOf};
+ghost use Rattle.ra_run.specs.Commands.{OfJob, OutputOf};
 ghost use Rattle.ra_run.specs.Comes.{Comes};
 ghost use Rattle.ra_run.specs.Complete.{AreValid, NoFault};
 ghost use Rattle.ra_run.specs.Ends.{Ends};
+ghost use Rattle.ra_run.specs.Trials.{TrialEnds};
 
 use crate::bound::bound_run;
 use crate::check::check_run;
 use crate::refusing::{refuse_memory, refuse_words};
 use crate::solve::solve_run;
 use crate::status::Status;
+use crate::trial::trial_run;
 use ra_io::{Files, Gate, Sink};
 use ra_words::{Job, WordsFault, read_words};
 use std::alloc::Global;
@@ -24,9 +26,9 @@ use std::marker::Sync;
 use std::sync::Wait;
 use std::thread::Threads;
 
-/// Does the job of the command words, which leave out the program's name: `check`, `bound`, or
-/// `solve` with 1 to 16 lots. All other words are a usage fault. On `solve` that is done the output
-/// is the report of one legal journal: see `Solved`.
+/// Does the job of the command words, which leave out the program's name: `check`, `bound`, `solve`
+/// with 1 to 16 lots, or `trial`. All other words are a usage fault. On `solve` that is done the
+/// output is the report of one legal journal: see `Solved`. A `trial` reads no file of `files`.
 pub fn run<R: Threads + Wait + Sync, F: Files, O: Sink, E: Sink, G: Gate>(
     rt: &R,
     alloc: Global,
@@ -40,25 +42,32 @@ pub fn run<R: Threads + Wait + Sync, F: Files, O: Sink, E: Sink, G: Gate>(
     ensures usage_line { result ≡ Status.Usage → Puts (E.taken err.old) (E.taken err.new)
         (E.faults err.old) (E.faults err.new) (joined (usage_line ∷ line_end ∷ [])) }
     ensures usage_quiet { result ≡ Status.Usage → out.new ≡ out.old }
-    ensures ends { IfSome (job_of (texts words.now))
-        (λ says. Ends (F.held files.old) (names_in says) (F.faults files.old) (F.faults files.new)
+    ensures ends { IfSome (job_of (texts words.now)) (λ says. OfJob says
+        (λ names. Ends (F.held files.old) names (F.faults files.old) (F.faults files.new)
         (OutputOf (F.held files.old) says (Appends (O.taken out.old) (O.taken out.new)))
         (OutputOf (F.held files.old) says
         (Breaks (O.taken out.old) (O.taken out.new) (O.faults out.old) (O.faults out.new)))
         (Puts (E.taken err.old) (E.taken err.new) (E.faults err.old) (E.faults err.new))
-        (out.new ≡ out.old) (err.new ≡ err.old) result) }
+        (out.new ≡ out.old) (err.new ≡ err.old) result)
+        (λ number. TrialEnds number (Appends (O.taken out.old) (O.taken out.new))
+        (Breaks (O.taken out.old) (O.taken out.new) (O.faults out.old) (O.faults out.new))
+        (Puts (E.taken err.old) (E.taken err.new) (E.faults err.old) (E.faults err.new))
+        (out.new ≡ out.old) (err.new ≡ err.old) result)) }
 
     // Each other status but `Done` comes where its cause stands, and only there.
-    ensures comes { IfSome (job_of (texts words.now))
-        (λ says. Comes (F.held files.old) (names_in says) (F.faults files.old) (F.faults files.new)
+    ensures comes { IfSome (job_of (texts words.now)) (λ says. OfJob says
+        (λ names. Comes (F.held files.old) names (F.faults files.old) (F.faults files.new)
         (OutputOf (F.held files.old) says
         (Breaks (O.taken out.old) (O.taken out.new) (O.faults out.old) (O.faults out.new)))
-        (out.new ≡ out.old) result) }
-    ensures complete { IfSome (job_of (texts words.now))
-        (λ says. AreValid (F.held files.old) (names_in says)
-        → NoFault (names_in says) (F.faults files.old) (F.faults files.new) →
+        (out.new ≡ out.old) result)
+        (λ number. Unit {0})) }
+    ensures complete { IfSome (job_of (texts words.now)) (λ says. OfJob says
+        (λ names. AreValid (F.held files.old) names
+        → NoFault names (F.faults files.old) (F.faults files.new) →
         (Rose (O.faults out.old) (O.faults out.new) → ⊥)
-        → (result ≡ Status.Done) ⊎ (result ≡ Status.NoMemory)) }
+        → (result ≡ Status.Done) ⊎ (result ≡ Status.NoMemory))
+        (λ number. (Rose (O.faults out.old) (O.faults out.new) → ⊥)
+        → (result ≡ Status.Done) ⊎ (result ≡ Status.NoMemory))) }
     ensures kept { (other : List ℕ) → F.held files.new other ≡ F.held files.old other }
     ensures never_fall { (other : List ℕ) → F.faults files.old other ≤ F.faults files.new other }
     ensures out_never_falls { O.faults out.old ≤ O.faults out.new }
@@ -81,18 +90,25 @@ fn do_job<R: Threads + Wait + Sync, F: Files, O: Sink, E: Sink, G: Gate>(
     err: &mut E,
     gate: &G,
 ) -> Status
-    ensures ends { Ends (F.held files.old) (names_in (said job.now)) (F.faults files.old)
-        (F.faults files.new)
+    ensures ends { OfJob (said job.now)
+        (λ names. Ends (F.held files.old) names (F.faults files.old) (F.faults files.new)
         (OutputOf (F.held files.old) (said job.now) (Appends (O.taken out.old) (O.taken out.new)))
         (OutputOf (F.held files.old) (said job.now)
         (Breaks (O.taken out.old) (O.taken out.new) (O.faults out.old) (O.faults out.new)))
         (Puts (E.taken err.old) (E.taken err.new) (E.faults err.old) (E.faults err.new))
-        (out.new ≡ out.old) (err.new ≡ err.old) result }
+        (out.new ≡ out.old) (err.new ≡ err.old) result)
+        (λ number. TrialEnds number (Appends (O.taken out.old) (O.taken out.new))
+        (Breaks (O.taken out.old) (O.taken out.new) (O.faults out.old) (O.faults out.new))
+        (Puts (E.taken err.old) (E.taken err.new) (E.faults err.old) (E.faults err.new))
+        (out.new ≡ out.old) (err.new ≡ err.old) result) }
     ensures not_usage { result ≢ Status.Usage }
-    ensures complete { AreValid (F.held files.old) (names_in (said job.now))
-        → NoFault (names_in (said job.now)) (F.faults files.old) (F.faults files.new) →
+    ensures complete { OfJob (said job.now)
+        (λ names. AreValid (F.held files.old) names
+        → NoFault names (F.faults files.old) (F.faults files.new) →
         (Rose (O.faults out.old) (O.faults out.new) → ⊥)
-        → (result ≡ Status.Done) ⊎ (result ≡ Status.NoMemory) }
+        → (result ≡ Status.Done) ⊎ (result ≡ Status.NoMemory))
+        (λ number. (Rose (O.faults out.old) (O.faults out.new) → ⊥)
+        → (result ≡ Status.Done) ⊎ (result ≡ Status.NoMemory)) }
     ensures kept { (other : List ℕ) → F.held files.new other ≡ F.held files.old other }
     ensures never_fall { (other : List ℕ) → F.faults files.old other ≤ F.faults files.new other }
     ensures out_never_falls { O.faults out.old ≤ O.faults out.new }
@@ -132,5 +148,6 @@ fn do_job<R: Threads + Wait + Sync, F: Files, O: Sink, E: Sink, G: Gate>(
             err,
             gate,
         ),
+        Job::Trial { number } => trial_run(rt, alloc, *number, out, err, gate),
     }
 }

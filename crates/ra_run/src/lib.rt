@@ -14,6 +14,7 @@ mod refusing;
 mod solve;
 mod status;
 mod steady;
+mod trial;
 
 pub use bound::bound_run;
 pub use check::check_run;
@@ -23,6 +24,7 @@ pub use refusing::refuse_unread;
 pub use solve::solve_run;
 pub use status::Status;
 pub use steady::check_steady;
+pub use trial::trial_run;
 
 #[cfg(test)]
 mod tests;

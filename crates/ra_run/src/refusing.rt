@@ -98,7 +98,7 @@ fn tell<E: Sink>(err: &mut E, names: &JobFiles<'_>, refusal: Refusal)
 }
 
 /// Puts the line of a fault, or a front of it where a put fails.
-fn put_line<E: Sink>(err: &mut E, fault: &Fault<'_>)
+pub(crate) fn put_line<E: Sink>(err: &mut E, fault: &Fault<'_>)
     requires { CanBeTold fault.now }
     ensures line { Puts (E.taken err.old) (E.taken err.new) (E.faults err.old) (E.faults err.new)
         (fault_text fault.now) }

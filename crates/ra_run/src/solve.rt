@@ -128,7 +128,7 @@ pub(crate) struct Start {
 }
 
 /// The instance and the initial list, where all files are accepted.
-fn read_start<F: Files>(
+pub(crate) fn read_start<F: Files>(
     alloc: Global,
     model: &Name,
     initial: &Name,

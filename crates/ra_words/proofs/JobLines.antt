@@ -14,11 +14,11 @@ use Rattle.clap.proofs.WalkLemmas.{both}
 use Rattle.clap.specs.Words.{first_value}
 use Rattle.clap.specs.declared.parser.matches.Found.{Found}
 use Rattle.ra_words.specs.Words.{behind, has_option, is_name, value_at, word_at}
-use Rattle.ra_words.specs.Numbers.{has_digits, is_number}
+use Rattle.ra_words.specs.Numbers.{has_digits, is_number, worth}
 use Rattle.ra_words.specs.LotTexts.{are_lots, first_place, is_lot, is_seed_lot, is_written, is_written_lot, lot_says, seed_text}
 use Rattle.ra_words.specs.Lines.{Finds, Line, Spells, option_words, plain_of, words_of}
 use Rattle.ra_words.proofs.LotLaws.{lots_told}
-use Rattle.ra_words.specs.Jobs.{Bounds, Checks, Solves, bound_says, check_says, closed_place, closed_text, draws_place, draws_text, drawing_says, is_bound, is_check, is_closed, is_drawing, is_slack, is_solve, lot_words, lots_place, slack_says, slack_text, solve_says}
+use Rattle.ra_words.specs.Jobs.{Bounds, Checks, Solves, Trials, bound_says, check_says, closed_place, closed_text, draws_place, draws_text, drawing_says, is_bound, is_check, is_closed, is_drawing, is_slack, is_solve, lot_words, lots_place, slack_says, slack_text, solve_says, is_trial, trial_says}
 
 -- ---- words that are no option
 
@@ -205,34 +205,67 @@ check_found words found check finds =
     let f = finds (check_line words) (check_spelled words check) in
     λ i. Checks (word_at (f.plain i) 0) (word_at (f.plain i) 1) (word_at (f.plain i) 2) (f.closed i)
 
--- ---- bound
+-- ---- bound and trial
 
-abbrev bound_line : List (List ℕ) → Line
-bound_line words = record { command = word_at words 0; files = words_from 1 words 1; slack = None; closed = None; draws = None; behind = [] }
+-- the command word and one plain word
+abbrev pair_line : List (List ℕ) → Line
+pair_line words = record { command = word_at words 0; files = words_from 1 words 1; slack = None; closed = None; draws = None; behind = [] }
 
-bound_spelled : (words : List (List ℕ)) → is_bound words ≡ true → Spells (bound_line words) words
-unfolding is_bound words_of option_words
+pair_spelled : (words : List (List ℕ)) → length words ≡ 2 → is_name (word_at words 1) ≡ true → Spells (pair_line words) words
+unfolding words_of option_words
+pair_spelled words two name = record {
+  is = words_here 2 0 words (omega (arith, two)) ∙ ap (λ ws. words_from 0 words 2 ++ ws) (drop_all 2 words (omega (arith, two)));
+  files = rw name refl;
+  slack = refl;
+  closed = refl;
+  draws = refl;
+  behind = refl;
+}
+
+bound_spelled : (words : List (List ℕ)) → is_bound words ≡ true → Spells (pair_line words) words
+unfolding is_bound
 bound_spelled words bound =
     let name : is_name (word_at words 1) ≡ true = grind (arith, common_steps) in
     let two : length words ≡ 2 = grind (arith, common_steps) in
-    record {
-      is = words_here 2 0 words (omega (arith, two)) ∙ ap (λ ws. words_from 0 words 2 ++ ws) (drop_all 2 words (omega (arith, two)));
-      files = rw name refl;
-      slack = refl;
-      closed = refl;
-      draws = refl;
-      behind = refl;
-    }
+    pair_spelled words two name
 
 pub bound_is_line : (words : List (List ℕ)) → is_bound words ≡ true → (line : Line) × Spells line words
-bound_is_line words is = (bound_line words, bound_spelled words is)
+bound_is_line words is = (pair_line words, bound_spelled words is)
 
 pub bound_found : (words : List (List ℕ)) (found : Found) → is_bound words ≡ true → ((line : Line) → Spells line words → Finds line found)
     → Bounds (word_at (plain_of found) 0) ≡ bound_says words
 unfolding bound_says word_at
 bound_found words found bound finds =
-    let f = finds (bound_line words) (bound_spelled words bound) in
+    let f = finds (pair_line words) (bound_spelled words bound) in
     λ i. Bounds (word_at (f.plain i) 0)
+
+trial_number : (words : List (List ℕ)) → is_trial words ≡ true → is_number (word_at words 1) ≡ true
+unfolding is_trial
+trial_number words trial = grind (arith, common_steps)
+
+trial_spelled : (words : List (List ℕ)) → is_trial words ≡ true → Spells (pair_line words) words
+unfolding is_trial
+trial_spelled words trial =
+    let two : length words ≡ 2 = grind (arith, common_steps) in
+    pair_spelled words two (digits_named (word_at words 1) (trial_number words trial))
+
+pub trial_is_line : (words : List (List ℕ)) → is_trial words ≡ true → (line : Line) × Spells line words
+trial_is_line words is = (pair_line words, trial_spelled words is)
+
+-- the plain word that is found is the number
+pub trial_plain : (words : List (List ℕ)) (found : Found) → is_trial words ≡ true → ((line : Line) → Spells line words → Finds line found)
+    → is_number (word_at (plain_of found) 0) ≡ true
+unfolding word_at
+trial_plain words found trial finds =
+    let f = finds (pair_line words) (trial_spelled words trial) in
+    ap (λ ws. is_number (word_at ws 0)) f.plain ∙ trial_number words trial
+
+pub trial_found : (words : List (List ℕ)) (found : Found) → is_trial words ≡ true → ((line : Line) → Spells line words → Finds line found)
+    → Trials (worth (word_at (plain_of found) 0)) ≡ trial_says words
+unfolding trial_says word_at
+trial_found words found trial finds =
+    let f = finds (pair_line words) (trial_spelled words trial) in
+    ap (λ ws. Trials (worth (word_at ws 0))) f.plain
 
 -- ---- solve
 

@@ -12,6 +12,7 @@ pub data JobSays : Type 0 where
   Checks : (model initial changed : List ℕ) (closed : Option (List ℕ)) → JobSays
   Bounds : (model : List ℕ) → JobSays
   Solves : (model initial : List ℕ) (closed : Option (List ℕ)) (slack : ℕ) (drawing : Drawing) (lots : List LotSays) → JobSays
+  Trials : (number : ℕ) → JobSays
 
 -- the value of `--closed`, where it is given, is a file name
 abbrev pub is_closed : Option (List ℕ) → Bool
@@ -95,10 +96,19 @@ unfoldable pub solve_says : List (List ℕ) → JobSays
 solve_says words =
     Solves (word_at words 1) (word_at words 2) (closed_text words) (slack_says (slack_text words)) (drawing_says (draws_text words)) (map lot_says (lot_words words))
 
+-- the word `trial` and a number
+unfoldable pub is_trial : List (List ℕ) → Bool
+is_trial words = length words == 2 && bytes_eq (word_at words 0) (codes "trial") && is_number (word_at words 1)
+
+-- what a trial says: its number
+unfoldable pub trial_says : List (List ℕ) → JobSays
+trial_says words = Trials (worth (word_at words 1))
+
 -- what the words say, and nothing where they are no job
 unfoldable pub job_of : List (List ℕ) → Option JobSays
 job_of words =
     if is_check words then Some (check_says words)
     else if is_bound words then Some (bound_says words)
     else if is_solve words then Some (solve_says words)
+    else if is_trial words then Some (trial_says words)
     else None

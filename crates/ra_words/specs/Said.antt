@@ -4,9 +4,9 @@ use Rattle.ra_draws.specs.declared.sources.Source.{Source}
 use Rattle.ra_draws.specs.declared.sources.Source.TheVariants.{Seed, Written}
 use Rattle.ra_draws.specs.declared.sources.Lot.{Lot}
 use Rattle.ra_words.specs.declared.jobs.Job.{Job}
-use Rattle.ra_words.specs.declared.jobs.Job.TheVariants.{Check, Bound, Solve}
+use Rattle.ra_words.specs.declared.jobs.Job.TheVariants.{Check, Bound, Solve, Trial}
 use Rattle.ra_words.specs.LotTexts.{SourceSays, FromSeed, FromWords, LotSays}
-use Rattle.ra_words.specs.Jobs.{JobSays, Checks, Bounds, Solves}
+use Rattle.ra_words.specs.Jobs.{JobSays, Checks, Bounds, Solves, Trials}
 
 -- what a source says: its seed, or its words
 abbrev pub said_source : Source → SourceSays
@@ -22,3 +22,4 @@ abbrev pub said : Job → JobSays
 said (Check model initial changed closed) = Checks model initial changed closed
 said (Bound model) = Bounds model
 said (Solve model initial closed lots) = Solves model initial closed lots.slack lots.drawing (map said_lot lots.lots.items)
+said (Trial number) = Trials number

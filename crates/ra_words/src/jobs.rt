@@ -2,12 +2,12 @@ ghost use Rattle.std.specs.Prelude.{◌≡◌, ◌+◌, ◌≤◌, true, length,
 ghost use Rattle.std.specs.Str.{bytes_eq};
 ghost use Rattle.ra_words.specs.Words.{texts, word_at, is_name, has_option, value_at, behind};
 ghost use Rattle.ra_words.specs.Numbers.{is_number, worth};
-ghost use Rattle.ra_words.specs.Jobs.{job_of, is_check, check_says, is_bound, bound_says, is_solve, solve_says, is_closed, is_slack, slack_says, is_drawing, drawing_says, closed_place, draws_place, lots_place, slack_text, closed_text, draws_text, lot_words};
+ghost use Rattle.ra_words.specs.Jobs.{job_of, is_check, check_says, is_bound, bound_says, is_solve, solve_says, is_trial, trial_says, is_closed, is_slack, slack_says, is_drawing, drawing_says, closed_place, draws_place, lots_place, slack_text, closed_text, draws_text, lot_words};
 ghost use Rattle.ra_words.specs.Said.{said};
 
-use crate::line::{closed_name, drawing, lots, plain_name, slack, take_line};
+use crate::line::{closed_name, drawing, lots, plain_at, plain_name, slack, take_line};
 use crate::lots::are_lots;
-use crate::numbers::is_number;
+use crate::numbers::{is_number, number};
 use crate::words::{behind, has_option, names_file, text_at};
 use ra_base::{Name, NoMemory};
 use ra_draws::Lots;
@@ -35,6 +35,10 @@ pub enum Job {
         initial: Name,
         closed: Option<Name>,
         lots: Lots,
+    },
+    /// Lower the cost of an instance that is made from a number.
+    Trial {
+        number: u64,
     },
 }
 
@@ -72,6 +76,9 @@ pub fn read_words(alloc: Global, words: &[String]) -> Result<Job, WordsFault>
     }
     if is_solve(words) {
         return Ok(solve_job(alloc, words)?);
+    }
+    if is_trial(words) {
+        return Ok(trial_job(alloc, words)?);
     }
     Err(WordsFault::Usage)
 }
@@ -151,6 +158,27 @@ fn solve_job(alloc: Global, words: &[String]) -> Result<Job, NoMemory>
         initial,
         closed,
         lots: Lots::of(slack(&taken), drawing(&taken), lots),
+    })
+}
+
+/// Whether the words ask for a trial.
+#[tactic(auto, unfolding(crate::specs::Jobs::is_trial))]
+fn is_trial(words: &[String]) -> bool
+    ensures { result ≡ is_trial (texts words.now) }
+{
+    words.len() == 2
+        && text_at(words, 0) == "trial"
+        && is_number(text_at(words, 1).as_bytes())
+}
+
+#[tactic(auto, using(crate::proofs::JobLines::trial_is_line, crate::proofs::JobLines::trial_plain, crate::proofs::JobLines::trial_found))]
+fn trial_job(alloc: Global, words: &[String]) -> Result<Job, NoMemory>
+    requires { is_trial (texts words.now) ≡ true }
+    ensures { IfOk result (λ job. said job ≡ trial_says (texts words.now)) }
+{
+    let taken = take_line(alloc, words)?;
+    Ok(Job::Trial {
+        number: number(plain_at(&taken, 0).as_bytes()),
     })
 }
 

@@ -11,6 +11,9 @@ const JOBS: &[(&[&str], &str)] = &[
         "check a b i- : closed 1",
     ),
     (&["bound", "check"], "bound check"),
+    (&["trial", "0"], "trial 0"),
+    (&["trial", "00018446744073709551"], "trial 18446744073709551"),
+    (&["trial", "18446744073709551615"], "trial 18446744073709551615"),
     (
         &[
             "solve",
@@ -100,6 +103,7 @@ fn tell(alloc: Global, job: &Job) -> Result<String, AllocError> {
                 last.as_str()
             )
         }
+        Job::Trial { number } => format!(in alloc; "trial {}", number),
     }
 }
 

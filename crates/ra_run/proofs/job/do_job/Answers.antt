@@ -28,3 +28,9 @@ returns-in-Solve-clause-ends g c =
     (λ s. (lots, record { slack_is = refl; drawing_is = refl; lots_are = refl }, s))
     (λ s. (lots, record { slack_is = refl; drawing_is = refl; lots_are = refl }, s))
     ends)
+
+pub returns-in-Check-clause-complete : goal.returns-in-Check-clause-complete
+returns-in-Check-clause-complete g c = rw c.in-Check.is (rw c.as_ref.ensures.value at c.check_run.ensures.complete)
+
+pub returns-in-Solve-clause-complete : goal.returns-in-Solve-clause-complete
+returns-in-Solve-clause-complete g c = rw c.in-Solve.is (rw c.as_ref-in-Solve.ensures.value at c.solve_run.ensures.complete)

@@ -1,10 +1,12 @@
 use Rattle.std.proofs.Common.{◌≡◌, refl}
 use Rattle.std.specs.Io.KnownBytes.{Appends}
+use Rattle.ra_io.specs.Faults.{Rose}
 use Rattle.ra_report.specs.Pieces.{Breaks, Puts}
 use Rattle.ra_words.specs.Jobs.{job_of}
+use Rattle.ra_words.specs.Said.{said}
 use Rattle.ra_words.specs.Words.{texts}
-use Rattle.ra_run.proofs.ComesLemmas.{comes, output_went, job_comes}
-use Rattle.ra_run.proofs.RunLemmas.{ends_memory_any}
+use Rattle.ra_run.proofs.ComesLemmas.{says_comes, job_comes}
+use Rattle.ra_run.proofs.RunLemmas.{ends_memory_any, complete_memory_any}
 use Rattle.ra_run.proofs.job.run.Goals as goal
 
 pub returns-in-Err-NoMemory-clause-ends : goal.returns-in-Err-NoMemory-clause-ends
@@ -15,7 +17,11 @@ returns-in-Err-NoMemory-clause-ends g c = ends_memory_any (job_of (texts c.args.
     (c.args.out.now ≡ c.args.out.now) (c.refuse_memory.new.err ≡ c.args.err.now) c.refuse_memory.result c.refuse_memory.ensures.status c.refuse_memory.ensures.line refl
 
 pub returns-in-Ok-clause-comes : goal.returns-in-Ok-clause-comes
-returns-in-Ok-clause-comes g c = rw c.in-Ok.ensures.ok (comes c.do_job.ensures.ends (output_went _ _ _) (output_went _ _ _))
+returns-in-Ok-clause-comes g c = rw c.in-Ok.ensures.ok (says_comes (said c.in-Ok.job) (g.F.Files.held c.args.files.now) (g.F.Files.faults c.args.files.now) (g.F.Files.faults c.do_job.new.files)
+    (Appends (g.O.Sink.taken c.args.out.now) (g.O.Sink.taken c.do_job.new.out))
+    (Breaks (g.O.Sink.taken c.args.out.now) (g.O.Sink.taken c.do_job.new.out) (g.O.Sink.faults c.args.out.now) (g.O.Sink.faults c.do_job.new.out))
+    (Puts (g.E.Sink.taken c.args.err.now) (g.E.Sink.taken c.do_job.new.err) (g.E.Sink.faults c.args.err.now) (g.E.Sink.faults c.do_job.new.err))
+    (c.do_job.new.out ≡ c.args.out.now) (c.do_job.new.err ≡ c.args.err.now) c.do_job.result c.do_job.ensures.ends)
 
 pub returns-in-Err-NoMemory-clause-comes : goal.returns-in-Err-NoMemory-clause-comes
 returns-in-Err-NoMemory-clause-comes g c = job_comes (job_of (texts c.args.words.now)) (g.F.Files.held c.args.files.now) (g.F.Files.faults c.args.files.now) (g.F.Files.faults c.args.files.now)
@@ -23,3 +29,7 @@ returns-in-Err-NoMemory-clause-comes g c = job_comes (job_of (texts c.args.words
     (Breaks (g.O.Sink.taken c.args.out.now) (g.O.Sink.taken c.args.out.now) (g.O.Sink.faults c.args.out.now) (g.O.Sink.faults c.args.out.now))
     (Puts (g.E.Sink.taken c.args.err.now) (g.E.Sink.taken c.refuse_memory.new.err) (g.E.Sink.faults c.args.err.now) (g.E.Sink.faults c.refuse_memory.new.err))
     (c.args.out.now ≡ c.args.out.now) (c.refuse_memory.new.err ≡ c.args.err.now) c.refuse_memory.result (returns-in-Err-NoMemory-clause-ends g c)
+
+pub returns-in-Err-NoMemory-clause-complete : goal.returns-in-Err-NoMemory-clause-complete
+returns-in-Err-NoMemory-clause-complete g c = complete_memory_any (job_of (texts c.args.words.now)) (g.F.Files.held c.args.files.now) (g.F.Files.faults c.args.files.now) (g.F.Files.faults c.args.files.now)
+    (Rose (g.O.Sink.faults c.args.out.now) (g.O.Sink.faults c.args.out.now)) c.refuse_memory.result c.refuse_memory.ensures.status

@@ -1,0 +1,51 @@
+ghost use Rattle.std.specs.Prelude.{◌≡◌, ◌≤◌, cond, length};
+ghost use Rattle.ra_report.specs.Gathering.{Adds};
+ghost use Rattle.ra_report.specs.Summaries.{is_done, done_count, summary_lines};
+
+use crate::gathered::Gathered;
+use crate::solved::{add_number, add_outcome};
+use ra_base::Parts;
+use ra_io::Sink;
+use ra_journal::Entry;
+use ra_moves::Verdict;
+
+/// Adds the summary of a run: the parts, the total of the bound, a place, and how many entries are done and refused.
+pub(crate) fn add_summary<O: Sink>(
+    text: &mut Gathered<'_, O>,
+    parts: &Parts,
+    bound_total: u128,
+    best_at: u64,
+    entries: &[Entry],
+)
+    ensures { Adds O.taken O.faults text.old text.new
+        (summary_lines parts.now bound_total best_at entries.now) }
+{
+    let done = count_done(entries);
+    let refused = entries.len() as u64 - done;
+    add_outcome(text, parts, bound_total, best_at);
+    add_number(text, "done", done as u128);
+    add_number(text, "refused", refused as u128)
+}
+
+/// How many entries are done.
+fn count_done(entries: &[Entry]) -> u64
+    ensures value { result ≡ done_count entries.now }
+    ensures within { result ≤ length entries.now }
+{
+    let mut done = 0;
+    for entry in entries {
+        done += one_if_done(&entry.verdict);
+    }
+    done
+}
+
+/// 1 where a verdict is done, else 0.
+fn one_if_done(verdict: &Verdict) -> u64
+    ensures value { result ≡ cond (is_done verdict.now) 1 0 }
+    ensures one { result ≤ 1 }
+{
+    match verdict {
+        Verdict::Done { .. } => 1,
+        Verdict::Refused { .. } => 0,
+    }
+}

@@ -1,0 +1,155 @@
+-- What a trial reads is the instance of its number and its start; and how it ends.
+use Rattle.std.proofs.Common.{◌≡◌, ◌≢◌, ◌⊎◌, ℕ, zero, suc, ◌*◌, ◌<◌, ◌≤◌, sum_by, List, [], ◌∷◌, length, codes, Option, Some, None, IfSome, inl, inr, refl, sym, ◌∙◌, subst, ap, arith, Result, Ok, Err, OnOk, IfErr}
+use Rattle.ra_base.specs.Listed.{Listed}
+use Rattle.ra_base.specs.declared.ids.Machine.{Machine}
+use Rattle.ra_model.specs.Assignments.{IsAssignment}
+use Rattle.ra_draws.specs.declared.budgets.Lots.{Lots}
+use Rattle.ra_draws.specs.declared.sources.Lot.{Lot}
+use Rattle.ra_draws.specs.declared.sources.Source.TheVariants.{Seed, Written}
+use Rattle.ra_draws.specs.Lots.{IsLots, lot_at}
+use Rattle.ra_journal.specs.Entries.{worker_count}
+use Rattle.ra_journal.specs.Solo.{solo}
+use Rattle.ra_journal.proofs.SoloLemmas.{one_lot}
+use Rattle.ra_model.specs.declared.raw.Tables.{Tables}
+use Rattle.ra_model.specs.Broken.{first_broken}
+use Rattle.ra_model.proofs.BrokenLemmas.{unbroken_from_feasible}
+use Rattle.ra_model_read.specs.ModelText.{IsModel}
+use Rattle.ra_assign.specs.Lists.{IsAssignmentOf}
+use Rattle.ra_prepared.specs.declared.solved.Solved.{Solved as Run}
+use Rattle.ra_prepared.specs.Runs.{IsRun}
+use Rattle.ra_report.specs.Summaries.{summary_text, summary_of}
+use Rattle.ra_trial.specs.Instances.{IsTrial, start_list}
+use Rattle.ra_trial.specs.Numbers.{trial_word}
+use Rattle.ra_trial.specs.Trials.{model_text, start_text}
+use Rattle.ra_trial.proofs.TextMeans.{text_is_trial}
+use Rattle.ra_trial.proofs.StartText.{start_text_is_start}
+use Rattle.ra_trial.proofs.StartFeasible.{start_fits, start_feasible}
+use Rattle.ra_trial.proofs.TrialNumbers.{has_numbers}
+use Rattle.ra_run.specs.declared.refusals.Refusal.TheVariants.{Write, Memory}
+use Rattle.ra_run.specs.declared.status.Status.{Status}
+use Rattle.ra_run.specs.declared.status.Status.TheVariants.{Done, WriteFault, NoMemory}
+use Rattle.ra_run.specs.declared.trial.TrialFault.{TrialFault}
+use Rattle.ra_run.specs.declared.trial.TrialFault.TheVariants as fault
+use Rattle.ra_run.specs.Files.{Held, Faults, Names, InstanceIs, ListIs, solve_names}
+use Rattle.ra_run.specs.Lines.{refusal_line}
+use Rattle.ra_run.specs.Solving.{IsStart}
+use Rattle.ra_run.specs.Trials.{HoldsTrial, IsTrialStart, IsTrialLots, IsSummarized, TrialPrinted, TrialSays, TrialEnds}
+
+-- what is told is so of what is told
+told : (told : Option (List ℕ)) (bytes : List ℕ) (P : List ℕ → Type 0) → told ≡ Some bytes → IfSome told P → P bytes
+told None bytes P is p = cc
+told (Some other) bytes P is p = let same : other ≡ bytes = cc in subst P same p
+
+-- the instance that is read is that of the number
+instance_read : (number : ℕ) (held : Held) (i : Tables) → HoldsTrial number held → InstanceIs held (codes "model") None i → IsTrial (trial_word number) i
+unfolding model_text
+instance_read number held i holds instance =
+    let is : IsModel (model_text number) instance.model = told (held (codes "model")) (model_text number) (λ bytes. IsModel bytes instance.model) holds.model instance.read in
+    subst (IsTrial (trial_word number)) (sym instance.closed) ((text_is_trial (trial_word number) instance.model).0 is)
+
+-- the list that is read is the start
+list_read : (number : ℕ) (held : Held) (i : Tables) (a0 : List Machine) → HoldsTrial number held → IsTrial (trial_word number) i → ListIs held (codes "start") i a0 → a0 ≡ start_list
+list_read number held i a0 holds is list =
+    (start_text_is_start (trial_word number) i is a0).0 (told (held (codes "start")) start_text (λ bytes. IsAssignmentOf bytes i a0) holds.start list)
+
+pub start_read : (number : ℕ) (held : Held) (model start : List ℕ) (i : Tables) (a0 : List Machine) → HoldsTrial number held → model ≡ codes "model" → start ≡ codes "start" → IsStart held (solve_names model None start) i a0 → IsTrialStart number i a0
+start_read number held model start i a0 holds model_is start_is read =
+    let instance = subst (λ (name : List ℕ). InstanceIs held name None i) model_is read.accepts.instance in
+    let list = subst (λ (name : List ℕ). ListIs held name i a0) start_is read.accepts.initial in
+    let is = instance_read number held i holds instance in
+    record { trial = is; initial = list_read number held i a0 holds is list }
+
+-- the start fits its instance and breaks nothing
+pub start_fitting : (number : ℕ) (i : Tables) (a0 : List Machine) → IsTrialStart number i a0 → IsAssignment i a0
+start_fitting number i a0 start =
+    subst (λ (a : List Machine). IsAssignment i a) (sym start.initial) (start_fits (trial_word number) i (has_numbers (trial_word number) i start.trial))
+
+pub start_good : (number : ℕ) (i : Tables) (a0 : List Machine) → IsTrialStart number i a0 → first_broken i a0 a0 ≡ None
+start_good number i a0 start =
+    subst (λ (a : List Machine). first_broken i a a ≡ None) (sym start.initial) (unbroken_from_feasible i start_list start_list (start_feasible (trial_word number) i (has_numbers (trial_word number) i start.trial)))
+
+-- the lot of a number
+one_fits : (number w : ℕ) → w < 1 → (words : Listed ℕ) → (lot_at (record { source = Seed number; budget = 2000 } ∷ []) w).source ≡ Written words → length words.items ≡ 8 * (lot_at (record { source = Seed number; budget = 2000 } ∷ []) w).budget
+unfolding lot_at
+one_fits number zero within words written = absurd (let e : Seed number ≡ Written words = written in cc)
+one_fits number (suc w) within words written = absurd (omega arith)
+
+pub trial_lots_fit : (number : ℕ) (lots : List Lot) → lots ≡ record { source = Seed number; budget = 2000 } ∷ [] → IsLots lots
+trial_lots_fit number lots is =
+    let one : List Lot = record { source = Seed number; budget = 2000 } ∷ [] in
+    let long : length one ≡ 1 = refl in
+    let total : sum_by (λ (lot : Lot). lot.budget) one ≡ 2000 = refl in
+    let fit : IsLots one = record {
+      some = omega arith;
+      few = omega arith;
+      together = omega arith;
+      each = λ w within. record { eight_each = one_fits number w (omega arith) };
+    } in
+    subst (λ (ls : List Lot). IsLots ls) (sym is) fit
+
+pub one_worker : (number : ℕ) (l : Lots) → IsTrialLots number l → worker_count l ≡ 1
+unfolding worker_count
+one_worker number l is = ap length is.lots
+
+-- the journal of a run of one lot is that of the worker alone
+pub summarized : (i : Tables) (a0 : List Machine) (l : Lots) (run : Run) (way : List ℕ → Type 0) → IsRun i a0 l run → worker_count l ≡ 1 → way (summary_of run.journal) → IsSummarized i a0 l way
+unfolding summary_of
+summarized i a0 l run way is one text =
+    let alone : run.journal.book.entries.items ≡ solo i a0 l = (one_lot i a0 l one).no_other run.journal.book.entries.items (record { legal = is.legal; whole = is.whole }) in
+    rw (is.instance, is.initial, alone) at text
+
+pub trial_printed : (number : ℕ) (i : Tables) (a0 : List Machine) (l : Lots) (way : List ℕ → Type 0) → IsTrialStart number i a0 → IsTrialLots number l → IsSummarized i a0 l way → TrialPrinted number way
+trial_printed number i a0 l way start lots text = record {
+  tables = i;
+  lots = l;
+  trial = start.trial;
+  lots_are = lots;
+  text = subst (λ (a : List Machine). IsSummarized i a l way) start.initial text;
+}
+
+pub trial_says : (number : ℕ) (i : Tables) (a0 : List Machine) (l : Lots) (way : List ℕ → Type 0) → IsTrialStart number i a0 → IsTrialLots number l → (why : TrialFault) → TrialSays (IsSummarized i a0 l way) why → TrialSays (TrialPrinted number way) why
+trial_says number i a0 l way start lots fault.Write says = trial_printed number i a0 l way start lots says
+trial_says number i a0 l way start lots fault.Memory says = tt
+
+pub ok_then : (result : Result (Unit {0}) TrialFault) (known follows : Type 0) → (known → follows) → OnOk result known → OnOk result follows
+ok_then (Ok x) known follows step is = step is
+ok_then (Err e) known follows step is = tt
+
+pub err_then : (result : Result (Unit {0}) TrialFault) (known follows : TrialFault → Type 0) → ((why : TrialFault) → known why → follows why) → IfErr result known → IfErr result follows
+err_then (Ok x) known follows step is = tt
+err_then (Err e) known follows step is = step e is
+
+-- ---- how it ends
+
+pub trial_done : (number : ℕ) (prints breaks tells : List ℕ → Type 0) (out_same err_same : Type 0) (status : Status) → status ≡ Done → TrialPrinted number prints → err_same → TrialEnds number prints breaks tells out_same err_same status
+trial_done number prints breaks tells out_same err_same status is printed quiet = record {
+  only = inl is;
+  printed = λ e. printed;
+  quiet = λ e. quiet;
+  written = λ e. absurd (let both : Done ≡ WriteFault = sym is ∙ e in cc);
+  write_line = λ e. absurd (let both : Done ≡ WriteFault = sym is ∙ e in cc);
+  untouched = λ e. absurd (let both : Done ≡ NoMemory = sym is ∙ e in cc);
+  memory_line = λ e. absurd (let both : Done ≡ NoMemory = sym is ∙ e in cc);
+}
+
+pub trial_written : (number : ℕ) (prints breaks tells : List ℕ → Type 0) (out_same err_same : Type 0) (status : Status) → status ≡ WriteFault → TrialPrinted number breaks → ((names : Names) → tells (refusal_line names Write)) → TrialEnds number prints breaks tells out_same err_same status
+trial_written number prints breaks tells out_same err_same status is written line = record {
+  only = inr (inl is);
+  printed = λ e. absurd (let both : WriteFault ≡ Done = sym is ∙ e in cc);
+  quiet = λ e. absurd (let both : WriteFault ≡ Done = sym is ∙ e in cc);
+  written = λ e. written;
+  write_line = λ e. line;
+  untouched = λ e. absurd (let both : WriteFault ≡ NoMemory = sym is ∙ e in cc);
+  memory_line = λ e. absurd (let both : WriteFault ≡ NoMemory = sym is ∙ e in cc);
+}
+
+pub trial_memory : (number : ℕ) (prints breaks tells : List ℕ → Type 0) (out_same err_same : Type 0) (status : Status) → status ≡ NoMemory → ((names : Names) → tells (refusal_line names Memory)) → out_same → TrialEnds number prints breaks tells out_same err_same status
+trial_memory number prints breaks tells out_same err_same status is line untouched = record {
+  only = inr (inr is);
+  printed = λ e. absurd (let both : NoMemory ≡ Done = sym is ∙ e in cc);
+  quiet = λ e. absurd (let both : NoMemory ≡ Done = sym is ∙ e in cc);
+  written = λ e. absurd (let both : NoMemory ≡ WriteFault = sym is ∙ e in cc);
+  write_line = λ e. absurd (let both : NoMemory ≡ WriteFault = sym is ∙ e in cc);
+  untouched = λ e. untouched;
+  memory_line = λ e. line;
+}

@@ -1,0 +1,64 @@
+-- How `trial` ends. It has no files of the caller: it reads the texts that it makes itself.
+use Rattle.std.specs.Prelude.{◌≡◌, ◌⊎◌, ℕ, List, [], ◌∷◌, codes, Some}
+use Rattle.ra_base.specs.declared.causes.Drawing.TheVariants.{Two}
+use Rattle.ra_base.specs.declared.ids.Machine.{Machine}
+use Rattle.ra_draws.specs.declared.budgets.Lots.{Lots}
+use Rattle.ra_draws.specs.declared.sources.Source.TheVariants.{Seed}
+use Rattle.ra_journal.specs.Solo.{solo}
+use Rattle.ra_model.specs.declared.raw.Tables.{Tables}
+use Rattle.ra_report.specs.Summaries.{summary_text}
+use Rattle.ra_trial.specs.Instances.{IsTrial, start_list}
+use Rattle.ra_trial.specs.Numbers.{trial_word}
+use Rattle.ra_trial.specs.Trials.{model_text, start_text}
+use Rattle.ra_run.specs.declared.refusals.Refusal.TheVariants as refusal
+use Rattle.ra_run.specs.declared.status.Status.{Status}
+use Rattle.ra_run.specs.declared.status.Status.TheVariants.{Done, WriteFault, NoMemory}
+use Rattle.ra_run.specs.declared.trial.TrialFault.{TrialFault}
+use Rattle.ra_run.specs.declared.trial.TrialFault.TheVariants.{Write, Memory}
+use Rattle.ra_run.specs.Files.{Held, Names}
+use Rattle.ra_run.specs.Lines.{refusal_line}
+
+-- the files `model` and `start` hold the two texts of a number
+pub record HoldsTrial (number : ℕ) (held : Held) : Type 0 where
+  pub model : held (codes "model") ≡ Some (model_text number)
+  pub start : held (codes "start") ≡ Some start_text
+
+-- these are the instance of a number and its start
+pub record IsTrialStart (number : ℕ) (i : Tables) (a0 : List Machine) : Type 0 where
+  pub trial : IsTrial (trial_word number) i
+  pub initial : a0 ≡ start_list
+
+-- the one lot of a number: its words are those of the generator that the number seeds, and it makes 2,000 proposals; the
+-- slack is 1,000, and the drawing is the second
+pub record IsTrialLots (number : ℕ) (l : Lots) : Type 0 where
+  pub slack : l.slack ≡ 1000
+  pub drawing : l.drawing ≡ Two
+  pub lots : l.lots.items ≡ record { source = Seed number; budget = 2000 } ∷ []
+
+-- the summary of the run of one worker alone went this way
+abbrev pub IsSummarized : Tables → List Machine → Lots → (List ℕ → Type 0) → Type 0
+IsSummarized i a0 l way = way (summary_text i a0 (solo i a0 l))
+
+-- `trial`: so did that of the trial of a number, from its instance, its start and its lot
+pub record TrialPrinted (number : ℕ) (way : List ℕ → Type 0) : Type 0 where
+  pub tables : Tables
+  pub lots : Lots
+  pub trial : IsTrial (trial_word number) tables
+  pub lots_are : IsTrialLots number lots
+  pub text : IsSummarized tables start_list lots way
+
+-- what a refusal of a trial says, where a part of its summary was written
+abbrev pub TrialSays : Type 0 → TrialFault → Type 0
+TrialSays written Write = written
+TrialSays written Memory = Unit {0}
+
+-- a trial ends: it is done, its summary was printed and the error sink took nothing; or writing failed behind a part of
+-- the summary; or memory was refused and the output took nothing. Its refusal is told, and there is no other one
+pub record TrialEnds (number : ℕ) (prints breaks tells : List ℕ → Type 0) (out_same err_same : Type 0) (status : Status) : Type 0 where
+  pub only : (status ≡ Done) ⊎ ((status ≡ WriteFault) ⊎ (status ≡ NoMemory))
+  pub printed : status ≡ Done → TrialPrinted number prints
+  pub quiet : status ≡ Done → err_same
+  pub written : status ≡ WriteFault → TrialPrinted number breaks
+  pub write_line : status ≡ WriteFault → (names : Names) → tells (refusal_line names refusal.Write)
+  pub untouched : status ≡ NoMemory → out_same
+  pub memory_line : status ≡ NoMemory → (names : Names) → tells (refusal_line names refusal.Memory)

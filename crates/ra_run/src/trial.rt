@@ -1,0 +1,245 @@
+ghost use Rattle.std.specs.Prelude.{◌≡◌, ◌≢◌, ◌⊎◌, ◌≤◌, None, OnOk, OnErr, IfOk, IfErr};
+ghost use Rattle.std.specs.Io.KnownBytes.{Appends};
+ghost use Rattle.ra_io.specs.Faults.{Rose};
+ghost use Rattle.ra_check.specs.Made.{IsMadeFor};
+ghost use Rattle.ra_journal.specs.Entries.{worker_count};
+ghost use Rattle.ra_model.specs.Assignments.{IsAssignment};
+ghost use Rattle.ra_model.specs.Broken.{first_broken};
+ghost use Rattle.ra_model.specs.Costs.{parts_of};
+ghost use Rattle.ra_topology.specs.Fits.{IsTopologyOf};
+ghost use Rattle.ra_report.specs.JournalTexts.{best_state};
+ghost use Rattle.ra_report.specs.Pieces.{Breaks, Puts};
+ghost use Rattle.ra_report.specs.Summaries.{summary_of};
+ghost use Rattle.ra_run.specs.Files.{Names};
+ghost use Rattle.ra_run.specs.Lines.{refusal_line};
+ghost use Rattle.ra_run.specs.Trials.{HoldsTrial, IsTrialStart, IsTrialLots, IsSummarized, TrialPrinted, TrialSays, TrialEnds};
+
+use crate::refusals::Refusal;
+use crate::refusing::{put_line, refuse_memory};
+use crate::solve::{Start, read_start};
+use crate::status::Status;
+use ra_base::{Assignment, Drawing, Name, NoMemory, Parts};
+use ra_bounds::bound;
+use ra_check::{Scratch, parts};
+use ra_draws::{Lot, Lots, Source};
+use ra_io::{Files, Gate, Sink, SteadyFiles};
+use ra_model::Instance;
+use ra_prepared::{Prepared, Solved as Run};
+use ra_report::{Fault, WriteFault, write_summary};
+use ra_topology::Topology;
+use ra_trial::trial_text;
+use std::alloc::Global;
+use std::marker::Sync;
+use std::sync::Wait;
+use std::thread::Threads;
+
+/// Why a trial was not done.
+#[derive(Clone, Copy)]
+pub(crate) enum TrialFault {
+    /// Writing the summary failed.
+    Write,
+    /// Memory was refused.
+    Memory,
+}
+
+impl From<NoMemory> for TrialFault {
+    ghost use Rattle.std.specs.Prelude.{◌≡◌};
+    ghost use Rattle.ra_run.specs.declared.trial.TrialFault.TheVariants.{Memory};
+
+    ghost from_gives = { λ _ e. e ≡ Memory };
+
+    fn from(_: NoMemory) -> TrialFault {
+        TrialFault::Memory
+    }
+}
+
+/// Makes an instance and a start from a number, improves the start by one worker, and prints the
+/// summary of its journal, or puts one line that says why not. Only writing and want of memory can
+/// refuse it.
+pub fn trial_run<R: Threads + Wait + Sync, O: Sink, E: Sink, G: Gate>(
+    rt: &R,
+    alloc: Global,
+    number: u64,
+    out: &mut O,
+    err: &mut E,
+    gate: &G,
+) -> Status
+    ensures ends { TrialEnds number (Appends (O.taken out.old) (O.taken out.new))
+        (Breaks (O.taken out.old) (O.taken out.new) (O.faults out.old) (O.faults out.new))
+        (Puts (E.taken err.old) (E.taken err.new) (E.faults err.old) (E.faults err.new))
+        (out.new ≡ out.old) (err.new ≡ err.old) result }
+
+    // Where no fault of the output was counted, the summary is printed.
+    ensures complete { (Rose (O.faults out.old) (O.faults out.new) → ⊥)
+        → (result ≡ Status.Done) ⊎ (result ≡ Status.NoMemory) }
+    ensures out_never_falls { O.faults out.old ≤ O.faults out.new }
+    ensures err_never_falls { E.faults err.old ≤ E.faults err.new }
+{
+    match trial(rt, alloc, number, out, gate) {
+        Ok(()) => Status::Done,
+        Err(TrialFault::Write) => refuse_write(err),
+        Err(TrialFault::Memory) => refuse_memory(err),
+    }
+}
+
+/// Puts the line of an output that could not be written.
+#[tactic(auto, unfolding(ra_report::specs::FaultTexts::fault_text, crate::specs::Lines::refusal_line))]
+fn refuse_write<E: Sink>(err: &mut E) -> Status
+    ensures status { result ≡ Status.WriteFault }
+    ensures line { (names : Names) → Puts (E.taken err.old) (E.taken err.new) (E.faults err.old)
+        (E.faults err.new) (refusal_line names Refusal.Write) }
+    ensures never_falls { E.faults err.old ≤ E.faults err.new }
+{
+    put_line(err, &Fault::Write);
+    Status::WriteFault
+}
+
+/// A trial but for the line of its refusal.
+fn trial<R: Threads + Wait + Sync, O: Sink, G: Gate>(
+    rt: &R,
+    alloc: Global,
+    number: u64,
+    out: &mut O,
+    gate: &G,
+) -> Result<(), TrialFault>
+    ensures printed { OnOk result (TrialPrinted number
+        (Appends (O.taken out.old) (O.taken out.new))) }
+    ensures refused { IfErr result (TrialSays (TrialPrinted number
+        (Breaks (O.taken out.old) (O.taken out.new) (O.faults out.old) (O.faults out.new)))) }
+    ensures untouched { IfErr result (λ fault. fault ≢ TrialFault.Write → out.new ≡ out.old) }
+    ensures never_falls { O.faults out.old ≤ O.faults out.new }
+{
+    let lots = trial_lots(alloc, number)?;
+    let start = trial_start(alloc, number)?;
+    let ended = trial_from(rt, alloc, &start.inst, &start.initial, &lots, out, gate);
+    drop(start);
+    ended
+}
+
+/// The one lot of a number, with its slack.
+fn trial_lots(alloc: Global, number: u64) -> Result<Lots, NoMemory>
+    ensures { IfOk result (IsTrialLots number) }
+{
+    let mut lots = Vec::new(alloc);
+    lots.push(Lot {
+        source: Source::Seed(number),
+        budget: 2000,
+    })?;
+    Ok(Lots::of(1000, Drawing::Two, lots))
+}
+
+/// The instance of a number and its start. Both texts are accepted, so only memory can be refused.
+fn trial_start(alloc: Global, number: u64) -> Result<Start, NoMemory>
+    ensures { IfOk result (λ s. IsTrialStart number s.inst.tables s.initial.items) }
+{
+    let mut files = trial_files(alloc, number)?;
+    let model = Name::make(alloc, "model")?;
+    let initial = Name::make(alloc, "start")?;
+    match read_start(alloc, &model, &initial, None, &mut files) {
+        Ok(start) => Ok(start),
+        Err(_) => Err(NoMemory),
+    }
+}
+
+/// The two texts of a number as files.
+fn trial_files(alloc: Global, number: u64) -> Result<SteadyFiles, NoMemory>
+    ensures { IfOk result (λ files. HoldsTrial number (⟦<SteadyFiles as Files>⟧.held files)) }
+{
+    let text = trial_text(alloc, number)?;
+    let mut files = SteadyFiles::make(alloc)?;
+    files.add(alloc, "model", text.model.as_slice())?;
+    files.add(alloc, "start", text.start.as_slice())?;
+    Ok(files)
+}
+
+/// The run of one worker from a feasible list, and its summary.
+fn trial_from<R: Threads + Wait + Sync, O: Sink, G: Gate>(
+    rt: &R,
+    alloc: Global,
+    inst: &Instance,
+    initial: &Assignment,
+    lots: &Lots,
+    out: &mut O,
+    gate: &G,
+) -> Result<(), TrialFault>
+    requires fits { IsAssignment inst.now.tables initial.now.items }
+    requires unbroken { first_broken inst.now.tables initial.now.items initial.now.items ≡ None }
+    requires one { worker_count lots.now ≡ 1 }
+    ensures printed { OnOk result (IsSummarized inst.now.tables initial.now.items lots.now
+        (Appends (O.taken out.old) (O.taken out.new))) }
+    ensures refused { IfErr result (TrialSays (IsSummarized inst.now.tables initial.now.items lots.now
+        (Breaks (O.taken out.old) (O.taken out.new) (O.faults out.old) (O.faults out.new)))) }
+    ensures untouched { IfErr result (λ fault. fault ≢ TrialFault.Write → out.new ≡ out.old) }
+    ensures never_falls { O.faults out.old ≤ O.faults out.new }
+{
+    let mut scratch = Scratch::make(alloc, inst)?;
+    let topo = Topology::make(alloc, inst)?;
+    let ended = trial_over(
+        rt,
+        alloc,
+        inst,
+        &topo,
+        initial,
+        lots,
+        &mut scratch,
+        out,
+        gate,
+    );
+    drop(topo);
+    ended
+}
+
+/// The same over the topology of the instance.
+fn trial_over<R: Threads + Wait + Sync, O: Sink, G: Gate>(
+    rt: &R,
+    alloc: Global,
+    inst: &Instance,
+    topo: &Topology,
+    initial: &Assignment,
+    lots: &Lots,
+    scratch: &mut Scratch,
+    out: &mut O,
+    gate: &G,
+) -> Result<(), TrialFault>
+    requires fits { IsAssignment inst.now.tables initial.now.items }
+    requires unbroken { first_broken inst.now.tables initial.now.items initial.now.items ≡ None }
+    requires one { worker_count lots.now ≡ 1 }
+    requires topology { IsTopologyOf topo.now inst.now.tables }
+    requires made { IsMadeFor scratch.old inst.now.tables }
+    ensures printed { OnOk result (IsSummarized inst.now.tables initial.now.items lots.now
+        (Appends (O.taken out.old) (O.taken out.new))) }
+    ensures refused { IfErr result (TrialSays (IsSummarized inst.now.tables initial.now.items lots.now
+        (Breaks (O.taken out.old) (O.taken out.new) (O.faults out.old) (O.faults out.new)))) }
+    ensures untouched { IfErr result (λ fault. fault ≢ TrialFault.Write → out.new ≡ out.old) }
+    ensures never_falls { O.faults out.old ≤ O.faults out.new }
+{
+    let start = parts(inst, initial, initial, scratch);
+    let prepared = Prepared::make(alloc, inst, topo, initial, start, lots)?;
+    let run = prepared.solve(rt, gate);
+    let ended = summarize(out, inst, &run.parts(), &run);
+    drop(run);
+    match ended {
+        Ok(()) => Ok(()),
+        Err(_) => Err(TrialFault::Write),
+    }
+}
+
+/// Writes the summary of a run, whose best state has these parts.
+fn summarize<O: Sink>(
+    out: &mut O,
+    inst: &Instance,
+    best: &Parts,
+    run: &Run<'_>,
+) -> Result<(), WriteFault>
+    requires parts { best.now ≡ parts_of run.now.journal.inst.now.tables
+        run.now.journal.a0.now.items run.now.world.kept.assignment.items }
+    requires instance { run.now.journal.inst.now.tables ≡ inst.now.tables }
+    requires best { run.now.world.kept.assignment.items ≡ best_state run.now.journal }
+    ensures whole { OnOk result (Appends (O.taken out.old) (O.taken out.new)
+        (summary_of run.now.journal)) }
+    ensures part { OnErr result (Breaks (O.taken out.old) (O.taken out.new) (O.faults out.old)
+        (O.faults out.new) (summary_of run.now.journal)) }
+    ensures never_falls { O.faults out.old ≤ O.faults out.new }
+{
+    write_summary(out, best, &bound(inst), run.journal())
+}
