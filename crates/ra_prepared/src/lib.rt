@@ -1,5 +1,4 @@
-//! A run of 1 to 16 workers, from the memory that it needs to its best state. Today its workers are played in turn on the
-//! calling thread.
+//! A run of 1 to 16 workers on threads, from the memory that it needs to its best state.
 #![tactic(auto)]
 
 mod prepared;

@@ -5,17 +5,18 @@ ghost use Rattle.ra_model.specs.Costs.{parts_of};
 ghost use Rattle.ra_topology.specs.Fits.{IsTopologyOf};
 ghost use Rattle.ra_journal.specs.Best.{best_of};
 ghost use Rattle.ra_journal.specs.States.{state};
-ghost use Rattle.ra_prepared.specs.Ready.{IsOver, IsOf, AreReady};
+ghost use Rattle.ra_prepared.specs.Ready.{IsOver, IsFor, IsAtStart};
 ghost use Rattle.ra_prepared.specs.Runs.{IsRun};
 
 use crate::solved::Solved;
 use ra_base::{Assignment, NoMemory, Parts, Steps};
+use ra_crew::Crew;
 use ra_draws::Lots;
 use ra_io::Gate;
-use ra_journal::{Batch, Journal};
+use ra_journal::Journal;
 use ra_model::Instance;
 use ra_topology::Topology;
-use ra_worker::{Replica, make_replicas, replay, round_robin};
+use ra_worker::replay;
 use ra_world::World;
 use std::alloc::Global;
 use std::marker::{Brand, Sync};
@@ -23,19 +24,17 @@ use std::sync::Wait;
 use std::sync::ledger::{Blank, Ledger};
 use std::thread::Threads;
 
-/// All that a run of 1 to 16 workers needs: the journal, a replica for each worker, a batch, and a world for the best
-/// state. Only `make` takes memory.
+/// All that a run of 1 to 16 workers needs: the workers with the journal that they share, and a world for the best state.
+/// Only `make` takes memory.
 #[derive(Drop)]
 pub struct Prepared<'a> {
     inst: &'a Instance,
     a0: &'a Assignment,
     lots: &'a Lots,
-    journal: Journal<'a>,
-    replicas: Vec<Replica<'a>>,
-    batch: Batch,
+    crew: Crew<'a>,
     world: World<'a>,
-    pub ghost opened: { IsOf inst.now a0.now lots.now journal },
-    pub ghost ready: { AreReady journal replicas.items world },
+    pub ghost opened: { IsFor inst.now a0.now lots.now crew },
+    pub ghost ready: { IsAtStart inst.now a0.now world },
 }
 
 impl<'a> Prepared<'a> {
@@ -57,35 +56,27 @@ impl<'a> Prepared<'a> {
         ensures initial { IfOk result (λ prepared. prepared.a0.now ≡ a0.now) }
         ensures lots { IfOk result (λ prepared. prepared.lots.now ≡ lots.now) }
     {
-        let journal = Journal::make(alloc, inst, topo, a0, start, lots)?;
-        let replicas = make_replicas(alloc, inst, topo, a0, start, lots)?;
-        let batch = Batch::make(alloc)?;
+        let crew = Crew::make(alloc, inst, topo, a0, start, lots)?;
         let world = World::make(alloc, inst, topo, a0, start)?;
         Ok(Prepared {
             inst,
             a0,
             lots,
-            journal,
-            replicas,
-            batch,
+            crew,
             world,
         })
     }
 
-    /// Makes all proposals of all workers, and finds the first of the states of least cost. Today the workers take turns
-    /// on the calling thread: the runtime and the gate are those of threads.
-    pub fn solve<R: Threads + Wait + Sync, G: Gate>(self, _rt: &R, _gate: &G) -> Solved<'a>
+    /// Makes all proposals of all workers, each worker in a thread of its own, and finds the first of the states of least
+    /// cost. Each worker passes the gate between making a plan and committing it. It may wait.
+    pub fn solve<R: Threads + Wait + Sync, G: Gate>(self, rt: &R, gate: &G) -> Solved<'a>
         ensures { IsRun self.entry.inst.now.tables self.entry.a0.now.items
             self.entry.lots.now result }
     {
         let Prepared {
-            mut journal,
-            mut replicas,
-            mut batch,
-            mut world,
-            ..
+            crew, mut world, ..
         } = self;
-        round_robin(&mut journal, &mut replicas, &mut batch);
+        let journal = crew.run(rt, gate);
         bring_to_best::<Brand>(&journal, &mut world, Blank::new(1));
         Solved { journal, world }
     }
