@@ -138,14 +138,16 @@ own_past s w shown work behind past =
     let h = seen_by w.pass in
     let n = w.pass.number in
     let here : w.replica.proposals.number ≡ entries_of h w.replica.place n = subst (λ v. w.replica.proposals.number ≡ entries_of h w.replica.place v) work.same work.at.number in
-    record { number = omega (
-      arith,
-      here,
-      behind.own,
-      entries_grow h (shown + 1) w.replica.place n (omega (arith, past)),
-      entries_grow h w.replica.place (length h) n work.at.place,
-      own_count h (made_by w.pass) n work.rest.own,
-    ) }
+    record {
+      number = omega (
+        arith,
+        here,
+        behind.own,
+        entries_grow h (shown + 1) w.replica.place n (omega (arith, past)),
+        entries_grow h w.replica.place (length h) n work.at.place,
+        own_count h (made_by w.pass) n work.rest.own,
+      );
+    }
 
 -- a turn to take one entry in
 pub turn_left : (s : Shared) (first w : Worker) (shown : ℕ) → IsAtWork s w → IsBehind shown w → HasRoom s 0 first → HasTurned first w → w.replica.place ≤ shown → 0 < w.pass.left

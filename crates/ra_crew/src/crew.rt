@@ -148,10 +148,7 @@ fn run_all<'a, R: Threads + Wait + Sync, G: Gate>(
 }
 
 /// The passes of all workers, in order.
-fn take_passes<'a>(
-    workers: Vec<Worker<'a>>,
-    mut passes: Vec<WorkerPass<'a>>,
-) -> Vec<WorkerPass<'a>>
+fn take_passes<'a>(workers: Vec<Worker<'a>>, mut passes: Vec<WorkerPass<'a>>) -> Vec<WorkerPass<'a>>
     requires { (passes.items ≡ []) × (length workers.items ≤ vec_capacity passes) }
     ensures { result.items ≡ map (λ w. w.pass) workers.entry.items }
 {

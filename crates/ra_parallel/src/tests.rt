@@ -166,7 +166,9 @@ fn two_workers_meet_on_a_pair_of_machines(rt: HostRuntime) {
         "w:0,0,0,0,0,0,0,0",
         "w:0,1,1,1,1,1,0,0",
     ];
-    let stays = |p| refused(Cause::Same { process: Process(p) });
+    let stays = |p| refused(Cause::Same {
+        process: Process(p),
+    });
     two_workers_meet(
         &rt,
         rt.alloc(),

@@ -74,7 +74,9 @@ impl<'a> Prepared<'a> {
             self.entry.lots.now result }
     {
         let Prepared {
-            crew, mut world, ..
+            crew,
+            mut world,
+            ..
         } = self;
         let journal = crew.run(rt, gate);
         bring_to_best::<Brand>(&journal, &mut world, Blank::new(1));

@@ -166,9 +166,7 @@ fn solve_job(alloc: Global, words: &[String]) -> Result<Job, NoMemory>
 fn is_trial(words: &[String]) -> bool
     ensures { result ≡ is_trial (texts words.now) }
 {
-    words.len() == 2
-        && text_at(words, 0) == "trial"
-        && is_number(text_at(words, 1).as_bytes())
+    words.len() == 2 && text_at(words, 0) == "trial" && is_number(text_at(words, 1).as_bytes())
 }
 
 #[tactic(auto, using(crate::proofs::JobLines::trial_is_line, crate::proofs::JobLines::trial_plain, crate::proofs::JobLines::trial_found))]

@@ -75,8 +75,7 @@ fn tell(
 {
     let journal = run.journal();
     let entries = list(alloc, journal.entries()).expect(rt, "no memory");
-    let illegal =
-        first_illegal(alloc, inst, a0, lots, journal.entries()).expect(rt, "no memory");
+    let illegal = first_illegal(alloc, inst, a0, lots, journal.entries()).expect(rt, "no memory");
     Made {
         entries,
         best_at: journal.best_at(),
