@@ -9,6 +9,7 @@ plain loop of numbers.c.
 import os
 import subprocess
 import sys
+import time
 from statistics import median
 
 ROUNDS = 15
@@ -56,6 +57,7 @@ def main():
             print(f"  {name} takes {ratio:.2f} times the loop's time")
     for instance in ["100-skewed", "1000-skewed"]:
         measure_solve(program, instance, os.path.join(folder, instance))
+    measure_workers(program, os.path.join(folder, "1000-skewed"))
 
 
 def measure_solve(program, instance, folder):
@@ -69,6 +71,32 @@ def measure_solve(program, instance, folder):
     report = subprocess.run(run + [f"7:{PROPOSALS}"], stdout=subprocess.PIPE, check=True, text=True)
     done = sum(" done " in line for line in report.stdout.splitlines())
     print(f"  {PROPOSALS / net:.0f} proposals per second of processor time, {done} of them done")
+
+
+
+def wall_seconds(command):
+    """Seconds by the clock of one run."""
+    begun = time.monotonic()
+    subprocess.run(command, stdout=subprocess.DEVNULL, check=True)
+    return time.monotonic() - begun
+
+
+def measure_workers(program, folder):
+    """Prints how many proposals a second 1, 2 and 4 workers make by the clock, with the same budget together, and what
+    part of one worker's time they take; the reading of the files is left out."""
+    print(f"1000-skewed, {2 * PROPOSALS} proposals of several workers, by the clock")
+    run = [program, "solve", os.path.join(folder, "model"), os.path.join(folder, "initial")]
+    counts = [1, 2, 4]
+    taken = {count: [] for count in counts}
+    for _ in range(ROUNDS):
+        for count in counts:
+            lots = [f"{7 + w}:{2 * PROPOSALS // count}" for w in range(count)]
+            none = wall_seconds(run + [f"{7 + w}:0" for w in range(count)])
+            taken[count].append(max(wall_seconds(run + lots) - none, 0.001))
+    one = median(taken[1])
+    for count in counts:
+        seconds = median(taken[count])
+        print(f"  {count} workers: {2 * PROPOSALS / seconds:.0f} proposals per second, {seconds / one:.2f} of one's time")
 
 
 main()
