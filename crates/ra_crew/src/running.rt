@@ -30,3 +30,15 @@ impl<'s, 'a, G: Gate> Labour<Desk<'s, 'a, G>> for Worker<'a> {
         }
     }
 }
+
+impl<'a> Worker<'a> {
+    /// Makes all proposals of its budget: it plans each, passes the gate, and hands the plan in, again where that was
+    /// stale. It may wait.
+    pub fn run<R: Wait, G: Gate>(&mut self, rt: &R, shared: &Shared<'a>, gate: &G)
+        requires { MayRun shared.now self.old }
+        ensures { HasRun shared.now self.old self.new }
+    {
+        let desk = Desk { shared, gate };
+        self.labour(rt, &desk);
+    }
+}
