@@ -64,9 +64,14 @@ fn is_one_way(made: &Made) -> bool {
         first_of(0, 0, 1, 3, 2, cost),
         first_of(1, 1, 2, 0, 2, too_much(0, 16, 15)),
     ];
-    let early = first_of(1, 0, 2, 0, 2, too_much(1, 200, 100));
-    let before = [early, first_of(0, 0, 1, 3, 2, cost)];
-    let behind = [early, first_of(0, 1, 1, 3, 2, cost)];
+    let before = [
+        first_of(1, 0, 2, 0, 2, too_much(1, 200, 100)),
+        first_of(0, 0, 1, 3, 2, cost),
+    ];
+    let behind = [
+        first_of(1, 0, 2, 0, 2, too_much(1, 200, 100)),
+        first_of(0, 1, 1, 3, 2, cost),
+    ];
     let entries = made.entries.as_slice();
     if entries == late.as_slice() {
         return made.best_at == 1;
