@@ -1,0 +1,4 @@
+pub mod ZeroLemmas
+pub mod FarLemmas
+pub mod StepLemmas
+pub mod ReadLemmas
