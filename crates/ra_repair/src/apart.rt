@@ -43,9 +43,26 @@ pub(crate) fn spread_lack(
     wanted.saturating_sub(u64::from(kept.cells.locations(s)))
 }
 
+/// 1 for a process that is now on a closed machine which isn't its initial one.
+pub(crate) fn closed_now(
+    inst: &Instance,
+    start: &Assignment,
+    kept: &Kept<'_>,
+    p: Process,
+) -> u64
+    requires start { IsAssignment inst.now.tables start.now.items }
+    requires stands { Stands kept.now inst.now.tables start.now.items }
+    requires process { p.0 < process_count inst.now.tables }
+    ensures value { result ≡ closed_share inst.now.tables start.now.items p.0
+        (machine_at kept.now.assignment.items p.0) }
+    ensures few { result ≤ 1 }
+{
+    closed_share(inst, start, p, machine_of(&kept.assignment, p))
+}
+
 /// 1 for a process that is on a closed machine which isn't its initial one.
 #[tactic(auto, unfolding(crate::specs::Penalty::closed_share))]
-pub(crate) fn closed_share(inst: &Instance, start: &Assignment, p: Process, at: Machine) -> u64
+fn closed_share(inst: &Instance, start: &Assignment, p: Process, at: Machine) -> u64
     requires start { IsAssignment inst.now.tables start.now.items }
     requires process { p.0 < process_count inst.now.tables }
     requires machine { at.0 < machine_count inst.now.tables }

@@ -62,7 +62,7 @@ fn far_near(
 }
 
 /// How many processes of a service are in the neighbourhood with this label.
-fn near(
+pub(crate) fn near(
     inst: &Instance,
     start: &Assignment,
     kept: &Kept<'_>,

@@ -5,8 +5,13 @@
 mod above;
 mod apart;
 mod far;
+mod flaws;
+mod following;
 mod kept;
 pub mod laws;
+mod options;
+mod sums;
+mod touched;
 mod tries;
 
 pub use tries::Try;
