@@ -1,0 +1,9 @@
+pub mod ZeroLemmas
+pub mod FarLemmas
+pub mod StepLemmas
+pub mod ReadLemmas
+pub mod MoveLemmas
+pub mod BoundLemmas
+pub mod KeepLemmas
+pub mod OptionLemmas
+pub mod SumLemmas

@@ -1,0 +1,7 @@
+pub mod Penalty
+pub mod Runs
+pub mod Touched
+pub mod Members
+pub mod Keeping
+pub mod Following
+pub mod Laws
