@@ -1,0 +1,4 @@
+pub mod ListLaws
+pub mod NumberLaws
+pub mod EditLaws
+pub mod FileLaws

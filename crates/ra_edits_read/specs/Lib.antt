@@ -1,0 +1,4 @@
+pub mod EditLists
+pub mod EditTexts
+pub mod Answers
+pub mod Reading
