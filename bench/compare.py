@@ -429,4 +429,5 @@ def main():
     print(f"{instances} instances, no difference; causes and moves met: {told}")
 
 
-main()
+if __name__ == "__main__":
+    main()
