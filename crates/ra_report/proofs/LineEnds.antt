@@ -14,7 +14,7 @@ use Rattle.ra_moves.specs.declared.steps.MoveKind.TheVariants.{Shift, Swap, Chai
 use Rattle.ra_moves.specs.declared.steps.Step.{Step}
 use Rattle.ra_moves.specs.declared.verdicts.Verdict.{Verdict}
 use Rattle.ra_moves.specs.declared.verdicts.Verdict.TheVariants.{Done, Refused}
-use Rattle.ra_bounds.specs.Bounds.{bound_of}
+use Rattle.ra_bounds.specs.PinnedBounds.{pinned_bound_of}
 use Rattle.ra_draws.specs.declared.budgets.Lots.{Lots}
 use Rattle.ra_journal.specs.declared.entries.Entry.{Entry}
 use Rattle.ra_journal.specs.declared.journal.Journal.{Journal}
@@ -196,7 +196,7 @@ head_line_count i a0 l h =
     let j = best_of i a0 h in
     let best = state a0 h j in
     ap (λ t. length (lines_of t)) (sym (append-nil (report_head i a0 l h)))
-    ∙ ap length (head_has_lines (parts_of i a0 best) (bound_of i).total j best l.drawing [])
+    ∙ ap length (head_has_lines (parts_of i a0 best) (pinned_bound_of i a0).total j best l.drawing [])
 
 pub head_line_count_of : (j : Journal) → length (lines_of (head_of j)) ≡ 10
 unfolding head_of
@@ -207,8 +207,8 @@ unfolding report_head lines_of
 head_before i a0 l h x =
     let j = best_of i a0 h in
     let best = state a0 h j in
-    head_has_lines (parts_of i a0 best) (bound_of i).total j best l.drawing x
-    ∙ ap (λ ls. ls ++ lines_of x) (sym (append-nil (head_lines (parts_of i a0 best) (bound_of i).total j best l.drawing)) ∙ sym (head_has_lines (parts_of i a0 best) (bound_of i).total j best l.drawing []) ∙ ap lines_of (append-nil (report_head i a0 l h)))
+    head_has_lines (parts_of i a0 best) (pinned_bound_of i a0).total j best l.drawing x
+    ∙ ap (λ ls. ls ++ lines_of x) (sym (append-nil (head_lines (parts_of i a0 best) (pinned_bound_of i a0).total j best l.drawing)) ∙ sym (head_has_lines (parts_of i a0 best) (pinned_bound_of i a0).total j best l.drawing []) ∙ ap lines_of (append-nil (report_head i a0 l h)))
 
 -- the lines of the first n entries
 pub entries_before : (h : List Entry) (n : ℕ) (x : List ℕ) → lines_of (entries_text h n ++ x) ≡ entry_lines h n ++ lines_of x

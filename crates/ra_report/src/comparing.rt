@@ -1,7 +1,7 @@
 ghost use Rattle.std.specs.Prelude.{◌≡◌, ◌≤◌, ◌↔◌, true, length, IfSome, IfNone};
 ghost use Rattle.ra_lines.specs.Lines.{FirstUnlike};
 ghost use Rattle.ra_model.specs.Costs.{parts_of};
-ghost use Rattle.ra_bounds.specs.Bounds.{bound_of};
+ghost use Rattle.ra_bounds.specs.PinnedBounds.{pinned_bound_of};
 ghost use Rattle.ra_report.specs.JournalTexts.{best_state, head_of, entry_line};
 ghost use Rattle.ra_report.specs.declared.lengths.TheConstants.{LONGEST_LINE};
 
@@ -36,7 +36,8 @@ pub fn unlike_head(
     requires best { best.now.items ≡ best_state journal.now }
     requires parts { parts.now ≡
         parts_of journal.now.inst.now.tables journal.now.a0.now.items best.now.items }
-    requires bound { bound.now ≡ bound_of journal.now.inst.now.tables }
+    requires bound { bound.now ≡
+        pinned_bound_of journal.now.inst.now.tables journal.now.a0.now.items }
     ensures same { IfNone result (bytes.now ≡ head_of journal.now) }
     ensures unlike { IfSome result (FirstUnlike bytes.now (head_of journal.now)) }
     ensures few { IfSome result (λ n. n ≤ 10) }
