@@ -1,10 +1,10 @@
 -- Bytes that are given piece by piece, up to the end of a line.
-use Rattle.std.proofs.Common.{◌≡◌, ℕ, suc, ◌+◌, ◌-◌, ◌<◌, ◌≤◌, min, Bool, true, false, List, [], ◌∷◌, ◌++◌, length, take, drop, get_or, Option, Some, None, IfSome, refl, sym, ◌∙◌, ap, arith, subst, append_assoc, length-append, length-take, length-drop, take-add, ⊎_elim}
+use Rattle.std.proofs.Common.{◌≡◌, ℕ, zero, suc, ◌+◌, ◌-◌, ◌<◌, ◌≤◌, min, Bool, true, false, List, [], ◌∷◌, ◌++◌, length, take, drop, get_or, Option, Some, None, IfSome, refl, sym, ◌∙◌, ap, arith, subst, append_assoc, length-append, length-take, length-drop, take-add, ⊎_elim}
 use Rattle.std.proofs.lemmas.List.{append-nil, take-append-drop, drop-take, drop-drop, take-take, take_more}
 use Rattle.std.proofs.lemmas.Bool.{cases_lt}
 use Rattle.ra_lines.specs.Lines.{lines_of, ends_line, body_of, HasNoEnd, length_before_end}
 use Rattle.ra_lines.specs.declared.answers.Next.{Next}
-use Rattle.ra_lines.specs.declared.answers.Next.TheVariants.{Last, End}
+use Rattle.ra_lines.specs.declared.answers.Next.TheVariants.{Last, Long, End}
 use Rattle.ra_lines.specs.Reading.{BeginsWithLine, IsLastLine, BeginsOverLong, IsNext}
 use Rattle.ra_lines.specs.Windows.{IsEnded, Gave}
 use Rattle.ra_lines.proofs.BodyLaws.{body_twice, body_before, body_at_least, no_end_both, no_end_none, no_end_ends, ends_behind}
@@ -204,3 +204,8 @@ unended_front bytes most k few body =
 pub told_without : (told : Option (List ℕ)) (place given : ℕ) (before line ready : List ℕ) → IfSome told (λ bytes. GaveNoEnd bytes place given before line ready) → IfSome told (λ bytes. Gave bytes place given before line ready)
 told_without None place given before line ready gave = tt
 told_without (Some bytes) place given before line ready gave = gave.gave
+
+-- what ends a file is no long line
+pub not_long : (given : ℕ) (next : Next) → (given ≡ 0 → next ≡ End) → (0 < given → next ≡ Last) → next ≡ Long → ⊥
+not_long zero next none some long = let e = none refl in (cc)
+not_long (suc n) next none some long = let e = some (omega arith) in (cc)

@@ -1,6 +1,7 @@
-ghost use Rattle.std.specs.Prelude.{◌≡◌, ℕ, ◌+◌, ◌-◌, ◌<◌, ◌≤◌, ◌^◌, ◌++◌, List, length, take, drop, Option, IfSome, IfOk, OnErr};
+ghost use Rattle.std.specs.Prelude.{◌≡◌, ℕ, ◌+◌, ◌-◌, ◌<◌, ◌≤◌, ◌^◌, ◌++◌, List, length, take, drop, Option, IfSome, IfOk, OnErr, Ok};
 ghost use Rattle.ra_io.specs.Faults.{Rose};
 ghost use Rattle.ra_lines.specs.Reading.{Reads, IsNext};
+ghost use Rattle.ra_lines.specs.declared.answers.Next.TheVariants as Next;
 
 use crate::answers::{Next, ReadFault};
 use crate::window::Window;
@@ -72,6 +73,7 @@ impl LineReader {
             length line.old.items + self.new.place }
         ensures goes_on { self.old.place ≤ self.new.place }
         ensures most { self.new.place ≤ self.old.place + room + 1 }
+        ensures long { result ≡ Ok Next.Long → self.new.place ≡ self.old.place + room + 1 }
         ensures room { line.new.room ≡ line.old.room }
 
         // A failed fetch is counted.

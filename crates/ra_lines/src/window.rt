@@ -63,6 +63,8 @@ impl Window {
             (drop (place + (length line.new.items - length line.old.items)) bytes))) }
         ensures grows { length line.old.items ≤ length line.new.items }
         ensures most { length line.new.items ≤ length line.old.items + room + 1 }
+        ensures long { result ≡ Ok Next.Long →
+            length line.new.items ≡ length line.old.items + room + 1 }
         ensures room { line.new.room ≡ line.old.room }
         ensures fault { OnErr result (Rose (F.faults files.old name.now)
             (F.faults files.new name.now)) }

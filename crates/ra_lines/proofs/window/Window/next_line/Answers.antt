@@ -1,6 +1,6 @@
-use Rattle.std.proofs.Common.{◌≡◌, ◌+◌, ◌-◌, ◌≤◌, rules, refl, arith, ap, sym, ◌∙◌, length, take}
+use Rattle.std.proofs.Common.{Ok, ◌≡◌, ◌+◌, ◌-◌, ◌≤◌, rules, refl, arith, ap, sym, ◌∙◌, length, take}
 use Rattle.ra_lines.specs.Windows.{ready_of}
-use Rattle.ra_lines.proofs.ReadingLaws.{told_none, told_ready, told_gave, told_line, told_more, told_long, told_ended_at}
+use Rattle.ra_lines.proofs.ReadingLaws.{told_none, told_ready, told_gave, told_line, told_more, told_long, told_ended_at, not_long}
 use Rattle.ra_lines.proofs.window.Window.next_line.Goals as goal
 
 pub loop-given-init : goal.loop-given-init
@@ -51,3 +51,6 @@ pub returns-clause-next : goal.returns-clause-next
 returns-clause-next g c =
     let l = c.loop-given in
     told_long (g.F.Files.held c.args.files.now c.args.name.now) c.args.place l.given c.args.room c.args.line.now.items l.line.items (ready_of l.self) (search rules) l.invariant.0 l.invariant.3
+
+pub returns-then-not-branch-clause-long : goal.returns-then-not-branch-clause-long
+returns-then-not-branch-clause-long g c = λ long. absurd (not_long c.loop-given.given _ c.at_end.ensures.none c.at_end.ensures.some (let e = long in (cc)))
