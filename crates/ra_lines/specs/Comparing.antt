@@ -14,6 +14,15 @@ one_or_none (Some byte) = byte ∷ []
 abbrev pub given_of : List ℕ → ℕ → Option ℕ → List ℕ
 given_of expected agreed other = take agreed expected ++ one_or_none other
 
--- a text was given: it was taken whole, or a front of it was and a fault was counted
-abbrev pub WasGiven : List ℕ → ℕ → List ℕ → Type 0
-WasGiven taken faults text = (taken ≡ text) ⊎ ((n : ℕ) × (taken ≡ take n text) × (0 < faults))
+-- bytes, and their number before them
+abbrev pub opened : List ℕ → List ℕ
+opened expected = length expected ∷ expected
+
+-- a sink that compares counts as one that took the bytes that it expects before all others, so that these are known to
+-- stay whatever is written to it
+abbrev pub taken_of : List ℕ → ℕ → Option ℕ → List ℕ
+taken_of expected agreed other = opened expected ++ given_of expected agreed other
+
+-- a text was given to a sink that expects these bytes: it was taken whole, or a front of it was and a fault was counted
+abbrev pub WasGiven : List ℕ → List ℕ → ℕ → List ℕ → Type 0
+WasGiven expected taken faults text = (taken ≡ opened expected ++ text) ⊎ ((n : ℕ) × (taken ≡ opened expected ++ take n text) × (0 < faults))

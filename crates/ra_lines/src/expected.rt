@@ -1,7 +1,7 @@
 ghost use Rattle.std.specs.Prelude.{◌≡◌, ◌<◌, ◌≤◌, ◌^◌, ◌↔◌, ℕ, true, false, [], List, Some, Option, length, IfSome, IfNone};
 ghost use Rattle.std.specs.Option.{ForSome, ForNone};
 ghost use Rattle.ra_lines.specs.Lines.{FirstUnlike};
-ghost use Rattle.ra_lines.specs.Comparing.{is_byte_at, given_of, WasGiven};
+ghost use Rattle.ra_lines.specs.Comparing.{is_byte_at, opened, taken_of, WasGiven};
 
 use crate::scan::{count_ends, same_length};
 use ra_io::{Failed, Sink};
@@ -24,8 +24,7 @@ pub struct Expected<'a> {
 impl<'a> Expected<'a> {
     /// It was given nothing yet.
     pub fn make(expected: &'a [u8]) -> Expected<'a>
-        ensures expected { result.expected.now ≡ expected.now }
-        ensures none { given_of result.expected.now result.agreed result.other ≡ [] }
+        ensures none { taken_of result.expected.now result.agreed result.other ≡ opened expected.now }
         ensures sound { result.faults ≡ 0 }
     {
         Expected {
@@ -38,9 +37,9 @@ impl<'a> Expected<'a> {
 
     /// Whether it was given exactly the bytes that are expected.
     pub fn is_same(&self) -> bool
-        ensures { (text : List ℕ) →
-            WasGiven (given_of self.now.expected.now self.now.agreed self.now.other) self.now.faults text →
-            (result ≡ true) ↔ (text ≡ self.now.expected.now) }
+        ensures { (expected text : List ℕ) → WasGiven expected
+            (taken_of self.now.expected.now self.now.agreed self.now.other) self.now.faults text →
+            (result ≡ true) ↔ (text ≡ expected) }
     {
         match self.other {
             None => self.agreed == self.expected.len(),
@@ -51,12 +50,12 @@ impl<'a> Expected<'a> {
     /// The number of the first line, counted from 0, at which what it was given differs from the bytes that are
     /// expected, or one of them has none; none where they are the same.
     pub fn unlike_line(&self) -> Option<usize>
-        ensures same { (text : List ℕ) →
-            WasGiven (given_of self.now.expected.now self.now.agreed self.now.other) self.now.faults text →
-            IfNone result (text ≡ self.now.expected.now) }
-        ensures unlike { (text : List ℕ) →
-            WasGiven (given_of self.now.expected.now self.now.agreed self.now.other) self.now.faults text →
-            IfSome result (FirstUnlike text self.now.expected.now) }
+        ensures same { (expected text : List ℕ) → WasGiven expected
+            (taken_of self.now.expected.now self.now.agreed self.now.other) self.now.faults text →
+            IfNone result (text ≡ expected) }
+        ensures unlike { (expected text : List ℕ) → WasGiven expected
+            (taken_of self.now.expected.now self.now.agreed self.now.other) self.now.faults text →
+            IfSome result (FirstUnlike expected text) }
     {
         if self.is_same() {
             return None;
@@ -66,7 +65,7 @@ impl<'a> Expected<'a> {
 }
 
 impl<'a> Sink for Expected<'a> {
-    ghost taken = { λ s. Some (given_of s.expected.now s.agreed s.other) };
+    ghost taken = { λ s. Some (taken_of s.expected.now s.agreed s.other) };
 
     ghost faults = { λ s. s.faults };
 
