@@ -2,6 +2,7 @@ pub mod CoreLemmas
 pub mod FollowingLemmas
 pub mod ProposalLemmas
 pub mod ReplicaLemmas
+pub mod UptoLemmas
 pub mod TurnLemmas
 pub mod PlayLemmas
 pub mod RoundLemmas

@@ -68,6 +68,11 @@ pub place_there : (h : List Entry) (rs : List Replica) (w : ℕ) (r : Replica) �
 unfolding place_of core_of
 place_there h rs w r within is = get_or-map (λ (x : Replica). x.place) rs w r 0 within ∙ ap (λ (x : Replica). x.place) is
 
+-- and the places where one replica is brought to another
+pub places_set : (h g : List Entry) (rs : List Replica) (w q : ℕ) (s : Replica) → s.place ≡ q → (core_of g (set rs w s)).places ≡ set (core_of h rs).places w q
+unfolding core_of
+places_set h g rs w q s place = map-set (λ (x : Replica). x.place) rs w s ∙ ap (λ (k : ℕ). set (map (λ (x : Replica). x.place) rs) w k) place
+
 -- a step is what a replica does
 stepped_catch_up : (c d : Core) (w p q n : ℕ) → place_of c w ≡ p → n ≡ min 1024 (length c.journal - p) → q ≡ p + n → d.journal ≡ c.journal → d.places ≡ set c.places w q → caught_up c w ≡ record { after = d; reply = Took n }
 unfolding caught_up

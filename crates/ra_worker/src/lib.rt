@@ -19,3 +19,4 @@ pub use playing::{are_named, play};
 pub use replaying::replay;
 pub use replica::Replica;
 pub use rounds::round_robin;
+pub use turns::take_turn_at;

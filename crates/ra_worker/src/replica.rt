@@ -146,7 +146,7 @@ impl<'a> Replica<'a> {
     }
 
     /// Takes in one entry.
-    fn take_entry<L: Ledger>(&mut self, entry: &Entry, steps: &mut Steps<L>)
+    pub(crate) fn take_entry<L: Ledger>(&mut self, entry: &Entry, steps: &mut Steps<L>)
         requires judged { IsJudged self.old.world.inst.now.tables self.old.world.start.now.items
             self.old.world.kept.assignment.items entry.now.mv.steps entry.now.verdict }
         requires left { entry.now.worker ≡ self.old.proposals.worker → self.old.proposals.number <

@@ -1,0 +1,33 @@
+-- A replica that takes in one entry after another of a journal that it can read.
+use Rattle.std.proofs.Common.{◌≡◌, ℕ, ◌^◌, ◌<◌, List, length, sym, ap, ◌∙◌, subst, arith}
+use Rattle.ra_base.specs.declared.ids.Machine.{Machine}
+use Rattle.ra_draws.specs.declared.budgets.Lots.{Lots}
+use Rattle.ra_model.specs.declared.raw.Tables.{Tables}
+use Rattle.ra_model.specs.Limits.{WellFormed}
+use Rattle.ra_model.specs.Assignments.{IsAssignment}
+use Rattle.ra_journal.specs.declared.entries.Entry.{Entry}
+use Rattle.ra_journal.specs.Entries.{entry_at, entries_of, budget}
+use Rattle.ra_journal.specs.Legal.{Legal}
+use Rattle.ra_journal.proofs.RoomLemmas.{AreNumbered, entries_few, proposals_few}
+use Rattle.ra_worker.specs.declared.replica.Replica.{Replica}
+use Rattle.ra_worker.specs.Following.{IsJudged}
+use Rattle.ra_worker.specs.Replicas.{IsAt}
+use Rattle.ra_worker.proofs.FollowingLemmas.{entry_judged}
+
+-- the entry at the place of a replica was judged at its state
+pub here_judged : (i : Tables) (a0 : List Machine) (l : Lots) (h : List Entry) (r : Replica) (e : Entry) → WellFormed i → IsAssignment i a0 → Legal i a0 l h → IsAt i a0 l h r → r.place < length h → e ≡ entry_at h r.place → IsJudged r.world.inst.now.tables r.world.start.now.items r.world.kept.assignment.items e.mv.steps e.verdict
+here_judged i a0 l h r e limits fits legal at within e_is = rw (at.instance, at.initial) (entry_judged i a0 r.world.kept.assignment.items l h r.place e limits fits legal within e_is at.state)
+
+-- where that entry is of its worker, the worker has some budget left
+pub here_left : (i : Tables) (a0 : List Machine) (l : Lots) (h : List Entry) (r : Replica) (e : Entry) → Legal i a0 l h → IsAt i a0 l h r → r.place < length h → e ≡ entry_at h r.place → e.worker ≡ r.proposals.worker → r.proposals.number < budget r.proposals.lots.now r.proposals.worker
+here_left i a0 l h r e legal at within e_is own =
+    let numbered = (legal.each r.place within).numbered in
+    let here : (entry_at h r.place).worker ≡ r.proposals.worker = ap (λ (x : Entry). x.worker) (sym e_is) ∙ own in
+    let left : entries_of h r.place (entry_at h r.place).worker < budget l (entry_at h r.place).worker = omega (arith, numbered.number, numbered.budget) in
+    rw (at.number, at.lots) (subst (λ w. entries_of h r.place w < budget l w) here left)
+
+-- and there are few entries
+pub here_few : (i : Tables) (a0 : List Machine) (l : Lots) (h : List Entry) (r : Replica) → Legal i a0 l h → r.place < length h → r.place < 2 ^ 63
+here_few i a0 l h r legal within =
+    let numbered : AreNumbered l h (length h) = record { each = λ k there. (legal.each k there).numbered } in
+    omega (arith, within, entries_few l h (length h) numbered, proposals_few l)
