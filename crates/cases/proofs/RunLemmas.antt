@@ -4,8 +4,8 @@ use Rattle.std.specs.Io.KnownBytes.{Appends}
 use Rattle.ra_words.specs.Jobs.{JobSays, Checks, Bounds, Solves, Trials, job_of}
 use Rattle.ra_draws.specs.declared.budgets.Lots.{Lots}
 use Rattle.ra_run.specs.declared.status.Status.{Status}
-use Rattle.ra_run.specs.declared.status.Status.TheVariants.{Done, Usage, ReadFault, BadModel, BadAssignment, Infeasible, WriteFault, NoMemory, BadClosed}
-use Rattle.ra_run.specs.Commands.{OfJob, OutputOf}
+use Rattle.ra_run.specs.declared.status.Status.TheVariants.{Done, Usage}
+use Rattle.ra_run.specs.Commands.{OfJob, OutputOf, OwnOf}
 use Rattle.ra_run.specs.Ends.{Ends}
 use Rattle.ra_run.specs.Files.{Held, Faults, Names}
 use Rattle.ra_run.specs.Outputs.{Printed, BoundPrinted, Solved}
@@ -19,15 +19,8 @@ use Rattle.cases.specs.Runs.{Runs}
 
 usage_of : (status : Status) → number_of status ≡ 2 → status ≡ Usage
 unfolding number_of
-usage_of Done e = cc
 usage_of Usage e = refl
-usage_of ReadFault e = cc
-usage_of BadModel e = cc
-usage_of BadAssignment e = cc
-usage_of Infeasible e = cc
-usage_of WriteFault e = cc
-usage_of NoMemory e = cc
-usage_of BadClosed e = cc
+usage_of status e = cc
 
 of_usage : (status : Status) → status ≡ Usage → number_of status ≡ 2
 unfolding number_of
@@ -36,14 +29,7 @@ of_usage status e = rw e refl
 done_of : (status : Status) → number_of status ≡ 0 → status ≡ Done
 unfolding number_of
 done_of Done e = refl
-done_of Usage e = cc
-done_of ReadFault e = cc
-done_of BadModel e = cc
-done_of BadAssignment e = cc
-done_of Infeasible e = cc
-done_of WriteFault e = cc
-done_of NoMemory e = cc
-done_of BadClosed e = cc
+done_of status e = cc
 
 -- an output that went one way went another, where each text did
 
@@ -89,14 +75,12 @@ output_more held (Trials number) way more step p = trial_more number way more st
 -- how a job ends that puts to an output which had these bytes and now has those
 abbrev EndsWith : Held → JobSays → Faults → Faults → List ℕ → List ℕ → (List ℕ → Type 0) → (List ℕ → Type 0) → Type 0 → Type 0 → Status → Type 0
 EndsWith held says before now out taken breaks tells out_same err_same status = OfJob says
-    (λ names. Ends held names before now (OutputOf held says (Appends (Some out) (Some taken))) (OutputOf held says breaks) tells out_same err_same status)
+    (λ names. Ends held names before now (OutputOf held says (Appends (Some out) (Some taken))) (OwnOf held says breaks) tells out_same err_same status)
     (λ number. TrialEnds number (Appends (Some out) (Some taken)) breaks tells out_same err_same status)
 
 printed_by : (says : JobSays) (held : Held) (before now : Faults) (out taken : List ℕ) (breaks tells : List ℕ → Type 0) (out_same err_same : Type 0) (status : Status) → status ≡ Done → EndsWith held says before now out taken breaks tells out_same err_same status → OutputOf held says (Appends (Some out) (Some taken))
-printed_by (Checks model initial changed closed) held before now out taken breaks tells out_same err_same status done ends = ends.printed done
-printed_by (Bounds model) held before now out taken breaks tells out_same err_same status done ends = ends.printed done
-printed_by (Solves model initial closed slack drawing lots) held before now out taken breaks tells out_same err_same status done ends = ends.printed done
 printed_by (Trials number) held before now out taken breaks tells out_same err_same status done ends = ends.printed done
+printed_by says held before now out taken breaks tells out_same err_same status done ends = ends.printed done
 
 output_of : (job : Option JobSays) (held : Held) (before now : Faults) (out taken : List ℕ) (breaks tells : List ℕ → Type 0) (out_same err_same : Type 0) (status : Status) → status ≡ Done → out ≡ [] → IfSome job (λ says. EndsWith held says before now out taken breaks tells out_same err_same status) → IfSome job (λ says. OutputOf held says (λ text. taken ≡ text))
 output_of None held before now out taken breaks tells out_same err_same status done empty ends = tt

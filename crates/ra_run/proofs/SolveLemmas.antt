@@ -22,7 +22,7 @@ use Rattle.ra_prepared.specs.Runs.{IsRun}
 use Rattle.ra_run.specs.declared.refusals.Refusal.{Refusal}
 use Rattle.ra_run.specs.declared.refusals.Refusal.TheVariants.{Read, Model, Closed, Initial, Changed, InitialBroken, ChangedBroken, Write, Memory}
 use Rattle.ra_run.specs.Files.{Held, Faults, Names, InstanceIs, solve_names}
-use Rattle.ra_run.specs.Refusals.{Says}
+use Rattle.ra_run.specs.Refusals.{Says, Judges}
 use Rattle.ra_run.specs.Outputs.{IsFirstLeast, Solved}
 use Rattle.ra_run.specs.Solving.{IsStart, IsReported, RunSays}
 use Rattle.ra_run.specs.Stages.{IsList, StartSays}
@@ -91,28 +91,17 @@ solved held names i a0 l way limits start told =
     }
 
 -- what a refusal of a run says of the files
-pub says_run : (held : Held) (names : Names) (i : Tables) (a0 : List Machine) (l : Lots) (first now : Faults) (way : List ℕ → Type 0) → IsSome names.initial → WellFormed i → IsStart held names i a0 → (refusal : Refusal) → RunSays i a0 (IsReported i a0 l way) refusal → Says held names first now (Solved held names l way) refusal
-says_run held names i a0 l first now way has_initial limits start (Read file) says = absurd says
-says_run held names i a0 l first now way has_initial limits start (Model fault) says = absurd says
-says_run held names i a0 l first now way has_initial limits start (Closed fault) says = absurd says
-says_run held names i a0 l first now way has_initial limits start (Initial fault) says = absurd says
-says_run held names i a0 l first now way has_initial limits start (Changed fault) says = absurd says
+pub says_run : (held : Held) (names : Names) (i : Tables) (a0 : List Machine) (l : Lots) (first now : Faults) (way : List ℕ → Type 0) → IsSome names.initial → WellFormed i → IsStart held names i a0 → (refusal : Refusal) → RunSays i a0 (IsReported i a0 l way) refusal → Says held names first now (Judges held names (Solved held names l way)) refusal
 says_run held names i a0 l first now way has_initial limits start (InitialBroken cause) says = record { tables = i; a0 = a0; a = a0; named = has_initial; accepts = start.accepts; broken = says }
-says_run held names i a0 l first now way has_initial limits start (ChangedBroken cause) says = absurd says
 says_run held names i a0 l first now way has_initial limits start Write says = solved held names i a0 l way limits start says
 says_run held names i a0 l first now way has_initial limits start Memory says = tt
+says_run held names i a0 l first now way has_initial limits start refusal says = absurd says
 
 -- a refusal of the start is one of the run, before anything was written
 pub says_early : (i : Tables) (a0 : List Machine) (written : Type 0) (refusal : Refusal) → StartSays i a0 refusal → RunSays i a0 written refusal
-says_early i a0 written (Read file) says = absurd says
-says_early i a0 written (Model fault) says = absurd says
-says_early i a0 written (Closed fault) says = absurd says
-says_early i a0 written (Initial fault) says = absurd says
-says_early i a0 written (Changed fault) says = absurd says
 says_early i a0 written (InitialBroken cause) says = says
-says_early i a0 written (ChangedBroken cause) says = absurd says
-says_early i a0 written Write says = absurd says
 says_early i a0 written Memory says = tt
+says_early i a0 written refusal says = absurd says
 
 -- what follows from what is known of a result holds of it too
 pub on_ok_then : {X : Type 0} → (result : Result X Refusal) (known follows : Type 0) → (known → follows) → OnOk result known → OnOk result follows

@@ -1,5 +1,5 @@
 -- What a trial reads is the instance of its number and its start; and how it ends.
-use Rattle.std.proofs.Common.{◌≡◌, ◌≢◌, ◌⊎◌, ℕ, zero, suc, ◌*◌, ◌<◌, ◌≤◌, sum_by, List, [], ◌∷◌, length, codes, Option, Some, None, IfSome, inl, inr, refl, sym, ◌∙◌, subst, ap, arith, Result, Ok, Err, OnOk, IfErr}
+use Rattle.std.proofs.Common.{◌≡◌, ◌≢◌, ◌⊎◌, ℕ, zero, suc, ◌*◌, ◌<◌, ◌≤◌, sum_by, List, [], ◌∷◌, length, codes, Option, Some, None, IfSome, inl, inr, ⊎_elim, refl, sym, ◌∙◌, subst, ap, arith, Result, Ok, Err, OnOk, IfErr}
 use Rattle.ra_base.specs.Listed.{Listed}
 use Rattle.ra_base.specs.declared.ids.Machine.{Machine}
 use Rattle.ra_model.specs.Assignments.{IsAssignment}
@@ -21,11 +21,16 @@ use Rattle.ra_report.specs.Summaries.{summary_text, summary_of}
 use Rattle.ra_trial.specs.Instances.{IsTrial, start_list}
 use Rattle.ra_trial.specs.Numbers.{trial_word}
 use Rattle.ra_trial.specs.Trials.{model_text, start_text}
-use Rattle.ra_trial.proofs.TextMeans.{text_is_trial}
+use Rattle.ra_trial.proofs.TextMeans.{text_accepted_whole, text_is_trial}
 use Rattle.ra_trial.proofs.StartText.{start_text_is_start}
 use Rattle.ra_trial.proofs.StartFeasible.{start_fits, start_feasible}
 use Rattle.ra_trial.proofs.TrialNumbers.{has_numbers}
+use Rattle.ra_run.specs.declared.refusals.Refusal.{Refusal}
 use Rattle.ra_run.specs.declared.refusals.Refusal.TheVariants.{Write, Memory}
+use Rattle.ra_run.specs.Complete.{AreAccepted}
+use Rattle.ra_run.specs.Refusals.{Says, Nothing}
+use Rattle.ra_run.specs.Statuses.{status_of}
+use Rattle.ra_run.proofs.CompleteLemmas.{never_rose, own_left}
 use Rattle.ra_run.specs.declared.status.Status.{Status}
 use Rattle.ra_run.specs.declared.status.Status.TheVariants.{Done, WriteFault, NoMemory}
 use Rattle.ra_run.specs.declared.trial.TrialFault.{TrialFault}
@@ -58,6 +63,31 @@ start_read number held model start i a0 holds model_is start_is read =
     let list = subst (λ (name : List ℕ). ListIs held name i a0) start_is read.accepts.initial in
     let is = instance_read number held i holds instance in
     record { trial = is; initial = list_read number held i a0 holds is list }
+
+-- both texts are accepted, and files in memory have no fault: so only memory can be refused
+accepted : (number : ℕ) (held : Held) → HoldsTrial number held → AreAccepted held (solve_names (codes "model") None (codes "start"))
+unfolding model_text
+accepted number held holds = record {
+  model = (model_text number, holds.model, text_accepted_whole (trial_word number));
+  closed = λ name named. absurd (cc);
+  initial = λ name named i instance.
+      let is = instance_read number held i holds instance in
+      let same : codes "start" ≡ name = cc in
+      (start_text, subst (λ (n : List ℕ). held n ≡ Some start_text) same holds.start, ((start_text_is_start (trial_word number) i is start_list).1 refl).accepted);
+  changed = λ name named. absurd (cc);
+}
+
+memory_alone : (refusal : Refusal) → status_of refusal ≡ NoMemory → refusal ≡ Memory
+unfolding status_of
+memory_alone Memory is = refl
+memory_alone refusal is = cc
+
+pub only_memory : (number : ℕ) (held : Held) (model start : List ℕ) (refusal : Refusal) → HoldsTrial number held → model ≡ codes "model" → start ≡ codes "start" → Says held (solve_names model None start) (λ name. 0) (λ name. 0) Nothing refusal → refusal ≡ Memory
+only_memory number held model start refusal holds model_is start_is says =
+    let valid = subst (λ (name : List ℕ). AreAccepted held (solve_names (codes "model") None name)) (sym start_is) (accepted number held holds) in
+    let named = subst (λ (name : List ℕ). AreAccepted held (solve_names name None start)) (sym model_is) valid in
+    memory_alone refusal (⊎_elim (λ (none : ⊥). absurd none) (λ (memory : status_of refusal ≡ NoMemory). memory)
+    (own_left held (solve_names model None start) (λ name. 0) (λ name. 0) Nothing named (λ f is rose. never_rose rose) refusal says))
 
 -- the start fits its instance and breaks nothing
 pub start_fitting : (number : ℕ) (i : Tables) (a0 : List Machine) → IsTrialStart number i a0 → IsAssignment i a0

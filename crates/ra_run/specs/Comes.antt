@@ -7,8 +7,10 @@ use Rattle.ra_assign.specs.declared.faults.AssignFault.{AssignFault}
 use Rattle.ra_assign.specs.declared.faults.ClosedFault.{ClosedFault}
 use Rattle.ra_run.specs.declared.refusals.File.{File}
 use Rattle.ra_run.specs.declared.refusals.File.TheVariants as file
+use Rattle.ra_run.specs.declared.refusals.Refusal.{Refusal}
+use Rattle.ra_run.specs.declared.refusals.Refusal.TheVariants.{Write}
 use Rattle.ra_run.specs.declared.status.Status.{Status}
-use Rattle.ra_run.specs.declared.status.Status.TheVariants.{Done, ReadFault, BadModel, BadAssignment, Infeasible, WriteFault, NoMemory, BadClosed}
+use Rattle.ra_run.specs.declared.status.Status.TheVariants.{Done, ReadFault, BadModel, BadAssignment, Infeasible, WriteFault, NoMemory, BadClosed, Unrepaired}
 use Rattle.ra_run.specs.Files.{Held, Faults, Names, name_of, IsNamed}
 use Rattle.ra_run.specs.Refusals.{ReadFailed, ModelRefused, ClosedRefused, InitialRefused, ChangedRefused, InitialBreaks, ChangedBreaks}
 
@@ -22,6 +24,8 @@ KnownTo held names before now file.Model = IsKnown held names before now file.Mo
 KnownTo held names before now file.Closed = IsKnown held names before now file.Model × IsKnown held names before now file.Closed
 KnownTo held names before now file.Initial = IsKnown held names before now file.Model × IsKnown held names before now file.Closed × IsKnown held names before now file.Initial
 KnownTo held names before now file.Changed = IsKnown held names before now file.Model × IsKnown held names before now file.Closed × IsKnown held names before now file.Initial × IsKnown held names before now file.Changed
+KnownTo held names before now file.Edits = IsKnown held names before now file.Model × IsKnown held names before now file.Closed × IsKnown held names before now file.Initial × IsKnown held names before now file.Changed × IsKnown held names before now file.Edits
+KnownTo held names before now file.Report = IsKnown held names before now file.Model × IsKnown held names before now file.Closed × IsKnown held names before now file.Initial × IsKnown held names before now file.Report
 
 -- a status comes only where its cause stands; and where that stands, over files that are known, no other status comes
 -- but that of refused memory
@@ -45,17 +49,18 @@ pub record BadAssignmentComes (held : Held) (names : Names) (before now : Faults
   pub initial : KnownTo held names before now file.Initial → ((fault : AssignFault) × InitialRefused held names fault) → (status ≡ BadAssignment) ⊎ (status ≡ NoMemory)
   pub changed : KnownTo held names before now file.Changed → ((fault : AssignFault) × ChangedRefused held names fault) → (status ≡ BadAssignment) ⊎ (status ≡ NoMemory)
 
--- all files are accepted, and the initial list breaks a constraint; or that is feasible, and the new list breaks one
-abbrev pub InfeasibleComes : Held → Names → Faults → Faults → Status → Type 0
-InfeasibleComes held names before now status = Exactly status Infeasible (KnownTo held names before now file.Changed)
-    ((cause : Cause) × (InitialBreaks held names cause ⊎ ChangedBreaks held names cause))
-
--- each status of a refused job, and where it comes. The status of refused memory is free, but nothing was written then
-pub record Comes (held : Held) (names : Names) (before now : Faults) (written out_same : Type 0) (status : Status) : Type 0 where
+-- each status of a refused job that any job may have, and where it comes. The status of refused memory is free, but nothing
+-- was written then
+pub record Comes (held : Held) (names : Names) (before now : Faults) (own : Refusal → Type 0) (out_same : Type 0) (status : Status) : Type 0 where
   pub read_fault : status ≡ ReadFault → (f : File) × ReadFailed held names before now f
   pub bad_model : BadModelComes held names before now status
   pub bad_closed : BadClosedComes held names before now status
   pub bad_assignment : BadAssignmentComes held names before now status
-  pub infeasible : InfeasibleComes held names before now status
-  pub write_fault : status ≡ WriteFault → written
-  pub untouched : status ≢ Done → status ≢ WriteFault → out_same
+  pub write_fault : status ≡ WriteFault → own Write
+  pub untouched : status ≢ Done → status ≢ WriteFault → status ≢ Unrepaired → out_same
+
+-- of a job whose lists have to be feasible: all files before the report are accepted, and the initial list breaks a
+-- constraint; or that is feasible, and the new list breaks one
+abbrev pub InfeasibleComes : Held → Names → Faults → Faults → Status → Type 0
+InfeasibleComes held names before now status = Exactly status Infeasible (KnownTo held names before now file.Edits)
+    ((cause : Cause) × (InitialBreaks held names cause ⊎ ChangedBreaks held names cause))

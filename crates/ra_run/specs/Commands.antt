@@ -1,12 +1,18 @@
--- The commands: the files of a job, and what it prints.
-use Rattle.std.specs.Prelude.{◌≡◌, ℕ, List, map}
+-- The commands: the files of a job, what it prints, its own refusals, and when it has to be done.
+use Rattle.std.specs.Prelude.{◌≡◌, ◌≢◌, ◌⊎◌, ℕ, List, map}
 use Rattle.ra_base.specs.declared.causes.Drawing.{Drawing}
 use Rattle.ra_draws.specs.declared.budgets.Lots.{Lots}
 use Rattle.ra_words.specs.Jobs.{JobSays, Checks, Bounds, Solves, Trials}
 use Rattle.ra_words.specs.LotTexts.{LotSays}
 use Rattle.ra_words.specs.Said.{said_lot}
-use Rattle.ra_run.specs.Files.{Held, Names, check_names, solve_names, bound_names}
+use Rattle.ra_run.specs.declared.refusals.Refusal.{Refusal}
+use Rattle.ra_run.specs.declared.status.Status.{Status}
+use Rattle.ra_run.specs.declared.status.Status.TheVariants.{Done, Infeasible, NoMemory}
+use Rattle.ra_run.specs.Comes.{InfeasibleComes}
+use Rattle.ra_run.specs.Complete.{AreAccepted, AreValid}
+use Rattle.ra_run.specs.Files.{Held, Faults, Names, check_names, solve_names, bound_names}
 use Rattle.ra_run.specs.Outputs.{Printed, BoundPrinted, Solved}
+use Rattle.ra_run.specs.Refusals.{Judges, OnlyWrites, Nothing}
 use Rattle.ra_run.specs.Trials.{TrialPrinted}
 
 -- what is said of a job by the names of its files, and of a trial, which has none, by its number
@@ -28,3 +34,28 @@ OutputOf held (Checks model initial changed closed) way = Printed held (check_na
 OutputOf held (Bounds model) way = BoundPrinted held (bound_names model) way
 OutputOf held (Solves model initial closed slack drawing lots) way = (l : Lots) × AreLots l slack drawing lots × Solved held (solve_names model closed initial) l way
 OutputOf held (Trials number) way = TrialPrinted number way
+
+-- what its own refusals say, where a part of its output was put one way
+abbrev pub OwnOf : Held → JobSays → (List ℕ → Type 0) → Refusal → Type 0
+OwnOf held (Checks model initial changed closed) way refusal = Judges held (check_names model closed initial changed) (OutputOf held (Checks model initial changed closed) way) refusal
+OwnOf held (Bounds model) way refusal = OnlyWrites (OutputOf held (Bounds model) way) refusal
+OwnOf held (Solves model initial closed slack drawing lots) way refusal = Judges held (solve_names model closed initial) (OutputOf held (Solves model initial closed slack drawing lots) way) refusal
+OwnOf held (Trials number) way refusal = Nothing refusal
+
+-- where its own statuses come, beyond those of `Comes`
+abbrev pub OwnComes : Held → JobSays → Faults → Faults → Status → Type 0
+OwnComes held (Checks model initial changed closed) before now status = InfeasibleComes held (check_names model closed initial changed) before now status
+OwnComes held (Bounds model) before now status = status ≢ Infeasible
+OwnComes held (Solves model initial closed slack drawing lots) before now status = InfeasibleComes held (solve_names model closed initial) before now status
+OwnComes held (Trials number) before now status = Unit {0}
+
+-- its files are valid
+abbrev pub ValidFor : Held → JobSays → Type 0
+ValidFor held (Checks model initial changed closed) = AreValid held (check_names model closed initial changed)
+ValidFor held (Bounds model) = AreAccepted held (bound_names model)
+ValidFor held (Solves model initial closed slack drawing lots) = AreValid held (solve_names model closed initial)
+ValidFor held (Trials number) = Unit {0}
+
+-- and so it ends over valid files, and where no fault was counted
+abbrev pub Answers : JobSays → Status → Type 0
+Answers says status = (status ≡ Done) ⊎ (status ≡ NoMemory)

@@ -13,26 +13,36 @@ use Rattle.ra_run.specs.declared.refusals.JobFiles.{JobFiles}
 use Rattle.ra_run.specs.declared.refusals.File.{File}
 use Rattle.ra_run.specs.declared.refusals.File.TheVariants as file
 
--- the files of a job by their names; those that a job doesn't have are not there
+-- the files of a job by their names; those that a job doesn't have are not there. The list `changed` is the new one of a
+-- check, and the current one of edits
 pub record Names : Type 0 where
   pub model : List ℕ
   pub closed : Option (List ℕ)
   pub initial : Option (List ℕ)
   pub changed : Option (List ℕ)
+  pub report : Option (List ℕ)
+  pub edits : Option (List ℕ)
 
 -- those of `check`, of `solve` and of `bound`
 abbrev pub check_names : List ℕ → Option (List ℕ) → List ℕ → List ℕ → Names
-check_names model closed initial changed = record { model = model; closed = closed; initial = Some initial; changed = Some changed }
+check_names model closed initial changed = record { model = model; closed = closed; initial = Some initial; changed = Some changed; report = None; edits = None }
 
 abbrev pub solve_names : List ℕ → Option (List ℕ) → List ℕ → Names
-solve_names model closed initial = record { model = model; closed = closed; initial = Some initial; changed = None }
+solve_names model closed initial = record { model = model; closed = closed; initial = Some initial; changed = None; report = None; edits = None }
 
 abbrev pub bound_names : List ℕ → Names
-bound_names model = record { model = model; closed = None; initial = None; changed = None }
+bound_names model = record { model = model; closed = None; initial = None; changed = None; report = None; edits = None }
 
 -- those that are lent
 abbrev pub names_of : JobFiles → Names
-names_of files = record { model = files.model.now; closed = option_copied files.closed; initial = option_copied files.initial; changed = option_copied files.changed }
+names_of files = record {
+  model = files.model.now;
+  closed = option_copied files.closed;
+  initial = option_copied files.initial;
+  changed = option_copied files.changed;
+  report = option_copied files.report;
+  edits = option_copied files.edits;
+}
 
 -- the name of a file of a job
 unfoldable pub name_of : Names → File → List ℕ
@@ -40,6 +50,8 @@ name_of names file.Model = names.model
 name_of names file.Closed = unwrap_or names.closed []
 name_of names file.Initial = unwrap_or names.initial []
 name_of names file.Changed = unwrap_or names.changed []
+name_of names file.Report = unwrap_or names.report []
+name_of names file.Edits = unwrap_or names.edits []
 
 -- a file is one of a job's
 abbrev pub IsNamed : Names → File → Type 0
@@ -47,6 +59,8 @@ IsNamed names file.Model = Unit {0}
 IsNamed names file.Closed = IsSome names.closed
 IsNamed names file.Initial = IsSome names.initial
 IsNamed names file.Changed = IsSome names.changed
+IsNamed names file.Report = IsSome names.report
+IsNamed names file.Edits = IsSome names.edits
 
 -- what the files hold, as far as it is told, by their names
 abbrev pub Held : Type 0
@@ -80,7 +94,7 @@ abbrev pub NamedListIs : Held → Option (List ℕ) → Tables → List Machine 
 NamedListIs held None i a = Unit {0}
 NamedListIs held (Some name) i a = ListIs held name i a
 
--- all files were read and accepted: they mean this instance and these lists
+-- the model, the closed list and the lists were read and accepted: they mean this instance and these lists
 pub record Accepts (held : Held) (names : Names) (i : Tables) (a0 a : List Machine) : Type 0 where
   pub instance : InstanceIs held names.model names.closed i
   pub initial : NamedListIs held names.initial i a0

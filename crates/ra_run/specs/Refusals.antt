@@ -17,14 +17,17 @@ use Rattle.ra_run.specs.declared.refusals.File.{File}
 use Rattle.ra_run.specs.declared.refusals.File.TheVariants as file
 use Rattle.ra_run.specs.declared.refusals.Refusal.{Refusal}
 use Rattle.ra_run.specs.declared.refusals.Refusal.TheVariants.{Read, Model, Closed, Initial, Changed, InitialBroken, ChangedBroken, Write, Memory}
-use Rattle.ra_run.specs.Files.{Held, Faults, Names, name_of, IsNamed, ModelIs, InstanceIs, NamedListIs, Accepts}
+use Rattle.ra_run.specs.Files.{Held, Faults, Names, name_of, IsNamed, ModelIs, InstanceIs, NamedListIs, Accepts, Passes}
 
--- what was read before a file of the job: the model, then the closed list, then the initial list, then the new one
+-- what was done before a file of the job is read: the model, then the closed list, then the initial list, then the new or
+-- current one, then the edits; a report is read once the initial list is known to be feasible
 abbrev pub ReadBefore : Held → Names → File → Type 0
 ReadBefore held names file.Model = Unit {0}
 ReadBefore held names file.Closed = (i : Tables) × ModelIs held names.model i
 ReadBefore held names file.Initial = (i : Tables) × InstanceIs held names.model names.closed i
 ReadBefore held names file.Changed = (i : Tables) × (a0 : List Machine) × InstanceIs held names.model names.closed i × NamedListIs held names.initial i a0
+ReadBefore held names file.Report = (i : Tables) × (a0 : List Machine) × Passes held names i a0 a0
+ReadBefore held names file.Edits = (i : Tables) × (a0 : List Machine) × (a : List Machine) × Accepts held names i a0 a
 
 -- all before it was read, reading a file of the job failed, and its count of faults rose
 pub record ReadFailed (held : Held) (names : Names) (before now : Faults) (f : File) : Type 0 where
@@ -89,18 +92,32 @@ pub record ChangedBreaks (held : Held) (names : Names) (cause : Cause) : Type 0 
   pub initial : Feasible tables a0 a0
   pub broken : first_broken tables a0 a ≡ Some cause
 
--- what each refusal says of the files of a job, whose counts of faults went from before to now; `written` is what the job
--- says where writing its output failed
-abbrev pub Says : Held → Names → Faults → Faults → Type 0 → Refusal → Type 0
-Says held names before now written (Read f) = ReadFailed held names before now f
-Says held names before now written (Model fault) = ModelRefused held names.model fault
-Says held names before now written (Closed fault) = ClosedRefused held names.model names.closed fault
-Says held names before now written (Initial fault) = InitialRefused held names fault
-Says held names before now written (Changed fault) = ChangedRefused held names fault
-Says held names before now written (InitialBroken cause) = InitialBreaks held names cause
-Says held names before now written (ChangedBroken cause) = ChangedBreaks held names cause
-Says held names before now written Write = written
-Says held names before now written Memory = Unit {0}
+-- what each refusal says of the files of a job, whose counts of faults went from before to now. What is the job's own stands
+-- in `own`: what it says of its refusals beyond those of the model, of the closed list, of the lists and of memory
+abbrev pub Says : Held → Names → Faults → Faults → (Refusal → Type 0) → Refusal → Type 0
+Says held names before now own (Read f) = ReadFailed held names before now f
+Says held names before now own (Model fault) = ModelRefused held names.model fault
+Says held names before now own (Closed fault) = ClosedRefused held names.model names.closed fault
+Says held names before now own (Initial fault) = InitialRefused held names fault
+Says held names before now own (Changed fault) = ChangedRefused held names fault
+Says held names before now own Memory = Unit {0}
+Says held names before now own refusal = own refusal
+
+-- the own refusals of a job whose lists have to be feasible, and which says `written` where writing its output failed
+abbrev pub Judges : Held → Names → Type 0 → Refusal → Type 0
+Judges held names written (InitialBroken cause) = InitialBreaks held names cause
+Judges held names written (ChangedBroken cause) = ChangedBreaks held names cause
+Judges held names written Write = written
+Judges held names written refusal = ⊥
+
+-- those of a job that asks no list to be feasible
+abbrev pub OnlyWrites : Type 0 → Refusal → Type 0
+OnlyWrites written Write = written
+OnlyWrites written refusal = ⊥
+
+-- those of what is done before any list is judged: there is none
+abbrev pub Nothing : Refusal → Type 0
+Nothing refusal = ⊥
 
 -- a refusal can be told: it is of a file that is named, and what a reader refused stands in the file
 abbrev pub CanTell : Names → Refusal → Type 0
@@ -111,5 +128,4 @@ CanTell names (Initial fault) = IsSome names.initial × IsInList fault
 CanTell names (Changed fault) = IsSome names.changed × IsInList fault
 CanTell names (InitialBroken cause) = IsSome names.initial
 CanTell names (ChangedBroken cause) = IsSome names.changed
-CanTell names Write = Unit {0}
-CanTell names Memory = Unit {0}
+CanTell names refusal = Unit {0}

@@ -3,7 +3,7 @@ use Rattle.std.specs.Prelude.{ℕ}
 use Rattle.ra_run.specs.declared.refusals.Refusal.{Refusal}
 use Rattle.ra_run.specs.declared.refusals.Refusal.TheVariants as refusal
 use Rattle.ra_run.specs.declared.status.Status.{Status}
-use Rattle.ra_run.specs.declared.status.Status.TheVariants.{Done, Usage, ReadFault, BadModel, BadAssignment, Infeasible, WriteFault, NoMemory, BadClosed}
+use Rattle.ra_run.specs.declared.status.Status.TheVariants.{Done, Usage, ReadFault, BadModel, BadAssignment, Infeasible, WriteFault, NoMemory, BadClosed, Wrong, Unrepaired, BadEdits}
 
 unfoldable pub status_of : Refusal → Status
 status_of (refusal.Read f) = ReadFault
@@ -27,3 +27,6 @@ number_of Infeasible = 6
 number_of WriteFault = 7
 number_of NoMemory = 8
 number_of BadClosed = 10
+number_of Wrong = 9
+number_of Unrepaired = 11
+number_of BadEdits = 12

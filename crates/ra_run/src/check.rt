@@ -3,12 +3,12 @@ ghost use Rattle.std.specs.Io.KnownBytes.{Appends};
 ghost use Rattle.std.specs.Option.{option_copied};
 ghost use Rattle.ra_io.specs.Faults.{Rose};
 ghost use Rattle.ra_report.specs.Pieces.{Breaks, Puts};
-ghost use Rattle.ra_run.specs.Comes.{Comes};
+ghost use Rattle.ra_run.specs.Comes.{Comes, InfeasibleComes};
 ghost use Rattle.ra_run.specs.Complete.{AreValid, NoFault};
 ghost use Rattle.ra_run.specs.Ends.{Ends};
 ghost use Rattle.ra_run.specs.Files.{check_names};
 ghost use Rattle.ra_run.specs.Outputs.{Printed};
-ghost use Rattle.ra_run.specs.Refusals.{Says};
+ghost use Rattle.ra_run.specs.Refusals.{Says, Judges};
 ghost use Rattle.ra_run.specs.Stages.{Passed};
 
 use crate::judging::judge;
@@ -38,8 +38,8 @@ pub fn check_run<'n, F: Files, O: Sink, E: Sink>(
         (option_copied closed.entry) initial.now changed.now in
         Ends (F.held files.old) names (F.faults files.old) (F.faults files.new)
         (Printed (F.held files.old) names (Appends (O.taken out.old) (O.taken out.new)))
-        (Printed (F.held files.old) names
-        (Breaks (O.taken out.old) (O.taken out.new) (O.faults out.old) (O.faults out.new)))
+        (Judges (F.held files.old) names (Printed (F.held files.old) names
+        (Breaks (O.taken out.old) (O.taken out.new) (O.faults out.old) (O.faults out.new))))
         (Puts (E.taken err.old) (E.taken err.new) (E.faults err.old) (E.faults err.new))
         (out.new ≡ out.old) (err.new ≡ err.old) result }
     ensures not_usage { result ≢ Status.Usage }
@@ -48,9 +48,12 @@ pub fn check_run<'n, F: Files, O: Sink, E: Sink>(
     ensures comes { let names = check_names model.now
         (option_copied closed.entry) initial.now changed.now in
         Comes (F.held files.old) names (F.faults files.old) (F.faults files.new)
-        (Printed (F.held files.old) names
-        (Breaks (O.taken out.old) (O.taken out.new) (O.faults out.old) (O.faults out.new)))
+        (Judges (F.held files.old) names (Printed (F.held files.old) names
+        (Breaks (O.taken out.old) (O.taken out.new) (O.faults out.old) (O.faults out.new))))
         (out.new ≡ out.old) result }
+    ensures infeasible { let names = check_names model.now
+        (option_copied closed.entry) initial.now changed.now in
+        InfeasibleComes (F.held files.old) names (F.faults files.old) (F.faults files.new) result }
 
     // Over valid files, and where no fault of a file of the check or of the output was counted, the check is done.
     ensures complete { let names = check_names model.now
@@ -68,6 +71,8 @@ pub fn check_run<'n, F: Files, O: Sink, E: Sink>(
         closed,
         initial: Some(initial),
         changed: Some(changed),
+        report: None,
+        edits: None,
     };
     let ended = check(alloc, model, initial, changed, closed, files, out);
     finish(err, &names, ended)
@@ -89,9 +94,11 @@ fn check<F: Files, O: Sink>(
     ensures refused { IfErr result (Says (F.held files.old)
         (check_names model.now (option_copied closed.entry) initial.now changed.now)
         (F.faults files.old) (F.faults files.new)
+        (Judges (F.held files.old)
+        (check_names model.now (option_copied closed.entry) initial.now changed.now)
         (Printed (F.held files.old) (check_names model.now
         (option_copied closed.entry) initial.now changed.now)
-        (Breaks (O.taken out.old) (O.taken out.new) (O.faults out.old) (O.faults out.new)))) }
+        (Breaks (O.taken out.old) (O.taken out.new) (O.faults out.old) (O.faults out.new))))) }
     ensures untouched { IfErr result (λ refusal. refusal ≢ Refusal.Write → out.new ≡ out.old) }
     ensures kept { (other : List ℕ) → F.held files.new other ≡ F.held files.old other }
     ensures never_fall { (other : List ℕ) → F.faults files.old other ≤ F.faults files.new other }
@@ -117,7 +124,8 @@ fn weigh<F: Files>(
         (check_names model.now (option_copied closed.entry) initial.now changed.now)) }
     ensures refused { IfErr result (Says (F.held files.old)
         (check_names model.now (option_copied closed.entry) initial.now changed.now)
-        (F.faults files.old) (F.faults files.new) ⊥) }
+        (F.faults files.old) (F.faults files.new) (Judges (F.held files.old)
+        (check_names model.now (option_copied closed.entry) initial.now changed.now) ⊥)) }
     ensures kept { (other : List ℕ) → F.held files.new other ≡ F.held files.old other }
     ensures never_fall { (other : List ℕ) → F.faults files.old other ≤ F.faults files.new other }
 {

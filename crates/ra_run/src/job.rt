@@ -7,9 +7,9 @@ ghost use Rattle.ra_report.specs.Texts.{line_end};
 ghost use Rattle.ra_words.specs.Jobs.{job_of};
 ghost use Rattle.ra_words.specs.Said.{said};
 ghost use Rattle.ra_words.specs.Words.{texts};
-ghost use Rattle.ra_run.specs.Commands.{OfJob, OutputOf};
+ghost use Rattle.ra_run.specs.Commands.{Answers, OfJob, OutputOf, OwnComes, OwnOf, ValidFor};
 ghost use Rattle.ra_run.specs.Comes.{Comes};
-ghost use Rattle.ra_run.specs.Complete.{AreValid, NoFault};
+ghost use Rattle.ra_run.specs.Complete.{NoFault};
 ghost use Rattle.ra_run.specs.Ends.{Ends};
 ghost use Rattle.ra_run.specs.Trials.{TrialEnds};
 
@@ -45,7 +45,7 @@ pub fn run<R: Threads + Wait + Sync, F: Files, O: Sink, E: Sink, G: Gate>(
     ensures ends { IfSome (job_of (texts words.now)) (λ says. OfJob says
         (λ names. Ends (F.held files.old) names (F.faults files.old) (F.faults files.new)
         (OutputOf (F.held files.old) says (Appends (O.taken out.old) (O.taken out.new)))
-        (OutputOf (F.held files.old) says
+        (OwnOf (F.held files.old) says
         (Breaks (O.taken out.old) (O.taken out.new) (O.faults out.old) (O.faults out.new)))
         (Puts (E.taken err.old) (E.taken err.new) (E.faults err.old) (E.faults err.new))
         (out.new ≡ out.old) (err.new ≡ err.old) result)
@@ -57,15 +57,18 @@ pub fn run<R: Threads + Wait + Sync, F: Files, O: Sink, E: Sink, G: Gate>(
     // Each other status but `Done` comes where its cause stands, and only there.
     ensures comes { IfSome (job_of (texts words.now)) (λ says. OfJob says
         (λ names. Comes (F.held files.old) names (F.faults files.old) (F.faults files.new)
-        (OutputOf (F.held files.old) says
+        (OwnOf (F.held files.old) says
         (Breaks (O.taken out.old) (O.taken out.new) (O.faults out.old) (O.faults out.new)))
         (out.new ≡ out.old) result)
         (λ number. Unit {0})) }
+    ensures own_comes { IfSome (job_of (texts words.now)) (λ says. OwnComes (F.held files.old) says
+        (F.faults files.old) (F.faults files.new) result) }
+
+    // Over valid files, and where no fault of a file of the job or of the output was counted, the job is done.
     ensures complete { IfSome (job_of (texts words.now)) (λ says. OfJob says
-        (λ names. AreValid (F.held files.old) names
+        (λ names. ValidFor (F.held files.old) says
         → NoFault names (F.faults files.old) (F.faults files.new) →
-        (Rose (O.faults out.old) (O.faults out.new) → ⊥)
-        → (result ≡ Status.Done) ⊎ (result ≡ Status.NoMemory))
+        (Rose (O.faults out.old) (O.faults out.new) → ⊥) → Answers says result)
         (λ number. (Rose (O.faults out.old) (O.faults out.new) → ⊥)
         → (result ≡ Status.Done) ⊎ (result ≡ Status.NoMemory))) }
     ensures kept { (other : List ℕ) → F.held files.new other ≡ F.held files.old other }
@@ -93,7 +96,7 @@ fn do_job<R: Threads + Wait + Sync, F: Files, O: Sink, E: Sink, G: Gate>(
     ensures ends { OfJob (said job.now)
         (λ names. Ends (F.held files.old) names (F.faults files.old) (F.faults files.new)
         (OutputOf (F.held files.old) (said job.now) (Appends (O.taken out.old) (O.taken out.new)))
-        (OutputOf (F.held files.old) (said job.now)
+        (OwnOf (F.held files.old) (said job.now)
         (Breaks (O.taken out.old) (O.taken out.new) (O.faults out.old) (O.faults out.new)))
         (Puts (E.taken err.old) (E.taken err.new) (E.faults err.old) (E.faults err.new))
         (out.new ≡ out.old) (err.new ≡ err.old) result)
@@ -102,11 +105,12 @@ fn do_job<R: Threads + Wait + Sync, F: Files, O: Sink, E: Sink, G: Gate>(
         (Puts (E.taken err.old) (E.taken err.new) (E.faults err.old) (E.faults err.new))
         (out.new ≡ out.old) (err.new ≡ err.old) result) }
     ensures not_usage { result ≢ Status.Usage }
+    ensures own_comes { OwnComes (F.held files.old) (said job.now) (F.faults files.old)
+        (F.faults files.new) result }
     ensures complete { OfJob (said job.now)
-        (λ names. AreValid (F.held files.old) names
+        (λ names. ValidFor (F.held files.old) (said job.now)
         → NoFault names (F.faults files.old) (F.faults files.new) →
-        (Rose (O.faults out.old) (O.faults out.new) → ⊥)
-        → (result ≡ Status.Done) ⊎ (result ≡ Status.NoMemory))
+        (Rose (O.faults out.old) (O.faults out.new) → ⊥) → Answers (said job.now) result)
         (λ number. (Rose (O.faults out.old) (O.faults out.new) → ⊥)
         → (result ≡ Status.Done) ⊎ (result ≡ Status.NoMemory)) }
     ensures kept { (other : List ℕ) → F.held files.new other ≡ F.held files.old other }

@@ -12,6 +12,8 @@ pub enum File {
     Closed,
     Initial,
     Changed,
+    Report,
+    Edits,
 }
 
 /// Why a job was not done, in the order in which it is found.
@@ -44,6 +46,8 @@ pub struct JobFiles<'n> {
     pub closed: Option<&'n Name>,
     pub initial: Option<&'n Name>,
     pub changed: Option<&'n Name>,
+    pub report: Option<&'n Name>,
+    pub edits: Option<&'n Name>,
 }
 
 impl<'n> JobFiles<'n> {
@@ -58,6 +62,8 @@ impl<'n> JobFiles<'n> {
             File::Closed => self.closed,
             File::Initial => self.initial,
             File::Changed => self.changed,
+            File::Report => self.report,
+            File::Edits => self.edits,
         };
         match named {
             Some(name) => name,

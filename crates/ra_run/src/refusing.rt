@@ -4,7 +4,7 @@ ghost use Rattle.ra_report.specs.FaultTexts.{CanBeTold, fault_text, usage_line};
 ghost use Rattle.ra_report.specs.Pieces.{Puts, joined};
 ghost use Rattle.ra_report.specs.Texts.{line_end};
 ghost use Rattle.ra_run.specs.Files.{Names, names_of};
-ghost use Rattle.ra_run.specs.Lines.{refusal_line};
+ghost use Rattle.ra_run.specs.Lines.{fault_of, refusal_line};
 ghost use Rattle.ra_run.specs.Refusals.{CanTell};
 ghost use Rattle.ra_run.specs.Statuses.{status_of};
 ghost use Rattle.ra_run.specs.declared.refusals.Refusal.TheVariants.{Memory};
@@ -59,41 +59,50 @@ fn status(refusal: Refusal) -> Status
 }
 
 /// Puts the line of a refusal.
-#[tactic(auto, unfolding(crate::specs::Lines::refusal_line, ra_report::specs::FaultTexts::fault_text))]
+#[tactic(auto, unfolding(crate::specs::Lines::refusal_line))]
 fn tell<E: Sink>(err: &mut E, names: &JobFiles<'_>, refusal: Refusal)
     requires { CanTell (names_of names.now) refusal }
     ensures line { Puts (E.taken err.old) (E.taken err.new) (E.faults err.old) (E.faults err.new)
         (refusal_line (names_of names.now) refusal) }
     ensures never_falls { E.faults err.old ≤ E.faults err.new }
 {
+    put_line(err, &fault(names, refusal))
+}
+
+/// The fault of a refusal.
+#[tactic(auto, unfolding(crate::specs::Lines::fault_of, ra_report::specs::FaultTexts::fault_text))]
+fn fault<'n>(names: &JobFiles<'n>, refusal: Refusal) -> Fault<'n>
+    requires { CanTell (names_of names.now) refusal }
+    ensures text { fault_text result ≡ fault_text (fault_of (names_of names.now) refusal) }
+    ensures told { CanBeTold result }
+{
     match refusal {
-        Refusal::Read(file) => {
-            let name = names.name(file);
-            put_line(err, &Fault::Read { name })
-        }
-        Refusal::Model(fault) => put_line(err, &Fault::Model { fault }),
-        Refusal::Closed(fault) => {
-            let name = names.name(File::Closed);
-            put_line(err, &Fault::Closed { name, fault })
-        }
-        Refusal::Initial(fault) => {
-            let name = names.name(File::Initial);
-            put_line(err, &Fault::Assign { name, fault })
-        }
-        Refusal::Changed(fault) => {
-            let name = names.name(File::Changed);
-            put_line(err, &Fault::Assign { name, fault })
-        }
-        Refusal::InitialBroken(cause) => {
-            let name = names.name(File::Initial);
-            put_line(err, &Fault::Infeasible { name, cause })
-        }
-        Refusal::ChangedBroken(cause) => {
-            let name = names.name(File::Changed);
-            put_line(err, &Fault::Infeasible { name, cause })
-        }
-        Refusal::Write => put_line(err, &Fault::Write),
-        Refusal::Memory => put_line(err, &Fault::Memory),
+        Refusal::Read(file) => Fault::Read {
+            name: names.name(file),
+        },
+        Refusal::Model(fault) => Fault::Model { fault },
+        Refusal::Closed(fault) => Fault::Closed {
+            name: names.name(File::Closed),
+            fault,
+        },
+        Refusal::Initial(fault) => Fault::Assign {
+            name: names.name(File::Initial),
+            fault,
+        },
+        Refusal::Changed(fault) => Fault::Assign {
+            name: names.name(File::Changed),
+            fault,
+        },
+        Refusal::InitialBroken(cause) => Fault::Infeasible {
+            name: names.name(File::Initial),
+            cause,
+        },
+        Refusal::ChangedBroken(cause) => Fault::Infeasible {
+            name: names.name(File::Changed),
+            cause,
+        },
+        Refusal::Write => Fault::Write,
+        Refusal::Memory => Fault::Memory,
     }
 }
 
@@ -123,7 +132,7 @@ pub(crate) fn refuse_words<E: Sink>(err: &mut E) -> Status
 }
 
 /// Puts the line of refused memory.
-#[tactic(auto, unfolding(ra_report::specs::FaultTexts::fault_text, crate::specs::Lines::refusal_line))]
+#[tactic(auto, unfolding(ra_report::specs::FaultTexts::fault_text, crate::specs::Lines::fault_of, crate::specs::Lines::refusal_line))]
 pub(crate) fn refuse_memory<E: Sink>(err: &mut E) -> Status
     ensures status { result ≡ Status.NoMemory }
     ensures line { (names : Names) → Puts (E.taken err.old) (E.taken err.new) (E.faults err.old)

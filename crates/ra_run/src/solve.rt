@@ -9,12 +9,12 @@ ghost use Rattle.ra_model.specs.Feasible.{Feasible};
 ghost use Rattle.ra_topology.specs.Fits.{IsTopologyOf};
 ghost use Rattle.ra_report.specs.JournalTexts.{best_state, text_of};
 ghost use Rattle.ra_report.specs.Pieces.{Breaks, Puts};
-ghost use Rattle.ra_run.specs.Comes.{Comes};
+ghost use Rattle.ra_run.specs.Comes.{Comes, InfeasibleComes};
 ghost use Rattle.ra_run.specs.Complete.{AreValid, NoFault};
 ghost use Rattle.ra_run.specs.Ends.{Ends};
 ghost use Rattle.ra_run.specs.Files.{solve_names};
 ghost use Rattle.ra_run.specs.Outputs.{Solved};
-ghost use Rattle.ra_run.specs.Refusals.{Says};
+ghost use Rattle.ra_run.specs.Refusals.{Says, Judges, Nothing};
 ghost use Rattle.ra_run.specs.Solving.{IsStart, IsReported, RunSays};
 
 use crate::judging::judge_start;
@@ -55,8 +55,8 @@ pub fn solve_run<'n, R: Threads + Wait + Sync, F: Files, O: Sink, E: Sink, G: Ga
     ensures ends { let names = solve_names model.now (option_copied closed.entry) initial.now in
         Ends (F.held files.old) names (F.faults files.old) (F.faults files.new)
         (Solved (F.held files.old) names lots.now (Appends (O.taken out.old) (O.taken out.new)))
-        (Solved (F.held files.old) names lots.now
-        (Breaks (O.taken out.old) (O.taken out.new) (O.faults out.old) (O.faults out.new)))
+        (Judges (F.held files.old) names (Solved (F.held files.old) names lots.now
+        (Breaks (O.taken out.old) (O.taken out.new) (O.faults out.old) (O.faults out.new))))
         (Puts (E.taken err.old) (E.taken err.new) (E.faults err.old) (E.faults err.new))
         (out.new ≡ out.old) (err.new ≡ err.old) result }
     ensures not_usage { result ≢ Status.Usage }
@@ -64,9 +64,12 @@ pub fn solve_run<'n, R: Threads + Wait + Sync, F: Files, O: Sink, E: Sink, G: Ga
     // Each status but `Done` comes where its cause stands, and only there.
     ensures comes { let names = solve_names model.now (option_copied closed.entry) initial.now in
         Comes (F.held files.old) names (F.faults files.old) (F.faults files.new)
-        (Solved (F.held files.old) names lots.now
-        (Breaks (O.taken out.old) (O.taken out.new) (O.faults out.old) (O.faults out.new)))
+        (Judges (F.held files.old) names (Solved (F.held files.old) names lots.now
+        (Breaks (O.taken out.old) (O.taken out.new) (O.faults out.old) (O.faults out.new))))
         (out.new ≡ out.old) result }
+    ensures infeasible { let names = solve_names model.now
+        (option_copied closed.entry) initial.now in
+        InfeasibleComes (F.held files.old) names (F.faults files.old) (F.faults files.new) result }
 
     // Over valid files, and where no fault of a file of the job or of the output was counted, the report is printed.
     ensures complete { let names = solve_names model.now (option_copied closed.entry) initial.now in
@@ -83,6 +86,8 @@ pub fn solve_run<'n, R: Threads + Wait + Sync, F: Files, O: Sink, E: Sink, G: Ga
         closed,
         initial: Some(initial),
         changed: None,
+        report: None,
+        edits: None,
     };
     let ended = solve(rt, alloc, model, initial, closed, lots, files, out, gate);
     finish(err, &names, ended)
@@ -106,9 +111,11 @@ fn solve<R: Threads + Wait + Sync, F: Files, O: Sink, G: Gate>(
     ensures refused { IfErr result (Says (F.held files.old)
         (solve_names model.now (option_copied closed.entry) initial.now) (F.faults files.old)
         (F.faults files.new)
+        (Judges (F.held files.old)
+        (solve_names model.now (option_copied closed.entry) initial.now)
         (Solved (F.held files.old) (solve_names model.now
         (option_copied closed.entry) initial.now) lots.now
-        (Breaks (O.taken out.old) (O.taken out.new) (O.faults out.old) (O.faults out.new)))) }
+        (Breaks (O.taken out.old) (O.taken out.new) (O.faults out.old) (O.faults out.new))))) }
     ensures untouched { IfErr result (λ refusal. refusal ≢ Refusal.Write → out.new ≡ out.old) }
     ensures kept { (other : List ℕ) → F.held files.new other ≡ F.held files.old other }
     ensures never_fall { (other : List ℕ) → F.faults files.old other ≤ F.faults files.new other }
@@ -140,7 +147,7 @@ pub(crate) fn read_start<F: Files>(
         (option_copied closed.entry) initial.now) s.inst.tables s.initial.items) }
     ensures refused { IfErr result (Says (F.held files.old)
         (solve_names model.now (option_copied closed.entry) initial.now) (F.faults files.old)
-        (F.faults files.new) ⊥) }
+        (F.faults files.new) Nothing) }
     ensures kept { (other : List ℕ) → F.held files.new other ≡ F.held files.old other }
     ensures never_fall { (other : List ℕ) → F.faults files.old other ≤ F.faults files.new other }
 {

@@ -22,6 +22,12 @@ pub enum Status {
     NoMemory,
     /// The closed list is none for the model.
     BadClosed,
+    /// A line of a report is wrong.
+    Wrong,
+    /// The last list of a repair breaks a constraint.
+    Unrepaired,
+    /// The edits file has none for the model.
+    BadEdits,
 }
 
 impl Status {
@@ -40,6 +46,9 @@ impl Status {
             Status::WriteFault => 7,
             Status::NoMemory => 8,
             Status::BadClosed => 10,
+            Status::Wrong => 9,
+            Status::Unrepaired => 11,
+            Status::BadEdits => 12,
         }
     }
 }

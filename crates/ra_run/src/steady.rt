@@ -6,6 +6,7 @@ ghost use Rattle.ra_run.specs.Files.{check_names};
 ghost use Rattle.ra_run.specs.Outputs.{Printed};
 ghost use Rattle.ra_run.specs.Complete.{AreValid};
 ghost use Rattle.ra_run.specs.Ends.{Ends};
+ghost use Rattle.ra_run.specs.Refusals.{Judges};
 
 use crate::check::check_run;
 use crate::status::Status;
@@ -32,9 +33,10 @@ pub fn check_steady<'n>(
         (⟦<SteadyFiles as Files>⟧.faults files.old) (⟦<SteadyFiles as Files>⟧.faults files.new)
         (Printed (⟦<SteadyFiles as Files>⟧.held files.old) names
         (Appends (⟦<CountSink as Sink>⟧.taken out.old) (⟦<CountSink as Sink>⟧.taken out.new)))
+        (Judges (⟦<SteadyFiles as Files>⟧.held files.old) names
         (Printed (⟦<SteadyFiles as Files>⟧.held files.old) names
         (Breaks (⟦<CountSink as Sink>⟧.taken out.old) (⟦<CountSink as Sink>⟧.taken out.new)
-        (⟦<CountSink as Sink>⟧.faults out.old) (⟦<CountSink as Sink>⟧.faults out.new)))
+        (⟦<CountSink as Sink>⟧.faults out.old) (⟦<CountSink as Sink>⟧.faults out.new))))
         (Puts (⟦<CountSink as Sink>⟧.taken err.old) (⟦<CountSink as Sink>⟧.taken err.new)
         (⟦<CountSink as Sink>⟧.faults err.old) (⟦<CountSink as Sink>⟧.faults err.new))
         (out.new ≡ out.old) (err.new ≡ err.old) result }

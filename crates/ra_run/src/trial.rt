@@ -83,7 +83,7 @@ pub fn trial_run<R: Threads + Wait + Sync, O: Sink, E: Sink, G: Gate>(
 }
 
 /// Puts the line of an output that could not be written.
-#[tactic(auto, unfolding(ra_report::specs::FaultTexts::fault_text, crate::specs::Lines::refusal_line))]
+#[tactic(auto, unfolding(ra_report::specs::FaultTexts::fault_text, crate::specs::Lines::fault_of, crate::specs::Lines::refusal_line))]
 fn refuse_write<E: Sink>(err: &mut E) -> Status
     ensures status { result ≡ Status.WriteFault }
     ensures line { (names : Names) → Puts (E.taken err.old) (E.taken err.new) (E.faults err.old)
@@ -137,7 +137,10 @@ fn trial_start(alloc: Global, number: u64) -> Result<Start, NoMemory>
     let initial = Name::make(alloc, "start")?;
     match read_start(alloc, &model, &initial, None, &mut files) {
         Ok(start) => Ok(start),
-        Err(_) => Err(NoMemory),
+        Err(refusal) => {
+            prove!(matches!(&refusal, Refusal::Memory));
+            Err(NoMemory)
+        }
     }
 }
 

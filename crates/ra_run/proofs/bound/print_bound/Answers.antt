@@ -3,6 +3,7 @@ use Rattle.ra_assign.proofs.ToldLemmas.{at_exit}
 use Rattle.ra_report.specs.Pieces.{Breaks}
 use Rattle.ra_run.specs.Files.{bound_names}
 use Rattle.ra_run.specs.Outputs.{BoundPrinted}
+use Rattle.ra_run.specs.Refusals.{OnlyWrites}
 use Rattle.ra_run.proofs.StageLemmas.{bound_printed, says_model}
 use Rattle.ra_run.proofs.bound.print_bound.Goals as goal
 
@@ -16,4 +17,4 @@ returns-clause-refused g c = bound_printed (g.F.Files.held c.args.files.now) c.a
 
 pub returns-in_err-inst-clause-refused : goal.returns-in_err-inst-clause-refused
 returns-in_err-inst-clause-refused g c = at_exit _ _ _ c.from_residual.ensures (says_model (g.F.Files.held c.args.files.now) (bound_names c.args.model.now) (g.F.Files.faults c.args.files.now) (g.F.Files.faults c.read_open.new.files)
-    (BoundPrinted (g.F.Files.held c.args.files.now) (bound_names c.args.model.now) (Breaks (g.O.Sink.taken c.args.out.now) (g.O.Sink.taken c.args.out.now) (g.O.Sink.faults c.args.out.now) (g.O.Sink.faults c.args.out.now))) _ c.in_err-inst.ensures.refused)
+    (OnlyWrites (BoundPrinted (g.F.Files.held c.args.files.now) (bound_names c.args.model.now) (Breaks (g.O.Sink.taken c.args.out.now) (g.O.Sink.taken c.args.out.now) (g.O.Sink.faults c.args.out.now) (g.O.Sink.faults c.args.out.now)))) _ c.in_err-inst.ensures.refused)

@@ -5,8 +5,10 @@ use Rattle.ra_words.specs.declared.jobs.Job.TheVariants.{Solve}
 use Rattle.ra_words.specs.Said.{said}
 use Rattle.ra_run.specs.Files.{solve_names}
 use Rattle.ra_run.specs.Outputs.{Solved}
-use Rattle.ra_run.specs.Commands.{OutputOf}
+use Rattle.ra_run.specs.Refusals.{Judges}
+use Rattle.ra_run.specs.Commands.{OutputOf, OwnOf}
 use Rattle.ra_run.proofs.RunLemmas.{ends_more}
+use Rattle.ra_run.proofs.StageLemmas.{judges_more}
 use Rattle.ra_run.proofs.job.do_job.Goals as goal
 
 pub returns-in-Check-clause-ends : goal.returns-in-Check-clause-ends
@@ -22,15 +24,27 @@ returns-in-Solve-clause-ends g c =
     let breaks : List ℕ → Type 0 = Breaks (g.O.Sink.taken c.args.out.now) (g.O.Sink.taken c.solve_run.new.out) (g.O.Sink.faults c.args.out.now) (g.O.Sink.faults c.solve_run.new.out) in
     let ends = rw c.as_ref-in-Solve.ensures.value at c.solve_run.ensures.ends in
     rw c.in-Solve.is (ends_more held names (g.F.Files.faults c.args.files.now) (g.F.Files.faults c.solve_run.new.files)
-    (Solved held names lots prints) (Solved held names lots breaks) (OutputOf held says prints) (OutputOf held says breaks)
+    (Solved held names lots prints) (OutputOf held says prints) (Judges held names (Solved held names lots breaks)) (OwnOf held says breaks)
     (Puts (g.E.Sink.taken c.args.err.now) (g.E.Sink.taken c.solve_run.new.err) (g.E.Sink.faults c.args.err.now) (g.E.Sink.faults c.solve_run.new.err))
     (c.solve_run.new.out ≡ c.args.out.now) (c.solve_run.new.err ≡ c.args.err.now) c.solve_run.result
     (λ s. (lots, record { slack_is = refl; drawing_is = refl; lots_are = refl }, s))
-    (λ s. (lots, record { slack_is = refl; drawing_is = refl; lots_are = refl }, s))
+    (judges_more held names (Solved held names lots breaks) (OutputOf held says breaks) (λ s. (lots, record { slack_is = refl; drawing_is = refl; lots_are = refl }, s)))
     ends)
+
+pub returns-in-Check-clause-own_comes : goal.returns-in-Check-clause-own_comes
+returns-in-Check-clause-own_comes g c = rw c.in-Check.is (rw c.as_ref.ensures.value at c.check_run.ensures.infeasible)
+
+pub returns-in-Solve-clause-own_comes : goal.returns-in-Solve-clause-own_comes
+returns-in-Solve-clause-own_comes g c = rw c.in-Solve.is (rw c.as_ref-in-Solve.ensures.value at c.solve_run.ensures.infeasible)
 
 pub returns-in-Check-clause-complete : goal.returns-in-Check-clause-complete
 returns-in-Check-clause-complete g c = rw c.in-Check.is (rw c.as_ref.ensures.value at c.check_run.ensures.complete)
 
 pub returns-in-Solve-clause-complete : goal.returns-in-Solve-clause-complete
 returns-in-Solve-clause-complete g c = rw c.in-Solve.is (rw c.as_ref-in-Solve.ensures.value at c.solve_run.ensures.complete)
+
+pub returns-in-Bound-clause-ends : goal.returns-in-Bound-clause-ends
+returns-in-Bound-clause-ends g c = rw c.in-Bound.is c.bound_run.ensures.ends
+
+pub returns-in-Bound-clause-complete : goal.returns-in-Bound-clause-complete
+returns-in-Bound-clause-complete g c = rw c.in-Bound.is c.bound_run.ensures.complete

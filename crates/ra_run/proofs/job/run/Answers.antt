@@ -5,8 +5,7 @@ use Rattle.ra_report.specs.Pieces.{Breaks, Puts}
 use Rattle.ra_words.specs.Jobs.{job_of}
 use Rattle.ra_words.specs.Said.{said}
 use Rattle.ra_words.specs.Words.{texts}
-use Rattle.ra_run.proofs.ComesLemmas.{says_comes, job_comes}
-use Rattle.ra_run.proofs.RunLemmas.{ends_memory_any, complete_memory_any}
+use Rattle.ra_run.proofs.RunLemmas.{ends_memory_any, complete_memory_any, job_comes, own_memory_any, says_comes}
 use Rattle.ra_run.proofs.job.run.Goals as goal
 
 pub returns-in-Err-NoMemory-clause-ends : goal.returns-in-Err-NoMemory-clause-ends
@@ -33,3 +32,6 @@ returns-in-Err-NoMemory-clause-comes g c = job_comes (job_of (texts c.args.words
 pub returns-in-Err-NoMemory-clause-complete : goal.returns-in-Err-NoMemory-clause-complete
 returns-in-Err-NoMemory-clause-complete g c = complete_memory_any (job_of (texts c.args.words.now)) (g.F.Files.held c.args.files.now) (g.F.Files.faults c.args.files.now) (g.F.Files.faults c.args.files.now)
     (Rose (g.O.Sink.faults c.args.out.now) (g.O.Sink.faults c.args.out.now)) c.refuse_memory.result c.refuse_memory.ensures.status
+
+pub returns-in-Err-NoMemory-clause-own_comes : goal.returns-in-Err-NoMemory-clause-own_comes
+returns-in-Err-NoMemory-clause-own_comes g c = own_memory_any (job_of (texts c.args.words.now)) (g.F.Files.held c.args.files.now) (g.F.Files.faults c.args.files.now) (g.F.Files.faults c.args.files.now) c.refuse_memory.result c.refuse_memory.ensures.status
