@@ -1,15 +1,15 @@
 -- How large a penalty can be.
-use Rattle.std.proofs.Common.{◌≡◌, ℕ, ◌+◌, ◌-◌, ◌*◌, ◌^◌, ◌<◌, ◌≤◌, Bool, true, false, cond, eqb, ◌&&◌, not, List, arith}
-use Rattle.ra_base.specs.Sums.{total, one_if}
+use Rattle.std.proofs.Common.{ℕ, ◌-◌, ◌*◌, ◌^◌, ◌<◌, ◌≤◌, Bool, true, false, cond, eqb, ◌&&◌, not, List, arith}
+use Rattle.ra_base.specs.Sums.{one_if}
 use Rattle.ra_base.specs.declared.ids.Machine.{Machine}
 use Rattle.ra_base.proofs.Sums.{total_within}
 use Rattle.ra_base.proofs.Counts.{one_if_le}
 use Rattle.ra_model.specs.declared.raw.Tables.{Tables}
-use Rattle.ra_model.specs.Numbers.{resource_count, machine_count, service_count, process_count, dependency_count, transient_at, capacity_of, spread_of, closed_at}
+use Rattle.ra_model.specs.Numbers.{resource_count, machine_count, service_count, process_count, dependency_count, transient_at, capacity_of, closed_at}
 use Rattle.ra_model.specs.Limits.{WellFormed, Small}
 use Rattle.ra_model.specs.Assignments.{machine_at, tally}
 use Rattle.ra_model.specs.Usage.{use_of, transient_of}
-use Rattle.ra_model.specs.Services.{is_of, on_machine}
+use Rattle.ra_model.specs.Services.{is_of}
 use Rattle.ra_model.specs.Broken.{near_of}
 use Rattle.ra_model.proofs.BoundLemmas.{use_under, transient_under, on_machine_within}
 use Rattle.ra_repair.specs.Penalty.{use_above, row_above, capacity_penalty, transient_above, row_transient_above, transient_penalty, crowd_on, service_crowd, conflict_penalty, spread_lack, spread_penalty, far_share, pair_far, service_far, dependency_penalty, closed_share, closed_penalty, penalty}

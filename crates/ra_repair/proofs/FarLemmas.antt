@@ -1,5 +1,5 @@
 -- The failing triples of dependencies, counted by neighbourhood: what one process that moves can change of them.
-use Rattle.std.proofs.Common.{◌≡◌, ◌≢◌, ℕ, zero, suc, ◌+◌, ◌*◌, ◌^◌, ◌<◌, ◌≤◌, Bool, true, false, cond, eqb, ◌||◌, ◌&&◌, List, length, set, sym, refl, ap, ◌∙◌, ⊎_elim, arith, zero-mul, mul-zero, mul_comm, eq-eqb, ne_eqb}
+use Rattle.std.proofs.Common.{◌≡◌, ◌≢◌, ℕ, ◌+◌, ◌*◌, ◌^◌, ◌<◌, Bool, true, false, cond, eqb, ◌||◌, ◌&&◌, List, set, sym, refl, ap, ◌∙◌, ⊎_elim, arith, zero-mul, mul-zero, mul_comm, eq-eqb, ne_eqb}
 use Rattle.std.proofs.lemmas.Bool.{cases_Bool, cond-true, cond-false, eqb-true, eqb-false, or_parts, both_ways, and_left, and_right}
 use Rattle.ra_base.specs.Sums.{total, count, one_if}
 use Rattle.ra_base.specs.declared.ids.Machine.{Machine}

@@ -7,3 +7,4 @@ pub mod BoundLemmas
 pub mod KeepLemmas
 pub mod OptionLemmas
 pub mod SumLemmas
+pub mod RunLemmas

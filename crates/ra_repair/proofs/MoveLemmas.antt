@@ -1,5 +1,5 @@
 -- The steps of a move one after another, and back.
-use Rattle.std.proofs.Common.{◌≡◌, ◌≢◌, ℕ, suc, ◌+◌, ◌<◌, ◌≤◌, Bool, eqb, List, length, set, None, sym, refl, ap, ◌∙◌, add-one, arith, eq-eqb}
+use Rattle.std.proofs.Common.{◌≡◌, ◌≢◌, ℕ, ◌<◌, eqb, List, length, None, sym, ap, ◌∙◌, arith, eq-eqb}
 use Rattle.std.proofs.Math.ListN.{get_or-map}
 use Rattle.std.proofs.lemmas.List.{length-map}
 use Rattle.std.proofs.lemmas.Bool.{both_ways}
@@ -11,10 +11,10 @@ use Rattle.ra_model.specs.Numbers.{machine_count, process_count}
 use Rattle.ra_model.specs.Assignments.{IsAssignment, machine_at}
 use Rattle.ra_model.proofs.BrokenLemmas.{cause_none}
 use Rattle.ra_moves.specs.declared.steps.Step.{Step}
-use Rattle.ra_moves.specs.Steps.{step_at, process_in, from_in, to_in, StandsAt, Distinct}
+use Rattle.ra_moves.specs.Steps.{step_at, process_in, from_in, to_in, StandsAt}
 use Rattle.ra_moves.specs.Replacing.{after_steps, applied, turned_step, turned}
 use Rattle.ra_moves.specs.Judging.{repeat_of, same_test, same_of}
-use Rattle.ra_moves.proofs.Applying.{length_after, after_stayed, after_moved, back, back_all}
+use Rattle.ra_moves.proofs.Applying.{length_after, after_stayed, after_moved, back}
 use Rattle.ra_moves.proofs.Repeats.{distinct_from_none}
 use Rattle.ra_moves.proofs.ValueLemmas.{after_before}
 use Rattle.ra_repair.specs.Following.{AreSteps, AreMade}

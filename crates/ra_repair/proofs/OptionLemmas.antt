@@ -1,10 +1,10 @@
 -- The choice of an option.
-use Rattle.std.proofs.Common.{◌≡◌, ℕ, ◌+◌, ◌<◌, Bool, true, false, cond, List, Option, Some, None, sym, refl, ap, ◌∙◌, ⊎_elim, arith}
+use Rattle.std.proofs.Common.{◌≡◌, ℕ, ◌+◌, true, false, cond, List, Option, Some, None, sym, refl, ap, ◌∙◌, ⊎_elim}
 use Rattle.std.proofs.lemmas.Bool.{cases_Bool}
 use Rattle.ra_base.specs.Searches.{or_else, is_better, least, least_place}
 use Rattle.ra_base.specs.declared.causes.Cause.{Cause}
 use Rattle.ra_base.specs.declared.ids.Machine.{Machine}
-use Rattle.ra_base.proofs.Least.{least_none, least_place_none, least_more, least_place_more, least_better, least_kept, is_better_none}
+use Rattle.ra_base.proofs.Least.{least_none, least_place_none, least_better, least_kept}
 use Rattle.ra_model.specs.declared.raw.Tables.{Tables}
 use Rattle.ra_moves.specs.MoveSteps.{MoveSteps}
 use Rattle.ra_moves.specs.declared.steps.Step.{Step}

@@ -1,9 +1,9 @@
 -- What the services that are read from lists are, and how many there are of what is counted.
-use Rattle.std.proofs.Common.{◌≡◌, ℕ, ◌+◌, ◌*◌, ◌<◌, ◌≤◌, Bool, true, false, cond, eqb, ltb, List, length, map, get_or, sym, refl, ap, ◌∙◌, ⊎_elim, zero-mul, arith}
+use Rattle.std.proofs.Common.{◌≡◌, ℕ, ◌+◌, ◌<◌, ◌≤◌, Bool, true, false, cond, eqb, List, length, get_or, sym, refl, ap, ◌∙◌, ⊎_elim, zero-mul, arith}
 use Rattle.std.proofs.Math.ListN.{get_or-map}
 use Rattle.std.proofs.lemmas.List.{length-map}
 use Rattle.std.proofs.lemmas.Bool.{cases_Bool, cases_lt, both_ways, lt-ltb}
-use Rattle.ra_base.specs.Sums.{total, count, is_named, pick}
+use Rattle.ra_base.specs.Sums.{total, count, pick}
 use Rattle.ra_base.specs.declared.ids.Service.{Service}
 use Rattle.ra_base.proofs.Sums.{total_same}
 use Rattle.ra_base.proofs.Picks.{pick_at, pick_total, pick_length}
@@ -11,7 +11,7 @@ use Rattle.ra_base.proofs.Counts.{count_le}
 use Rattle.ra_base.proofs.Named.{is_named_count}
 use Rattle.ra_base.specs.declared.ids.Machine.{Machine}
 use Rattle.ra_model.specs.declared.raw.Tables.{Tables}
-use Rattle.ra_model.specs.Numbers.{service_count, dependency_count, dependency_start, dependency_end, need_of}
+use Rattle.ra_model.specs.Numbers.{service_count, dependency_count, dependency_start, need_of}
 use Rattle.ra_model.specs.Limits.{WellFormed}
 use Rattle.ra_model.specs.Relations.{depends}
 use Rattle.ra_model.specs.Services.{in_neighbourhood}

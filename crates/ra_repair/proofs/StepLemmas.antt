@@ -1,19 +1,19 @@
 -- What one process that goes to another machine changes of the penalty.
-use Rattle.std.proofs.Common.{◌≡◌, ◌≢◌, ℕ, ◌+◌, ◌-◌, ◌^◌, ◌<◌, ◌≤◌, Bool, true, false, cond, eqb, ltb, ◌||◌, ◌&&◌, not, List, length, set, sym, refl, ap, ◌∙◌, ⊎_elim, arith, ne_eqb}
+use Rattle.std.proofs.Common.{◌≡◌, ◌≢◌, ℕ, ◌+◌, ◌-◌, ◌^◌, ◌<◌, Bool, false, cond, eqb, ltb, ◌||◌, List, set, sym, ap, ◌∙◌, arith, ne_eqb}
 use Rattle.std.proofs.lemmas.Bool.{and_left, and_right}
-use Rattle.ra_base.specs.Sums.{total, count, one_if}
+use Rattle.ra_base.specs.Sums.{one_if}
 use Rattle.ra_base.specs.declared.ids.Machine.{Machine}
 use Rattle.ra_base.proofs.Sums.{total_same, total_change, total_change_two}
 use Rattle.ra_base.proofs.Counts.{count_same}
 use Rattle.ra_model.specs.declared.raw.Tables.{Tables}
 use Rattle.ra_model.specs.Numbers.{resource_count, machine_count, service_count, process_count, service_of, requirement_of, neighbourhood_of, location_of, transient_at, capacity_of, spread_of}
 use Rattle.ra_model.specs.Limits.{WellFormed, Small}
-use Rattle.ra_model.specs.Assignments.{IsAssignment, machine_at, tally}
+use Rattle.ra_model.specs.Assignments.{IsAssignment, machine_at}
 use Rattle.ra_model.specs.Usage.{use_of, transient_share, transient_of}
 use Rattle.ra_model.specs.Services.{is_of, of_service, members_at, on_machine, in_location, locations_of}
 use Rattle.ra_model.proofs.TallyLemmas.{machine_at_set_same, tally_set, use_set, transient_set, members_set}
 use Rattle.ra_moves.proofs.ValueLemmas.{use_elsewhere}
-use Rattle.ra_repair.specs.Penalty.{use_above, row_above, capacity_penalty, transient_above, row_transient_above, transient_penalty, crowd_on, service_crowd, conflict_penalty, spread_lack, spread_penalty, dependency_penalty, closed_share, closed_penalty, penalty}
+use Rattle.ra_repair.specs.Penalty.{use_above, row_above, capacity_penalty, transient_above, row_transient_above, transient_penalty, crowd_on, service_crowd, conflict_penalty, spread_lack, spread_penalty, closed_share, closed_penalty, penalty}
 use Rattle.ra_repair.specs.Touched.{rows_touched, transient_touched, crowds_touched, far_between, touched}
 use Rattle.ra_repair.proofs.FarLemmas.{far_set}
 

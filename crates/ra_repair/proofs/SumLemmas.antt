@@ -1,7 +1,7 @@
 -- Sums over all processes of a service, from a list of them.
-use Rattle.std.proofs.Common.{◌≡◌, ℕ, ◌-◌, ◌<◌, ◌≤◌, Bool, true, false, cond, eqb, ltb, ◌&&◌, List, length, sym, refl, ap, ◌∙◌, ⊎_elim, arith}
+use Rattle.std.proofs.Common.{◌≡◌, ℕ, ◌<◌, ◌≤◌, true, false, cond, eqb, List, length, sym, refl, ◌∙◌, ⊎_elim, arith}
 use Rattle.std.proofs.lemmas.Bool.{cases_Bool, cases_lt, both_ways, lt-ltb}
-use Rattle.ra_base.specs.Sums.{total, count, one_if, is_named, fresh}
+use Rattle.ra_base.specs.Sums.{total, count, is_named, fresh}
 use Rattle.ra_base.specs.declared.ids.Machine.{Machine}
 use Rattle.ra_base.specs.declared.ids.Process.{Process}
 use Rattle.ra_base.proofs.Sums.{total_same}
@@ -13,7 +13,7 @@ use Rattle.ra_model.specs.Limits.{WellFormed}
 use Rattle.ra_model.specs.Assignments.{IsAssignment, machine_at}
 use Rattle.ra_model.specs.Services.{is_of, on_machine}
 use Rattle.ra_model.specs.Broken.{near_of}
-use Rattle.ra_model.specs.Members.{member_at, members_of, AreMembers, AreProcessesOf}
+use Rattle.ra_model.specs.Members.{member_at, members_of, AreProcessesOf}
 use Rattle.ra_model.proofs.MemberLemmas.{members_length, member_within, members_count, members_at_is}
 use Rattle.ra_topology.specs.TopologyLists.{TopologyLists}
 use Rattle.ra_topology.specs.Fits.{IsTopologyOf}

@@ -1,9 +1,9 @@
 -- The penalty is 0 exactly where no constraint is broken, sum by sum.
-use Rattle.std.proofs.Common.{◌≡◌, ◌↔◌, ℕ, ◌+◌, ◌-◌, ◌<◌, ◌≤◌, Bool, true, false, cond, eqb, ltb, ◌&&◌, not, List, None, refl, arith}
+use Rattle.std.proofs.Common.{◌≡◌, ℕ, ◌-◌, Bool, true, false, cond, eqb, ltb, ◌&&◌, not, List, None, refl, arith}
 use Rattle.std.specs.Prelude.{Option}
 use Rattle.std.proofs.lemmas.Bool.{ltb-false, le-ltb}
 use Rattle.ra_base.specs.Sums.{total, one_if}
-use Rattle.ra_base.specs.Searches.{or_else, first}
+use Rattle.ra_base.specs.Searches.{first}
 use Rattle.ra_base.specs.declared.ids.Machine.{Machine}
 use Rattle.ra_base.specs.declared.causes.Cause.{Cause}
 use Rattle.ra_base.proofs.Counts.{one_if_zero, one_if_false}
@@ -11,11 +11,9 @@ use Rattle.ra_base.proofs.Sums.{total_zero, total_zero_at}
 use Rattle.ra_base.proofs.Searches.{first_none_at, first_none_from}
 use Rattle.ra_model.specs.declared.raw.Tables.{Tables}
 use Rattle.ra_model.specs.Numbers.{resource_count, machine_count, service_count, process_count, dependency_count, transient_at, capacity_of, spread_of, closed_at}
-use Rattle.ra_model.specs.Limits.{WellFormed}
-use Rattle.ra_model.specs.Assignments.{IsAssignment, machine_at, tally}
+use Rattle.ra_model.specs.Assignments.{machine_at, tally}
 use Rattle.ra_model.specs.Usage.{use_of, transient_of}
 use Rattle.ra_model.specs.Services.{is_of, on_machine, locations_of}
-use Rattle.ra_model.specs.Feasible.{Feasible}
 use Rattle.ra_model.specs.Broken.{cause_if, capacity_test, row_capacity, broken_capacity, transient_test, row_transient, broken_transient, conflict_test, service_conflict, broken_conflict, spread_test, broken_spread, near_of, far_test, dependency_test, pair_dependency, service_dependency, broken_dependency, closed_test, broken_closed}
 use Rattle.ra_model.proofs.BrokenLemmas.{Fine, cause_none, cause_free, feasible_from_fine, fine_from_feasible}
 use Rattle.ra_repair.specs.Penalty.{use_above, row_above, capacity_penalty, transient_above, row_transient_above, transient_penalty, crowd_on, service_crowd, conflict_penalty, spread_lack, spread_penalty, far_share, pair_far, service_far, dependency_penalty, closed_share, closed_penalty, penalty}
@@ -97,5 +95,6 @@ zero_from_fine i a0 a fine =
 
 pub zero_is_feasible : ZeroIsFeasible
 zero_is_feasible i a0 a limits fits = (
-    (λ zeros. feasible_from_fine i a0 a limits fits (fine_from_zero i a0 a zeros)),
-    (λ feasible. zero_from_fine i a0 a (fine_from_feasible i a0 a feasible)))
+  (λ zeros. feasible_from_fine i a0 a limits fits (fine_from_zero i a0 a zeros)),
+  (λ feasible. zero_from_fine i a0 a (fine_from_feasible i a0 a feasible)),
+)

@@ -1,5 +1,5 @@
 -- What holds of every penalty and of every run, each law proved by a function of `laws`.
-use Rattle.std.specs.Prelude.{◌≡◌, ◌↔◌, ◌≢◌, ℕ, ◌<◌, List, length}
+use Rattle.std.specs.Prelude.{◌≡◌, ◌↔◌, ◌≢◌, List, length}
 use Rattle.ra_base.specs.declared.ids.Machine.{Machine}
 use Rattle.ra_draws.specs.declared.sources.Lot.{Lot}
 use Rattle.ra_model.specs.declared.raw.Tables.{Tables}

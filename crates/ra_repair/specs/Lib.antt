@@ -4,4 +4,5 @@ pub mod Touched
 pub mod Members
 pub mod Keeping
 pub mod Following
+pub mod Repairs
 pub mod Laws

@@ -24,13 +24,7 @@ pub(crate) fn row_above(inst: &Instance, start: &Assignment, kept: &Kept<'_>, m:
 
 /// What is used of a resource of a machine above its capacity.
 #[tactic(auto, unfolding(crate::specs::Penalty::use_above))]
-fn use_above(
-    inst: &Instance,
-    start: &Assignment,
-    kept: &Kept<'_>,
-    m: Machine,
-    r: Resource,
-) -> u64
+fn use_above(inst: &Instance, start: &Assignment, kept: &Kept<'_>, m: Machine, r: Resource) -> u64
     requires stands { Stands kept.now inst.now.tables start.now.items }
     requires machine { m.0 < machine_count inst.now.tables }
     requires resource { r.0 < resource_count inst.now.tables }

@@ -28,12 +28,7 @@ pub(crate) fn crowd_on(
 
 /// In how many more locations a service has to be.
 #[tactic(auto, unfolding(crate::specs::Penalty::spread_lack))]
-pub(crate) fn spread_lack(
-    inst: &Instance,
-    start: &Assignment,
-    kept: &Kept<'_>,
-    s: Service,
-) -> u64
+pub(crate) fn spread_lack(inst: &Instance, start: &Assignment, kept: &Kept<'_>, s: Service) -> u64
     requires stands { Stands kept.now inst.now.tables start.now.items }
     requires service { s.0 < service_count inst.now.tables }
     ensures value { result ≡ spread_lack inst.now.tables kept.now.assignment.items s.0 }
@@ -44,12 +39,7 @@ pub(crate) fn spread_lack(
 }
 
 /// 1 for a process that is now on a closed machine which isn't its initial one.
-pub(crate) fn closed_now(
-    inst: &Instance,
-    start: &Assignment,
-    kept: &Kept<'_>,
-    p: Process,
-) -> u64
+pub(crate) fn closed_now(inst: &Instance, start: &Assignment, kept: &Kept<'_>, p: Process) -> u64
     requires start { IsAssignment inst.now.tables start.now.items }
     requires stands { Stands kept.now inst.now.tables start.now.items }
     requires process { p.0 < process_count inst.now.tables }

@@ -80,13 +80,7 @@ pub(crate) fn near(
 
 /// How many dependencies of a service have no process of their service there.
 #[tactic(auto, using(ra_base::proofs::Counts::counts, crate::proofs::ReadLemmas::dependency_few), unfolding(crate::specs::Touched::missing_near))]
-fn missing_near(
-    inst: &Instance,
-    start: &Assignment,
-    kept: &Kept<'_>,
-    s: Service,
-    label: u32,
-) -> u64
+fn missing_near(inst: &Instance, start: &Assignment, kept: &Kept<'_>, s: Service, label: u32) -> u64
     requires stands { Stands kept.now inst.now.tables start.now.items }
     requires service { s.0 < service_count inst.now.tables }
     ensures value { result ≡ missing_near inst.now.tables kept.now.assignment.items s.0 label }

@@ -57,15 +57,7 @@ fn follow_step<L: Ledger>(
         slice_set kept.old.assignment.items step.process.0 step.to }
 {
     let before = touched(inst, topo, start, kept, step);
-    put(
-        inst,
-        start,
-        kept,
-        step.process,
-        step.from,
-        step.to,
-        steps,
-    );
+    put(inst, start, kept, step.process, step.from, step.to, steps);
     let after = touched(inst, topo, start, kept, step);
     kept.penalty = kept.penalty + u128::from(after) - u128::from(before);
 }
@@ -87,15 +79,7 @@ pub(crate) fn go_back<L: Ledger>(
 {
     for j in 0..mv.steps() {
         let step = mv.step(j);
-        put(
-            inst,
-            start,
-            kept,
-            step.process,
-            step.to,
-            step.from,
-            steps,
-        );
+        put(inst, start, kept, step.process, step.to, step.from, steps);
     }
 }
 

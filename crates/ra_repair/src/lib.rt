@@ -10,8 +10,11 @@ mod following;
 mod kept;
 pub mod laws;
 mod options;
+mod repair;
 mod sums;
 mod touched;
 mod tries;
+mod trying;
 
+pub use repair::Repair;
 pub use tries::Try;

@@ -1,5 +1,5 @@
 -- The penalty is renewed by what is touched.
-use Rattle.std.proofs.Common.{◌≡◌, ◌+◌, ◌-◌, ◌∙◌, arith}
+use Rattle.std.proofs.Common.{arith}
 use Rattle.ra_repair.proofs.StepLemmas.{Goes}
 use Rattle.ra_repair.proofs.KeepLemmas.{renews, keeps_on}
 use Rattle.ra_repair.proofs.following.follow_step.Goals as goal

@@ -1,6 +1,6 @@
 -- Each step is a step of the move, turned.
 use Rattle.std.proofs.Common.{◌≡◌, ◌∙◌, length, sym, refl, ap, arith}
-use Rattle.ra_moves.specs.Replacing.{after_steps, applied, turned, turned_step}
+use Rattle.ra_moves.specs.Replacing.{after_steps, turned, turned_step}
 use Rattle.ra_moves.proofs.Applying.{after_none, back_more, back_all}
 use Rattle.ra_repair.proofs.MoveLemmas.{back_of}
 use Rattle.ra_repair.proofs.following.go_back.Goals as goal

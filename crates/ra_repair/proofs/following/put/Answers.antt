@@ -1,5 +1,5 @@
 -- Rows, counters and assignment change alike.
-use Rattle.std.proofs.Common.{◌∙◌, sym, ap, set}
+use Rattle.std.proofs.Common.{◌∙◌, set}
 use Rattle.ra_model.proofs.TallyLemmas.{fits_set}
 use Rattle.ra_repair.proofs.KeepLemmas.{stands_on}
 use Rattle.ra_repair.proofs.following.put.Goals as goal

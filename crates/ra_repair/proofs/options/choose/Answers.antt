@@ -1,5 +1,5 @@
 -- One option after another.
-use Rattle.std.proofs.Common.{◌≡◌, ◌∙◌, sym, ap, arith}
+use Rattle.std.proofs.Common.{◌≡◌, ◌∙◌, ap, arith}
 use Rattle.ra_base.specs.declared.causes.Drawing.TheVariants.{Two}
 use Rattle.ra_base.specs.Searches.{least, least_place}
 use Rattle.ra_moves.specs.Options.{option_count}

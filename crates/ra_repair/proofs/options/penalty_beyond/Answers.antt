@@ -1,5 +1,5 @@
 -- The way back ends where it began.
-use Rattle.std.proofs.Common.{◌≡◌, ◌∙◌, sym, ap}
+use Rattle.std.proofs.Common.{◌∙◌, sym, ap}
 use Rattle.ra_repair.specs.Penalty.{penalty}
 use Rattle.ra_repair.proofs.MoveLemmas.{made_of, back_again}
 use Rattle.ra_repair.proofs.KeepLemmas.{keeps_on}

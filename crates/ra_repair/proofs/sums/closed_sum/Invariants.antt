@@ -1,5 +1,5 @@
 -- The sum so far.
-use Rattle.std.proofs.Common.{◌≡◌, ◌*◌, ◌^◌, ◌≤◌}
+use Rattle.std.proofs.Common.{◌≡◌, ◌≤◌}
 use Rattle.ra_model.specs.Assignments.{tally}
 use Rattle.ra_repair.specs.Penalty.{closed_share}
 use Rattle.ra_repair.proofs.sums.closed_sum.Given as goal

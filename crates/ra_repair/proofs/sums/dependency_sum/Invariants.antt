@@ -1,5 +1,5 @@
 -- The sum so far.
-use Rattle.std.proofs.Common.{◌≡◌, ◌*◌, ◌^◌, ◌≤◌}
+use Rattle.std.proofs.Common.{◌≡◌, ◌*◌, ◌≤◌}
 use Rattle.ra_base.specs.Sums.{total}
 use Rattle.ra_repair.specs.Penalty.{service_far}
 use Rattle.ra_repair.proofs.sums.dependency_sum.Given as goal

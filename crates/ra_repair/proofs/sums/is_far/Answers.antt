@@ -1,5 +1,5 @@
 -- The neighbourhood of the process's machine.
-use Rattle.std.proofs.Common.{◌≡◌, ◌∙◌, eqb, ap}
+use Rattle.std.proofs.Common.{◌∙◌, eqb, ap}
 use Rattle.ra_model.specs.Numbers.{neighbourhood_of, need_of}
 use Rattle.ra_model.specs.Services.{in_neighbourhood}
 use Rattle.ra_model.specs.Broken.{near_of}

@@ -1,5 +1,5 @@
 -- The sum so far.
-use Rattle.std.proofs.Common.{◌≡◌, ◌*◌, ◌^◌, ◌≤◌}
+use Rattle.std.proofs.Common.{◌≡◌}
 use Rattle.std.proofs.Common.{false}
 use Rattle.ra_base.specs.Sums.{is_named}
 use Rattle.ra_repair.specs.Members.{seat_of}

@@ -1,5 +1,5 @@
 -- The sum so far.
-use Rattle.std.proofs.Common.{◌≡◌, ◌*◌, ◌^◌, ◌≤◌}
+use Rattle.std.proofs.Common.{◌≡◌, ◌≤◌}
 use Rattle.ra_base.specs.Sums.{count}
 use Rattle.ra_repair.specs.Members.{is_far}
 use Rattle.ra_repair.proofs.sums.pair_far.Given as goal

@@ -1,5 +1,5 @@
 -- Each process of a service has a machine.
-use Rattle.std.proofs.Common.{◌∙◌, arith}
+use Rattle.std.proofs.Common.{arith}
 use Rattle.ra_model.specs.Members.{member_at}
 use Rattle.ra_model.proofs.MemberLemmas.{member_within}
 use Rattle.ra_repair.specs.Members.{seat_of}

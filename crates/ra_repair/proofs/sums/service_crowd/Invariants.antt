@@ -1,5 +1,5 @@
 -- The sum so far.
-use Rattle.std.proofs.Common.{◌≡◌, ◌*◌, ◌^◌, ◌≤◌}
+use Rattle.std.proofs.Common.{◌≡◌, ◌*◌, ◌≤◌}
 use Rattle.ra_base.specs.Sums.{total, fresh}
 use Rattle.ra_repair.specs.Penalty.{crowd_on}
 use Rattle.ra_repair.specs.Members.{seat_of}
