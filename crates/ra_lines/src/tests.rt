@@ -14,33 +14,34 @@ fn files(rt: &impl AllocGlobal, bytes: &[u8], failing: u64) -> Result<MemoryFile
     Ok(files)
 }
 
-/// Reads the next line with room for 7 bytes, and what came next.
-fn next(
-    reader: &mut LineReader,
-    files: &mut MemoryFiles,
-    line: &mut Fixed<u8>,
-) -> Result<Next, ReadFault> {
+#[test]
+fn lines_are_given_one_by_one(rt: HostRuntime) -> Result<(), Fail> {
+    let mut files = files(&rt, b"one\n\nseven 7\nlast", 100)?;
+    let mut reader = LineReader::make(rt.alloc(), "r")?;
+    let mut line = Fixed::make(rt.alloc(), 8)?;
+    assert_eq!(rt; reader.next(&mut files, 7, &mut line), Ok(Next::Line));
+    assert_eq!(rt; line.as_slice(), b"one\n".as_slice());
     line.clear();
-    reader.next(files, 7, line)
+    assert_eq!(rt; reader.next(&mut files, 7, &mut line), Ok(Next::Line));
+    assert_eq!(rt; line.as_slice(), b"\n".as_slice());
+    line.clear();
+    assert_eq!(rt; reader.next(&mut files, 7, &mut line), Ok(Next::Line));
+    assert_eq!(rt; line.as_slice(), b"seven 7\n".as_slice());
+    line.clear();
+    assert_eq!(rt; reader.next(&mut files, 7, &mut line), Ok(Next::Last));
+    assert_eq!(rt; line.as_slice(), b"last".as_slice());
+    line.clear();
+    assert_eq!(rt; reader.next(&mut files, 7, &mut line), Ok(Next::End));
+    Ok(())
 }
 
 #[test]
-fn lines_are_given_one_by_one(rt: HostRuntime) -> Result<(), Fail> {
-    let mut files = files(&rt, b"one\n\nseven 7\neight of them\nlast", 100)?;
+fn a_long_line_is_found(rt: HostRuntime) -> Result<(), Fail> {
+    let mut files = files(&rt, b"eight of them\n", 100)?;
     let mut reader = LineReader::make(rt.alloc(), "r")?;
     let mut line = Fixed::make(rt.alloc(), 8)?;
-    assert_eq!(rt; next(&mut reader, &mut files, &mut line), Ok(Next::Line));
-    assert_eq!(rt; line.as_slice(), b"one\n".as_slice());
-    assert_eq!(rt; next(&mut reader, &mut files, &mut line), Ok(Next::Line));
-    assert_eq!(rt; line.as_slice(), b"\n".as_slice());
-    assert_eq!(rt; next(&mut reader, &mut files, &mut line), Ok(Next::Line));
-    assert_eq!(rt; line.as_slice(), b"seven 7\n".as_slice());
-    assert_eq!(rt; next(&mut reader, &mut files, &mut line), Ok(Next::Long));
+    assert_eq!(rt; reader.next(&mut files, 7, &mut line), Ok(Next::Long));
     assert_eq!(rt; line.as_slice(), b"eight of".as_slice());
-    assert_eq!(rt; next(&mut reader, &mut files, &mut line), Ok(Next::Line));
-    assert_eq!(rt; next(&mut reader, &mut files, &mut line), Ok(Next::Last));
-    assert_eq!(rt; line.as_slice(), b"last".as_slice());
-    assert_eq!(rt; next(&mut reader, &mut files, &mut line), Ok(Next::End));
     Ok(())
 }
 
