@@ -1,5 +1,5 @@
 -- A text that was written to a sink that compares.
-use Rattle.std.proofs.Common.{◌≡◌, ℕ, ◌<◌, ◌≤◌, List, ◌++◌, length, take, Option, None, Some, IfNone, IfSome, Result, Ok, Err, OnOk, OnErr, inl, inr, subst, arith, sym, ap, ◌∙◌, ⊎_elim}
+use Rattle.std.proofs.Common.{◌≡◌, ℕ, ◌<◌, ◌≤◌, List, ◌++◌, length, take, Option, None, Some, IfNone, IfSome, Result, Ok, Err, OnOk, OnErr, inl, inr, arith, sym, ap, ◌∙◌, ⊎_elim}
 use Rattle.std.specs.Io.KnownBytes.{Appends}
 use Rattle.ra_lines.specs.Comparing.{opened, WasGiven}
 use Rattle.ra_lines.specs.Lines.{lines_of, FirstUnlike}

@@ -1,4 +1,4 @@
-use Rattle.std.proofs.Common.{rules, arith}
+use Rattle.std.proofs.Common.{rules}
 use Rattle.ra_moves.specs.Steps.{step_at}
 use Rattle.ra_report.proofs.LengthLaws.{no_steps_length, steps_length, all_steps_length}
 use Rattle.ra_report.proofs.lengths.steps_are_short.Goals as goal
