@@ -1,9 +1,9 @@
 -- A text that was given to a sink that expects other bytes, or the same.
-use Rattle.std.proofs.Common.{◌≡◌, ◌≢◌, ℕ, suc, ◌+◌, ◌-◌, ◌<◌, ◌≤◌, ◌⊎◌, Bool, true, false, ◌&&◌, nat_lt, nat_eq, eqb, List, [], ◌∷◌, ◌++◌, length, take, drop, get_or, slice_get, Option, Some, None, refl, sym, ◌∙◌, ap, arith, subst, append_assoc, eq-eqb, eqb-true, lt-ltb, inl, inr}
+use Rattle.std.proofs.Common.{◌≡◌, ◌≢◌, ℕ, suc, ◌+◌, ◌-◌, ◌<◌, ◌≤◌, ◌⊎◌, Bool, true, false, ◌&&◌, nat_eq, List, [], ◌∷◌, ◌++◌, length, take, drop, get_or, slice_get, Option, Some, None, refl, sym, ◌∙◌, ap, arith, subst, append_assoc, eq-eqb, lt-ltb, inl, inr}
 use Rattle.std.specs.Option.{ForSome, ForNone}
 use Rattle.std.proofs.lemmas.List.{append-nil, append_cancel_left, take-append-drop, take_more, get_or-drop, length-drop}
 use Rattle.std.proofs.Math.Seq.{take-length, take-add}
-use Rattle.std.proofs.lemmas.Option.{none-some, slice_get-get_or, slice_get_within, get_or_from_slice_get}
+use Rattle.std.proofs.lemmas.Option.{none-some, slice_get_within, get_or_from_slice_get}
 use Rattle.ra_lines.specs.Lines.{end_count, FirstUnlike}
 use Rattle.ra_lines.specs.Comparing.{is_byte_at, one_or_none, given_of, opened, taken_of, WasGiven}
 use Rattle.ra_lines.proofs.UnlikeLaws.{unlike_at}

@@ -1,8 +1,8 @@
 -- Bytes that are given piece by piece, up to the end of a line.
-use Rattle.std.proofs.Common.{◌≡◌, ℕ, zero, suc, ◌+◌, ◌-◌, ◌<◌, ◌≤◌, min, Bool, true, false, List, [], ◌∷◌, ◌++◌, length, take, drop, get_or, Option, Some, None, IfSome, refl, sym, ◌∙◌, ap, arith, subst, append_assoc, length-append, length-take, length-drop, take-add, ⊎_elim}
+use Rattle.std.proofs.Common.{◌≡◌, ℕ, zero, suc, ◌+◌, ◌-◌, ◌<◌, ◌≤◌, List, [], ◌∷◌, ◌++◌, length, take, drop, get_or, Option, Some, None, IfSome, refl, sym, ◌∙◌, ap, arith, subst, append_assoc, length-append, length-take, length-drop, take-add, ⊎_elim}
 use Rattle.std.proofs.lemmas.List.{append-nil, take-append-drop, drop-take, drop-drop, take-take, take_more}
 use Rattle.std.proofs.lemmas.Bool.{cases_lt}
-use Rattle.ra_lines.specs.Lines.{lines_of, ends_line, body_of, HasNoEnd, length_before_end}
+use Rattle.ra_lines.specs.Lines.{lines_of, body_of, HasNoEnd}
 use Rattle.ra_lines.specs.declared.answers.Next.{Next}
 use Rattle.ra_lines.specs.declared.answers.Next.TheVariants.{Last, Long, End}
 use Rattle.ra_lines.specs.Reading.{BeginsWithLine, IsLastLine, BeginsOverLong, IsNext}

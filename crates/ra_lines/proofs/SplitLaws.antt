@@ -1,10 +1,9 @@
 -- The first line of bytes, and the lines behind it.
-use Rattle.std.proofs.Common.{◌≡◌, ℕ, zero, suc, ◌+◌, ◌<◌, ◌≤◌, Bool, true, false, cond, eqb, List, [], ◌∷◌, ◌++◌, length, slice_get, Option, Some, None, refl, sym, ◌∙◌, ap, arith, subst, append_assoc, length-append}
-use Rattle.std.proofs.lemmas.List.{append-nil}
+use Rattle.std.proofs.Common.{◌≡◌, ℕ, zero, suc, ◌<◌, Bool, true, false, cond, eqb, List, [], ◌∷◌, ◌++◌, length, slice_get, Option, Some, None, refl, sym, ◌∙◌, ap, arith, subst}
 use Rattle.std.proofs.lemmas.Option.{none-some}
-use Rattle.ra_lines.specs.Lines.{onto_first, lines_of, line_at, joined_lines, ends_line, body_of, HasNoEnd}
+use Rattle.ra_lines.specs.Lines.{onto_first, lines_of, line_at, joined_lines, ends_line, HasNoEnd}
 use Rattle.ra_lines.specs.LineLaws.{IsWhole}
-use Rattle.ra_lines.proofs.BodyLaws.{no_end_first, no_end_cons, no_end_none, ends_behind}
+use Rattle.ra_lines.proofs.BodyLaws.{no_end_first}
 
 -- a byte that is no LF stands in the first line of what follows
 pub lines_onto : (byte : ℕ) (bytes : List ℕ) → eqb byte 10 ≡ false → lines_of (byte ∷ bytes) ≡ onto_first byte (lines_of bytes)

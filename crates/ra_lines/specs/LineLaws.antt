@@ -1,6 +1,6 @@
 -- What holds of the lines of any bytes, each proved by a function of `laws`.
-use Rattle.std.specs.Prelude.{◌≡◌, ℕ, suc, ◌<◌, true, List, [], ◌∷◌, ◌++◌, length, slice_get, Some}
-use Rattle.ra_lines.specs.Lines.{lines_of, line_at, joined_lines, ends_line, body_of, HasNoEnd}
+use Rattle.std.specs.Prelude.{◌≡◌, ℕ, suc, ◌<◌, true, List, [], ◌∷◌, ◌++◌, length, Some}
+use Rattle.ra_lines.specs.Lines.{lines_of, line_at, joined_lines, ends_line}
 
 -- one after another they are the bytes
 abbrev pub LinesAreTheBytes : Type 0

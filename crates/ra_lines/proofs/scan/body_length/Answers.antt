@@ -1,5 +1,5 @@
-use Rattle.std.proofs.Common.{rules, refl, eqb-true}
-use Rattle.ra_lines.proofs.BodyLaws.{no_end_none, no_end_next, body_found, body_all}
+use Rattle.std.proofs.Common.{rules, refl}
+use Rattle.ra_lines.proofs.BodyLaws.{no_end_none, no_end_next, body_found}
 use Rattle.ra_lines.proofs.scan.body_length.Goals as goal
 
 pub loop-i-init : goal.loop-i-init

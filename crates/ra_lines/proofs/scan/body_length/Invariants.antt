@@ -1,4 +1,4 @@
-use Rattle.std.proofs.Common.{◌≡◌, take}
+use Rattle.std.proofs.Common.{take}
 use Rattle.ra_lines.specs.Lines.{HasNoEnd}
 use Rattle.ra_lines.proofs.scan.body_length.Given as goal
 

@@ -1,4 +1,4 @@
-use Rattle.std.proofs.Common.{Ok, ◌≡◌, ◌+◌, ◌-◌, ◌≤◌, rules, refl, arith, ap, sym, ◌∙◌, length, take}
+use Rattle.std.proofs.Common.{◌+◌, ◌-◌, rules, refl, arith, ◌∙◌, length}
 use Rattle.ra_lines.specs.Windows.{ready_of}
 use Rattle.ra_lines.proofs.ReadingLaws.{told_none, told_ready, told_gave, told_line, told_more, told_long, told_ended_at, not_long}
 use Rattle.ra_lines.proofs.window.Window.next_line.Goals as goal
