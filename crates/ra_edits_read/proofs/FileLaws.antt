@@ -1,11 +1,11 @@
 -- All edits of a file, from what is known of each.
-use Rattle.std.proofs.Common.{◌≡◌, ℕ, zero, suc, ◌+◌, ◌-◌, ◌*◌, ◌<◌, ◌≤◌, List, [], ◌∷◌, ◌++◌, length, Option, Some, None, Ok, Err, refl, sym, ap, ◌∙◌, subst, inl, inr, ⊎_elim, arith, add-one, add-zero, add-suc, le_refl, get_or, length-append}
-use Rattle.std.specs.Prelude.{slice_get, slice_index_or}
+use Rattle.std.proofs.Common.{◌≡◌, ℕ, zero, suc, ◌+◌, ◌-◌, ◌*◌, ◌<◌, ◌≤◌, List, [], ◌∷◌, ◌++◌, length, Some, None, Ok, Err, refl, sym, ap, ◌∙◌, subst, inl, inr, ⊎_elim, arith, add-one, add-zero, add-suc, le_refl, get_or, length-append}
+use Rattle.std.specs.Prelude.{slice_get}
 use Rattle.std.proofs.lemmas.Bool.{cases_lt}
 use Rattle.std.proofs.lemmas.Option.{slice_get_past}
 use Rattle.std.proofs.lemmas.List.{get_or_append_left}
 use Rattle.std.proofs.Math.Seq.{get_or-append_seam}
-use Rattle.ra_base.specs.Searches.{first, or_else}
+use Rattle.ra_base.specs.Searches.{first}
 use Rattle.ra_base.proofs.Searches.{first_none, first_more_none, first_found, first_skip, or_else_none, or_else_some}
 use Rattle.ra_token.specs.declared.answers.Token.{Token}
 use Rattle.ra_token.specs.declared.answers.TokenFault.{TokenFault}
@@ -21,9 +21,9 @@ use Rattle.ra_edits_read.specs.declared.faults.EditsFault.{EditsFault}
 use Rattle.ra_edits_read.specs.declared.faults.EditsFault.TheVariants.{Range, TooMany}
 use Rattle.ra_edits_read.specs.declared.reading.TheConstants.{MOST_EDITS}
 use Rattle.ra_edits_read.specs.EditLists.{AllFit, FitsInstance}
-use Rattle.ra_edits_read.specs.EditTexts.{value_at, numbers_behind, kind_place, edit_from, requirements_from, edits_to, requirements_to, edits_fault, numbers_test, kind_test, found_test, edit_test, file_fault, edits_refusal, AreEditsOf}
+use Rattle.ra_edits_read.specs.EditTexts.{value_at, numbers_behind, kind_place, edit_from, requirements_from, edits_to, requirements_to, edits_fault, numbers_test, found_test, edit_test, file_fault, edits_refusal}
 use Rattle.ra_edits_read.specs.Answers.{EditsSays, IsEditsRefusal}
-use Rattle.ra_edits_read.specs.Reading.{TakesEdit, HasEdit, HasEdits, EditStop, HasEnded, IsWhole}
+use Rattle.ra_edits_read.specs.Reading.{HasEdit, HasEdits, EditStop, IsWhole}
 use Rattle.ra_edits_read.proofs.NumberLaws.{says_same, says_fault}
 use Rattle.ra_edits_read.proofs.EditLaws.{kind_wrong, kind_behind, found_kind, found_behind}
 

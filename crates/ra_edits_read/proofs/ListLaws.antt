@@ -1,7 +1,6 @@
 -- Reads of edits and of rows of requirements.
-use Rattle.std.proofs.Common.{◌≡◌, ℕ, suc, ◌+◌, ◌-◌, ◌*◌, ◌<◌, ◌≤◌, List, length, take, drop, get_or, refl, sym, ap, ◌∙◌, arith, length-take, length-drop}
+use Rattle.std.proofs.Common.{◌≡◌, ℕ, ◌+◌, ◌-◌, ◌*◌, ◌<◌, ◌≤◌, List, length, take, drop, get_or, refl, ap, arith, length-take, length-drop}
 use Rattle.std.proofs.lemmas.List.{get_or_read, get_or-take, get_or-drop}
-use Rattle.std.proofs.lemmas.Nat.{mul-add-lt}
 use Rattle.ra_base.specs.Tables.{cell}
 use Rattle.ra_edits_read.specs.declared.edits.Edit.{Edit}
 use Rattle.ra_edits_read.specs.declared.edits.Edit.TheVariants.{Retire}

@@ -1,17 +1,16 @@
 -- From the answers of a token reader to what is wrong with the numbers of an edit.
-use Rattle.std.proofs.Common.{◌≡◌, ℕ, ◌+◌, ◌-◌, ◌<◌, ◌≤◌, ◌⊎◌, List, ◌++◌, length, map, take, drop, Option, Some, None, Ok, Err, refl, sym, ap, ◌∙◌, subst, inl, inr, ⊎_elim, arith, length-take, length-drop, length-append}
-use Rattle.std.specs.Prelude.{slice_get, nat_lt, slice_index_or}
+use Rattle.std.proofs.Common.{◌≡◌, ℕ, ◌+◌, ◌-◌, ◌<◌, ◌≤◌, ◌⊎◌, List, length, Option, Some, None, Ok, Err, refl, sym, ap, ◌∙◌, subst, inl, inr, ⊎_elim, arith, length-take, length-drop, length-append}
+use Rattle.std.specs.Prelude.{slice_get, nat_lt}
 use Rattle.std.proofs.lemmas.Bool.{cond-true, cond-false, lt-ltb, le-ltb}
 use Rattle.std.proofs.lemmas.List.{length-map}
-use Rattle.std.proofs.lemmas.Option.{slice_get_past, slice_get_within, slice_get-get_or, get_or_from_slice_get}
-use Rattle.ra_base.specs.Searches.{first}
+use Rattle.std.proofs.lemmas.Option.{slice_get_past, slice_get-get_or, get_or_from_slice_get}
 use Rattle.ra_base.proofs.Searches.{first_none_from, first_found}
 use Rattle.ra_token.specs.declared.answers.Token.{Token}
 use Rattle.ra_token.specs.declared.answers.TokenFault.{TokenFault}
 use Rattle.ra_token.specs.declared.answers.TokenFault.TheVariants as told
 use Rattle.ra_token.specs.TokenList.{tokens, tokens_before, IsAnswer, GaveAll}
 use Rattle.ra_token.specs.Faults.{first_fault}
-use Rattle.ra_token.specs.Values.{value_of, values_from, AddsValues}
+use Rattle.ra_token.specs.Values.{values_from, AddsValues}
 use Rattle.ra_assign.specs.Reading.{HasNext, HasFault}
 use Rattle.ra_edits_read.specs.declared.faults.EditsFault.{EditsFault}
 use Rattle.ra_edits_read.specs.declared.faults.EditsFault.TheVariants.{ReadFault, BadByte, TooLarge, TooLong, Missing, Range, TooMany, NoMemory}

@@ -1,0 +1,144 @@
+-- What the answer to an edit is, and what is left after it.
+use Rattle.std.proofs.Common.{◌≡◌, ◌≢◌, ℕ, ◌+◌, ◌%◌, ◌^◌, ◌<◌, ◌≤◌, List, length, Option, Some, None, refl, sym, ap, ◌∙◌, subst, ⊎_elim, arith, eq-eqb, ne_eqb}
+use Rattle.std.proofs.Math.Nat.{mod-eq_of_lt}
+use Rattle.std.proofs.lemmas.Bool.{cases_lt, cases_eq, lt-ltb, le-ltb}
+use Rattle.ra_base.specs.declared.causes.Cause.{Cause}
+use Rattle.ra_base.specs.declared.costs.Parts.{Parts}
+use Rattle.ra_base.specs.declared.ids.Machine.{Machine}
+use Rattle.ra_base.specs.declared.ids.Service.{Service}
+use Rattle.ra_model.specs.declared.raw.ProcessRow.{ProcessRow}
+use Rattle.ra_model.specs.declared.raw.Tables.{Tables}
+use Rattle.ra_model.specs.Limits.{WellFormed}
+use Rattle.ra_model.specs.Assignments.{IsAssignment}
+use Rattle.ra_model.specs.Broken.{first_broken}
+use Rattle.ra_model.specs.Costs.{objective, parts_of}
+use Rattle.ra_model.specs.Feasible.{Feasible}
+use Rattle.ra_model.proofs.BrokenLemmas.{feasible_from_unbroken}
+use Rattle.ra_edits_read.specs.declared.edits.Edit.{Edit}
+use Rattle.ra_edits_read.specs.declared.edits.Edit.TheVariants.{Add, Retire, Resize}
+use Rattle.ra_edits_read.specs.EditLists.{EditLists, edit_at, row_of, AreEditsFor}
+use Rattle.ra_edit.specs.declared.replies.EditReply.{EditReply}
+use Rattle.ra_edit.specs.declared.replies.EditReply.TheVariants.{Done, NoProcess, Full, Last, Broken}
+use Rattle.ra_edit.specs.Drafts.{Drafted, with_processes, instance_of, draft_of}
+use Rattle.ra_edit.specs.Editing.{process_of, added, retired, resized, edited}
+use Rattle.ra_edit.specs.Replies.{broken_in, cost_in, judged, barred, answer, edit_answer, kept, after_edit}
+use Rattle.ra_edit.specs.SameLists.{AreSameLists}
+use Rattle.ra_edit.specs.Keeping.{IsSound, IsKept}
+use Rattle.ra_edit.proofs.RowLaws.{process_same}
+use Rattle.ra_edit.proofs.JudgeLaws.{initial_fits, current_fits}
+use Rattle.ra_edit.proofs.SoundLaws.{edited_sound}
+use Rattle.ra_edit.proofs.SameLaws.{same_well, same_broken, same_parts}
+
+-- a row with a small move cost is a process
+pub row_is : (row : ProcessRow) → row ≡ process_of row.service row.move_cost
+unfolding process_of
+row_is row = process_same row (process_of row.service row.move_cost) refl (sym (mod-eq_of_lt row.small))
+
+-- a new draft
+new_kept : (i : Tables) (a0 a : List Machine) (parts : Parts) → WellFormed i → IsAssignment i a0 → IsAssignment i a → first_broken i a0 a ≡ None → parts ≡ parts_of i a0 a → IsKept (draft_of i a0 a) parts
+unfolding with_processes broken_in
+new_kept i a0 a parts well fits0 fits unbroken cost = record {
+  sound = record { well_formed = well; initial = fits0; current = fits };
+  unbroken = unbroken;
+  parts_are = cost;
+}
+
+pub made_kept : (d : Drafted) (i : Tables) (a0 a : List Machine) (parts : Parts) → d ≡ draft_of i a0 a → WellFormed i → IsAssignment i a0 → IsAssignment i a → first_broken i a0 a ≡ None → parts ≡ parts_of i a0 a → IsKept d parts
+made_kept d i a0 a parts same well fits0 fits unbroken cost = subst (λ (e : Drafted). IsKept e parts) (sym same) (new_kept i a0 a parts well fits0 fits unbroken cost)
+
+-- what bars an edit isn't that it is done
+never_done : (count : ℕ) (e : Edit) (cost : ℕ) → barred count e ≡ Some (Done cost) → ⊥
+unfolding barred
+never_done count (Add s m c) cost h = ⊎_elim
+    (λ (full : count ≡ 50000). let f = rw full at h in cc)
+    (λ (apart : count ≢ 50000). let f = rw (ne_eqb count 50000 apart) at h in cc)
+    (cases_eq count 50000)
+never_done count (Retire p) cost h = ⊎_elim
+    (λ (within : p < count). ⊎_elim
+    (λ (one : count ≡ 1). let f = rw (lt-ltb p count within, eq-eqb count 1 one) at h in cc)
+    (λ (apart : count ≢ 1). let f = rw (lt-ltb p count within, ne_eqb count 1 apart) at h in cc)
+    (cases_eq count 1))
+    (λ (past : count ≤ p). let f = rw (le-ltb p count past) at h in cc)
+    (cases_lt p count)
+never_done count (Resize p) cost h = ⊎_elim
+    (λ (within : p < count). let f = rw (lt-ltb p count within) at h in cc)
+    (λ (past : count ≤ p). let f = rw (le-ltb p count past) at h in cc)
+    (cases_lt p count)
+
+-- a barred edit changes nothing
+barred_keeps : (count : ℕ) (e : Edit) (reply : EditReply) (before after : Drafted) → barred count e ≡ Some reply → kept reply before after ≡ before
+unfolding kept barred
+barred_keeps count e (Done cost) before after h = absurd (never_done count e cost h)
+barred_keeps count e (NoProcess p) before after h = refl
+barred_keeps count e Full before after h = refl
+barred_keeps count e Last before after h = refl
+barred_keeps count e (Broken cause) before after h = refl
+
+pub answered_barred : (d : Drafted) (e : EditLists) (k : ℕ) (reply : EditReply) → barred (length d.rows) (edit_at e k) ≡ Some reply → reply ≡ edit_answer d e k
+unfolding edit_answer answer
+answered_barred d e k reply h = rw h refl
+
+pub kept_barred : (d : Drafted) (e : EditLists) (k : ℕ) (reply : EditReply) → barred (length d.rows) (edit_at e k) ≡ Some reply → d ≡ after_edit d e k
+unfolding after_edit
+kept_barred d e k reply h = sym (ap (λ (r : EditReply). kept r d (edited d (edit_at e k) (row_of e.width e.requirements k))) (sym (answered_barred d e k reply h)) ∙ barred_keeps (length d.rows) (edit_at e k) reply d (edited d (edit_at e k) (row_of e.width e.requirements k)) h)
+
+-- a broken constraint
+pub answered_broken : (d next : Drafted) (e : EditLists) (k : ℕ) (cause : Cause) → barred (length d.rows) (edit_at e k) ≡ None → next ≡ edited d (edit_at e k) (row_of e.width e.requirements k) → broken_in next ≡ Some cause → Broken cause ≡ edit_answer d e k
+unfolding edit_answer answer judged
+answered_broken d next e k cause free same broken = rw (free, ← same, broken) refl
+
+pub kept_broken : (d next : Drafted) (e : EditLists) (k : ℕ) (cause : Cause) → barred (length d.rows) (edit_at e k) ≡ None → next ≡ edited d (edit_at e k) (row_of e.width e.requirements k) → broken_in next ≡ Some cause → d ≡ after_edit d e k
+unfolding after_edit kept
+kept_broken d next e k cause free same broken = rw (← answered_broken d next e k cause free same broken) refl
+
+-- an edit that is done
+total_is : (d : Drafted) (parts : Parts) → parts ≡ parts_of (instance_of d) d.initial d.current → cost_in d ≡ parts.total
+unfolding cost_in parts_of
+total_is d parts same = sym (ap (λ (p : Parts). p.total) same)
+
+pub answered_done : (d next : Drafted) (e : EditLists) (k : ℕ) (parts : Parts) → barred (length d.rows) (edit_at e k) ≡ None → next ≡ edited d (edit_at e k) (row_of e.width e.requirements k) → broken_in next ≡ None → parts ≡ parts_of (instance_of next) next.initial next.current → Done parts.total ≡ edit_answer d e k
+unfolding edit_answer answer judged
+answered_done d next e k parts free same fine cost = rw (free, ← same, fine, total_is next parts cost) refl
+
+pub kept_done : (d next : Drafted) (e : EditLists) (k : ℕ) (parts : Parts) → barred (length d.rows) (edit_at e k) ≡ None → next ≡ edited d (edit_at e k) (row_of e.width e.requirements k) → broken_in next ≡ None → parts ≡ parts_of (instance_of next) next.initial next.current → next ≡ after_edit d e k
+unfolding after_edit kept
+kept_done d next e k parts free same fine cost = rw (← answered_done d next e k parts free same fine cost) same
+
+-- the current list is feasible
+pub kept_feasible : (d : Drafted) (parts : Parts) → IsKept d parts → Feasible (instance_of d) d.initial d.current
+unfolding broken_in
+kept_feasible d parts h = feasible_from_unbroken (instance_of d) d.initial d.current h.sound.well_formed h.sound.current h.unbroken
+
+-- and feasible in the instance that is built
+pub built_feasible : (d : Drafted) (parts : Parts) (j : Tables) → IsKept d parts → AreSameLists (instance_of d) j → Feasible j d.initial d.current
+unfolding broken_in
+built_feasible d parts j h same = feasible_from_unbroken j d.initial d.current (same_well (instance_of d) j same.lists h.sound.well_formed) (current_fits d j same h.sound) (same_broken (instance_of d) j d.initial d.current same h.sound.current ∙ h.unbroken)
+
+pub built_parts : (d : Drafted) (j : Tables) → AreSameLists (instance_of d) j → parts_of j d.initial d.current ≡ parts_of (instance_of d) d.initial d.current
+built_parts d j same = same_parts (instance_of d) j d.initial d.current same.lists
+
+-- an edit leaves the other lists alone
+edited_origin : (d : Drafted) (e : Edit) (requirements : List ℕ) → (edited d e requirements).origin ≡ d.origin
+unfolding edited added retired resized
+edited_origin d (Add s m c) requirements = refl
+edited_origin d (Retire p) requirements = refl
+edited_origin d (Resize p) requirements = refl
+
+kept_origin : (reply : EditReply) (before after : Drafted) → after.origin ≡ before.origin → (kept reply before after).origin ≡ before.origin
+unfolding kept
+kept_origin (Done cost) before after same = same
+kept_origin (NoProcess p) before after same = refl
+kept_origin Full before after same = refl
+kept_origin Last before after same = refl
+kept_origin (Broken cause) before after same = refl
+
+pub after_origin : (d : Drafted) (e : EditLists) (k : ℕ) → (after_edit d e k).origin ≡ d.origin
+unfolding after_edit
+after_origin d e k = kept_origin (edit_answer d e k) d (edited d (edit_at e k) (row_of e.width e.requirements k)) (edited_origin d (edit_at e k) (row_of e.width e.requirements k))
+
+-- what an edit makes of a draft is sound
+pub next_sound : (d old next : Drafted) (e : EditLists) (k : ℕ) → d ≡ old → IsSound d → AreEditsFor old.origin e → k < length e.edits → barred (length d.rows) (edit_at e k) ≡ None → next ≡ edited d (edit_at e k) (row_of e.width e.requirements k) → length (row_of e.width e.requirements k) ≡ e.width → IsSound next
+unfolding edit_at
+next_sound d old next e k same sound fits within free is width =
+    let here = subst (λ (o : Drafted). AreEditsFor o.origin e) (sym same) fits in
+    subst IsSound (sym is) (edited_sound d (edit_at e k) (row_of e.width e.requirements k) sound free (here.each k within) (width ∙ here.width))

@@ -1,0 +1,10 @@
+pub mod RowLaws
+pub mod CopyLaws
+pub mod SameLaws
+pub mod BuildLaws
+pub mod ListLaws
+pub mod SoundLaws
+pub mod JudgeLaws
+pub mod DraftLaws
+pub mod ListsLaws
+pub mod RunLaws

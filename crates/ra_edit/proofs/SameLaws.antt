@@ -1,0 +1,200 @@
+-- Instances with the same lists are alike: they have the same first broken constraint and the same parts.
+use Rattle.std.proofs.Common.{◌≡◌, ℕ, ◌<◌, ◌≤◌, List, Option, None, Bool, refl, sym, ap, ap₂, ◌∙◌, subst, length}
+use Rattle.ra_base.specs.Tables.{cell}
+use Rattle.ra_base.specs.Searches.{first, or_else}
+use Rattle.ra_base.proofs.Searches.{first_same}
+use Rattle.ra_base.specs.declared.causes.Cause.{Cause}
+use Rattle.ra_base.specs.declared.costs.Parts.{Parts}
+use Rattle.ra_base.specs.declared.ids.Machine.{Machine}
+use Rattle.ra_base.specs.declared.ids.Service.{Service}
+use Rattle.ra_model.specs.declared.raw.BalanceRow.{BalanceRow}
+use Rattle.ra_model.specs.declared.raw.MachineRow.{MachineRow}
+use Rattle.ra_model.specs.declared.raw.ProcessRow.{ProcessRow}
+use Rattle.ra_model.specs.declared.raw.RawInstance.{RawInstance}
+use Rattle.ra_model.specs.declared.raw.ResourceRow.{ResourceRow}
+use Rattle.ra_model.specs.declared.raw.ServiceRow.{ServiceRow}
+use Rattle.ra_model.specs.declared.raw.Tables.{Tables}
+use Rattle.ra_model.specs.Limits.{WellFormed}
+use Rattle.ra_model.specs.Numbers.{resource_row, machine_row, service_row, process_row, balance_row, resource_count, machine_count, service_count, process_count, balance_count, transient_at, load_weight_of, neighbourhood_of, location_of, capacity_of, safety_of, way_cost_of, spread_of, dependency_end, dependency_start, dependency_count, need_at, need_of, service_of, requirement_of, process_cost_of, first_of, second_of, target_of, balance_weight_of, process_weight_of, service_weight_of, machine_weight_of, closed_at}
+use Rattle.ra_model.specs.Assignments.{IsAssignment, machine_at, tally}
+use Rattle.ra_model.specs.Usage.{use_share, use_of, transient_share, transient_of}
+use Rattle.ra_model.specs.Services.{is_of, of_service, members_at, on_machine, in_neighbourhood, in_location, locations_of, moved_of}
+use Rattle.ra_model.specs.Broken.{cause_if, capacity_test, row_capacity, broken_capacity, transient_test, row_transient, broken_transient, conflict_test, service_conflict, broken_conflict, spread_test, broken_spread, near_of, far_test, dependency_test, pair_dependency, service_dependency, broken_dependency, closed_test, broken_closed, first_broken}
+use Rattle.ra_model.specs.Costs.{excess_on, load_part, load_cost, available, shortfall, balance_part, balance_cost, process_share, process_cost, service_cost, way_share, machine_cost, objective, parts_of}
+use Rattle.ra_edit.specs.SameLists.{HasLists, AreSameLists}
+use Rattle.ra_edit.proofs.RowLaws.{Small, small_same}
+
+-- the instance of lists that have no room, in which no machine is closed
+bare_from : List ResourceRow → List MachineRow → List ℕ → List ℕ → List ℕ → List ServiceRow → List Service → List ProcessRow → List ℕ → List BalanceRow → Small → Small → Small → Tables
+bare_from rs ms cs ss ws sv ds ps qs bs a b c = record {
+  raw = record {
+    resources = record { items = rs; room = 0 };
+    machines = record { items = ms; room = 0 };
+    capacities = record { items = cs; room = 0 };
+    safeties = record { items = ss; room = 0 };
+    move_costs = record { items = ws; room = 0 };
+    services = record { items = sv; room = 0 };
+    dependencies = record { items = ds; room = 0 };
+    processes = record { items = ps; room = 0 };
+    requirements = record { items = qs; room = 0 };
+    balances = record { items = bs; room = 0 };
+    process_weight = a.number;
+    service_weight = b.number;
+    machine_weight = c.number;
+    small_process_weight = a.small;
+    small_service_weight = b.small;
+    small_machine_weight = c.small;
+  };
+  closed = None;
+}
+
+weight_of : RawInstance → Small
+weight_of raw = record { number = raw.process_weight; small = raw.small_process_weight }
+
+service_weight_from : RawInstance → Small
+service_weight_from raw = record { number = raw.service_weight; small = raw.small_service_weight }
+
+machine_weight_from : RawInstance → Small
+machine_weight_from raw = record { number = raw.machine_weight; small = raw.small_machine_weight }
+
+bare : RawInstance → Tables
+bare raw = bare_from raw.resources.items raw.machines.items raw.capacities.items raw.safeties.items raw.move_costs.items raw.services.items raw.dependencies.items raw.processes.items raw.requirements.items raw.balances.items (weight_of raw) (service_weight_from raw) (machine_weight_from raw)
+
+weights_same : (x y : RawInstance) → x.process_weight ≡ y.process_weight → weight_of x ≡ weight_of y
+unfolding weight_of
+weights_same x y e = small_same (weight_of x) (weight_of y) e
+
+service_weights_same : (x y : RawInstance) → x.service_weight ≡ y.service_weight → service_weight_from x ≡ service_weight_from y
+unfolding service_weight_from
+service_weights_same x y e = small_same (service_weight_from x) (service_weight_from y) e
+
+machine_weights_same : (x y : RawInstance) → x.machine_weight ≡ y.machine_weight → machine_weight_from x ≡ machine_weight_from y
+unfolding machine_weight_from
+machine_weights_same x y e = small_same (machine_weight_from x) (machine_weight_from y) e
+
+bare_same : (x y : RawInstance) → HasLists x y → bare x ≡ bare y
+unfolding bare
+bare_same x y h = rw (weights_same x y h.process_weight, service_weights_same x y h.service_weight, machine_weights_same x y h.machine_weight, h.resources, h.machines, h.capacities, h.safeties, h.move_costs, h.services, h.dependencies, h.processes, h.requirements, h.balances) refl
+
+-- no definition but that of closed machines looks at rooms and flags
+
+machines_bare : (i : Tables) → machine_count (bare i.raw) ≡ machine_count i
+unfolding bare bare_from machine_count
+machines_bare i = refl
+
+processes_bare : (i : Tables) → process_count (bare i.raw) ≡ process_count i
+unfolding bare bare_from process_count
+processes_bare i = refl
+
+capacity_bare : (i : Tables) (a : List Machine) → broken_capacity (bare i.raw) a ≡ broken_capacity i a
+unfolding bare bare_from broken_capacity row_capacity capacity_test use_of use_share machine_count resource_count process_count capacity_of requirement_of
+capacity_bare i a = refl
+
+transient_bare : (i : Tables) (a0 a : List Machine) → broken_transient (bare i.raw) a0 a ≡ broken_transient i a0 a
+unfolding bare bare_from broken_transient row_transient transient_test transient_of transient_share transient_at resource_row machine_count resource_count process_count capacity_of requirement_of
+transient_bare i a0 a = refl
+
+conflict_bare : (i : Tables) (a : List Machine) → broken_conflict (bare i.raw) a ≡ broken_conflict i a
+unfolding bare bare_from broken_conflict service_conflict conflict_test on_machine members_at of_service is_of service_of process_row machine_count service_count process_count
+conflict_bare i a = refl
+
+spread_bare : (i : Tables) (a : List Machine) → broken_spread (bare i.raw) a ≡ broken_spread i a
+unfolding bare bare_from broken_spread spread_test spread_of service_row locations_of in_location location_of machine_row members_at of_service is_of service_of process_row service_count process_count
+spread_bare i a = refl
+
+dependency_bare : (i : Tables) (a : List Machine) → broken_dependency (bare i.raw) a ≡ broken_dependency i a
+unfolding bare bare_from broken_dependency service_dependency pair_dependency dependency_test far_test near_of in_neighbourhood neighbourhood_of machine_row need_of need_at dependency_start dependency_end dependency_count service_row members_at of_service is_of service_of process_row service_count process_count
+dependency_bare i a = refl
+
+parts_bare : (i : Tables) (a0 a : List Machine) → parts_of (bare i.raw) a0 a ≡ parts_of i a0 a
+unfolding bare bare_from parts_of objective load_cost load_part excess_on balance_cost balance_part shortfall available process_cost process_share service_cost moved_of machine_cost way_share use_of use_share members_at of_service is_of service_of process_row resource_row balance_row resource_count machine_count service_count process_count balance_count load_weight_of capacity_of safety_of way_cost_of requirement_of process_cost_of first_of second_of target_of balance_weight_of process_weight_of service_weight_of machine_weight_of tally weight_of service_weight_from machine_weight_from
+parts_bare i a0 a = refl
+
+to_bare : (i : Tables) → WellFormed i → WellFormed (bare i.raw)
+unfolding bare bare_from resource_count machine_count service_count process_count balance_count service_row process_row balance_row dependency_end dependency_start need_at service_of first_of second_of
+to_bare i h = record {
+  some_resource = h.some_resource;
+  few_resources = h.few_resources;
+  some_machine = h.some_machine;
+  few_machines = h.few_machines;
+  some_service = h.some_service;
+  few_services = h.few_services;
+  some_process = h.some_process;
+  few_processes = h.few_processes;
+  few_balances = h.few_balances;
+  few_dependencies = h.few_dependencies;
+  capacities = h.capacities;
+  safeties = h.safeties;
+  way_costs = h.way_costs;
+  requirements = h.requirements;
+  in_order = λ s. h.in_order s;
+  within = h.within;
+  all_owned = h.all_owned;
+  needs = h.needs;
+  services = h.services;
+  firsts = h.firsts;
+  seconds = h.seconds;
+}
+
+from_bare : (i : Tables) → WellFormed (bare i.raw) → WellFormed i
+unfolding bare bare_from resource_count machine_count service_count process_count balance_count service_row process_row balance_row dependency_end dependency_start need_at service_of first_of second_of
+from_bare i h = record {
+  some_resource = h.some_resource;
+  few_resources = h.few_resources;
+  some_machine = h.some_machine;
+  few_machines = h.few_machines;
+  some_service = h.some_service;
+  few_services = h.few_services;
+  some_process = h.some_process;
+  few_processes = h.few_processes;
+  few_balances = h.few_balances;
+  few_dependencies = h.few_dependencies;
+  capacities = h.capacities;
+  safeties = h.safeties;
+  way_costs = h.way_costs;
+  requirements = h.requirements;
+  in_order = λ s. h.in_order s;
+  within = h.within;
+  all_owned = h.all_owned;
+  needs = h.needs;
+  services = h.services;
+  firsts = h.firsts;
+  seconds = h.seconds;
+}
+
+-- what holds of one of two instances with the same lists holds of the other
+
+along : {X : Type 0} (f : Tables → X) (i j : Tables) → ((k : Tables) → f (bare k.raw) ≡ f k) → HasLists j.raw i.raw → f j ≡ f i
+along f i j unchanged h = sym (unchanged j) ∙ ap f (bare_same j.raw i.raw h) ∙ unchanged i
+
+pub same_machines : (i j : Tables) → HasLists j.raw i.raw → machine_count j ≡ machine_count i
+same_machines i j h = along machine_count i j machines_bare h
+
+pub same_processes : (i j : Tables) → HasLists j.raw i.raw → process_count j ≡ process_count i
+same_processes i j h = along process_count i j processes_bare h
+
+pub same_well : (i j : Tables) → HasLists j.raw i.raw → WellFormed i → WellFormed j
+same_well i j h well = from_bare j (subst WellFormed (sym (bare_same j.raw i.raw h)) (to_bare i well))
+
+pub same_parts : (i j : Tables) (a0 a : List Machine) → HasLists j.raw i.raw → parts_of j a0 a ≡ parts_of i a0 a
+same_parts i j a0 a h = along (λ k. parts_of k a0 a) i j (λ k. parts_bare k a0 a) h
+
+pub same_fits : (i j : Tables) (a : List Machine) → HasLists j.raw i.raw → IsAssignment i a → IsAssignment j a
+same_fits i j a h fits = record {
+  one_each = fits.one_each ∙ sym (same_processes i j h);
+  in_range = λ p within. subst (λ n. machine_at a p < n) (sym (same_machines i j h)) (fits.in_range p (subst (λ n. p < n) (same_processes i j h) within));
+}
+
+closed_test_same : (i j : Tables) (a0 a : List Machine) (p : ℕ) → closed_at j (machine_at a p) ≡ closed_at i (machine_at a p) → closed_test j a0 a p ≡ closed_test i a0 a p
+unfolding closed_test
+closed_test_same i j a0 a p e = rw e refl
+
+same_closed : (i j : Tables) (a0 a : List Machine) → AreSameLists i j → IsAssignment i a → broken_closed j a0 a ≡ broken_closed i a0 a
+unfolding broken_closed
+same_closed i j a0 a h fits =
+    ap (λ n. first n (closed_test j a0 a)) (same_processes i j h.lists)
+    ∙ first_same (process_count i) (closed_test j a0 a) (closed_test i a0 a) (λ p within. closed_test_same i j a0 a p (h.closed (machine_at a p) (fits.in_range p within)))
+
+pub same_broken : (i j : Tables) (a0 a : List Machine) → AreSameLists i j → IsAssignment i a → first_broken j a0 a ≡ first_broken i a0 a
+unfolding first_broken
+same_broken i j a0 a h fits = rw (along (λ k. broken_capacity k a) i j (λ k. capacity_bare k a) h.lists, along (λ k. broken_transient k a0 a) i j (λ k. transient_bare k a0 a) h.lists, along (λ k. broken_conflict k a) i j (λ k. conflict_bare k a) h.lists, along (λ k. broken_spread k a) i j (λ k. spread_bare k a) h.lists, along (λ k. broken_dependency k a) i j (λ k. dependency_bare k a) h.lists, same_closed i j a0 a h fits) refl

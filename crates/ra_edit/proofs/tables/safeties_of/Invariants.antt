@@ -1,0 +1,11 @@
+-- The first places were copied.
+use Rattle.std.proofs.Common.{◌≡◌, ◌*◌, length, take}
+use Rattle.ra_model.specs.Numbers.{machine_count, resource_count}
+use Rattle.ra_edit.proofs.tables.safeties_of.Given as goal
+
+abbrev pub invariant-loop-k : goal.invariant-loop-k
+invariant-loop-k l = record {
+  items : l.table.items ≡ take l.k l.inst.tables.raw.safeties.items;
+  size : length l.table.items ≡ l.k;
+  room : l.table.room ≡ machine_count l.inst.tables * resource_count l.inst.tables;
+}

@@ -1,0 +1,15 @@
+use Rattle.std.proofs.Common.{◌+◌, ◌<◌, length, [], ◌∷◌, ap, ◌∙◌, arith, length-append}
+use Rattle.ra_model.specs.Numbers.{service_count}
+use Rattle.ra_edit.proofs.CopyLaws.{service_more, end_next}
+use Rattle.ra_edit.proofs.tables.services_of.Goals as goal
+
+pub loop-s-preserved : goal.loop-s-preserved
+loop-s-preserved c =
+    let within : c.loop-s.s < service_count c.args.inst.now.tables = omega (arith, c.loop-s-test.true, c.services-s-end.ensures) in
+    let ends = end_next c.args.inst.now.tables c.loop-s.s c.args.inst.now.well_formed within in
+    record {
+      items = c.push.ensures.items ∙ service_more c.args.inst.now.tables c.loop-s.s 0 _ _ c.args.inst.now.well_formed c.loop-s.invariant.items within c.spread_min.ensures (omega (arith, ends, c.depends.ensures.count, c.loop-s.invariant.ends));
+      size = ap length c.push.ensures.items ∙ length-append c.loop-s.rows.items _ ∙ ap (λ n. n + 1) c.loop-s.invariant.size;
+      room = c.push.ensures.room ∙ c.loop-s.invariant.room;
+      ends = omega (arith, ends, c.depends.ensures.count, c.loop-s.invariant.ends);
+    }

@@ -1,0 +1,5 @@
+pub mod Drafts
+pub mod Editing
+pub mod Replies
+pub mod SameLists
+pub mod Keeping

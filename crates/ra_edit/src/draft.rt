@@ -1,0 +1,190 @@
+ghost use Rattle.std.specs.Prelude.{◌≡◌, ◌<◌, length, None, IfOk, OnOk, OnErr};
+ghost use Rattle.ra_model.specs.Assignments.{IsAssignment};
+ghost use Rattle.ra_model.specs.Broken.{first_broken};
+ghost use Rattle.ra_model.specs.Costs.{parts_of};
+ghost use Rattle.ra_model.specs.Feasible.{Feasible};
+ghost use Rattle.ra_topology.specs.Fits.{IsTopologyOf};
+ghost use Rattle.ra_edits_read.specs.EditLists.{AreEditsFor};
+ghost use Rattle.ra_edit.specs.Drafts.{draft_of, instance_of};
+ghost use Rattle.ra_edit.specs.Replies.{barred, edit_answer, after_edit};
+ghost use Rattle.ra_edit.specs.SameLists.{AreSameLists};
+
+use crate::base::Base;
+use crate::building::build;
+use crate::judging::{Judged, judge};
+use crate::lists::Lists;
+use crate::replies::EditReply;
+use ra_base::{Assignment, NoMemory, Parts};
+use ra_edits_read::{Edit, Edits};
+use ra_model::Instance;
+use ra_topology::Topology;
+use std::alloc::Global;
+use std::marker::Model;
+
+/// How many processes an instance may have.
+const MOST_PROCESSES: usize = 50_000;
+
+/// An instance whose processes are edited, with the list of their initial machines and the list of their machines now.
+/// The second is feasible at all times.
+#[derive(Drop)]
+pub struct Draft<'a> {
+    inst: &'a Instance,
+    topo: &'a Topology,
+    base: Base,
+    lists: Lists,
+    parts: Parts,
+}
+
+impl<'a> Model for Draft<'a> {
+    ghost use Rattle.ra_edit.specs.Drafts.{Drafted};
+    ghost use Rattle.ra_edit.specs.SameLists.{IsBaseOf};
+    ghost use Rattle.ra_edit.specs.Keeping.{IsKept, drafted};
+
+    ghost Value = { Drafted };
+
+    ghost view = { λ d. drafted d.inst.now.tables d.lists };
+
+    ghost invariant = { λ d. IsBaseOf d.base d.inst.now.tables × IsKept (drafted d.inst.now.tables d.lists) d.parts };
+}
+
+/// What is left of a draft: the edited instance and its two lists. The machines that were closed are closed.
+#[derive(Debug, Drop)]
+pub struct Edited {
+    pub instance: Instance,
+    pub initial: Assignment,
+    pub current: Assignment,
+}
+
+impl<'a> Draft<'a> {
+    /// The draft of a feasible current list, whose cost has these parts.
+    pub fn make(
+        alloc: Global,
+        inst: &'a Instance,
+        topo: &'a Topology,
+        a0: &Assignment,
+        a: &Assignment,
+        start: Parts,
+    ) -> Result<Draft<'a>, NoMemory>
+        requires start_fits { IsAssignment inst.now.tables a0.now.items }
+        requires fits { IsAssignment inst.now.tables a.now.items }
+        requires topology { IsTopologyOf topo.now inst.now.tables }
+        requires unbroken { first_broken inst.now.tables a0.now.items a.now.items ≡ None }
+        requires parts { start ≡ parts_of inst.now.tables a0.now.items a.now.items }
+        ensures { IfOk result (λ d. d ≡ draft_of inst.now.tables a0.now.items a.now.items) }
+    {
+        let base = Base::of(alloc, inst)?;
+        let lists = Lists::of(alloc, inst, a0, a)?;
+        Ok(Draft {
+            inst,
+            topo,
+            base,
+            lists,
+            parts: start,
+        })
+    }
+
+    /// Does edit number `i`, where there is nothing against it. An edit that isn't done changes nothing.
+    ///
+    /// # Errors
+    ///
+    /// Want of memory. Nothing is changed then.
+    pub fn edit(&mut self, alloc: Global, edits: &Edits, i: u64) -> Result<EditReply, NoMemory>
+        requires edit { i < length edits.now.edits }
+        requires fits { AreEditsFor self.old.origin edits.now }
+        ensures reply { IfOk result (λ reply. reply ≡ edit_answer self.old edits.now i) }
+        ensures after { OnOk result (self.new ≡ after_edit self.old edits.now i) }
+        ensures memory { OnErr result (self.new ≡ self.old) }
+        ensures origin { self.new.origin ≡ self.old.origin }
+    {
+        let edit = edits.edit(i);
+        if let Some(reply) = barred(&self.lists, edit) {
+            return Ok(reply);
+        }
+        let next = self
+            .lists
+            .edited(alloc, self.inst, edit, edits.requirements_of(i))?;
+        match judge(alloc, self.inst, &self.base, &next)? {
+            Judged::Refused(cause) => Ok(EditReply::Broken { cause }),
+            Judged::Fine(parts) => {
+                self.lists = next;
+                self.parts = parts;
+                Ok(EditReply::Done { cost: parts.total })
+            }
+        }
+    }
+
+    /// The parts of what the current list costs.
+    pub fn parts(&self) -> Parts
+        ensures parts { result ≡ parts_of (instance_of self.now) self.now.initial self.now.current }
+        ensures feasible { Feasible (instance_of self.now) self.now.initial self.now.current }
+    {
+        self.parts
+    }
+
+    /// How many processes there are.
+    pub fn processes(&self) -> u32
+        ensures { result ≡ length self.now.rows }
+    {
+        self.lists.rows.len() as u32
+    }
+
+    /// The edited instance and its two lists.
+    pub fn finish(self, alloc: Global) -> Result<Edited, NoMemory>
+        ensures lists { IfOk result (λ e. AreSameLists (instance_of self.entry) e.instance.tables) }
+        ensures initial { IfOk result (λ e. e.initial.items ≡ self.entry.initial) }
+        ensures current { IfOk result (λ e. e.current.items ≡ self.entry.current) }
+        ensures feasible { IfOk result (λ e.
+            Feasible e.instance.tables e.initial.items e.current.items) }
+        ensures parts { IfOk result (λ e.
+            parts_of e.instance.tables e.initial.items e.current.items ≡
+            parts_of (instance_of self.entry) self.entry.initial self.entry.current) }
+    {
+        let Draft {
+            inst,
+            topo: _,
+            base,
+            lists,
+            parts: _,
+        } = self;
+        let instance = build(alloc, inst, &base, &lists.rows, &lists.requirements)?;
+        let (initial, current) = lists.assignments();
+        Ok(Edited {
+            instance,
+            initial,
+            current,
+        })
+    }
+}
+
+/// Why an edit makes nothing at all of some lists.
+#[tactic(auto, unfolding(crate::specs::Replies::barred))]
+fn barred(lists: &Lists, edit: Edit) -> Option<EditReply>
+    ensures { result ≡ barred (length lists.now.rows.items) edit }
+{
+    let count = lists.rows.len();
+    match edit {
+        Edit::Add { .. } => {
+            if count == MOST_PROCESSES {
+                Some(EditReply::Full)
+            } else {
+                None
+            }
+        }
+        Edit::Retire { process } => {
+            if process as usize >= count {
+                Some(EditReply::NoProcess { process })
+            } else if count == 1 {
+                Some(EditReply::Last)
+            } else {
+                None
+            }
+        }
+        Edit::Resize { process } => {
+            if process as usize >= count {
+                Some(EditReply::NoProcess { process })
+            } else {
+                None
+            }
+        }
+    }
+}
