@@ -6,3 +6,4 @@ pub mod JournalTexts
 pub mod HeadLines
 pub mod ReportTexts
 pub mod Counts
+pub mod TryTexts

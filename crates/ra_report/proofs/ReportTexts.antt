@@ -1,5 +1,5 @@
 -- The report of a journal and its summary, from what is written.
-use Rattle.std.proofs.Common.{◌≡◌, ℕ, List, refl, sym, ap, ◌∙◌}
+use Rattle.std.proofs.Common.{◌≡◌, ℕ, List, refl}
 use Rattle.ra_base.specs.declared.causes.Drawing.{Drawing}
 use Rattle.ra_base.specs.declared.costs.Parts.{Parts}
 use Rattle.ra_base.specs.declared.ids.Machine.{Machine}

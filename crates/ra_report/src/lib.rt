@@ -8,6 +8,7 @@ mod gathered;
 mod journal;
 pub mod laws;
 mod pieces;
+mod repair;
 mod solved;
 mod summary;
 mod texts;
@@ -15,6 +16,7 @@ mod writing;
 
 pub use faults::Fault;
 pub use gathered::WriteFault;
+pub use repair::write_repair;
 pub use writing::{
     write_bound, write_cause, write_fault, write_parts, write_report, write_summary,
 };
