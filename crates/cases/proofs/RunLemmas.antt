@@ -37,7 +37,7 @@ printed_more : (held : Held) (names : Names) (way more : List ℕ → Type 0) �
 printed_more held names way more step p = record { tables = p.tables; a0 = p.a0; a = p.a; passes = p.passes; text = step _ p.text }
 
 bound_more : (held : Held) (names : Names) (way more : List ℕ → Type 0) → ((text : List ℕ) → way text → more text) → BoundPrinted held names way → BoundPrinted held names more
-bound_more held names way more step p = record { tables = p.tables; read = p.read; text = step _ p.text }
+bound_more held names way more step p = record { bound = p.bound; read = p.read; text = step _ p.text }
 
 solved_more : (held : Held) (names : Names) (l : Lots) (way more : List ℕ → Type 0) → ((text : List ℕ) → way text → more text) → Solved held names l way → Solved held names l more
 solved_more held names l way more step p = record {

@@ -1,3 +1,4 @@
 pub mod Bounds
 pub mod Laws
+pub mod PinnedBounds
 pub mod Totals

@@ -6,10 +6,12 @@ mod costs;
 pub mod laws;
 mod load;
 mod lower;
+mod pinned;
 mod sums;
 
 pub use costs::Bound;
 pub use lower::bound;
+pub use pinned::pinned_bound;
 
 #[cfg(test)]
 mod tests;

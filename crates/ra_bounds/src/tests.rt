@@ -1,5 +1,10 @@
 use super::*;
-use ra_samples::{Numbers, SAMPLE, sample_with};
+use ra_model::Instance;
+use ra_pins::Pins;
+use ra_samples::{
+    Lists, NotMade, Numbers, SAMPLE, assignment, instance, machine, process, resource, sample_with,
+    service,
+};
 use std::alloc::Global;
 use std::process::Abort;
 
@@ -81,4 +86,43 @@ fn numbers_at_their_limits_fit(rt: HostRuntime) {
         greatest,
         bound_is(load, balance, 316912649946376885931918491650)
     );
+}
+
+/// Two machines of capacity 10, of which the first can safely take 4, and two processes of 6 whose resource is
+/// transient: neither can go to the machine of the other.
+fn crowded_pair(alloc: Global) -> Result<Instance, NotMade> {
+    instance(
+        alloc,
+        &Lists {
+            resources: &[resource(true, 1)],
+            machines: &[machine(0, 0), machine(1, 1)],
+            capacities: &[10, 10],
+            safeties: &[4, 10],
+            move_costs: &[0; 4],
+            services: &[service(1, 0), service(1, 0)],
+            dependencies: &[],
+            processes: &[process(0, 1), process(1, 1)],
+            requirements: &[6, 6],
+            balances: &[],
+            weights: [1, 1, 1],
+        },
+    )
+}
+
+/// The bound of an instance with the start `0 1`.
+fn pinned_bound_at(rt: &impl Abort, alloc: Global, inst: &Instance) -> Bound {
+    let a0 = assignment(alloc, &[0, 1]).expect(rt, "no memory");
+    assert!(rt; inst.is_assignment(&a0));
+    let pins = Pins::make(alloc, inst, &a0).expect(rt, "no memory");
+    pinned_bound(inst, &pins)
+}
+
+#[test]
+fn pinned_processes_are_load_on_their_machines(rt: HostRuntime) {
+    let inst = crowded_pair(rt.alloc()).expect(&rt, "no instance");
+    let together = bound(&inst);
+    let pinned = pinned_bound_at(&rt, rt.alloc(), &inst);
+    drop(inst);
+    assert_eq!(rt; together, bound_is(0, 0, 0));
+    assert_eq!(rt; pinned, bound_is(2, 0, 2));
 }

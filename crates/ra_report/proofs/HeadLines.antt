@@ -5,7 +5,7 @@ use Rattle.ra_base.specs.declared.causes.Drawing.{Drawing}
 use Rattle.ra_base.specs.declared.costs.Parts.{Parts}
 use Rattle.ra_base.specs.declared.ids.Machine.{Machine}
 use Rattle.ra_draws.specs.declared.budgets.Lots.{Lots}
-use Rattle.ra_bounds.specs.Bounds.{bound_of}
+use Rattle.ra_bounds.specs.PinnedBounds.{pinned_bound_of}
 use Rattle.ra_model.specs.declared.raw.Tables.{Tables}
 use Rattle.ra_journal.specs.declared.entries.Entry.{Entry}
 use Rattle.ra_report.specs.Texts.{space, number_text, number_line, parts_text}
@@ -84,4 +84,4 @@ written_tells_its_journal parts total best a d h = head_left parts total best a 
 
 pub report_tells_its_journal : (i : Tables) (a0 : List Machine) (l : Lots) (h : List Entry) → IsJournalOf (report_text i a0 l h) h
 unfolding report_text
-report_tells_its_journal i a0 l h = written_tells_its_journal _ (bound_of i).total _ _ _ h
+report_tells_its_journal i a0 l h = written_tells_its_journal _ (pinned_bound_of i a0).total _ _ _ h

@@ -3,7 +3,7 @@ use Rattle.std.proofs.Common.{◌≡◌, ℕ, List, refl, sym, ap, ◌∙◌}
 use Rattle.ra_base.specs.declared.causes.Drawing.{Drawing}
 use Rattle.ra_base.specs.declared.costs.Parts.{Parts}
 use Rattle.ra_base.specs.declared.ids.Machine.{Machine}
-use Rattle.ra_bounds.specs.Bounds.{bound_of}
+use Rattle.ra_bounds.specs.PinnedBounds.{pinned_bound_of}
 use Rattle.ra_bounds.specs.declared.costs.Bound.{Bound}
 use Rattle.ra_journal.specs.declared.journal.Journal.{Journal}
 use Rattle.ra_draws.specs.declared.budgets.Lots.{Lots}
@@ -13,10 +13,10 @@ use Rattle.ra_model.specs.Costs.{parts_of}
 use Rattle.ra_report.specs.JournalTexts.{report_lines, report_text, best_state, text_of}
 use Rattle.ra_report.specs.Summaries.{summary_lines, summary_text, summary_of}
 
-pub report_told : (j : Journal) (best : List Machine) (parts : Parts) (bound : Bound) (at : ℕ) (d : Drawing) (l : Lots) (h : List Entry) → best ≡ best_state j → parts ≡ parts_of j.inst.now.tables j.a0.now.items best → bound ≡ bound_of j.inst.now.tables → at ≡ best_of j.inst.now.tables j.a0.now.items j.book.entries.items → d ≡ l.drawing → l ≡ j.lots.now → h ≡ j.book.entries.items → report_lines parts bound.total at best d h ≡ text_of j
+pub report_told : (j : Journal) (best : List Machine) (parts : Parts) (bound : Bound) (at : ℕ) (d : Drawing) (l : Lots) (h : List Entry) → best ≡ best_state j → parts ≡ parts_of j.inst.now.tables j.a0.now.items best → bound ≡ pinned_bound_of j.inst.now.tables j.a0.now.items → at ≡ best_of j.inst.now.tables j.a0.now.items j.book.entries.items → d ≡ l.drawing → l ≡ j.lots.now → h ≡ j.book.entries.items → report_lines parts bound.total at best d h ≡ text_of j
 unfolding text_of report_text best_state
 report_told j best parts bound at d l h best_is parts_is bound_is at_is d_is l_is h_is = rw (parts_is, bound_is, at_is, d_is, l_is, h_is, best_is) refl
 
-pub summary_told : (j : Journal) (parts : Parts) (bound : Bound) (at : ℕ) (h : List Entry) → parts ≡ parts_of j.inst.now.tables j.a0.now.items (best_state j) → bound ≡ bound_of j.inst.now.tables → at ≡ best_of j.inst.now.tables j.a0.now.items j.book.entries.items → h ≡ j.book.entries.items → summary_lines parts bound.total at h ≡ summary_of j
+pub summary_told : (j : Journal) (parts : Parts) (bound : Bound) (at : ℕ) (h : List Entry) → parts ≡ parts_of j.inst.now.tables j.a0.now.items (best_state j) → bound ≡ pinned_bound_of j.inst.now.tables j.a0.now.items → at ≡ best_of j.inst.now.tables j.a0.now.items j.book.entries.items → h ≡ j.book.entries.items → summary_lines parts bound.total at h ≡ summary_of j
 unfolding summary_of summary_text best_state
 summary_told j parts bound at h parts_is bound_is at_is h_is = rw (parts_is, bound_is, at_is, h_is) refl

@@ -7,7 +7,7 @@ use Rattle.ra_base.specs.declared.costs.Parts.{Parts}
 use Rattle.ra_base.specs.declared.ids.Machine.{Machine}
 use Rattle.ra_draws.specs.declared.budgets.Lots.{Lots}
 use Rattle.ra_bounds.specs.declared.costs.Bound.{Bound}
-use Rattle.ra_bounds.specs.Bounds.{bound_of}
+use Rattle.ra_bounds.specs.PinnedBounds.{pinned_bound_of}
 use Rattle.ra_model.specs.declared.raw.Tables.{Tables}
 use Rattle.ra_model.specs.Costs.{parts_of}
 use Rattle.ra_moves.specs.declared.steps.MoveKind.{MoveKind}
@@ -89,12 +89,13 @@ head_text parts bound_total best_at a drawing = outcome_text parts bound_total b
 unfoldable pub report_lines : Parts → ℕ → ℕ → List Machine → Drawing → List Entry → List ℕ
 report_lines parts bound_total best_at a drawing h = head_text parts bound_total best_at a drawing ++ entries_text h (length h)
 
--- the report of journal h from start a0: it tells the best state, and the total of the instance's bound
+-- the report of journal h from start a0: it tells the best state, and the total of the bound of the
+-- instance and the start
 unfoldable pub report_text : Tables → List Machine → Lots → List Entry → List ℕ
 report_text i a0 l h =
     let j = best_of i a0 h in
     let best = state a0 h j in
-    report_lines (parts_of i a0 best) (bound_of i).total j best l.drawing h
+    report_lines (parts_of i a0 best) (pinned_bound_of i a0).total j best l.drawing h
 
 -- the best state of a journal, and its report
 unfoldable pub best_state : Journal → List Machine

@@ -2,7 +2,7 @@
 use Rattle.std.specs.Prelude.{ℕ, List, ◌++◌, codes, Bool, true, false, not, count_by}
 use Rattle.ra_base.specs.declared.costs.Parts.{Parts}
 use Rattle.ra_base.specs.declared.ids.Machine.{Machine}
-use Rattle.ra_bounds.specs.Bounds.{bound_of}
+use Rattle.ra_bounds.specs.PinnedBounds.{pinned_bound_of}
 use Rattle.ra_model.specs.declared.raw.Tables.{Tables}
 use Rattle.ra_model.specs.Costs.{parts_of}
 use Rattle.ra_moves.specs.declared.verdicts.Verdict.{Verdict}
@@ -32,11 +32,11 @@ summary_lines parts bound_total best_at h =
     outcome_text parts bound_total best_at ++ number_line (codes "done") (done_count h) ++ number_line (codes "refused") (refused_count h)
 
 -- the summary of journal h from start a0: it tells the parts of the best state and its place, and the total of the
--- instance's bound
+-- bound of the instance and the start
 unfoldable pub summary_text : Tables → List Machine → List Entry → List ℕ
 summary_text i a0 h =
     let j = best_of i a0 h in
-    summary_lines (parts_of i a0 (state a0 h j)) (bound_of i).total j h
+    summary_lines (parts_of i a0 (state a0 h j)) (pinned_bound_of i a0).total j h
 
 unfoldable pub summary_of : Journal → List ℕ
 summary_of j = summary_text j.inst.now.tables j.a0.now.items j.book.entries.items

@@ -2,7 +2,7 @@ ghost use Rattle.std.specs.Prelude.{◌≡◌, ◌≤◌, OnOk, OnErr};
 ghost use Rattle.std.specs.Io.KnownBytes.{Appends};
 ghost use Rattle.ra_report.specs.FaultTexts.{CanBeTold, fault_text};
 ghost use Rattle.ra_model.specs.Costs.{parts_of};
-ghost use Rattle.ra_bounds.specs.Bounds.{bound_of};
+ghost use Rattle.ra_bounds.specs.PinnedBounds.{pinned_bound_of};
 ghost use Rattle.ra_report.specs.JournalTexts.{report_lines, best_state, text_of, bound_text};
 ghost use Rattle.ra_report.specs.Pieces.{Breaks};
 ghost use Rattle.ra_report.specs.Summaries.{summary_lines, summary_of};
@@ -46,7 +46,7 @@ pub fn write_cause<O: Sink>(sink: &mut O, cause: &Cause) -> Result<(), WriteFaul
 
 /// Writes the report of a run: the parts of the best assignment, the total of the bound, the place of the best
 /// assignment, the assignment itself, the drawing, and a line for each entry of the journal. `best` and `parts` are those
-/// of the journal's best state, and `bound` that of its instance.
+/// of the journal's best state, and `bound` is that of its instance and its start, with the load of the pinned processes.
 pub fn write_report<O: Sink>(
     sink: &mut O,
     best: &Assignment,
@@ -57,7 +57,8 @@ pub fn write_report<O: Sink>(
     requires best { best.now.items ≡ best_state journal.now }
     requires parts { parts.now ≡
         parts_of journal.now.inst.now.tables journal.now.a0.now.items best.now.items }
-    requires bound { bound.now ≡ bound_of journal.now.inst.now.tables }
+    requires bound { bound.now ≡
+        pinned_bound_of journal.now.inst.now.tables journal.now.a0.now.items }
     ensures whole { OnOk result (Appends (O.taken sink.old) (O.taken sink.new)
         (text_of journal.now)) }
     ensures part { OnErr result (Breaks (O.taken sink.old) (O.taken sink.new) (O.faults sink.old)
@@ -100,7 +101,7 @@ pub(crate) fn write_lines<O: Sink>(
 
 /// Writes the summary of a run: the parts of the best assignment, the total of the bound, the place of the best assignment,
 /// and how many proposals were done and refused. `parts` are those of the journal's best state, and `bound` is that of its
-/// instance.
+/// instance and its start, with the load of the pinned processes.
 pub fn write_summary<O: Sink>(
     sink: &mut O,
     parts: &Parts,
@@ -109,7 +110,8 @@ pub fn write_summary<O: Sink>(
 ) -> Result<(), WriteFault>
     requires parts { parts.now ≡ parts_of
         journal.now.inst.now.tables journal.now.a0.now.items (best_state journal.now) }
-    requires bound { bound.now ≡ bound_of journal.now.inst.now.tables }
+    requires bound { bound.now ≡
+        pinned_bound_of journal.now.inst.now.tables journal.now.a0.now.items }
     ensures whole { OnOk result (Appends (O.taken sink.old) (O.taken sink.new)
         (summary_of journal.now)) }
     ensures part { OnErr result (Breaks (O.taken sink.old) (O.taken sink.new) (O.faults sink.old)

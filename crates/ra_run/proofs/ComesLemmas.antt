@@ -341,8 +341,9 @@ never_infeasible {held} {names} {before} {now} {output} {written} {tells} {out_s
 pub printed_went : (held : Held) (names : Names) (way : List ℕ → Type 0) → Printed held names way → Went held names
 printed_went held names way p = passed_went held names p.tables p.a0 p.a p.passes
 
-pub bound_listed : (held : Held) (name : List ℕ) (way : List ℕ → Type 0) → BoundPrinted held (bound_names name) way → Listed held (bound_names name)
-bound_listed held name way p = record { tables = p.tables; a0 = []; a = []; accepts = record { instance = record { model = p.tables; read = p.read; closed = refl }; initial = tt; changed = tt } }
+pub bound_listed : (held : Held) (model : List ℕ) (closed initial : Option (List ℕ)) (way : List ℕ → Type 0) → BoundPrinted held (bound_names model closed initial) way → Listed held (bound_names model closed initial)
+bound_listed held model closed None way p = record { tables = p.read.tables; a0 = []; a = []; accepts = record { instance = p.read.instance; initial = tt; changed = tt } }
+bound_listed held model closed (Some name) way p = record { tables = p.read.tables; a0 = p.read.is.0; a = []; accepts = record { instance = p.read.instance; initial = p.read.is.1; changed = tt } }
 
 pub solved_went : (held : Held) (model : List ℕ) (closed : Option (List ℕ)) (initial : List ℕ) (l : Lots) (way : List ℕ → Type 0) → Solved held (solve_names model closed initial) l way → Went held (solve_names model closed initial)
 solved_went held model closed initial l way p = record { listed = record { tables = p.tables; a0 = p.a0; a = p.a0; accepts = p.accepts }; initial = λ named. p.start; changed = λ named. absurd (cc) }

@@ -64,7 +64,8 @@ says_comes (Checks model initial changed closed) held before now prints breaks t
     let names = check_names model closed initial changed in
     comes ends (λ p. (printed_went held names prints p).listed) (judges_listed held names (Printed held names breaks) (printed_went held names breaks))
 says_comes (Bounds model) held before now prints breaks tells out_same err_same status ends =
-    comes ends (bound_listed held model prints) (writes_listed held (bound_names model) (BoundPrinted held (bound_names model) breaks) (bound_listed held model breaks))
+    let names = bound_names model None None in
+    comes ends (bound_listed held model None None prints) (writes_listed held names (BoundPrinted held names breaks) (bound_listed held model None None breaks))
 says_comes (Solves model initial closed slack drawing lots) held before now prints breaks tells out_same err_same status ends =
     let names = solve_names model closed initial in
     comes ends (λ p. (solved_went held model closed initial p.0 prints p.2).listed)

@@ -1,10 +1,11 @@
 -- What is printed of a run meets the headline.
-use Rattle.std.proofs.Common.{◌≡◌, ℕ, suc, List, length, Option, Some, IsSome, Result, Ok, Err, OnOk, IfErr, refl, sym, ◌∙◌, arith}
+use Rattle.std.proofs.Common.{◌≡◌, ℕ, suc, List, length, Option, Some, IsSome, Result, Ok, Err, OnOk, IfOk, IfErr, refl, sym, ap₂, ◌∙◌, arith}
 use Rattle.ra_base.specs.Searches.{least_place}
 use Rattle.ra_base.specs.declared.ids.Machine.{Machine}
 use Rattle.ra_base.proofs.Least.{least_means, least_there}
-use Rattle.ra_bounds.specs.Bounds.{bound_of}
-use Rattle.ra_bounds.proofs.CostLemmas.{none_costs_less}
+use Rattle.ra_bounds.specs.declared.costs.Bound.{Bound}
+use Rattle.ra_bounds.specs.PinnedBounds.{pinned_bound_of}
+use Rattle.ra_bounds.proofs.PinnedLemmas.{none_costs_less_pinned}
 use Rattle.ra_draws.specs.declared.budgets.Lots.{Lots}
 use Rattle.ra_journal.specs.declared.entries.Entry.{Entry}
 use Rattle.ra_journal.specs.Best.{best_place, best_of}
@@ -50,6 +51,10 @@ pub best_told : (i : Tables) (a0 : List Machine) (l : Lots) (run : Run) → IsRu
 unfolding best_state
 best_told i a0 l run is = is.best ∙ rw (sym is.instance, sym is.initial) refl
 
+-- the bound of the instance and the start is that of the run's journal
+pub bound_told : (i : Tables) (a0 : List Machine) (l : Lots) (run : Run) (bound : Bound) → IsRun i a0 l run → bound ≡ pinned_bound_of i a0 → bound ≡ pinned_bound_of run.journal.inst.now.tables run.journal.a0.now.items
+bound_told i a0 l run bound is told = told ∙ ap₂ pinned_bound_of (sym is.instance) (sym is.initial)
+
 -- the best place of a journal is the first of least objective
 first_least : (i : Tables) (a0 : List Machine) (h : List Entry) → IsFirstLeast i a0 h (best_of i a0 h)
 unfolding best_of best_place
@@ -87,7 +92,7 @@ solved held names i a0 l way limits start told =
       best_at = best_of i a0 h;
       best = first_least i a0 h;
       lines = refl;
-      least = λ a fits feasible. (none_costs_less i a0 a limits fits feasible).total;
+      least = λ a fits feasible. (none_costs_less_pinned i a0 a limits fits feasible).total;
     }
 
 -- what a refusal of a run says of the files
@@ -111,3 +116,7 @@ on_ok_then (Err e) known follows then is = tt
 pub if_err_then : {X : Type 0} → (result : Result X Refusal) (known follows : Refusal → Type 0) → ((refusal : Refusal) → known refusal → follows refusal) → IfErr result known → IfErr result follows
 if_err_then (Ok x) known follows then is = tt
 if_err_then (Err e) known follows then is = then e is
+
+pub if_ok_then : {X : Type 0} → (result : Result X Refusal) (known follows : X → Type 0) → ((x : X) → known x → follows x) → IfOk result known → IfOk result follows
+if_ok_then (Ok x) known follows then is = then x is
+if_ok_then (Err e) known follows then is = tt

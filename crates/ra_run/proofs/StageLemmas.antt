@@ -4,7 +4,6 @@ use Rattle.std.specs.Prelude.{IsTrue}
 use Rattle.ra_base.specs.declared.costs.Parts.{Parts}
 use Rattle.ra_base.specs.declared.ids.Machine.{Machine}
 use Rattle.ra_bounds.specs.declared.costs.Bound.{Bound}
-use Rattle.ra_bounds.specs.Bounds.{bound_of}
 use Rattle.ra_io.specs.Faults.{Rose}
 use Rattle.ra_model.specs.declared.raw.Tables.{Tables}
 use Rattle.ra_model_read.specs.declared.faults.ModelFault.{ModelFault}
@@ -16,7 +15,6 @@ use Rattle.ra_assign.specs.declared.faults.AssignFault.TheVariants as assigner
 use Rattle.ra_assign.specs.declared.faults.ClosedFault.{ClosedFault}
 use Rattle.ra_assign.specs.declared.faults.ClosedFault.TheVariants as closer
 use Rattle.ra_assign.specs.Answers.{IsAssignRefusal, IsClosedRefusal}
-use Rattle.ra_report.specs.JournalTexts.{bound_text}
 use Rattle.ra_report.specs.Texts.{parts_text}
 use Rattle.ra_run.specs.declared.lists.Which.{Which}
 use Rattle.ra_run.specs.declared.lists.Which.TheVariants as which
@@ -24,9 +22,9 @@ use Rattle.ra_run.specs.declared.refusals.File.TheVariants as file
 use Rattle.ra_run.specs.declared.refusals.Refusal.{Refusal}
 use Rattle.ra_run.specs.declared.refusals.Refusal.TheVariants.{Read, Model, Closed, Initial, Changed, InitialBroken, ChangedBroken, Write, Memory}
 use Rattle.ra_run.specs.Files.{Held, Faults, Names, name_of, check_names, solve_names, bound_names, ModelIs, InstanceIs, Accepts}
-use Rattle.ra_run.specs.Outputs.{Printed, BoundPrinted}
+use Rattle.ra_run.specs.Outputs.{Printed, BoundIs, BoundRead}
 use Rattle.ra_run.specs.Refusals.{Says, Judges, OnlyWrites, Nothing, CanTell}
-use Rattle.ra_run.specs.Stages.{model_as, closed_as, list_as, ModelSays, ClosedSays, SourceSays, InitialSays, ListSays, ListsSay, JudgeSays, StartSays, IsClosing, ReadsLists, Passed, Judged}
+use Rattle.ra_run.specs.Stages.{model_as, closed_as, list_as, ModelSays, ClosedSays, SourceSays, InitialSays, NamedSays, ListSays, ListsSay, JudgeSays, StartSays, IsClosing, ReadsLists, Passed, Judged}
 
 pub model_says : (held : Held) (name : List ℕ) (before now : Faults) (fault : ModelFault) → (fault ≡ reader.ReadFault → Rose (before name) (now name)) → (IsTrue (is_by_content fault) → IfSome (held name) (λ bytes. model_refusal bytes ≡ Some fault)) → ModelSays held name before now (model_as fault)
 unfolding is_by_content
@@ -107,9 +105,19 @@ says_source held names before now own refusal says = absurd says
 pub says_model : (held : Held) (names : Names) (before now : Faults) (own : Refusal → Type 0) (refusal : Refusal) → ModelSays held names.model before now refusal → Says held names before now own refusal
 says_model held names before now own refusal says = says_source held names before now own refusal (source_model held names.model names.closed before now refusal says)
 
--- the text of a bound went this way
-pub bound_printed : (held : Held) (name : List ℕ) (i : Tables) (b : Bound) (way : List ℕ → Type 0) → ModelIs held name i → b ≡ bound_of i → way (bound_text b) → BoundPrinted held (bound_names name) way
-bound_printed held name i b way read is text = record { tables = i; read = read; text = subst (λ x. way (bound_text x)) is text }
+-- the bound of the files
+
+pub says_named : (held later : Held) (model : List ℕ) (closed initial : Option (List ℕ)) (i : Tables) (first before now : Faults) (own : Refusal → Type 0) → ((other : List ℕ) → later other ≡ held other) → ((other : List ℕ) → first other ≤ before other) → InstanceIs held model closed i → (refusal : Refusal) → NamedSays later initial i before now refusal → Says held (bound_names model closed initial) first now own refusal
+unfolding name_of
+says_named held later model closed None i first before now own same never_fell instance refusal says = absurd says
+says_named held later model closed (Some initial) i first before now own same never_fell instance (Read file.Initial) says = record { earlier = (i, instance); named = refl; rose = rose_later (first initial) (before initial) (now initial) (never_fell initial) says }
+says_named held later model closed (Some initial) i first before now own same never_fell instance (Initial fault) says = record { tables = i; instance = instance; name = initial; named = refl; refused = record { in_file = says.in_file; refused = rw (sym (same initial)) says.refused } }
+says_named held later model closed (Some initial) i first before now own same never_fell instance Memory says = tt
+says_named held later model closed (Some initial) i first before now own same never_fell instance refusal says = absurd says
+
+pub bound_read : (held later : Held) (model : List ℕ) (closed initial : Option (List ℕ)) (i : Tables) (bound : Bound) → ((other : List ℕ) → later other ≡ held other) → InstanceIs held model closed i → BoundIs later initial i bound → BoundRead held (bound_names model closed initial) bound
+bound_read held later model closed None i bound same instance is = record { tables = i; instance = instance; is = is }
+bound_read held later model closed (Some initial) i bound same instance is = record { tables = i; instance = instance; is = (is.0, rw (sym (same initial)) is.1, is.2, is.3) }
 
 -- the lists of a check
 

@@ -1,5 +1,5 @@
 -- The commands: the files of a job, what it prints, its own refusals, and when it has to be done.
-use Rattle.std.specs.Prelude.{◌≡◌, ◌≢◌, ◌⊎◌, ℕ, List, map}
+use Rattle.std.specs.Prelude.{◌≡◌, ◌≢◌, ◌⊎◌, ℕ, List, None, map}
 use Rattle.ra_base.specs.declared.causes.Drawing.{Drawing}
 use Rattle.ra_draws.specs.declared.budgets.Lots.{Lots}
 use Rattle.ra_words.specs.Jobs.{JobSays, Checks, Bounds, Solves, Trials}
@@ -18,7 +18,7 @@ use Rattle.ra_run.specs.Trials.{TrialPrinted}
 -- what is said of a job by the names of its files, and of a trial, which has none, by its number
 abbrev pub OfJob : JobSays → (Names → Type 0) → (ℕ → Type 0) → Type 0
 OfJob (Checks model initial changed closed) by_names by_number = by_names (check_names model closed initial changed)
-OfJob (Bounds model) by_names by_number = by_names (bound_names model)
+OfJob (Bounds model) by_names by_number = by_names (bound_names model None None)
 OfJob (Solves model initial closed slack drawing lots) by_names by_number = by_names (solve_names model closed initial)
 OfJob (Trials number) by_names by_number = by_number number
 
@@ -31,7 +31,7 @@ pub record AreLots (l : Lots) (slack : ℕ) (drawing : Drawing) (lots : List Lot
 -- what a job that is done has printed, for the lots of its words
 abbrev pub OutputOf : Held → JobSays → (List ℕ → Type 0) → Type 0
 OutputOf held (Checks model initial changed closed) way = Printed held (check_names model closed initial changed) way
-OutputOf held (Bounds model) way = BoundPrinted held (bound_names model) way
+OutputOf held (Bounds model) way = BoundPrinted held (bound_names model None None) way
 OutputOf held (Solves model initial closed slack drawing lots) way = (l : Lots) × AreLots l slack drawing lots × Solved held (solve_names model closed initial) l way
 OutputOf held (Trials number) way = TrialPrinted number way
 
@@ -52,7 +52,7 @@ OwnComes held (Trials number) before now status = Unit {0}
 -- its files are valid
 abbrev pub ValidFor : Held → JobSays → Type 0
 ValidFor held (Checks model initial changed closed) = AreValid held (check_names model closed initial changed)
-ValidFor held (Bounds model) = AreAccepted held (bound_names model)
+ValidFor held (Bounds model) = AreAccepted held (bound_names model None None)
 ValidFor held (Solves model initial closed slack drawing lots) = AreValid held (solve_names model closed initial)
 ValidFor held (Trials number) = Unit {0}
 

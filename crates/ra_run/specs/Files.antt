@@ -30,8 +30,8 @@ check_names model closed initial changed = record { model = model; closed = clos
 abbrev pub solve_names : List ℕ → Option (List ℕ) → List ℕ → Names
 solve_names model closed initial = record { model = model; closed = closed; initial = Some initial; changed = None; report = None; edits = None }
 
-abbrev pub bound_names : List ℕ → Names
-bound_names model = record { model = model; closed = None; initial = None; changed = None; report = None; edits = None }
+abbrev pub bound_names : List ℕ → Option (List ℕ) → Option (List ℕ) → Names
+bound_names model closed initial = record { model = model; closed = closed; initial = initial; changed = None; report = None; edits = None }
 
 -- those that are lent
 abbrev pub names_of : JobFiles → Names

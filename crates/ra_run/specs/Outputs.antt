@@ -1,11 +1,13 @@
 -- What a job that is done has printed. A way says where a text went: to the output, whole or in part.
-use Rattle.std.specs.Prelude.{◌≡◌, ℕ, ◌<◌, ◌≤◌, List, length}
+use Rattle.std.specs.Prelude.{◌≡◌, ℕ, ◌<◌, ◌≤◌, List, length, Option, Some, None}
 use Rattle.ra_base.specs.declared.ids.Machine.{Machine}
 use Rattle.ra_model.specs.declared.raw.Tables.{Tables}
 use Rattle.ra_model.specs.Assignments.{IsAssignment}
 use Rattle.ra_model.specs.Costs.{parts_of, objective}
 use Rattle.ra_model.specs.Feasible.{Feasible}
+use Rattle.ra_bounds.specs.declared.costs.Bound.{Bound}
 use Rattle.ra_bounds.specs.Bounds.{bound_of}
+use Rattle.ra_bounds.specs.PinnedBounds.{pinned_bound_of}
 use Rattle.ra_draws.specs.declared.budgets.Lots.{Lots}
 use Rattle.ra_journal.specs.declared.entries.Entry.{Entry}
 use Rattle.ra_journal.specs.Entries.{worker_count}
@@ -15,7 +17,7 @@ use Rattle.ra_journal.specs.Solo.{solo}
 use Rattle.ra_journal.specs.States.{state, cost_at}
 use Rattle.ra_report.specs.JournalTexts.{bound_text, report_lines, report_text, IsJournalOf}
 use Rattle.ra_report.specs.Texts.{parts_text}
-use Rattle.ra_run.specs.Files.{Held, Names, ModelIs, Accepts, Passes}
+use Rattle.ra_run.specs.Files.{Held, Names, InstanceIs, ListIs, Accepts, Passes}
 
 -- `check`: all files passed, and the six lines of the parts of the new list went this way
 pub record Printed (held : Held) (names : Names) (way : List ℕ → Type 0) : Type 0 where
@@ -25,11 +27,22 @@ pub record Printed (held : Held) (names : Names) (way : List ℕ → Type 0) : T
   pub passes : Passes held names tables a0 a
   pub text : way (parts_text (parts_of tables a0 a))
 
--- `bound`: the model file means an instance, and the three lines of its bound went this way
-pub record BoundPrinted (held : Held) (names : Names) (way : List ℕ → Type 0) : Type 0 where
+-- the bound of an instance; where an initial list is named, that of both, which counts the load of the pinned processes
+abbrev pub BoundIs : Held → Option (List ℕ) → Tables → Bound → Type 0
+BoundIs held None i bound = bound ≡ bound_of i
+BoundIs held (Some name) i bound = (a0 : List Machine) × ListIs held name i a0 × IsAssignment i a0 × (bound ≡ pinned_bound_of i a0)
+
+-- the files of `bound` mean an instance and an initial list, where one is named, and this is their bound
+pub record BoundRead (held : Held) (names : Names) (bound : Bound) : Type 0 where
   pub tables : Tables
-  pub read : ModelIs held names.model tables
-  pub text : way (bound_text (bound_of tables))
+  pub instance : InstanceIs held names.model names.closed tables
+  pub is : BoundIs held names.initial tables bound
+
+-- `bound`: the three lines of it went this way
+pub record BoundPrinted (held : Held) (names : Names) (way : List ℕ → Type 0) : Type 0 where
+  pub bound : Bound
+  pub read : BoundRead held names bound
+  pub text : way (bound_text bound)
 
 -- the state at place j of a journal is the first of least objective: no state costs less, and each earlier one costs more
 pub record IsFirstLeast (i : Tables) (a0 : List Machine) (h : List Entry) (j : ℕ) : Type 0 where
@@ -65,6 +78,6 @@ pub record Solved (held : Held) (names : Names) (l : Lots) (way : List ℕ → T
   -- the state and the drawing, and then the journal
   pub best_at : ℕ
   pub best : IsFirstLeast tables a0 journal best_at
-  pub lines : bytes ≡ report_lines (parts_of tables a0 (state a0 journal best_at)) (bound_of tables).total best_at (state a0 journal best_at) l.drawing journal
-  -- no feasible assignment costs less than the bound
-  pub least : (a : List Machine) → IsAssignment tables a → Feasible tables a0 a → (bound_of tables).total ≤ objective tables a0 a
+  pub lines : bytes ≡ report_lines (parts_of tables a0 (state a0 journal best_at)) (pinned_bound_of tables a0).total best_at (state a0 journal best_at) l.drawing journal
+  -- no assignment that is feasible with respect to the start costs less than the bound
+  pub least : (a : List Machine) → IsAssignment tables a → Feasible tables a0 a → (pinned_bound_of tables a0).total ≤ objective tables a0 a

@@ -1,5 +1,5 @@
 -- What each stage of a job says where it refuses.
-use Rattle.std.specs.Prelude.{◌≡◌, ℕ, List, Option, Some, IfSome}
+use Rattle.std.specs.Prelude.{◌≡◌, ℕ, List, Option, Some, None, IfSome}
 use Rattle.ra_base.specs.declared.costs.Parts.{Parts}
 use Rattle.ra_base.specs.declared.ids.Machine.{Machine}
 use Rattle.ra_io.specs.Faults.{Rose}
@@ -79,6 +79,11 @@ InitialSays held name i before now (Read file.Initial) = Rose (before name) (now
 InitialSays held name i before now (Initial fault) = ListRefused held name i fault
 InitialSays held name i before now Memory = Unit {0}
 InitialSays held name i before now refusal = ⊥
+
+-- where there is one
+abbrev pub NamedSays : Held → Option (List ℕ) → Tables → Faults → Faults → Refusal → Type 0
+NamedSays held None i before now refusal = ⊥
+NamedSays held (Some name) i before now refusal = InitialSays held name i before now refusal
 
 abbrev pub ChangedSays : Held → List ℕ → Tables → Faults → Faults → Refusal → Type 0
 ChangedSays held name i before now (Read file.Changed) = Rose (before name) (now name)

@@ -2,6 +2,7 @@ ghost use Rattle.std.specs.Prelude.{◌≡◌, ◌≢◌, ◌⊎◌, ℕ, ◌≤
 ghost use Rattle.std.specs.Io.KnownBytes.{Appends};
 ghost use Rattle.std.specs.Option.{option_copied};
 ghost use Rattle.ra_io.specs.Faults.{Rose};
+ghost use Rattle.ra_bounds.specs.PinnedBounds.{pinned_bound_of};
 ghost use Rattle.ra_check.specs.Made.{IsMadeFor};
 ghost use Rattle.ra_model.specs.Assignments.{IsAssignment};
 ghost use Rattle.ra_model.specs.Broken.{first_broken};
@@ -17,6 +18,7 @@ ghost use Rattle.ra_run.specs.Outputs.{Solved};
 ghost use Rattle.ra_run.specs.Refusals.{Says, Judges, Nothing};
 ghost use Rattle.ra_run.specs.Solving.{IsStart, IsReported, RunSays};
 
+use crate::bound::bound_from;
 use crate::judging::judge_start;
 use crate::lists::{Which, read_list};
 use crate::reading::read_instance;
@@ -24,7 +26,7 @@ use crate::refusals::{JobFiles, Refusal};
 use crate::refusing::finish;
 use crate::status::Status;
 use ra_base::{Assignment, Name};
-use ra_bounds::bound;
+use ra_bounds::Bound;
 use ra_check::{Scratch, parts};
 use ra_draws::Lots;
 use ra_io::{Files, Gate, Sink};
@@ -194,7 +196,8 @@ fn run_from<R: Threads + Wait + Sync, O: Sink, G: Gate>(
     ended
 }
 
-/// The run and its report, over the topology of the instance.
+/// The run and its report, over the topology of the instance. The bound is made before the memory of the run is taken, so
+/// that after it only writing can refuse.
 fn run_over<R: Threads + Wait + Sync, O: Sink, G: Gate>(
     rt: &R,
     alloc: Global,
@@ -219,12 +222,15 @@ fn run_over<R: Threads + Wait + Sync, O: Sink, G: Gate>(
     ensures untouched { IfErr result (λ refusal. refusal ≢ Refusal.Write → out.new ≡ out.old) }
     ensures out_never_falls { O.faults out.old ≤ O.faults out.new }
 {
+    let Ok(bound) = bound_from(alloc, inst, initial) else {
+        return Err(Refusal::Memory);
+    };
     let start = parts(inst, initial, initial, scratch);
     let Ok(prepared) = Prepared::make(alloc, inst, topo, initial, start, lots) else {
         return Err(Refusal::Memory);
     };
     let run = prepared.solve(rt, gate);
-    let ended = report(out, inst, &run);
+    let ended = report(out, &bound, &run);
     drop(run);
     match ended {
         Ok(()) => Ok(()),
@@ -232,9 +238,10 @@ fn run_over<R: Threads + Wait + Sync, O: Sink, G: Gate>(
     }
 }
 
-/// Writes the report of a run.
-fn report<O: Sink>(out: &mut O, inst: &Instance, run: &Run<'_>) -> Result<(), WriteFault>
-    requires instance { run.now.journal.inst.now.tables ≡ inst.now.tables }
+/// Writes the report of a run, which tells this bound.
+fn report<O: Sink>(out: &mut O, bound: &Bound, run: &Run<'_>) -> Result<(), WriteFault>
+    requires bound { bound.now ≡ pinned_bound_of run.now.journal.inst.now.tables
+        run.now.journal.a0.now.items }
     requires best { run.now.world.kept.assignment.items ≡ best_state run.now.journal }
     ensures whole { OnOk result (Appends (O.taken out.old) (O.taken out.new)
         (text_of run.now.journal)) }
@@ -242,5 +249,5 @@ fn report<O: Sink>(out: &mut O, inst: &Instance, run: &Run<'_>) -> Result<(), Wr
         (O.faults out.new) (text_of run.now.journal)) }
     ensures out_never_falls { O.faults out.old ≤ O.faults out.new }
 {
-    write_report(out, run.best(), &run.parts(), &bound(inst), run.journal())
+    write_report(out, run.best(), &run.parts(), bound, run.journal())
 }

@@ -1,5 +1,6 @@
 ghost use Rattle.std.specs.Prelude.{◌≡◌, ◌≢◌, ◌⊎◌, ◌≤◌, None, OnOk, OnErr, IfOk, IfErr};
 ghost use Rattle.std.specs.Io.KnownBytes.{Appends};
+ghost use Rattle.ra_bounds.specs.PinnedBounds.{pinned_bound_of};
 ghost use Rattle.ra_io.specs.Faults.{Rose};
 ghost use Rattle.ra_check.specs.Made.{IsMadeFor};
 ghost use Rattle.ra_journal.specs.Entries.{worker_count};
@@ -14,12 +15,13 @@ ghost use Rattle.ra_run.specs.Files.{Names};
 ghost use Rattle.ra_run.specs.Lines.{refusal_line};
 ghost use Rattle.ra_run.specs.Trials.{HoldsTrial, IsTrialStart, IsTrialLots, IsSummarized, TrialPrinted, TrialSays, TrialEnds};
 
+use crate::bound::bound_from;
 use crate::refusals::Refusal;
 use crate::refusing::{put_line, refuse_memory};
 use crate::solve::{Start, read_start};
 use crate::status::Status;
 use ra_base::{Assignment, Drawing, Name, NoMemory, Parts};
-use ra_bounds::bound;
+use ra_bounds::Bound;
 use ra_check::{Scratch, parts};
 use ra_draws::{Lot, Lots, Source};
 use ra_io::{Files, Gate, Sink, SteadyFiles};
@@ -216,10 +218,11 @@ fn trial_over<R: Threads + Wait + Sync, O: Sink, G: Gate>(
     ensures untouched { IfErr result (λ fault. fault ≢ TrialFault.Write → out.new ≡ out.old) }
     ensures never_falls { O.faults out.old ≤ O.faults out.new }
 {
+    let bound = bound_from(alloc, inst, initial)?;
     let start = parts(inst, initial, initial, scratch);
     let prepared = Prepared::make(alloc, inst, topo, initial, start, lots)?;
     let run = prepared.solve(rt, gate);
-    let ended = summarize(out, inst, &run.parts(), &run);
+    let ended = summarize(out, &bound, &run.parts(), &run);
     drop(run);
     match ended {
         Ok(()) => Ok(()),
@@ -227,16 +230,17 @@ fn trial_over<R: Threads + Wait + Sync, O: Sink, G: Gate>(
     }
 }
 
-/// Writes the summary of a run, whose best state has these parts.
+/// Writes the summary of a run, whose best state has these parts, with this bound.
 fn summarize<O: Sink>(
     out: &mut O,
-    inst: &Instance,
+    bound: &Bound,
     best: &Parts,
     run: &Run<'_>,
 ) -> Result<(), WriteFault>
     requires parts { best.now ≡ parts_of run.now.journal.inst.now.tables
         run.now.journal.a0.now.items run.now.world.kept.assignment.items }
-    requires instance { run.now.journal.inst.now.tables ≡ inst.now.tables }
+    requires bound { bound.now ≡ pinned_bound_of run.now.journal.inst.now.tables
+        run.now.journal.a0.now.items }
     requires best { run.now.world.kept.assignment.items ≡ best_state run.now.journal }
     ensures whole { OnOk result (Appends (O.taken out.old) (O.taken out.new)
         (summary_of run.now.journal)) }
@@ -244,5 +248,5 @@ fn summarize<O: Sink>(
         (O.faults out.new) (summary_of run.now.journal)) }
     ensures never_falls { O.faults out.old ≤ O.faults out.new }
 {
-    write_summary(out, best, &bound(inst), run.journal())
+    write_summary(out, best, bound, run.journal())
 }

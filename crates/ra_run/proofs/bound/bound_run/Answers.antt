@@ -1,5 +1,6 @@
 -- The end of the job, and what follows from it.
 use Rattle.std.proofs.Common.{◌≡◌}
+use Rattle.std.specs.Option.{option_copied}
 use Rattle.ra_run.specs.Files.{bound_names}
 use Rattle.ra_run.specs.Outputs.{BoundPrinted}
 use Rattle.ra_run.specs.Refusals.{OnlyWrites}
@@ -26,9 +27,11 @@ returns-clause-complete g c = λ valid sound whole. complete (returns-clause-end
 pub returns-clause-comes : goal.returns-clause-comes
 returns-clause-comes g c =
     let held = g.F.Files.held c.args.files.now in
-    let names = bound_names c.args.model.now in
+    let closed = option_copied c.args.closed in
+    let initial = option_copied c.args.initial in
+    let names = bound_names c.args.model.now closed initial in
     let breaks = Breaks (g.O.Sink.taken c.args.out.now) (g.O.Sink.taken c.print_bound-ended.new.out) (g.O.Sink.faults c.args.out.now) (g.O.Sink.faults c.print_bound-ended.new.out) in
-    comes {own = OnlyWrites (BoundPrinted held names breaks)} (returns-clause-ends g c) (bound_listed held c.args.model.now _) (writes_listed held names (BoundPrinted held names breaks) (bound_listed held c.args.model.now breaks))
+    comes {own = OnlyWrites (BoundPrinted held names breaks)} (returns-clause-ends g c) (bound_listed held c.args.model.now closed initial _) (writes_listed held names (BoundPrinted held names breaks) (bound_listed held c.args.model.now closed initial breaks))
 
 pub returns-clause-never_infeasible : goal.returns-clause-never_infeasible
 returns-clause-never_infeasible g c = never_infeasible (returns-clause-ends g c)

@@ -1,0 +1,17 @@
+//! Laws of the pinned processes: each function does nothing, and its contract is a law that was proved.
+ghost use Rattle.ra_pins.specs.Laws.{RoundsOnlyAdd, PinnedStay, RoundsEnd};
+
+/// A round never takes a flag away.
+pub fn rounds_only_add()
+    ensures { RoundsOnlyAdd }
+{}
+
+/// Further rounds than there are processes pin nothing more.
+pub fn rounds_end()
+    ensures { RoundsEnd }
+{}
+
+/// In an assignment that is feasible with respect to the start each pinned process is on its initial machine.
+pub fn pinned_stay()
+    ensures { PinnedStay }
+{}

@@ -1,0 +1,57 @@
+ghost use Rattle.std.specs.Prelude.{◌≡◌, ℕ, ◌+◌, ◌<◌, Bool, List, length, ◌==◌, slice_index};
+ghost use Rattle.ra_model.specs.Numbers.{machine_count, service_count, process_count};
+ghost use Rattle.ra_model.specs.Assignments.{IsAssignment};
+ghost use Rattle.ra_model.specs.Members.{AreMembers, members_of, member_at};
+ghost use Rattle.ra_pins.specs.PinLists.{flag_at};
+ghost use Rattle.ra_pins.specs.Marks.{AreMarked, AreTouched, AreStamped, AreSeated, IsSet, is_seat};
+
+use crate::tables::machine_of;
+use ra_base::{Assignment, Fixed, Process, Service};
+use ra_model::{Instance, Members};
+
+/// Marks the machines on which flagged processes of a service start, by the number of the service and one. A mark that
+/// was set stays true, since flags are never taken away.
+pub(crate) fn mark_service(
+    inst: &Instance,
+    a0: &Assignment,
+    members: &Members,
+    flags: &Fixed<bool>,
+    touched: &Fixed<bool>,
+    s: Service,
+    marks: &mut Fixed<u32>,
+)
+    requires fits { IsAssignment inst.now.tables a0.now.items }
+    requires members { AreMembers members.now inst.now.tables }
+    requires service { s.0 < service_count inst.now.tables }
+    requires flags { length flags.now.items ≡ process_count inst.now.tables }
+    requires touched { AreTouched inst.now.tables flags.now.items touched.now.items }
+    requires marked { AreMarked inst.now.tables a0.now.items flags.now.items marks.old.items }
+    ensures marked { AreMarked inst.now.tables a0.now.items flags.now.items marks.new.items }
+    ensures stamped { AreStamped inst.now.tables a0.now.items flags.now.items s.0 marks.new.items }
+{
+    if touched.get(s.0 as usize) {
+        stamp(a0, flags, members.of(s), s.0 + 1, marks);
+    }
+}
+
+/// Sets a stamp at the machines on which those of some processes start that are flagged.
+fn stamp(
+    a0: &Assignment,
+    flags: &Fixed<bool>,
+    processes: &[Process],
+    stamp: u32,
+    marks: &mut Fixed<u32>,
+)
+    requires seated { AreSeated a0.now.items flags.now.items processes.now
+        (length marks.old.items) }
+    ensures { IsSet (is_seat a0.now.items flags.now.items processes.now) (length processes.now)
+        stamp marks.old.items marks.new.items }
+{
+    for k in 0..processes.len() {
+        let p = processes[k];
+        if flags.get(p.0 as usize) {
+            let at = machine_of(a0, p);
+            marks.set(at.0 as usize, stamp);
+        }
+    }
+}
