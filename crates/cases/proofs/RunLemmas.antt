@@ -66,7 +66,7 @@ trial_more number way more step p = record { tables = p.tables; lots = p.lots; t
 
 output_more : (held : Held) (says : JobSays) (way more : List ℕ → Type 0) → ((text : List ℕ) → way text → more text) → OutputOf held says way → OutputOf held says more
 output_more held (Checks model initial changed closed) way more step p = printed_more held _ way more step p
-output_more held (Bounds model) way more step p = bound_more held _ way more step p
+output_more held (Bounds model initial closed) way more step p = bound_more held _ way more step p
 output_more held (Solves model initial closed slack drawing lots) way more step p = (p.0, p.1, solved_more held _ p.0 way more step p.2)
 output_more held (Trials number) way more step p = trial_more number way more step p
 

@@ -52,7 +52,7 @@ infeasible_not held names before now status is = record { only = λ e. absurd (l
 pub own_memory_any : (job : Option JobSays) (held : Held) (before now : Faults) (status : Status) → status ≡ NoMemory → IfSome job (λ says. OwnComes held says before now status)
 own_memory_any None held before now status is = tt
 own_memory_any (Some (Checks model initial changed closed)) held before now status is = infeasible_not held (check_names model closed initial changed) before now status is
-own_memory_any (Some (Bounds model)) held before now status is = λ e. let both : NoMemory ≡ Infeasible = sym is ∙ e in cc
+own_memory_any (Some (Bounds model initial closed)) held before now status is = λ e. let both : NoMemory ≡ Infeasible = sym is ∙ e in cc
 own_memory_any (Some (Solves model initial closed slack drawing lots)) held before now status is = infeasible_not held (solve_names model closed initial) before now status is
 own_memory_any (Some (Trials number)) held before now status is = tt
 
@@ -63,9 +63,9 @@ pub says_comes : (says : JobSays) (held : Held) (before now : Faults) (prints br
 says_comes (Checks model initial changed closed) held before now prints breaks tells out_same err_same status ends =
     let names = check_names model closed initial changed in
     comes ends (λ p. (printed_went held names prints p).listed) (judges_listed held names (Printed held names breaks) (printed_went held names breaks))
-says_comes (Bounds model) held before now prints breaks tells out_same err_same status ends =
-    let names = bound_names model None None in
-    comes ends (bound_listed held model None None prints) (writes_listed held names (BoundPrinted held names breaks) (bound_listed held model None None breaks))
+says_comes (Bounds model initial closed) held before now prints breaks tells out_same err_same status ends =
+    let names = bound_names model closed initial in
+    comes ends (bound_listed held model closed initial prints) (writes_listed held names (BoundPrinted held names breaks) (bound_listed held model closed initial breaks))
 says_comes (Solves model initial closed slack drawing lots) held before now prints breaks tells out_same err_same status ends =
     let names = solve_names model closed initial in
     comes ends (λ p. (solved_went held model closed initial p.0 prints p.2).listed)

@@ -18,7 +18,7 @@ use Rattle.ra_run.specs.Trials.{TrialPrinted}
 -- what is said of a job by the names of its files, and of a trial, which has none, by its number
 abbrev pub OfJob : JobSays → (Names → Type 0) → (ℕ → Type 0) → Type 0
 OfJob (Checks model initial changed closed) by_names by_number = by_names (check_names model closed initial changed)
-OfJob (Bounds model) by_names by_number = by_names (bound_names model None None)
+OfJob (Bounds model initial closed) by_names by_number = by_names (bound_names model closed initial)
 OfJob (Solves model initial closed slack drawing lots) by_names by_number = by_names (solve_names model closed initial)
 OfJob (Trials number) by_names by_number = by_number number
 
@@ -31,28 +31,28 @@ pub record AreLots (l : Lots) (slack : ℕ) (drawing : Drawing) (lots : List Lot
 -- what a job that is done has printed, for the lots of its words
 abbrev pub OutputOf : Held → JobSays → (List ℕ → Type 0) → Type 0
 OutputOf held (Checks model initial changed closed) way = Printed held (check_names model closed initial changed) way
-OutputOf held (Bounds model) way = BoundPrinted held (bound_names model None None) way
+OutputOf held (Bounds model initial closed) way = BoundPrinted held (bound_names model closed initial) way
 OutputOf held (Solves model initial closed slack drawing lots) way = (l : Lots) × AreLots l slack drawing lots × Solved held (solve_names model closed initial) l way
 OutputOf held (Trials number) way = TrialPrinted number way
 
 -- what its own refusals say, where a part of its output was put one way
 abbrev pub OwnOf : Held → JobSays → (List ℕ → Type 0) → Refusal → Type 0
 OwnOf held (Checks model initial changed closed) way refusal = Judges held (check_names model closed initial changed) (OutputOf held (Checks model initial changed closed) way) refusal
-OwnOf held (Bounds model) way refusal = OnlyWrites (OutputOf held (Bounds model) way) refusal
+OwnOf held (Bounds model initial closed) way refusal = OnlyWrites (OutputOf held (Bounds model initial closed) way) refusal
 OwnOf held (Solves model initial closed slack drawing lots) way refusal = Judges held (solve_names model closed initial) (OutputOf held (Solves model initial closed slack drawing lots) way) refusal
 OwnOf held (Trials number) way refusal = Nothing refusal
 
 -- where its own statuses come, beyond those of `Comes`
 abbrev pub OwnComes : Held → JobSays → Faults → Faults → Status → Type 0
 OwnComes held (Checks model initial changed closed) before now status = InfeasibleComes held (check_names model closed initial changed) before now status
-OwnComes held (Bounds model) before now status = status ≢ Infeasible
+OwnComes held (Bounds model initial closed) before now status = status ≢ Infeasible
 OwnComes held (Solves model initial closed slack drawing lots) before now status = InfeasibleComes held (solve_names model closed initial) before now status
 OwnComes held (Trials number) before now status = Unit {0}
 
 -- its files are valid
 abbrev pub ValidFor : Held → JobSays → Type 0
 ValidFor held (Checks model initial changed closed) = AreValid held (check_names model closed initial changed)
-ValidFor held (Bounds model) = AreAccepted held (bound_names model None None)
+ValidFor held (Bounds model initial closed) = AreAccepted held (bound_names model closed initial)
 ValidFor held (Solves model initial closed slack drawing lots) = AreValid held (solve_names model closed initial)
 ValidFor held (Trials number) = Unit {0}
 

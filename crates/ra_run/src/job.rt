@@ -134,7 +134,19 @@ fn do_job<R: Threads + Wait + Sync, F: Files, O: Sink, E: Sink, G: Gate>(
             out,
             err,
         ),
-        Job::Bound { model } => bound_run(alloc, model, None, None, files, out, err),
+        Job::Bound {
+            model,
+            initial,
+            closed,
+        } => bound_run(
+            alloc,
+            model,
+            initial.as_ref(),
+            closed.as_ref(),
+            files,
+            out,
+            err,
+        ),
         Job::Solve {
             model,
             initial,

@@ -18,7 +18,7 @@ use Rattle.ra_words.specs.Numbers.{has_digits, is_number, worth}
 use Rattle.ra_words.specs.LotTexts.{are_lots, first_place, is_lot, is_seed_lot, is_written, is_written_lot, lot_says, seed_text}
 use Rattle.ra_words.specs.Lines.{Finds, Line, Spells, option_words, plain_of, words_of}
 use Rattle.ra_words.proofs.LotLaws.{lots_told}
-use Rattle.ra_words.specs.Jobs.{Bounds, Checks, Solves, Trials, bound_says, check_says, closed_place, closed_text, draws_place, draws_text, drawing_says, is_bound, is_check, is_closed, is_drawing, is_slack, is_solve, lot_words, lots_place, slack_says, slack_text, solve_says, is_trial, trial_says}
+use Rattle.ra_words.specs.Jobs.{Bounds, Checks, Solves, Trials, bound_says, bound_from_says, check_says, closed_place, closed_text, draws_place, draws_text, drawing_says, ends_closed, ends_in_lots, is_bound, is_bound_from, is_check, is_closed, is_drawing, is_slack, is_solve, lot_words, lots_place, slack_says, slack_text, solve_says, is_trial, trial_says}
 
 -- ---- words that are no option
 
@@ -147,63 +147,95 @@ options_here words slack closed draws behind_slack behind_closed one two three =
     ∙ ap (λ k. first ++ (second ++ drop k words)) (sym behind_closed)
     ∙ ap (λ ws. first ++ (second ++ ws)) (option_here (codes "--draws") words draws three)
 
--- ---- check
+-- ---- files, and then `--closed` or nothing: check, and a bound from a start
 
-abbrev check_line : List (List ℕ) → Line
-check_line words = record {
+-- the command word, so many names, and what `--closed` names behind them
+abbrev closing_line : ℕ → List (List ℕ) → Line
+closing_line n words = record {
   command = word_at words 0;
-  files = words_from 1 words 3;
+  files = words_from 1 words n;
   slack = None;
-  closed = value_at (codes "--closed") words 4;
+  closed = value_at (codes "--closed") words (suc n);
   draws = None;
   behind = [];
 }
 
-record IsCheck (words : List (List ℕ)) : Type 0 where
-  model : is_name (word_at words 1) ≡ true
-  initial : is_name (word_at words 2) ≡ true
-  changed : is_name (word_at words 3) ≡ true
-  closed : is_closed (value_at (codes "--closed") words 4) ≡ true
-  last : length words ≡ behind (codes "--closed") words 4
+record EndsClosed (words : List (List ℕ)) (place : ℕ) : Type 0 where
+  closed : is_closed (value_at (codes "--closed") words place) ≡ true
+  last : length words ≡ behind (codes "--closed") words place
 
-check_parts : (words : List (List ℕ)) → is_check words ≡ true → IsCheck words
-unfolding is_check
-check_parts words check = record {
-  model = grind (arith, common_steps);
-  initial = grind (arith, common_steps);
-  changed = grind (arith, common_steps);
-  closed = grind (arith, common_steps);
-  last = grind (arith, common_steps);
-}
+closed_parts : (words : List (List ℕ)) (place : ℕ) → ends_closed words place ≡ true → EndsClosed words place
+unfolding ends_closed
+closed_parts words place ends = record { closed = grind (arith, common_steps); last = grind (arith, common_steps) }
 
-check_spelled : (words : List (List ℕ)) → is_check words ≡ true → Spells (check_line words) words
+closing_spelled : (n : ℕ) (words : List (List ℕ)) → list_all is_name (words_from 1 words n) ≡ true → n < length words → ends_closed words (suc n) ≡ true → Spells (closing_line n words) words
 unfolding words_of option_words
-check_spelled words check =
-    let is = check_parts words check in
-    let third = name_within words 3 is.changed in
-    let named = closed_named (value_at (codes "--closed") words 4) is.closed in
-    let none : drop (behind (codes "--closed") words 4) words ≡ [] = drop_all (behind (codes "--closed") words 4) words (omega (arith, is.last)) in
+closing_spelled n words names within ends =
+    let is = closed_parts words (suc n) ends in
+    let named = closed_named (value_at (codes "--closed") words (suc n)) is.closed in
+    let none : drop (behind (codes "--closed") words (suc n)) words ≡ [] = drop_all (behind (codes "--closed") words (suc n)) words (omega (arith, is.last)) in
+    let here : suc n + 0 ≡ suc n = omega arith in
     record {
       is =
-          words_here 4 0 words (omega (arith, third))
-          ∙ ap (λ ws. words_from 0 words 4 ++ ws) (option_here (codes "--closed") words 4 named)
-          ∙ ap (λ ws. words_from 0 words 4 ++ (option_words (codes "--closed") (value_at (codes "--closed") words 4) ++ ws)) none;
-      files = rw (is.model, is.initial, is.changed) refl;
+          words_here (suc n) 0 words (omega (arith, within))
+          ∙ ap (λ k. words_from 0 words (suc n) ++ drop k words) here
+          ∙ ap (λ ws. words_from 0 words (suc n) ++ ws) (option_here (codes "--closed") words (suc n) named)
+          ∙ ap (λ ws. words_from 0 words (suc n) ++ (option_words (codes "--closed") (value_at (codes "--closed") words (suc n)) ++ ws)) none;
+      files = names;
       slack = refl;
       closed = named;
       draws = refl;
       behind = refl;
     }
 
+record IsCheck (words : List (List ℕ)) : Type 0 where
+  model : is_name (word_at words 1) ≡ true
+  initial : is_name (word_at words 2) ≡ true
+  changed : is_name (word_at words 3) ≡ true
+  ends : ends_closed words 4 ≡ true
+
+check_parts : (words : List (List ℕ)) → is_check words ≡ true → IsCheck words
+unfolding is_check
+check_parts words check = record { model = grind (arith, common_steps); initial = grind (arith, common_steps); changed = grind (arith, common_steps); ends = grind (arith, common_steps) }
+
+check_spelled : (words : List (List ℕ)) → is_check words ≡ true → Spells (closing_line 3 words) words
+check_spelled words check =
+    let is = check_parts words check in
+    closing_spelled 3 words (rw (is.model, is.initial, is.changed) refl) (name_within words 3 is.changed) is.ends
+
 pub check_is_line : (words : List (List ℕ)) → is_check words ≡ true → (line : Line) × Spells line words
-check_is_line words is = (check_line words, check_spelled words is)
+check_is_line words is = (closing_line 3 words, check_spelled words is)
 
 pub check_found : (words : List (List ℕ)) (found : Found) → is_check words ≡ true → ((line : Line) → Spells line words → Finds line found)
     → Checks (word_at (plain_of found) 0) (word_at (plain_of found) 1) (word_at (plain_of found) 2) (first_value found (codes "closed")) ≡ check_says words
 unfolding check_says word_at
 check_found words found check finds =
-    let f = finds (check_line words) (check_spelled words check) in
+    let f = finds (closing_line 3 words) (check_spelled words check) in
     λ i. Checks (word_at (f.plain i) 0) (word_at (f.plain i) 1) (word_at (f.plain i) 2) (f.closed i)
+
+record IsBoundFrom (words : List (List ℕ)) : Type 0 where
+  model : is_name (word_at words 1) ≡ true
+  initial : is_name (word_at words 2) ≡ true
+  ends : ends_closed words 3 ≡ true
+
+bound_from_parts : (words : List (List ℕ)) → is_bound_from words ≡ true → IsBoundFrom words
+unfolding is_bound_from
+bound_from_parts words bound = record { model = grind (arith, common_steps); initial = grind (arith, common_steps); ends = grind (arith, common_steps) }
+
+bound_from_spelled : (words : List (List ℕ)) → is_bound_from words ≡ true → Spells (closing_line 2 words) words
+bound_from_spelled words bound =
+    let is = bound_from_parts words bound in
+    closing_spelled 2 words (rw (is.model, is.initial) refl) (name_within words 2 is.initial) is.ends
+
+pub bound_from_is_line : (words : List (List ℕ)) → is_bound_from words ≡ true → (line : Line) × Spells line words
+bound_from_is_line words is = (closing_line 2 words, bound_from_spelled words is)
+
+pub bound_from_found : (words : List (List ℕ)) (found : Found) → is_bound_from words ≡ true → ((line : Line) → Spells line words → Finds line found)
+    → Bounds (word_at (plain_of found) 0) (Some (word_at (plain_of found) 1)) (first_value found (codes "closed")) ≡ bound_from_says words
+unfolding bound_from_says word_at
+bound_from_found words found bound finds =
+    let f = finds (closing_line 2 words) (bound_from_spelled words bound) in
+    λ i. Bounds (word_at (f.plain i) 0) (Some (word_at (f.plain i) 1)) (f.closed i)
 
 -- ---- bound and trial
 
@@ -233,11 +265,11 @@ pub bound_is_line : (words : List (List ℕ)) → is_bound words ≡ true → (l
 bound_is_line words is = (pair_line words, bound_spelled words is)
 
 pub bound_found : (words : List (List ℕ)) (found : Found) → is_bound words ≡ true → ((line : Line) → Spells line words → Finds line found)
-    → Bounds (word_at (plain_of found) 0) ≡ bound_says words
+    → Bounds (word_at (plain_of found) 0) None None ≡ bound_says words
 unfolding bound_says word_at
 bound_found words found bound finds =
     let f = finds (pair_line words) (bound_spelled words bound) in
-    λ i. Bounds (word_at (f.plain i) 0)
+    λ i. Bounds (word_at (f.plain i) 0) None None
 
 trial_number : (words : List (List ℕ)) → is_trial words ≡ true → is_number (word_at words 1) ≡ true
 unfolding is_trial
@@ -267,57 +299,70 @@ trial_found words found trial finds =
     let f = finds (pair_line words) (trial_spelled words trial) in
     ap (λ ws. Trials (worth (word_at ws 0))) f.plain
 
--- ---- solve
+-- ---- files, options and lots: solve
 
-abbrev solve_line : List (List ℕ) → Line
-solve_line words = record {
+-- the command word, so many names, the options in their order, and lots
+abbrev running_line : ℕ → List (List ℕ) → Line
+running_line n words = record {
   command = word_at words 0;
-  files = words_from 1 words 2;
-  slack = slack_text words;
-  closed = closed_text words;
-  draws = draws_text words;
-  behind = lot_words words;
+  files = words_from 1 words n;
+  slack = slack_text words (suc n);
+  closed = closed_text words (suc n);
+  draws = draws_text words (suc n);
+  behind = lot_words words (suc n);
 }
 
-record IsSolve (words : List (List ℕ)) : Type 0 where
-  model : is_name (word_at words 1) ≡ true
-  initial : is_name (word_at words 2) ≡ true
-  slack : is_slack (slack_text words) ≡ true
-  closed : is_closed (closed_text words) ≡ true
-  draws : is_drawing (draws_text words) ≡ true
-  lots : are_lots (lot_words words) ≡ true
+record EndsInLots (words : List (List ℕ)) (place : ℕ) : Type 0 where
+  slack : is_slack (slack_text words place) ≡ true
+  closed : is_closed (closed_text words place) ≡ true
+  draws : is_drawing (draws_text words place) ≡ true
+  lots : are_lots (lot_words words place) ≡ true
 
-solve_parts : (words : List (List ℕ)) → is_solve words ≡ true → IsSolve words
-unfolding is_solve
-solve_parts words solve = record {
-  model = grind (arith, common_steps);
-  initial = grind (arith, common_steps);
+lots_parts : (words : List (List ℕ)) (place : ℕ) → ends_in_lots words place ≡ true → EndsInLots words place
+unfolding ends_in_lots
+lots_parts words place ends = record {
   slack = grind (arith, common_steps);
   closed = grind (arith, common_steps);
   draws = grind (arith, common_steps);
   lots = grind (arith, common_steps);
 }
 
-solve_spelled : (words : List (List ℕ)) → is_solve words ≡ true → Spells (solve_line words) words
+running_spelled : (n : ℕ) (words : List (List ℕ)) → list_all is_name (words_from 1 words n) ≡ true → n < length words → ends_in_lots words (suc n) ≡ true → Spells (running_line n words) words
 unfolding words_of slack_text closed_text draws_text lot_words closed_place draws_place lots_place
-solve_spelled words solve =
-    let is = solve_parts words solve in
-    let slack = slack_named (slack_text words) is.slack in
-    let closed = closed_named (closed_text words) is.closed in
-    let draws = draws_named (draws_text words) is.draws in
+running_spelled n words names within ends =
+    let is = lots_parts words (suc n) ends in
+    let slack = slack_named (slack_text words (suc n)) is.slack in
+    let closed = closed_named (closed_text words (suc n)) is.closed in
+    let draws = draws_named (draws_text words (suc n)) is.draws in
+    let here : suc n + 0 ≡ suc n = omega arith in
     record {
       is =
-          words_here 3 0 words (omega (arith, name_within words 2 is.initial))
-          ∙ ap (λ ws. words_from 0 words 3 ++ ws) (options_here words 3 (closed_place words) (draws_place words) refl refl slack closed draws);
-      files = rw (is.model, is.initial) refl;
+          words_here (suc n) 0 words (omega (arith, within))
+          ∙ ap (λ k. words_from 0 words (suc n) ++ drop k words) here
+          ∙ ap (λ ws. words_from 0 words (suc n) ++ ws) (options_here words (suc n) (closed_place words (suc n)) (draws_place words (suc n)) refl refl slack closed draws);
+      files = names;
       slack = slack;
       closed = closed;
       draws = draws;
-      behind = lots_named (lot_words words) (lots_told (lot_words words) is.lots);
+      behind = lots_named (lot_words words (suc n)) (lots_told (lot_words words (suc n)) is.lots);
     }
 
+record IsSolve (words : List (List ℕ)) : Type 0 where
+  model : is_name (word_at words 1) ≡ true
+  initial : is_name (word_at words 2) ≡ true
+  ends : ends_in_lots words 3 ≡ true
+
+solve_parts : (words : List (List ℕ)) → is_solve words ≡ true → IsSolve words
+unfolding is_solve
+solve_parts words solve = record { model = grind (arith, common_steps); initial = grind (arith, common_steps); ends = grind (arith, common_steps) }
+
+solve_spelled : (words : List (List ℕ)) → is_solve words ≡ true → Spells (running_line 2 words) words
+solve_spelled words solve =
+    let is = solve_parts words solve in
+    running_spelled 2 words (rw (is.model, is.initial) refl) (name_within words 2 is.initial) is.ends
+
 pub solve_is_line : (words : List (List ℕ)) → is_solve words ≡ true → (line : Line) × Spells line words
-solve_is_line words is = (solve_line words, solve_spelled words is)
+solve_is_line words is = (running_line 2 words, solve_spelled words is)
 
 -- what is found of a run of the solver
 pub record IsSolveFound (words : List (List ℕ)) (found : Found) : Type 0 where
@@ -329,8 +374,8 @@ pub record IsSolveFound (words : List (List ℕ)) (found : Found) : Type 0 where
 pub solve_found : (words : List (List ℕ)) (found : Found) → is_solve words ≡ true → ((line : Line) → Spells line words → Finds line found) → IsSolveFound words found
 unfolding solve_says word_at
 solve_found words found solve finds =
-    let is = solve_parts words solve in
-    let f = finds (solve_line words) (solve_spelled words solve) in
+    let is = lots_parts words 3 (solve_parts words solve).ends in
+    let f = finds (running_line 2 words) (solve_spelled words solve) in
     record {
       slack = ap is_slack f.slack ∙ is.slack;
       lots = ap (λ ws. are_lots (drop 2 ws)) f.plain ∙ is.lots;

@@ -10,7 +10,7 @@ use Rattle.ra_words.specs.LotTexts.{LotSays, lot_says, are_lots}
 -- what the words of a job say
 pub data JobSays : Type 0 where
   Checks : (model initial changed : List ℕ) (closed : Option (List ℕ)) → JobSays
-  Bounds : (model : List ℕ) → JobSays
+  Bounds : (model : List ℕ) (initial closed : Option (List ℕ)) → JobSays
   Solves : (model initial : List ℕ) (closed : Option (List ℕ)) (slack : ℕ) (drawing : Drawing) (lots : List LotSays) → JobSays
   Trials : (number : ℕ) → JobSays
 
@@ -19,11 +19,15 @@ abbrev pub is_closed : Option (List ℕ) → Bool
 is_closed None = true
 is_closed (Some text) = is_name text
 
+-- from a place on: `--closed` and a file name, or nothing, and no more words
+unfoldable pub ends_closed : List (List ℕ) → ℕ → Bool
+ends_closed words place = is_closed (value_at (codes "--closed") words place) && length words == behind (codes "--closed") words place
+
 -- the word `check` and three file names, then `--closed` and a file name, or nothing
 unfoldable pub is_check : List (List ℕ) → Bool
 is_check words =
     bytes_eq (word_at words 0) (codes "check") && is_name (word_at words 1) && is_name (word_at words 2) && is_name (word_at words 3)
-    && is_closed (value_at (codes "--closed") words 4) && length words == behind (codes "--closed") words 4
+    && ends_closed words 4
 
 -- what a check says: its files
 unfoldable pub check_says : List (List ℕ) → JobSays
@@ -35,7 +39,15 @@ is_bound words = length words == 2 && bytes_eq (word_at words 0) (codes "bound")
 
 -- what a bound says: its file
 unfoldable pub bound_says : List (List ℕ) → JobSays
-bound_says words = Bounds (word_at words 1)
+bound_says words = Bounds (word_at words 1) None None
+
+-- the word `bound` and two file names, then `--closed` and a file name, or nothing
+unfoldable pub is_bound_from : List (List ℕ) → Bool
+is_bound_from words = bytes_eq (word_at words 0) (codes "bound") && is_name (word_at words 1) && is_name (word_at words 2) && ends_closed words 3
+
+-- what a bound from a start says: its files
+unfoldable pub bound_from_says : List (List ℕ) → JobSays
+bound_from_says words = Bounds (word_at words 1) (Some (word_at words 2)) (value_at (codes "--closed") words 3)
 
 -- the value of `--slack`, where it is given, is a number
 abbrev pub is_slack : Option (List ℕ) → Bool
@@ -57,44 +69,47 @@ abbrev pub drawing_says : Option (List ℕ) → Drawing
 drawing_says None = Two
 drawing_says (Some text) = if bytes_eq text (codes "1") then One else Two
 
--- behind `solve` and two file names `--slack` may stand, and behind it `--closed`
-unfoldable pub closed_place : List (List ℕ) → ℕ
-closed_place words = behind (codes "--slack") words 3
+-- from a place on `--slack` may stand, and behind it `--closed`
+unfoldable pub closed_place : List (List ℕ) → ℕ → ℕ
+closed_place words place = behind (codes "--slack") words place
 
 -- behind these `--draws` may stand
-unfoldable pub draws_place : List (List ℕ) → ℕ
-draws_place words = behind (codes "--closed") words (closed_place words)
+unfoldable pub draws_place : List (List ℕ) → ℕ → ℕ
+draws_place words place = behind (codes "--closed") words (closed_place words place)
 
 -- behind all options the lots begin
-unfoldable pub lots_place : List (List ℕ) → ℕ
-lots_place words = behind (codes "--draws") words (draws_place words)
+unfoldable pub lots_place : List (List ℕ) → ℕ → ℕ
+lots_place words place = behind (codes "--draws") words (draws_place words place)
 
 -- the value of `--slack`
-unfoldable pub slack_text : List (List ℕ) → Option (List ℕ)
-slack_text words = value_at (codes "--slack") words 3
+unfoldable pub slack_text : List (List ℕ) → ℕ → Option (List ℕ)
+slack_text words place = value_at (codes "--slack") words place
 
 -- the value of `--closed`
-unfoldable pub closed_text : List (List ℕ) → Option (List ℕ)
-closed_text words = value_at (codes "--closed") words (closed_place words)
+unfoldable pub closed_text : List (List ℕ) → ℕ → Option (List ℕ)
+closed_text words place = value_at (codes "--closed") words (closed_place words place)
 
 -- the value of `--draws`
-unfoldable pub draws_text : List (List ℕ) → Option (List ℕ)
-draws_text words = value_at (codes "--draws") words (draws_place words)
+unfoldable pub draws_text : List (List ℕ) → ℕ → Option (List ℕ)
+draws_text words place = value_at (codes "--draws") words (draws_place words place)
 
 -- the words of the lots
-unfoldable pub lot_words : List (List ℕ) → List (List ℕ)
-lot_words words = drop (lots_place words) words
+unfoldable pub lot_words : List (List ℕ) → ℕ → List (List ℕ)
+lot_words words place = drop (lots_place words place) words
+
+-- from a place on: the options in their order, then lots
+unfoldable pub ends_in_lots : List (List ℕ) → ℕ → Bool
+ends_in_lots words place =
+    is_slack (slack_text words place) && is_closed (closed_text words place) && is_drawing (draws_text words place) && are_lots (lot_words words place)
 
 -- the word `solve` and two file names, then the options in their order, then lots
 unfoldable pub is_solve : List (List ℕ) → Bool
-is_solve words =
-    bytes_eq (word_at words 0) (codes "solve") && is_name (word_at words 1) && is_name (word_at words 2)
-    && is_slack (slack_text words) && is_closed (closed_text words) && is_drawing (draws_text words) && are_lots (lot_words words)
+is_solve words = bytes_eq (word_at words 0) (codes "solve") && is_name (word_at words 1) && is_name (word_at words 2) && ends_in_lots words 3
 
 -- what a run of the solver says: its files, slack, drawing and lots
 unfoldable pub solve_says : List (List ℕ) → JobSays
 solve_says words =
-    Solves (word_at words 1) (word_at words 2) (closed_text words) (slack_says (slack_text words)) (drawing_says (draws_text words)) (map lot_says (lot_words words))
+    Solves (word_at words 1) (word_at words 2) (closed_text words 3) (slack_says (slack_text words 3)) (drawing_says (draws_text words 3)) (map lot_says (lot_words words 3))
 
 -- the word `trial` and a number
 unfoldable pub is_trial : List (List ℕ) → Bool
@@ -109,6 +124,7 @@ unfoldable pub job_of : List (List ℕ) → Option JobSays
 job_of words =
     if is_check words then Some (check_says words)
     else if is_bound words then Some (bound_says words)
+    else if is_bound_from words then Some (bound_from_says words)
     else if is_solve words then Some (solve_says words)
     else if is_trial words then Some (trial_says words)
     else None

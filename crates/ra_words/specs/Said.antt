@@ -20,6 +20,6 @@ said_lot lot = record { source = said_source lot.source; budget = lot.budget }
 -- what a job says
 abbrev pub said : Job → JobSays
 said (Check model initial changed closed) = Checks model initial changed closed
-said (Bound model) = Bounds model
+said (Bound model initial closed) = Bounds model initial closed
 said (Solve model initial closed lots) = Solves model initial closed lots.slack lots.drawing (map said_lot lots.lots.items)
 said (Trial number) = Trials number

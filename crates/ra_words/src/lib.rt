@@ -3,6 +3,7 @@
 //! `read_words` refuses what is no job before it asks for memory; one command of `clap` takes the words of a job apart.
 #![tactic(auto)]
 
+mod forms;
 mod jobs;
 mod line;
 mod lots;

@@ -13,7 +13,7 @@ use crate::words::str_at;
 use clap::error::ErrorKind;
 use clap::{Arg, ArgAction, ArgMatches, Command};
 use ra_base::{Drawing, Name, NoMemory};
-use ra_draws::Lot;
+use ra_draws::{Lot, Lots};
 use std::alloc::{AllocError, Global};
 
 /// The one command that takes the words of every job apart.
@@ -81,7 +81,7 @@ pub(crate) fn closed_name(alloc: Global, taken: &ArgMatches<'_>) -> Result<Optio
 }
 
 /// The number that `--slack` gives, and 0 where it isn't given.
-pub(crate) fn slack(taken: &ArgMatches<'_>) -> u64
+fn slack(taken: &ArgMatches<'_>) -> u64
     requires { is_slack (first_value (found_of taken.now) (codes "slack")) ≡ true }
     ensures { result ≡ slack_says (first_value (found_of taken.now) (codes "slack")) }
 {
@@ -92,7 +92,7 @@ pub(crate) fn slack(taken: &ArgMatches<'_>) -> u64
 }
 
 /// The drawing that `--draws` names, and the second where it isn't given.
-pub(crate) fn drawing(taken: &ArgMatches<'_>) -> Drawing
+fn drawing(taken: &ArgMatches<'_>) -> Drawing
     ensures { result ≡ drawing_says (first_value (found_of taken.now) (codes "draws")) }
 {
     match taken.get_str("draws") {
@@ -113,4 +113,23 @@ pub(crate) fn lots(
     ensures fitting { IfOk result (λ lots. IsLots lots.items) }
 {
     read_lots(alloc, taken.get_strs("plain").unwrap_or(&[]), place)
+}
+
+/// The lots of a run, with the slack and the drawing that the options give.
+pub(crate) fn run_lots(
+    alloc: Global,
+    taken: &ArgMatches<'_>,
+    place: usize,
+) -> Result<Lots, NoMemory>
+    requires slack { is_slack (first_value (found_of taken.now) (codes "slack")) ≡ true }
+    requires lots { are_lots (drop place (plain_of (found_of taken.now))) ≡ true }
+    ensures slack { IfOk result (λ l. l.slack ≡ slack_says
+        (first_value (found_of taken.now) (codes "slack"))) }
+    ensures drawing { IfOk result (λ l. l.drawing ≡ drawing_says
+        (first_value (found_of taken.now) (codes "draws"))) }
+    ensures lots { IfOk result (λ l. map said_lot l.lots.items ≡
+        map lot_says (drop place (plain_of (found_of taken.now)))) }
+{
+    let lots = lots(alloc, taken, place)?;
+    Ok(Lots::of(slack(taken), drawing(taken), lots))
 }

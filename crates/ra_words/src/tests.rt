@@ -10,7 +10,12 @@ const JOBS: &[(&[&str], &str)] = &[
         &["check", "a b", "i-", ":", "--closed", "1"],
         "check a b i- : closed 1",
     ),
-    (&["bound", "check"], "bound check"),
+    (&["bound", "check"], "bound check initial none closed none"),
+    (&["bound", "m", "i"], "bound m initial i closed none"),
+    (
+        &["bound", "m", "i", "--closed", "c"],
+        "bound m initial i closed c",
+    ),
     (&["trial", "0"], "trial 0"),
     (
         &["trial", "00018446744073709551"],
@@ -90,7 +95,16 @@ fn tell(alloc: Global, job: &Job) -> Result<String, AllocError> {
             changed.as_str(),
             name_of(closed)
         ),
-        Job::Bound { model } => format!(in alloc; "bound {}", model.as_str()),
+        Job::Bound {
+            model,
+            initial,
+            closed,
+        } => format!(in alloc;
+            "bound {} initial {} closed {}",
+            model.as_str(),
+            name_of(initial),
+            name_of(closed)
+        ),
         Job::Solve {
             model,
             initial,

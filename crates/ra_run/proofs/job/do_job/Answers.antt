@@ -44,7 +44,7 @@ pub returns-in-Solve-clause-complete : goal.returns-in-Solve-clause-complete
 returns-in-Solve-clause-complete g c = rw c.in-Solve.is (rw c.as_ref-in-Solve.ensures.value at c.solve_run.ensures.complete)
 
 pub returns-in-Bound-clause-ends : goal.returns-in-Bound-clause-ends
-returns-in-Bound-clause-ends g c = rw c.in-Bound.is c.bound_run.ensures.ends
+returns-in-Bound-clause-ends g c = rw c.in-Bound.is (rw (c.as_ref-in-Bound.ensures.value, c.as_ref-in-Bound-2.ensures.value) at c.bound_run.ensures.ends)
 
 pub returns-in-Bound-clause-complete : goal.returns-in-Bound-clause-complete
-returns-in-Bound-clause-complete g c = rw c.in-Bound.is c.bound_run.ensures.complete
+returns-in-Bound-clause-complete g c = rw c.in-Bound.is (rw (c.as_ref-in-Bound.ensures.value, c.as_ref-in-Bound-2.ensures.value) at c.bound_run.ensures.complete)

@@ -1,0 +1,138 @@
+ghost use Rattle.std.specs.Prelude.{◌≡◌, ◌+◌, ◌≤◌, codes};
+ghost use Rattle.std.specs.Str.{bytes_eq};
+ghost use Rattle.ra_words.specs.Words.{texts, value_at};
+ghost use Rattle.ra_words.specs.Jobs.{is_check, is_bound, is_bound_from, is_solve, is_trial, is_closed, is_slack, is_drawing, ends_closed, ends_in_lots, closed_place, draws_place, lots_place};
+
+use crate::lots::are_lots;
+use crate::numbers::is_number;
+use crate::words::{behind, has_option, names_file, text_at};
+
+/// Whether the words are a check.
+#[tactic(auto, unfolding(crate::specs::Jobs::is_check))]
+pub(crate) fn is_check(words: &[String]) -> bool
+    ensures { result ≡ is_check (texts words.now) }
+{
+    text_at(words, 0) == "check"
+        && names_file(text_at(words, 1))
+        && names_file(text_at(words, 2))
+        && names_file(text_at(words, 3))
+        && ends_closed(words, 4)
+}
+
+/// Whether the words ask for a bound.
+#[tactic(auto, unfolding(crate::specs::Jobs::is_bound))]
+pub(crate) fn is_bound(words: &[String]) -> bool
+    ensures { result ≡ is_bound (texts words.now) }
+{
+    words.len() == 2 && text_at(words, 0) == "bound" && names_file(text_at(words, 1))
+}
+
+/// Whether the words ask for a bound from a start.
+#[tactic(auto, unfolding(crate::specs::Jobs::is_bound_from))]
+pub(crate) fn is_bound_from(words: &[String]) -> bool
+    ensures { result ≡ is_bound_from (texts words.now) }
+{
+    text_at(words, 0) == "bound"
+        && names_file(text_at(words, 1))
+        && names_file(text_at(words, 2))
+        && ends_closed(words, 3)
+}
+
+/// Whether the words are a run of a solver.
+#[tactic(auto, unfolding(crate::specs::Jobs::is_solve))]
+pub(crate) fn is_solve(words: &[String]) -> bool
+    ensures { result ≡ is_solve (texts words.now) }
+{
+    text_at(words, 0) == "solve"
+        && names_file(text_at(words, 1))
+        && names_file(text_at(words, 2))
+        && ends_in_lots(words, 3)
+}
+
+/// Whether the words ask for a trial.
+#[tactic(auto, unfolding(crate::specs::Jobs::is_trial))]
+pub(crate) fn is_trial(words: &[String]) -> bool
+    ensures { result ≡ is_trial (texts words.now) }
+{
+    words.len() == 2 && text_at(words, 0) == "trial" && is_number(text_at(words, 1).as_bytes())
+}
+
+/// Whether from a place on `--closed` and a file name stand, or nothing, and no more words.
+#[tactic(auto, unfolding(crate::specs::Jobs::ends_closed))]
+fn ends_closed(words: &[String], place: usize) -> bool
+    requires { place ≤ 16 }
+    ensures { result ≡ ends_closed (texts words.now) place }
+{
+    fits_closed(words, place) && words.len() == behind(words, place, "--closed")
+}
+
+/// Whether from a place on the options stand in their order, and then lots.
+#[tactic(auto, unfolding(crate::specs::Jobs::ends_in_lots, crate::specs::Jobs::slack_text, crate::specs::Jobs::closed_text, crate::specs::Jobs::draws_text, crate::specs::Jobs::lot_words))]
+fn ends_in_lots(words: &[String], place: usize) -> bool
+    requires { place ≤ 8 }
+    ensures { result ≡ ends_in_lots (texts words.now) place }
+{
+    fits_slack(words, place)
+        && fits_closed(words, closed_place(words, place))
+        && fits_drawing(words, draws_place(words, place))
+        && are_lots(words, lots_place(words, place))
+}
+
+/// Where `--closed` may stand, where `--slack` may stand at a place.
+#[tactic(auto, unfolding(crate::specs::Jobs::closed_place))]
+fn closed_place(words: &[String], place: usize) -> usize
+    requires { place ≤ 8 }
+    ensures value { result ≡ closed_place (texts words.now) place }
+    ensures near { result ≤ place + 2 }
+{
+    behind(words, place, "--slack")
+}
+
+/// Where `--draws` may stand then.
+#[tactic(auto, unfolding(crate::specs::Jobs::draws_place))]
+fn draws_place(words: &[String], place: usize) -> usize
+    requires { place ≤ 8 }
+    ensures value { result ≡ draws_place (texts words.now) place }
+    ensures near { result ≤ place + 4 }
+{
+    behind(words, closed_place(words, place), "--closed")
+}
+
+/// Where the lots begin then.
+#[tactic(auto, unfolding(crate::specs::Jobs::lots_place))]
+fn lots_place(words: &[String], place: usize) -> usize
+    requires { place ≤ 8 }
+    ensures value { result ≡ lots_place (texts words.now) place }
+    ensures near { result ≤ place + 6 }
+{
+    behind(words, draws_place(words, place), "--draws")
+}
+
+/// Whether the value of `--closed` at a place, where it stands there, is a file name.
+#[tactic(auto, unfolding(crate::specs::Words::value_at))]
+fn fits_closed(words: &[String], place: usize) -> bool
+    requires { place ≤ 16 }
+    ensures { result ≡ is_closed (value_at (codes "--closed") (texts words.now) place) }
+{
+    !has_option(words, place, "--closed") || names_file(text_at(words, place + 1))
+}
+
+/// Whether the value of `--slack` at a place, where it stands there, is a number.
+#[tactic(auto, unfolding(crate::specs::Words::value_at))]
+fn fits_slack(words: &[String], place: usize) -> bool
+    requires { place ≤ 16 }
+    ensures { result ≡ is_slack (value_at (codes "--slack") (texts words.now) place) }
+{
+    !has_option(words, place, "--slack") || is_number(text_at(words, place + 1).as_bytes())
+}
+
+/// Whether the value of `--draws` at a place, where it stands there, is `1` or `2`.
+#[tactic(auto, unfolding(crate::specs::Words::value_at))]
+fn fits_drawing(words: &[String], place: usize) -> bool
+    requires { place ≤ 16 }
+    ensures { result ≡ is_drawing (value_at (codes "--draws") (texts words.now) place) }
+{
+    !has_option(words, place, "--draws")
+        || text_at(words, place + 1) == "1"
+        || text_at(words, place + 1) == "2"
+}
