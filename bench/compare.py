@@ -138,16 +138,52 @@ class Instance:
         parts = [load, balance, process, service, machine]
         return [sum(parts)] + parts
 
-    def bound(self):
-        """The lower bound and its two parts."""
+    def blocked(self, start, pinned, p, m):
+        """Whether process p is blocked from machine m, which isn't its own, by what is known to stay."""
+        here = [z for z, at in enumerate(start) if at == m]
+        stay = [z for z in here if pinned[z]]
+        return (
+            self.closed[m]
+            or any(self.services[z] == self.services[p] for z in stay)
+            or any(
+                sum(self.requirements[z][r] for z in (here if transient else stay))
+                + self.requirements[p][r]
+                > self.capacities[m][r]
+                for r, transient in enumerate(self.transient)
+            )
+        )
+
+    def pinned(self, start):
+        """Whether each process is blocked from every other machine, round after round."""
+        every = range(len(self.locations))
+        pinned = [False] * len(start)
+        for _ in start:
+            pinned = [
+                stays or all(m == home or self.blocked(start, pinned, p, m) for m in every)
+                for p, (stays, home) in enumerate(zip(pinned, start))
+            ]
+        return pinned
+
+    def bound(self, start=None):
+        """The lower bound and its two parts; with a start what is pinned counts on its machine."""
         every = range(len(self.transient))
         required = [sum(row[r] for row in self.requirements) for r in every]
         safe = [sum(row[r] for row in self.safeties) for r in every]
         spare = [sum(row[r] for row in self.capacities) - required[r] for r in every]
-        load = sum(
-            weight * max(0, required[r] - safe[r])
-            for r, weight in enumerate(self.load_weights)
-        )
+        over = [max(0, required[r] - safe[r]) for r in every]
+        if start is not None:
+            stay = [m if stays else None for m, stays in zip(start, self.pinned(start))]
+            over = [
+                max(
+                    over[r],
+                    sum(
+                        max(0, self.use(stay, m, r) - self.safeties[m][r])
+                        for m in range(len(self.locations))
+                    ),
+                )
+                for r in every
+            ]
+        load = sum(weight * over[r] for r, weight in enumerate(self.load_weights))
         balance = sum(
             weight * max(0, target * spare[one] - spare[two])
             for one, two, target, weight in self.balances
@@ -290,7 +326,7 @@ def report(inst, start, slack, drawing, lots, order):
     costs = [inst.parts(start, at)[0] for at in states]
     best_at = costs.index(min(costs))
     head = cost_lines(inst.parts(start, states[best_at]))
-    head += f"bound {inst.bound()[0]}\nbest_at {best_at}\n"
+    head += f"bound {inst.bound(start)[0]}\nbest_at {best_at}\n"
     head += f"assignment {joined(states[best_at])}\ndraws {drawing}\n"
     return head + "".join(told)
 
@@ -395,6 +431,8 @@ def compare_instance(program, chance, kinds):
         inst.closed = [m in closed for m in range(len(inst.closed))]
         write("c", joined(closed, "\n"))
         closing = ["--closed", "c"]
+    from_start = lines(["bound", "load", "balance"], inst.bound(start))
+    compare(program, ["bound", "m", "i"] + closing, lambda _: (0, from_start, ""), kinds)
     for _ in range(4):
         new = [chance.choice([m, m, chance.randrange(len(inst.closed))]) for m in start]
         write("n", joined(new, "\n"))

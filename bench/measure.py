@@ -3,8 +3,8 @@ a machine may be slower for a while.
 
 usage: measure.py PROGRAM LOOP FOLDER
 
-FOLDER has the instances 1000 and 5000 of make_instance.py, and its skewed ones 100-skewed and 1000-skewed. LOOP is the
-plain loop of numbers.c.
+FOLDER has the instances 1000 and 5000 of make_instance.py, and its skewed ones 100-skewed and 1000-skewed, and 5000-pinned
+of make_pinned.py. LOOP is the plain loop of numbers.c.
 """
 import os
 import subprocess
@@ -58,6 +58,8 @@ def main():
     for instance in ["100-skewed", "1000-skewed"]:
         measure_solve(program, instance, os.path.join(folder, instance))
     measure_workers(program, os.path.join(folder, "1000-skewed"))
+    for instance in ["5000", "5000-pinned"]:
+        measure_pins(program, instance, os.path.join(folder, instance))
 
 
 def measure_solve(program, instance, folder):
@@ -72,6 +74,23 @@ def measure_solve(program, instance, folder):
     done = sum(" done " in line for line in report.stdout.splitlines())
     print(f"  {PROPOSALS / net:.0f} proposals per second of processor time, {done} of them done")
 
+
+
+def measure_pins(program, instance, folder):
+    """Prints what it takes to find the pinned processes, without the reading of the model."""
+    print(f"{instance}, pinned processes")
+    model, initial, closed = (os.path.join(folder, name) for name in ["model", "initial", "closed"])
+    commands = {
+        "reassign bound of the model": [program, "bound", model],
+        "reassign bound of the start": [program, "bound", model, initial],
+    }
+    if os.path.exists(closed):
+        commands["reassign bound of the start, all but one closed"] = [
+            program, "bound", model, initial, "--closed", closed
+        ]
+    (_, alone), *others = measure(commands).items()
+    for name, seconds in others:
+        print(f"  {name}: {median(seconds) - median(alone):.3f} s more than that of the model")
 
 
 def wall_seconds(command):
