@@ -18,3 +18,6 @@ mod trying;
 
 pub use repair::Repair;
 pub use tries::Try;
+
+#[cfg(test)]
+mod tests;

@@ -8,3 +8,4 @@ pub mod CompleteLemmas
 pub mod ComesLemmas
 pub mod TrialLemmas
 pub mod RunLemmas
+pub mod RepairLemmas

@@ -33,6 +33,8 @@ pub enum Refusal {
     InitialBroken(Cause),
     /// The new list breaks a constraint.
     ChangedBroken(Cause),
+    /// The last list of a repair breaks a constraint.
+    Unrepaired(Cause),
     /// Writing the output failed.
     Write,
     /// Memory was refused.

@@ -53,6 +53,7 @@ fn status(refusal: Refusal) -> Status
         Refusal::Changed(_) => Status::BadAssignment,
         Refusal::InitialBroken(_) => Status::Infeasible,
         Refusal::ChangedBroken(_) => Status::Infeasible,
+        Refusal::Unrepaired(_) => Status::Unrepaired,
         Refusal::Write => Status::WriteFault,
         Refusal::Memory => Status::NoMemory,
     }
@@ -99,6 +100,10 @@ fn fault<'n>(names: &JobFiles<'n>, refusal: Refusal) -> Fault<'n>
         },
         Refusal::ChangedBroken(cause) => Fault::Infeasible {
             name: names.name(File::Changed),
+            cause,
+        },
+        Refusal::Unrepaired(cause) => Fault::Unrepaired {
+            name: names.name(File::Initial),
             cause,
         },
         Refusal::Write => Fault::Write,
