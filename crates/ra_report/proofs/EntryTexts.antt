@@ -11,7 +11,8 @@ use Rattle.ra_moves.specs.declared.verdicts.Verdict.TheVariants.{Done, Refused}
 use Rattle.ra_journal.specs.declared.entries.Entry.{Entry}
 use Rattle.ra_report.specs.Texts.{space, number_text, with_one, with_two, with_three, with_four, cause_text}
 use Rattle.ra_report.specs.JournalTexts.{verdict_text, kind_text, step_text, steps_text, entry_front, entry_line}
-use Rattle.ra_report.proofs.NumberTexts.{is_digit, Ends, Starts, number_then, number_starts}
+use Rattle.ra_report.proofs.NumberTexts.{Ends, Starts, number_then, number_starts}
+use Rattle.ra_report.specs.Numbers.{is_digit}
 
 -- what one list begins with, the other does
 behind : (word x y : List ℕ) → word ++ x ≡ word ++ y → x ≡ y
@@ -21,7 +22,7 @@ byte_then : (b : ℕ) (x y : List ℕ) → b ∷ x ≡ b ∷ y → x ≡ y
 byte_then b x y e = ap (drop 1) e
 
 -- a letter, a space, the end of a line are no digits
-blank : (x : List ℕ) → Ends (32 ∷ x)
+pub blank : (x : List ℕ) → Ends (32 ∷ x)
 unfolding is_digit
 blank x = record { no_digit = refl }
 
@@ -208,7 +209,7 @@ entry_of w k q kind steps v = record { worker = w; k = k; q = q; mv = record { k
 entry_same : (w x k l q r : ℕ) (a b : MoveKind) (s t : List Step) (u v : Verdict) → w ≡ x → k ≡ l → q ≡ r → a ≡ b → s ≡ t → u ≡ v → entry_of w k q a s u ≡ entry_of x l r b t v
 entry_same w x k l q r a b s t u v c d e f g h = cc
 
-entry_parts : (j : ℕ) (e : Entry) (x : List ℕ) → entry_line j e ++ x ≡ number_text j ++ 32 ∷ (number_text e.worker ++ 32 ∷ (number_text e.k ++ 32 ∷ (number_text e.q ++ 32 ∷ (kind_text e.mv.kind ++ 32 ∷ (steps_text e.mv.steps ++ (verdict_text e.verdict ++ 10 ∷ x))))))
+pub entry_parts : (j : ℕ) (e : Entry) (x : List ℕ) → entry_line j e ++ x ≡ number_text j ++ 32 ∷ (number_text e.worker ++ 32 ∷ (number_text e.k ++ 32 ∷ (number_text e.q ++ 32 ∷ (kind_text e.mv.kind ++ 32 ∷ (steps_text e.mv.steps ++ (verdict_text e.verdict ++ 10 ∷ x))))))
 unfolding entry_line entry_front
 entry_parts j e x = simp append_assoc
 

@@ -6,3 +6,7 @@ pub mod JournalTexts
 pub mod HeadLines
 pub mod ReportTexts
 pub mod Counts
+pub mod LengthLaws
+pub mod FrontLaws
+pub mod ComparedLaws
+pub mod LineEnds

@@ -1,22 +1,10 @@
 -- The decimal text of a number tells the number, whatever follows that begins with no digit.
-use Rattle.std.proofs.Common.{◌≡◌, ℕ, zero, suc, ◌+◌, ◌-◌, ◌*◌, ◌/◌, ◌%◌, ◌^◌, ◌<◌, ◌≤◌, Bool, true, false, cond, ◌&&◌, nat_lt, nat_le, eqb, if◌then◌else◌, List, [], ◌∷◌, ◌++◌, get_or, refl, sym, ◌∙◌, ap, arith, lt-ltb, eqb-true, pow-add, mul_comm, div-lt_iff_lt-mul, lt_trans}
+use Rattle.std.proofs.Common.{◌≡◌, ℕ, zero, suc, ◌+◌, ◌-◌, ◌*◌, ◌/◌, ◌%◌, ◌^◌, ◌<◌, ◌≤◌, Bool, true, false, cond, eqb, List, [], ◌∷◌, ◌++◌, get_or, refl, sym, ◌∙◌, ap, arith, lt-ltb, eqb-true, pow-add, mul_comm, div-lt_iff_lt-mul, lt_trans}
 use Rattle.std.proofs.lemmas.Bool.Decides.{nat_tests}
 use Rattle.std.proofs.Math.Nat.{pow-succ', div-eq_of_lt}
 use Rattle.std.specs.Fmt.{digits_onto, digit_glyph, decimal, digits}
+use Rattle.ra_report.specs.Numbers.{is_digit, told, past}
 use Rattle.ra_report.specs.Texts.{number_text}
-
-unfoldable pub is_digit : ℕ → Bool
-is_digit byte = nat_le 48 byte && nat_lt byte 58
-
--- the number that the digits in front tell, behind a number that was told so far
-pub told : ℕ → List ℕ → ℕ
-told n [] = n
-told n (byte ∷ bytes) = if is_digit byte then told (10 * n + (byte - 48)) bytes else n
-
--- what comes behind the digits in front
-pub past : List ℕ → List ℕ
-past [] = []
-past (byte ∷ bytes) = if is_digit byte then past bytes else byte ∷ bytes
 
 -- the text begins with no digit
 pub record Ends (text : List ℕ) : Type 0 where
@@ -123,10 +111,10 @@ number_starts n x = rw (text_onto n x) (starts_some (64 + n / 10 ^ 64) n x (omeg
 pub number_skipped : {X : Type 0} (f : List ℕ → X) → ((n : ℕ) (x : List ℕ) → f (digit_glyph false (n % 10) ∷ x) ≡ f x) → (n : ℕ) (x : List ℕ) → f (number_text n ++ x) ≡ f x
 number_skipped f skip n x = ap f (text_onto n x) ∙ skipped f skip (64 + n / 10 ^ 64) n x
 
-number_told : (n : ℕ) (x : List ℕ) → Ends x → told 0 (number_text n ++ x) ≡ n
+pub number_told : (n : ℕ) (x : List ℕ) → Ends x → told 0 (number_text n ++ x) ≡ n
 number_told n x ends = ap (told 0) (text_onto n x) ∙ (told_onto (64 + n / 10 ^ 64) n x (enough n) ∙ told_ends n x ends)
 
-number_past : (n : ℕ) (x : List ℕ) → Ends x → past (number_text n ++ x) ≡ x
+pub number_past : (n : ℕ) (x : List ℕ) → Ends x → past (number_text n ++ x) ≡ x
 number_past n x ends = number_skipped past past_glyph n x ∙ past_ends x ends
 
 -- the same number, and the same behind it

@@ -58,6 +58,11 @@ unfoldable pub entries_text : List Entry → ℕ → List ℕ
 entries_text h zero = []
 entries_text h (suc n) = entries_text h n ++ entry_line n (entry_at h n)
 
+-- and these lines as a list
+unfoldable pub entry_lines : List Entry → ℕ → List (List ℕ)
+entry_lines h zero = []
+entry_lines h (suc n) = entry_lines h n ++ entry_line n (entry_at h n) ∷ []
+
 -- the numbers of machines, a space before each
 abbrev pub machine_word : Machine → List ℕ
 machine_word m = space ++ number_text m.0
@@ -97,12 +102,26 @@ report_text i a0 l h =
     let best = state a0 h j in
     report_lines (parts_of i a0 best) (pinned_bound_of i a0).total j best l.drawing h
 
--- the best state of a journal, and its report
+-- the ten lines before its entries
+unfoldable pub report_head : Tables → List Machine → Lots → List Entry → List ℕ
+report_head i a0 l h =
+    let j = best_of i a0 h in
+    let best = state a0 h j in
+    head_text (parts_of i a0 best) (pinned_bound_of i a0).total j best l.drawing
+
+-- the best state of a journal, its report, and the ten lines before the entries
 unfoldable pub best_state : Journal → List Machine
 best_state j = state j.a0.now.items j.book.entries.items (best_of j.inst.now.tables j.a0.now.items j.book.entries.items)
 
 unfoldable pub text_of : Journal → List ℕ
 text_of j = report_text j.inst.now.tables j.a0.now.items j.lots.now j.book.entries.items
+
+unfoldable pub head_of : Journal → List ℕ
+head_of j = report_head j.inst.now.tables j.a0.now.items j.lots.now j.book.entries.items
+
+-- the line of a report that was found right: the number of its entries
+abbrev pub accepted_line : ℕ → List ℕ
+accepted_line entries = number_line (codes "accepted") entries
 
 -- the three lines of a bound: its total, its load and its balance
 unfoldable pub bound_text : Bound → List ℕ

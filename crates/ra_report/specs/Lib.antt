@@ -1,6 +1,8 @@
 pub mod FaultTexts
+pub mod Fronts
 pub mod Gathering
 pub mod JournalTexts
+pub mod Numbers
 pub mod Pieces
 pub mod ReportLaws
 pub mod Summaries

@@ -1,5 +1,5 @@
 -- What holds of every report, each proved by a function of `laws`.
-use Rattle.std.specs.Prelude.{◌≡◌, ℕ, ◌^◌, ◌<◌, List, length}
+use Rattle.std.specs.Prelude.{◌≡◌, ℕ, ◌^◌, ◌<◌, List, ◌∷◌, ◌++◌, length, drop, Some}
 use Rattle.std.specs.Fmt.{decimal}
 use Rattle.ra_base.specs.declared.causes.Drawing.{Drawing}
 use Rattle.ra_base.specs.declared.costs.Parts.{Parts}
@@ -7,8 +7,9 @@ use Rattle.ra_base.specs.declared.ids.Machine.{Machine}
 use Rattle.ra_draws.specs.declared.budgets.Lots.{Lots}
 use Rattle.ra_model.specs.declared.raw.Tables.{Tables}
 use Rattle.ra_journal.specs.declared.entries.Entry.{Entry}
+use Rattle.ra_lines.specs.Lines.{lines_of}
 use Rattle.ra_report.specs.Texts.{number_text}
-use Rattle.ra_report.specs.JournalTexts.{entries_text, report_lines, report_text, IsJournalOf}
+use Rattle.ra_report.specs.JournalTexts.{entry_line, entries_text, entry_lines, report_lines, report_text, report_head, lines_left, IsJournalOf}
 
 -- a number of a program is written as std writes it
 abbrev pub NumbersAreDecimal : Type 0
@@ -29,3 +30,26 @@ WrittenTellsItsJournal = (parts : Parts) (bound_total best_at : ℕ) (a : List M
 -- the report of a journal tells that journal
 abbrev pub ReportTellsItsJournal : Type 0
 ReportTellsItsJournal = (i : Tables) (a0 : List Machine) (l : Lots) (h : List Entry) → IsJournalOf (report_text i a0 l h) h
+
+-- two entries whose lines stand at one place at the front of the same bytes are equal, and so is what follows
+abbrev pub SameLineSameEntry : Type 0
+SameLineSameEntry = (j : ℕ) (e f : Entry) (x y : List ℕ) → entry_line j e ++ x ≡ entry_line j f ++ y → (e ≡ f) × (x ≡ y)
+
+-- the line of an entry is one line, whatever follows
+abbrev pub EntryLineIsOneLine : Type 0
+EntryLineIsOneLine = (j : ℕ) (e : Entry) (rest : List ℕ) → lines_of (entry_line j e ++ rest) ≡ entry_line j e ∷ lines_of rest
+
+-- a report is its head and the lines of its entries, and the head has ten lines, whatever follows
+pub record HasTenLines (head : List ℕ) : Type 0 where
+  pub ten : length (lines_of head) ≡ 10
+  pub before : (rest : List ℕ) → lines_of (head ++ rest) ≡ lines_of head ++ lines_of rest
+
+abbrev pub ReportIsHeadAndEntries : Type 0
+ReportIsHeadAndEntries = (i : Tables) (a0 : List Machine) (l : Lots) (h : List Entry) → (report_text i a0 l h ≡ report_head i a0 l h ++ entries_text h (length h)) × HasTenLines (report_head i a0 l h)
+
+abbrev pub EntriesAreLines : Type 0
+EntriesAreLines = (h : List Entry) (n : ℕ) (rest : List ℕ) → lines_of (entries_text h n ++ rest) ≡ entry_lines h n ++ lines_of rest
+
+-- the lines of what comes behind the first n lines are the others
+abbrev pub LinesBehind : Type 0
+LinesBehind = (n : ℕ) (bytes rest : List ℕ) → lines_left n (Some bytes) ≡ Some rest → lines_of rest ≡ drop n (lines_of bytes)

@@ -25,6 +25,8 @@ pub enum Fault<'n> {
     Assign { name: &'n Name, fault: AssignFault },
     /// The assignment of a file breaks a constraint.
     Infeasible { name: &'n Name, cause: Cause },
+    /// A line of a report is not what the run that it tells would have written, counted from 1.
+    Wrong { line: u64 },
     /// Writing the output failed.
     Write,
     /// Memory was refused.
@@ -47,6 +49,14 @@ pub(crate) fn add_fault<O: Sink>(text: &mut Gathered<'_, O>, fault: &Fault<'_>)
         Fault::Closed { name, fault } => add_about(text, "bad closed list: ", name, &fault),
         Fault::Assign { name, fault } => add_about(text, "bad assignment: ", name, &fault),
         Fault::Infeasible { name, cause } => add_about(text, "infeasible: ", name, &cause),
+        Fault::Wrong { line } => add_pieces(
+            text,
+            &[
+                Piece::Text("wrong line "),
+                Piece::Number(line as u128),
+                Piece::Text("\n"),
+            ],
+        ),
         Fault::Write => add_pieces(text, &[Piece::Text("write fault"), Piece::Text("\n")]),
         Fault::Memory => add_pieces(text, &[Piece::Text("no memory"), Piece::Text("\n")]),
     }

@@ -21,7 +21,7 @@ pub(crate) fn add_entries<O: Sink>(text: &mut Gathered<'_, O>, entries: &[Entry]
 }
 
 /// Adds the line of the entry at a place.
-fn add_entry<O: Sink>(text: &mut Gathered<'_, O>, place: u64, entry: &Entry)
+pub(crate) fn add_entry<O: Sink>(text: &mut Gathered<'_, O>, place: u64, entry: &Entry)
     ensures { Adds O.taken O.faults text.old text.new (entry_line place entry.now) }
 {
     add_front(text, place, entry);

@@ -1,5 +1,5 @@
 //! Laws of the definitions: each function does nothing, and its contract is a law that was proved.
-ghost use Rattle.ra_report.specs.ReportLaws.{NumbersAreDecimal, SameLinesSameJournal, OneJournalOfBytes, WrittenTellsItsJournal, ReportTellsItsJournal};
+ghost use Rattle.ra_report.specs.ReportLaws.{NumbersAreDecimal, SameLinesSameJournal, OneJournalOfBytes, WrittenTellsItsJournal, ReportTellsItsJournal, SameLineSameEntry, EntryLineIsOneLine, ReportIsHeadAndEntries, EntriesAreLines, LinesBehind};
 
 /// A number of a program is written as std writes it.
 pub fn numbers_are_decimal()
@@ -20,4 +20,17 @@ pub fn one_journal_of_bytes()
 pub fn report_tells_its_journal()
     ensures written { WrittenTellsItsJournal }
     ensures report { ReportTellsItsJournal }
+{}
+
+/// Two entries whose lines at one place are equal are equal.
+pub fn same_line_same_entry()
+    ensures { SameLineSameEntry }
+{}
+
+/// The lines of a report are ten before its entries, and one for each entry.
+pub fn report_has_its_lines()
+    ensures entry { EntryLineIsOneLine }
+    ensures entries { EntriesAreLines }
+    ensures report { ReportIsHeadAndEntries }
+    ensures behind { LinesBehind }
 {}

@@ -1,22 +1,29 @@
 //! The printed lines: the parts of a cost, causes, the report of a run with its journal, a bound, and the line of each
-//! fault, gathered and put to a sink in large pieces.
+//! fault, gathered and put to a sink in large pieces; and lines of a report that are compared with what they should be.
 #![tactic(auto)]
 
+mod comparing;
 mod details;
 mod faults;
+mod front;
 mod gathered;
 mod journal;
 pub mod laws;
+mod lengths;
 mod pieces;
 mod solved;
 mod summary;
 mod texts;
 mod writing;
 
+pub use comparing::{is_entry_line, unlike_head};
 pub use faults::Fault;
+pub use front::{Front, read_front};
 pub use gathered::WriteFault;
+pub use lengths::{LONGEST_FRONT, LONGEST_LINE};
 pub use writing::{
-    write_bound, write_cause, write_fault, write_parts, write_report, write_summary,
+    write_accepted, write_bound, write_cause, write_entry, write_fault, write_head, write_parts,
+    write_report, write_summary,
 };
 
 #[cfg(test)]

@@ -31,7 +31,7 @@ pub(crate) fn add_report<O: Sink>(
 }
 
 /// Adds the ten lines before the entries.
-fn add_head<O: Sink>(
+pub(crate) fn add_head<O: Sink>(
     text: &mut Gathered<'_, O>,
     best: &Assignment,
     parts: &Parts,

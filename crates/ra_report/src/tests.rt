@@ -293,10 +293,35 @@ fn the_lines_of_a_bound(rt: HostRuntime) -> Result<(), Fail> {
 }
 
 #[test]
+fn lines_alone(rt: HostRuntime) -> Result<(), Fail> {
+    let done = entry(0, Move::shift(step(1, 3, 2)), Verdict::Done { cost: 3510 });
+    let line = b"7 0 0 0 shift 1:3>2 done 3510\n";
+    let mut out = sound(&rt)?;
+    assert_eq!(rt; write_entry(&mut out, 7, &done), Ok(()));
+    assert_eq!(rt; out.bytes(), line.as_slice());
+    assert!(rt; is_entry_line(line, 7, &done));
+    assert!(rt; !is_entry_line(line, 8, &done));
+    let other = b"7 0 0 0 shift 1:3>2 done 3511\n";
+    assert!(rt; !is_entry_line(other, 7, &done));
+    assert_eq!(rt;
+        read_front(b"41 3 2 40 swap 0:0>3 1:3>0 done 4200\n"),
+        Some(Front { worker: 3, q: 40 })
+    );
+    assert_eq!(rt; read_front(b"41"), None);
+    let mut out = sound(&rt)?;
+    assert_eq!(rt; write_accepted(&mut out, 20_000), Ok(()));
+    assert_eq!(rt; write_fault(&mut out, &Fault::Wrong { line: 11 }), Ok(()));
+    assert_eq!(rt; out.bytes(), b"accepted 20000\nwrong line 11\n".as_slice());
+    Ok(())
+}
+
+#[test]
 fn the_laws_do_nothing(_rt: HostRuntime) -> Result<(), Fail> {
     laws::numbers_are_decimal();
     laws::same_lines_same_journal();
     laws::one_journal_of_bytes();
     laws::report_tells_its_journal();
+    laws::same_line_same_entry();
+    laws::report_has_its_lines();
     Ok(())
 }

@@ -3,14 +3,15 @@ ghost use Rattle.std.specs.Io.KnownBytes.{Appends};
 ghost use Rattle.ra_report.specs.FaultTexts.{CanBeTold, fault_text};
 ghost use Rattle.ra_model.specs.Costs.{parts_of};
 ghost use Rattle.ra_bounds.specs.PinnedBounds.{pinned_bound_of};
-ghost use Rattle.ra_report.specs.JournalTexts.{report_lines, best_state, text_of, bound_text};
+ghost use Rattle.ra_report.specs.JournalTexts.{report_lines, head_text, best_state, text_of, head_of, entry_line, accepted_line, bound_text};
 ghost use Rattle.ra_report.specs.Pieces.{Breaks};
 ghost use Rattle.ra_report.specs.Summaries.{summary_lines, summary_of};
 ghost use Rattle.ra_report.specs.Texts.{parts_text, cause_text};
 
 use crate::faults::{Fault, add_fault};
 use crate::gathered::{Gathered, WriteFault};
-use crate::solved::{add_bound, add_report};
+use crate::journal::add_entry;
+use crate::solved::{add_bound, add_head, add_number, add_report};
 use crate::summary::add_summary;
 use crate::texts::{add_cause, add_parts};
 use ra_base::{Assignment, Cause, Drawing, Parts};
@@ -96,6 +97,74 @@ pub(crate) fn write_lines<O: Sink>(
 {
     let mut text = Gathered::make(sink);
     add_report(&mut text, best, parts, bound, best_at, drawing, entries);
+    text.finish()
+}
+
+/// Writes the ten lines of a report before its entries. `best`, `parts` and `bound` are as in `write_report`.
+pub fn write_head<O: Sink>(
+    sink: &mut O,
+    best: &Assignment,
+    parts: &Parts,
+    bound: &Bound,
+    journal: &Journal<'_>,
+) -> Result<(), WriteFault>
+    requires best { best.now.items ≡ best_state journal.now }
+    requires parts { parts.now ≡
+        parts_of journal.now.inst.now.tables journal.now.a0.now.items best.now.items }
+    requires bound { bound.now ≡ pinned_bound_of journal.now.inst.now.tables journal.now.a0.now.items }
+    ensures whole { OnOk result (Appends (O.taken sink.old) (O.taken sink.new)
+        (head_of journal.now)) }
+    ensures part { OnErr result (Breaks (O.taken sink.old) (O.taken sink.new) (O.faults sink.old)
+        (O.faults sink.new) (head_of journal.now)) }
+    ensures never_falls { O.faults sink.old ≤ O.faults sink.new }
+{
+    let drawing = journal.lots().drawing();
+    write_head_lines(sink, best, parts, bound.total, journal.best_at(), drawing)
+}
+
+/// Writes the ten lines before the entries of a report, whatever their numbers are.
+pub(crate) fn write_head_lines<O: Sink>(
+    sink: &mut O,
+    best: &Assignment,
+    parts: &Parts,
+    bound_total: u128,
+    best_at: u64,
+    drawing: Drawing,
+) -> Result<(), WriteFault>
+    ensures whole { OnOk result (Appends (O.taken sink.old) (O.taken sink.new)
+        (head_text parts.now bound_total best_at best.now.items drawing)) }
+    ensures part { OnErr result (Breaks (O.taken sink.old) (O.taken sink.new) (O.faults sink.old)
+        (O.faults sink.new) (head_text parts.now bound_total best_at best.now.items drawing)) }
+    ensures never_falls { O.faults sink.old ≤ O.faults sink.new }
+{
+    let mut text = Gathered::make(sink);
+    add_head(&mut text, best, parts, bound_total, best_at, drawing);
+    text.finish()
+}
+
+/// Writes the line of the entry at a place, counted from 0.
+pub fn write_entry<O: Sink>(sink: &mut O, at: u64, entry: &Entry) -> Result<(), WriteFault>
+    ensures whole { OnOk result (Appends (O.taken sink.old) (O.taken sink.new)
+        (entry_line at entry.now)) }
+    ensures part { OnErr result (Breaks (O.taken sink.old) (O.taken sink.new) (O.faults sink.old)
+        (O.faults sink.new) (entry_line at entry.now)) }
+    ensures never_falls { O.faults sink.old ≤ O.faults sink.new }
+{
+    let mut text = Gathered::make(sink);
+    add_entry(&mut text, at, entry);
+    text.finish()
+}
+
+/// Writes the line of a report that was found right: `accepted` and the number of its entries.
+pub fn write_accepted<O: Sink>(sink: &mut O, entries: u64) -> Result<(), WriteFault>
+    ensures whole { OnOk result (Appends (O.taken sink.old) (O.taken sink.new)
+        (accepted_line entries)) }
+    ensures part { OnErr result (Breaks (O.taken sink.old) (O.taken sink.new) (O.faults sink.old)
+        (O.faults sink.new) (accepted_line entries)) }
+    ensures never_falls { O.faults sink.old ≤ O.faults sink.new }
+{
+    let mut text = Gathered::make(sink);
+    add_number(&mut text, "accepted", entries as u128);
     text.finish()
 }
 

@@ -1,4 +1,4 @@
-use Rattle.std.proofs.Common.{◌≡◌, ◌-◌, ◌++◌, codes, length, arith, ℕ}
+use Rattle.std.proofs.Common.{◌++◌, codes}
 use Rattle.ra_report.specs.Texts.{number_line}
 use Rattle.ra_report.specs.JournalTexts.{outcome_text}
 use Rattle.ra_report.specs.Summaries.{done_count, refused_count, summary_lines}

@@ -1,4 +1,4 @@
-use Rattle.std.proofs.Common.{◌≡◌, refl, arith, ap, ◌∙◌, sym, length}
+use Rattle.std.proofs.Common.{refl, arith}
 use Rattle.ra_report.specs.Summaries.{done_count}
 use Rattle.ra_report.proofs.Counts.{counted_more}
 use Rattle.ra_report.proofs.summary.count_done.Goals as goal

@@ -1,5 +1,5 @@
 -- The words one after another, up to how `++` groups.
-use Rattle.std.proofs.Common.{[], ◌∷◌, ◌++◌, append_assoc}
+use Rattle.std.proofs.Common.{◌∷◌, ◌++◌, append_assoc}
 use Rattle.ra_report.specs.Texts.{number_text}
 use Rattle.ra_report.proofs.GatheringLemmas.{adds_more}
 use Rattle.ra_report.proofs.texts.add_four.Goals as goal

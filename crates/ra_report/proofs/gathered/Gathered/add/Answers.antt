@@ -1,4 +1,4 @@
-use Rattle.std.proofs.Common.{◌≡◌, refl, le_refl, rules}
+use Rattle.std.proofs.Common.{refl, le_refl, rules}
 use Rattle.ra_report.proofs.GatheringLemmas.{moves_wait}
 use Rattle.ra_report.proofs.gathered.Gathered.add.Goals as goal
 

@@ -1,0 +1,5 @@
+pub mod BodyLaws
+pub mod SplitLaws
+pub mod UnlikeLaws
+pub mod ExpectedLaws
+pub mod ReadingLaws

@@ -1,0 +1,6 @@
+pub mod Lines
+pub mod Standing
+pub mod Reading
+pub mod Windows
+pub mod Comparing
+pub mod LineLaws

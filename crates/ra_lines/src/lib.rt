@@ -1,0 +1,19 @@
+//! The lines of a file, one after another, through one buffer, and a sink that compares what it is given with bytes that
+//! are expected.
+//!
+//! A line ends behind its LF, and a last piece without LF is a line too.
+#![tactic(auto)]
+
+mod answers;
+mod expected;
+pub mod laws;
+mod reader;
+mod scan;
+mod window;
+
+pub use answers::{Next, ReadFault};
+pub use expected::Expected;
+pub use reader::LineReader;
+
+#[cfg(test)]
+mod tests;
