@@ -7,4 +7,5 @@ pub mod EndLemmas
 pub mod CompleteLemmas
 pub mod ComesLemmas
 pub mod TrialLemmas
+pub mod VerifyLemmas
 pub mod RunLemmas

@@ -33,6 +33,8 @@ pub enum Refusal {
     InitialBroken(Cause),
     /// The new list breaks a constraint.
     ChangedBroken(Cause),
+    /// This line of the report is wrong first.
+    Wrong(u64),
     /// Writing the output failed.
     Write,
     /// Memory was refused.

@@ -53,6 +53,7 @@ fn status(refusal: Refusal) -> Status
         Refusal::Changed(_) => Status::BadAssignment,
         Refusal::InitialBroken(_) => Status::Infeasible,
         Refusal::ChangedBroken(_) => Status::Infeasible,
+        Refusal::Wrong(_) => Status::Wrong,
         Refusal::Write => Status::WriteFault,
         Refusal::Memory => Status::NoMemory,
     }
@@ -101,6 +102,7 @@ fn fault<'n>(names: &JobFiles<'n>, refusal: Refusal) -> Fault<'n>
             name: names.name(File::Changed),
             cause,
         },
+        Refusal::Wrong(line) => Fault::Wrong { line },
         Refusal::Write => Fault::Write,
         Refusal::Memory => Fault::Memory,
     }
