@@ -276,3 +276,11 @@ can_tell_verdict held names before now l written = can_tell held names before no
 -- a refusal before anything was written
 pub says_unwritten_verdict : (held : Held) (names : Names) (before now : Faults) (l : Lots) (written : Type 0) (refusal : Refusal) → Says held names before now (VerifyOwn held names l ⊥) refusal → Says held names before now (VerifyOwn held names l written) refusal
 says_unwritten_verdict held names before now l written refusal says = says_more held names before now (VerifyOwn held names l ⊥) (VerifyOwn held names l written) (own_more held names l ⊥ written (λ none. absurd none)) refusal says
+
+-- where memory was refused before the words were read
+pub verdict_not : (held : Held) (names : Names) (are : Lots → Type 0) (before now : Faults) (status : Status) → status ≡ NoMemory → VerdictComes held names are before now status
+verdict_not held names are before now status is = record {
+  wrong = λ told. absurd (let both : NoMemory ≡ Wrong = sym is ∙ told in cc);
+  is_wrong = λ i a0 passes known line wrong. inr is;
+  is_right = λ i a0 passes known right. inr (inr is);
+}
