@@ -1,7 +1,7 @@
 -- An ending that came is one that the top call promises, and so is the wanted one where they are the same.
 use Rattle.std.proofs.Common.{◌≡◌, ◌↔◌, ℕ, List, [], ◌++◌, Option, Some, None, IfSome, refl, sym, ◌∙◌, subst}
 use Rattle.std.specs.Io.KnownBytes.{Appends}
-use Rattle.ra_words.specs.Jobs.{JobSays, Checks, Bounds, Solves, Trials, job_of}
+use Rattle.ra_words.specs.Jobs.{JobSays, Checks, Bounds, Solves, Trials, Verifies, job_of}
 use Rattle.ra_draws.specs.declared.budgets.Lots.{Lots}
 use Rattle.ra_run.specs.declared.status.Status.{Status}
 use Rattle.ra_run.specs.declared.status.Status.TheVariants.{Done, Usage}
@@ -69,6 +69,7 @@ output_more held (Checks model initial changed closed) way more step p = printed
 output_more held (Bounds model initial closed) way more step p = bound_more held _ way more step p
 output_more held (Solves model initial closed slack drawing lots) way more step p = (p.0, p.1, solved_more held _ p.0 way more step p.2)
 output_more held (Trials number) way more step p = trial_more number way more step p
+output_more held (Verifies model initial report closed slack drawing lots) way more step p = (p.0, p.1, record { entries = p.2.entries; read = p.2.read; text = step _ p.2.text })
 
 -- a job that is done has put its output
 

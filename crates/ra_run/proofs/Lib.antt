@@ -7,5 +7,6 @@ pub mod EndLemmas
 pub mod CompleteLemmas
 pub mod ComesLemmas
 pub mod TrialLemmas
+pub mod VerifyLemmas
 pub mod RunLemmas
 pub mod RepairLemmas

@@ -1,6 +1,6 @@
 -- What is said of one command, as said of the job of the words.
 use Rattle.std.proofs.Common.{◌≡◌, ◌≢◌, ℕ, List, Option, Some, None, IfSome, ◌⊎◌, inl, inr, sym, ◌∙◌}
-use Rattle.ra_words.specs.Jobs.{JobSays, Checks, Bounds, Solves, Trials}
+use Rattle.ra_words.specs.Jobs.{JobSays, Checks, Bounds, Solves, Trials, Verifies}
 use Rattle.ra_run.specs.declared.refusals.Refusal.{Refusal}
 use Rattle.ra_run.specs.declared.refusals.Refusal.TheVariants.{Memory}
 use Rattle.ra_run.specs.declared.status.Status.{Status}
@@ -9,14 +9,16 @@ use Rattle.ra_run.specs.Comes.{Comes, InfeasibleComes}
 use Rattle.ra_run.specs.Commands.{Answers, OfJob, OutputOf, OwnComes, OwnOf, ValidFor}
 use Rattle.ra_run.specs.Complete.{NoFault}
 use Rattle.ra_run.specs.Ends.{Ends}
-use Rattle.ra_run.specs.Files.{Held, Faults, Names, check_names, solve_names, bound_names}
+use Rattle.ra_run.specs.Files.{Held, Faults, Names, check_names, solve_names, bound_names, verify_names}
 use Rattle.ra_run.specs.Lines.{refusal_line}
 use Rattle.ra_run.specs.Outputs.{Printed, BoundPrinted, Solved}
 use Rattle.ra_run.specs.Trials.{TrialEnds}
+use Rattle.ra_run.specs.Verifying.{Verified}
 use Rattle.ra_run.proofs.ComesLemmas.{Went, comes, printed_went, bound_listed, solved_went, judges_listed, writes_listed}
 use Rattle.ra_run.proofs.EndLemmas.{ends_memory}
 use Rattle.ra_run.proofs.StageLemmas.{says_more}
 use Rattle.ra_run.proofs.TrialLemmas.{trial_memory}
+use Rattle.ra_run.proofs.VerifyLemmas.{own_listed, verdict_not, verified_went}
 
 pub ends_more : (held : Held) (names : Names) (before now : Faults) (output output_more : Type 0) (own own_more : Refusal → Type 0) (tells : List ℕ → Type 0) (out_same err_same : Type 0) (status : Status) → (output → output_more) → ((r : Refusal) → own r → own_more r) → Ends held names before now output own tells out_same err_same status → Ends held names before now output_more own_more tells out_same err_same status
 ends_more held names before now output output_more own own_more tells out_same err_same status step more ends = record {
@@ -43,6 +45,7 @@ pub complete_memory_any : (job : Option JobSays) (held : Held) (before now : Fau
     → IfSome job (λ says. OfJob says (λ names. ValidFor held says → NoFault names before now → (rose → ⊥) → Answers says status) (λ number. (rose → ⊥) → (status ≡ Done) ⊎ (status ≡ NoMemory)))
 complete_memory_any None held before now rose status is = tt
 complete_memory_any (Some (Trials number)) held before now rose status is = λ whole. inr is
+complete_memory_any (Some (Verifies model initial report closed slack drawing lots)) held before now rose status is = λ valid sound whole. inr (inr is)
 complete_memory_any (Some says) held before now rose status is = λ valid sound whole. inr is
 
 -- and none of its own statuses came
@@ -55,6 +58,8 @@ own_memory_any (Some (Checks model initial changed closed)) held before now stat
 own_memory_any (Some (Bounds model initial closed)) held before now status is = λ e. let both : NoMemory ≡ Infeasible = sym is ∙ e in cc
 own_memory_any (Some (Solves model initial closed slack drawing lots)) held before now status is = infeasible_not held (solve_names model closed initial) before now status is
 own_memory_any (Some (Trials number)) held before now status is = tt
+own_memory_any (Some (Verifies model initial report closed slack drawing lots)) held before now status is =
+    (infeasible_not held (verify_names model closed initial report) before now status is, verdict_not held (verify_names model closed initial report) _ before now status is)
 
 -- each status comes where its cause stands
 pub says_comes : (says : JobSays) (held : Held) (before now : Faults) (prints breaks tells : List ℕ → Type 0) (out_same err_same : Type 0) (status : Status)
@@ -71,6 +76,9 @@ says_comes (Solves model initial closed slack drawing lots) held before now prin
     comes ends (λ p. (solved_went held model closed initial p.0 prints p.2).listed)
     (judges_listed held names (OutputOf held (Solves model initial closed slack drawing lots) breaks) (λ p. solved_went held model closed initial p.0 breaks p.2))
 says_comes (Trials number) held before now prints breaks tells out_same err_same status ends = tt
+says_comes (Verifies model initial report closed slack drawing lots) held before now prints breaks tells out_same err_same status ends =
+    let names = verify_names model closed initial report in
+    comes ends (λ p. (verified_went held names p.0 prints p.2).listed) (λ r p. own_listed held names p.0 (Verified held names p.0 breaks) (verified_went held names p.0 breaks) r p.2)
 
 -- and with the job of the words
 pub job_comes : (job : Option JobSays) (held : Held) (before now : Faults) (prints breaks tells : List ℕ → Type 0) (out_same err_same : Type 0) (status : Status)

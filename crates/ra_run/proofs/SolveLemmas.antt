@@ -56,7 +56,7 @@ pub bound_told : (i : Tables) (a0 : List Machine) (l : Lots) (run : Run) (bound 
 bound_told i a0 l run bound is told = told ∙ ap₂ pinned_bound_of (sym is.instance) (sym is.initial)
 
 -- the best place of a journal is the first of least objective
-first_least : (i : Tables) (a0 : List Machine) (h : List Entry) → IsFirstLeast i a0 h (best_of i a0 h)
+pub first_least : (i : Tables) (a0 : List Machine) (h : List Entry) → IsFirstLeast i a0 h (best_of i a0 h)
 unfolding best_of best_place
 first_least i a0 h =
     let f : ℕ → Option ℕ = λ j. Some (cost_at i a0 h j) in
@@ -70,7 +70,7 @@ first_least i a0 h =
       first = λ k before. omega (arith, cost, is.earliest k (cost_at i a0 h k) before refl);
     }
 
-pub solved : (held : Held) (names : Names) (i : Tables) (a0 : List Machine) (l : Lots) (way : List ℕ → Type 0) → WellFormed i → IsStart held names i a0 → IsReported i a0 l way → Solved held names l way
+unfoldable pub solved : (held : Held) (names : Names) (i : Tables) (a0 : List Machine) (l : Lots) (way : List ℕ → Type 0) → WellFormed i → IsStart held names i a0 → IsReported i a0 l way → Solved held names l way
 unfolding report_text
 solved held names i a0 l way limits start told =
     let h = told.journal in

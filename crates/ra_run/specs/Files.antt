@@ -23,7 +23,7 @@ pub record Names : Type 0 where
   pub report : Option (List ℕ)
   pub edits : Option (List ℕ)
 
--- those of `check`, of `solve` and of `bound`
+-- those of `check`, of `solve`, of `bound` and of `verify`
 abbrev pub check_names : List ℕ → Option (List ℕ) → List ℕ → List ℕ → Names
 check_names model closed initial changed = record { model = model; closed = closed; initial = Some initial; changed = Some changed; report = None; edits = None }
 
@@ -32,6 +32,9 @@ solve_names model closed initial = record { model = model; closed = closed; init
 
 abbrev pub bound_names : List ℕ → Option (List ℕ) → Option (List ℕ) → Names
 bound_names model closed initial = record { model = model; closed = closed; initial = initial; changed = None; report = None; edits = None }
+
+abbrev pub verify_names : List ℕ → Option (List ℕ) → List ℕ → List ℕ → Names
+verify_names model closed initial report = record { model = model; closed = closed; initial = Some initial; changed = None; report = Some report; edits = None }
 
 -- those that are lent
 abbrev pub names_of : JobFiles → Names

@@ -11,3 +11,4 @@ pub mod Solving
 pub mod Stages
 pub mod Statuses
 pub mod Trials
+pub mod Verifying

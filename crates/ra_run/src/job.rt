@@ -19,6 +19,7 @@ use crate::refusing::{refuse_memory, refuse_words};
 use crate::solve::solve_run;
 use crate::status::Status;
 use crate::trial::trial_run;
+use crate::verify::verify_run;
 use ra_io::{Files, Gate, Sink};
 use ra_words::{Job, WordsFault, read_words};
 use std::alloc::Global;
@@ -27,7 +28,7 @@ use std::sync::Wait;
 use std::thread::Threads;
 
 /// Does the job of the command words, which leave out the program's name: `check`, `bound`, `solve`
-/// with 1 to 16 lots, or `trial`. All other words are a usage fault. On `solve` that is done the
+/// with 1 to 16 lots, `trial`, or `verify`. All other words are a usage fault. On `solve` that is done the
 /// output is the report of one legal journal: see `Solved`. A `trial` reads no file of `files`.
 pub fn run<R: Threads + Wait + Sync, F: Files, O: Sink, E: Sink, G: Gate>(
     rt: &R,
@@ -165,5 +166,22 @@ fn do_job<R: Threads + Wait + Sync, F: Files, O: Sink, E: Sink, G: Gate>(
             gate,
         ),
         Job::Trial { number } => trial_run(rt, alloc, *number, out, err, gate),
+        Job::Verify {
+            model,
+            initial,
+            report,
+            closed,
+            lots,
+        } => verify_run(
+            alloc,
+            model,
+            initial,
+            report,
+            closed.as_ref(),
+            lots,
+            files,
+            out,
+            err,
+        ),
     }
 }

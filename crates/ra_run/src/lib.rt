@@ -16,6 +16,7 @@ mod solve;
 mod status;
 mod steady;
 mod trial;
+mod verify;
 
 pub use bound::bound_run;
 pub use check::check_run;
@@ -27,6 +28,7 @@ pub use solve::solve_run;
 pub use status::Status;
 pub use steady::check_steady;
 pub use trial::trial_run;
+pub use verify::verify_run;
 
 #[cfg(test)]
 mod tests;

@@ -54,6 +54,7 @@ fn status(refusal: Refusal) -> Status
         Refusal::InitialBroken(_) => Status::Infeasible,
         Refusal::ChangedBroken(_) => Status::Infeasible,
         Refusal::Unrepaired(_) => Status::Unrepaired,
+        Refusal::Wrong(_) => Status::Wrong,
         Refusal::Write => Status::WriteFault,
         Refusal::Memory => Status::NoMemory,
     }
@@ -106,6 +107,7 @@ fn fault<'n>(names: &JobFiles<'n>, refusal: Refusal) -> Fault<'n>
             name: names.name(File::Initial),
             cause,
         },
+        Refusal::Wrong(line) => Fault::Wrong { line },
         Refusal::Write => Fault::Write,
         Refusal::Memory => Fault::Memory,
     }

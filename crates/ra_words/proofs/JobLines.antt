@@ -18,7 +18,7 @@ use Rattle.ra_words.specs.Numbers.{has_digits, is_number, worth}
 use Rattle.ra_words.specs.LotTexts.{are_lots, first_place, is_lot, is_seed_lot, is_written, is_written_lot, lot_says, seed_text}
 use Rattle.ra_words.specs.Lines.{Finds, Line, Spells, option_words, plain_of, words_of}
 use Rattle.ra_words.proofs.LotLaws.{lots_told}
-use Rattle.ra_words.specs.Jobs.{Bounds, Checks, Solves, Trials, bound_says, bound_from_says, check_says, closed_place, closed_text, draws_place, draws_text, drawing_says, ends_closed, ends_in_lots, is_bound, is_bound_from, is_check, is_closed, is_drawing, is_slack, is_solve, lot_words, lots_place, slack_says, slack_text, solve_says, is_trial, trial_says}
+use Rattle.ra_words.specs.Jobs.{Bounds, Checks, Solves, Trials, Verifies, bound_says, bound_from_says, check_says, closed_place, closed_text, draws_place, draws_text, drawing_says, ends_closed, ends_in_lots, is_bound, is_bound_from, is_check, is_closed, is_drawing, is_slack, is_solve, lot_words, lots_place, slack_says, slack_text, solve_says, is_trial, trial_says, is_verify, verify_says}
 
 -- ---- words that are no option
 
@@ -299,7 +299,7 @@ trial_found words found trial finds =
     let f = finds (pair_line words) (trial_spelled words trial) in
     ap (λ ws. Trials (worth (word_at ws 0))) f.plain
 
--- ---- files, options and lots: solve
+-- ---- files, options and lots: solve and verify
 
 -- the command word, so many names, the options in their order, and lots
 abbrev running_line : ℕ → List (List ℕ) → Line
@@ -380,4 +380,40 @@ solve_found words found solve finds =
       slack = ap is_slack f.slack ∙ is.slack;
       lots = ap (λ ws. are_lots (drop 2 ws)) f.plain ∙ is.lots;
       says = λ i. Solves (word_at (f.plain i) 0) (word_at (f.plain i) 1) (f.closed i) (slack_says (f.slack i)) (drawing_says (f.draws i)) (map lot_says (drop 2 (f.plain i)));
+    }
+
+record IsVerify (words : List (List ℕ)) : Type 0 where
+  model : is_name (word_at words 1) ≡ true
+  initial : is_name (word_at words 2) ≡ true
+  report : is_name (word_at words 3) ≡ true
+  ends : ends_in_lots words 4 ≡ true
+
+verify_parts : (words : List (List ℕ)) → is_verify words ≡ true → IsVerify words
+unfolding is_verify
+verify_parts words verify = record { model = grind (arith, common_steps); initial = grind (arith, common_steps); report = grind (arith, common_steps); ends = grind (arith, common_steps) }
+
+verify_spelled : (words : List (List ℕ)) → is_verify words ≡ true → Spells (running_line 3 words) words
+verify_spelled words verify =
+    let is = verify_parts words verify in
+    running_spelled 3 words (rw (is.model, is.initial, is.report) refl) (name_within words 3 is.report) is.ends
+
+pub verify_is_line : (words : List (List ℕ)) → is_verify words ≡ true → (line : Line) × Spells line words
+verify_is_line words is = (running_line 3 words, verify_spelled words is)
+
+-- what is found of the checking of a report
+pub record IsVerifyFound (words : List (List ℕ)) (found : Found) : Type 0 where
+  pub slack : is_slack (first_value found (codes "slack")) ≡ true
+  pub lots : are_lots (drop 3 (plain_of found)) ≡ true
+  pub says : Verifies (word_at (plain_of found) 0) (word_at (plain_of found) 1) (word_at (plain_of found) 2) (first_value found (codes "closed")) (slack_says (first_value found (codes "slack")))
+      (drawing_says (first_value found (codes "draws"))) (map lot_says (drop 3 (plain_of found))) ≡ verify_says words
+
+pub verify_found : (words : List (List ℕ)) (found : Found) → is_verify words ≡ true → ((line : Line) → Spells line words → Finds line found) → IsVerifyFound words found
+unfolding verify_says word_at
+verify_found words found verify finds =
+    let is = lots_parts words 4 (verify_parts words verify).ends in
+    let f = finds (running_line 3 words) (verify_spelled words verify) in
+    record {
+      slack = ap is_slack f.slack ∙ is.slack;
+      lots = ap (λ ws. are_lots (drop 3 ws)) f.plain ∙ is.lots;
+      says = λ i. Verifies (word_at (f.plain i) 0) (word_at (f.plain i) 1) (word_at (f.plain i) 2) (f.closed i) (slack_says (f.slack i)) (drawing_says (f.draws i)) (map lot_says (drop 3 (f.plain i)));
     }

@@ -13,6 +13,7 @@ pub data JobSays : Type 0 where
   Bounds : (model : List ℕ) (initial closed : Option (List ℕ)) → JobSays
   Solves : (model initial : List ℕ) (closed : Option (List ℕ)) (slack : ℕ) (drawing : Drawing) (lots : List LotSays) → JobSays
   Trials : (number : ℕ) → JobSays
+  Verifies : (model initial report : List ℕ) (closed : Option (List ℕ)) (slack : ℕ) (drawing : Drawing) (lots : List LotSays) → JobSays
 
 -- the value of `--closed`, where it is given, is a file name
 abbrev pub is_closed : Option (List ℕ) → Bool
@@ -119,6 +120,17 @@ is_trial words = length words == 2 && bytes_eq (word_at words 0) (codes "trial")
 unfoldable pub trial_says : List (List ℕ) → JobSays
 trial_says words = Trials (worth (word_at words 1))
 
+-- the word `verify` and three file names, then the options in their order, then lots
+unfoldable pub is_verify : List (List ℕ) → Bool
+is_verify words =
+    bytes_eq (word_at words 0) (codes "verify") && is_name (word_at words 1) && is_name (word_at words 2) && is_name (word_at words 3)
+    && ends_in_lots words 4
+
+-- what the checking of a report says: its files, slack, drawing and lots
+unfoldable pub verify_says : List (List ℕ) → JobSays
+verify_says words =
+    Verifies (word_at words 1) (word_at words 2) (word_at words 3) (closed_text words 4) (slack_says (slack_text words 4)) (drawing_says (draws_text words 4)) (map lot_says (lot_words words 4))
+
 -- what the words say, and nothing where they are no job
 unfoldable pub job_of : List (List ℕ) → Option JobSays
 job_of words =
@@ -127,4 +139,5 @@ job_of words =
     else if is_bound_from words then Some (bound_from_says words)
     else if is_solve words then Some (solve_says words)
     else if is_trial words then Some (trial_says words)
+    else if is_verify words then Some (verify_says words)
     else None

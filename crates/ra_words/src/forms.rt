@@ -1,7 +1,7 @@
 ghost use Rattle.std.specs.Prelude.{◌≡◌, ◌+◌, ◌≤◌, codes};
 ghost use Rattle.std.specs.Str.{bytes_eq};
 ghost use Rattle.ra_words.specs.Words.{texts, value_at};
-ghost use Rattle.ra_words.specs.Jobs.{is_check, is_bound, is_bound_from, is_solve, is_trial, is_closed, is_slack, is_drawing, ends_closed, ends_in_lots, closed_place, draws_place, lots_place};
+ghost use Rattle.ra_words.specs.Jobs.{is_check, is_bound, is_bound_from, is_solve, is_trial, is_verify, is_closed, is_slack, is_drawing, ends_closed, ends_in_lots, closed_place, draws_place, lots_place};
 
 use crate::lots::are_lots;
 use crate::numbers::is_number;
@@ -55,6 +55,18 @@ pub(crate) fn is_trial(words: &[String]) -> bool
     ensures { result ≡ is_trial (texts words.now) }
 {
     words.len() == 2 && text_at(words, 0) == "trial" && is_number(text_at(words, 1).as_bytes())
+}
+
+/// Whether the words ask for a report to be checked.
+#[tactic(auto, unfolding(crate::specs::Jobs::is_verify))]
+pub(crate) fn is_verify(words: &[String]) -> bool
+    ensures { result ≡ is_verify (texts words.now) }
+{
+    text_at(words, 0) == "verify"
+        && names_file(text_at(words, 1))
+        && names_file(text_at(words, 2))
+        && names_file(text_at(words, 3))
+        && ends_in_lots(words, 4)
 }
 
 /// Whether from a place on `--closed` and a file name stand, or nothing, and no more words.

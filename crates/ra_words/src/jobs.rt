@@ -1,9 +1,9 @@
 ghost use Rattle.std.specs.Prelude.{◌≡◌, true, None, Some, Err, IfOk, ◌↔◌};
 ghost use Rattle.ra_words.specs.Words.{texts};
-ghost use Rattle.ra_words.specs.Jobs.{job_of, is_check, check_says, is_bound, bound_says, is_bound_from, bound_from_says, is_solve, solve_says, is_trial, trial_says};
+ghost use Rattle.ra_words.specs.Jobs.{job_of, is_check, check_says, is_bound, bound_says, is_bound_from, bound_from_says, is_solve, solve_says, is_trial, trial_says, is_verify, verify_says};
 ghost use Rattle.ra_words.specs.Said.{said};
 
-use crate::forms::{is_bound, is_bound_from, is_check, is_solve, is_trial};
+use crate::forms::{is_bound, is_bound_from, is_check, is_solve, is_trial, is_verify};
 use crate::line::{closed_name, plain_at, plain_name, run_lots, take_line};
 use crate::numbers::number;
 use ra_base::{Name, NoMemory};
@@ -39,6 +39,15 @@ pub enum Job {
     /// Lower the cost of an instance that is made from a number.
     Trial {
         number: u64,
+    },
+    /// Check the report `report` of a run of the lots from the list `initial` of a model, with the machines of the list
+    /// `closed` closed.
+    Verify {
+        model: Name,
+        initial: Name,
+        report: Name,
+        closed: Option<Name>,
+        lots: Lots,
     },
 }
 
@@ -82,6 +91,9 @@ pub fn read_words(alloc: Global, words: &[String]) -> Result<Job, WordsFault>
     }
     if is_trial(words) {
         return Ok(trial_job(alloc, words)?);
+    }
+    if is_verify(words) {
+        return Ok(verify_job(alloc, words)?);
     }
     Err(WordsFault::Usage)
 }
@@ -152,5 +164,25 @@ fn trial_job(alloc: Global, words: &[String]) -> Result<Job, NoMemory>
     let taken = take_line(alloc, words)?;
     Ok(Job::Trial {
         number: number(plain_at(&taken, 0).as_bytes()),
+    })
+}
+
+#[tactic(auto, using(crate::proofs::JobLines::verify_is_line, crate::proofs::JobLines::verify_found))]
+fn verify_job(alloc: Global, words: &[String]) -> Result<Job, NoMemory>
+    requires { is_verify (texts words.now) ≡ true }
+    ensures { IfOk result (λ job. said job ≡ verify_says (texts words.now)) }
+{
+    let taken = take_line(alloc, words)?;
+    let model = plain_name(alloc, &taken, 0)?;
+    let initial = plain_name(alloc, &taken, 1)?;
+    let report = plain_name(alloc, &taken, 2)?;
+    let closed = closed_name(alloc, &taken)?;
+    let lots = run_lots(alloc, &taken, 3)?;
+    Ok(Job::Verify {
+        model,
+        initial,
+        report,
+        closed,
+        lots,
     })
 }

@@ -1,6 +1,6 @@
 use super::*;
 use ra_base::Name;
-use ra_draws::{Lot, Source};
+use ra_draws::{Lot, Lots, Source};
 use std::alloc::{AllocError, Global};
 use std::test::Fail;
 
@@ -54,6 +54,12 @@ const JOBS: &[(&[&str], &str)] = &[
     (
         &["solve", "m", "i", "7:1", "w:8,7,6,5,4,3,2,1", "9:999998"],
         "solve m i closed none slack 0 drawing Two lots 3 budget 999998 seed 9",
+    ),
+    (
+        &[
+            "verify", "m", "i", "r", "--slack", "7", "--closed", "c", "--draws", "1", "9:3",
+        ],
+        "verify r solve m i closed c slack 7 drawing One lots 1 budget 3 seed 9",
     ),
 ];
 
@@ -110,21 +116,40 @@ fn tell(alloc: Global, job: &Job) -> Result<String, AllocError> {
             initial,
             closed,
             lots,
-        } => {
-            let last = tell_lot(alloc, lots.lot(lots.len() - 1))?;
-            format!(in alloc;
-                "solve {} {} closed {} slack {} drawing {:?} lots {} {}",
-                model.as_str(),
-                initial.as_str(),
-                name_of(closed),
-                lots.slack(),
-                lots.drawing(),
-                lots.len(),
-                last.as_str()
-            )
-        }
+        } => tell_run(alloc, model, initial, closed, lots),
         Job::Trial { number } => format!(in alloc; "trial {}", number),
+        Job::Verify {
+            model,
+            initial,
+            report,
+            closed,
+            lots,
+        } => {
+            let run = tell_run(alloc, model, initial, closed, lots)?;
+            format!(in alloc; "verify {} {}", report.as_str(), run.as_str())
+        }
     }
+}
+
+/// A run of lots, of which the last is told.
+fn tell_run(
+    alloc: Global,
+    model: &Name,
+    initial: &Name,
+    closed: &Option<Name>,
+    lots: &Lots,
+) -> Result<String, AllocError> {
+    let last = tell_lot(alloc, lots.lot(lots.len() - 1))?;
+    format!(in alloc;
+        "solve {} {} closed {} slack {} drawing {:?} lots {} {}",
+        model.as_str(),
+        initial.as_str(),
+        name_of(closed),
+        lots.slack(),
+        lots.drawing(),
+        lots.len(),
+        last.as_str()
+    )
 }
 
 fn tell_lot(alloc: Global, lot: &Lot) -> Result<String, AllocError> {

@@ -1,14 +1,17 @@
-use Rattle.std.proofs.Common.{◌≡◌, List, ℕ, refl}
+use Rattle.std.proofs.Common.{◌≡◌, List, ℕ, ap, map, refl}
 use Rattle.std.specs.Io.KnownBytes.{Appends}
 use Rattle.ra_report.specs.Pieces.{Breaks, Puts}
-use Rattle.ra_words.specs.declared.jobs.Job.TheVariants.{Solve}
-use Rattle.ra_words.specs.Said.{said}
-use Rattle.ra_run.specs.Files.{solve_names}
+use Rattle.ra_words.specs.declared.jobs.Job.TheVariants.{Solve, Verify}
+use Rattle.ra_draws.specs.declared.budgets.Lots.{Lots}
+use Rattle.ra_words.specs.Said.{said, said_lot}
+use Rattle.ra_run.specs.Files.{solve_names, verify_names}
 use Rattle.ra_run.specs.Outputs.{Solved}
 use Rattle.ra_run.specs.Refusals.{Judges}
+use Rattle.ra_run.specs.Verifying.{Verified, VerifyOwn}
 use Rattle.ra_run.specs.Commands.{OutputOf, OwnOf}
 use Rattle.ra_run.proofs.RunLemmas.{ends_more}
 use Rattle.ra_run.proofs.StageLemmas.{judges_more}
+use Rattle.ra_run.proofs.VerifyLemmas.{verdict_more}
 use Rattle.ra_run.proofs.job.do_job.Goals as goal
 
 pub returns-in-Check-clause-ends : goal.returns-in-Check-clause-ends
@@ -48,3 +51,34 @@ returns-in-Bound-clause-ends g c = rw c.in-Bound.is (rw (c.as_ref-in-Bound.ensur
 
 pub returns-in-Bound-clause-complete : goal.returns-in-Bound-clause-complete
 returns-in-Bound-clause-complete g c = rw c.in-Bound.is (rw (c.as_ref-in-Bound.ensures.value, c.as_ref-in-Bound-2.ensures.value) at c.bound_run.ensures.complete)
+
+pub returns-in-Verify-clause-ends : goal.returns-in-Verify-clause-ends
+returns-in-Verify-clause-ends g c =
+    let held = g.F.Files.held c.args.files.now in
+    let lots = c.in-Verify.lots in
+    let names = verify_names c.in-Verify.model c.in-Verify.closed c.in-Verify.initial c.in-Verify.report in
+    let says = said (Verify c.in-Verify.model c.in-Verify.initial c.in-Verify.report c.in-Verify.closed lots) in
+    let prints : List ℕ → Type 0 = Appends (g.O.Sink.taken c.args.out.now) (g.O.Sink.taken c.verify_run.new.out) in
+    let breaks : List ℕ → Type 0 = Breaks (g.O.Sink.taken c.args.out.now) (g.O.Sink.taken c.verify_run.new.out) (g.O.Sink.faults c.args.out.now) (g.O.Sink.faults c.verify_run.new.out) in
+    let ends = rw c.as_ref-in-Verify.ensures.value at c.verify_run.ensures.ends in
+    rw c.in-Verify.is (ends_more held names (g.F.Files.faults c.args.files.now) (g.F.Files.faults c.verify_run.new.files)
+    (Verified held names lots prints) (OutputOf held says prints) (VerifyOwn held names lots (Verified held names lots breaks)) (OwnOf held says breaks)
+    (Puts (g.E.Sink.taken c.args.err.now) (g.E.Sink.taken c.verify_run.new.err) (g.E.Sink.faults c.args.err.now) (g.E.Sink.faults c.verify_run.new.err))
+    (c.verify_run.new.out ≡ c.args.out.now) (c.verify_run.new.err ≡ c.args.err.now) c.verify_run.result
+    (λ s. (lots, record { slack_is = refl; drawing_is = refl; lots_are = refl }, s))
+    (λ r s. (lots, record { slack_is = refl; drawing_is = refl; lots_are = refl }, s))
+    ends)
+
+pub returns-in-Verify-clause-own_comes : goal.returns-in-Verify-clause-own_comes
+returns-in-Verify-clause-own_comes g c =
+    let names = verify_names c.in-Verify.model c.in-Verify.closed c.in-Verify.initial c.in-Verify.report in
+    let infeasible = rw c.as_ref-in-Verify.ensures.value at c.verify_run.ensures.infeasible in
+    let verdict = rw c.as_ref-in-Verify.ensures.value at c.verify_run.ensures.verdict in
+    rw c.in-Verify.is (
+      infeasible,
+      verdict_more (g.F.Files.held c.args.files.now) names (λ (l : Lots). l ≡ c.in-Verify.lots) _ (g.F.Files.faults c.args.files.now) (g.F.Files.faults c.verify_run.new.files) c.verify_run.result
+          (λ l is. record { slack_is = ap (λ (x : Lots). x.slack) is; drawing_is = ap (λ (x : Lots). x.drawing) is; lots_are = ap (λ (x : Lots). map said_lot x.lots.items) is }) verdict,
+    )
+
+pub returns-in-Verify-clause-complete : goal.returns-in-Verify-clause-complete
+returns-in-Verify-clause-complete g c = rw c.in-Verify.is (rw c.as_ref-in-Verify.ensures.value at c.verify_run.ensures.complete)

@@ -1,0 +1,286 @@
+-- How `verify` ends, from how its stages end.
+use Rattle.std.specs.Prelude.{unwrap_or}
+use Rattle.std.proofs.Common.{◌≡◌, ◌≢◌, ◌⊎◌, ℕ, ◌≤◌, List, [], Option, Some, None, IfSome, IsSome, inl, inr, ⊎_elim, refl, sym, ◌∙◌, subst}
+use Rattle.ra_base.specs.declared.causes.Cause.{Cause}
+use Rattle.ra_base.specs.declared.ids.Machine.{Machine}
+use Rattle.ra_draws.specs.declared.budgets.Lots.{Lots}
+use Rattle.ra_io.specs.Faults.{Rose}
+use Rattle.ra_model.specs.Assignments.{IsAssignment}
+use Rattle.ra_model.specs.Feasible.{Feasible}
+use Rattle.ra_model.specs.Limits.{WellFormed, Small}
+use Rattle.ra_model.specs.declared.raw.Tables.{Tables}
+use Rattle.ra_model.proofs.BrokenLemmas.{unbroken_from_feasible}
+use Rattle.ra_report.specs.JournalTexts.{accepted_line}
+use Rattle.ra_verify.specs.WrongLines.{IsFirstWrong, IsReport}
+use Rattle.ra_verify.proofs.AnswerLemmas.{one_first_wrong}
+use Rattle.ra_verify.proofs.ReportLemmas.{report_has_none_wrong}
+use Rattle.ra_run.specs.declared.refusals.File.TheVariants as file
+use Rattle.ra_run.specs.declared.refusals.Refusal.{Refusal}
+use Rattle.ra_run.specs.declared.refusals.Refusal.TheVariants.{Read, Model, Closed, Initial, Changed, InitialBroken, ChangedBroken, Wrong as WrongLine, Write, Memory}
+use Rattle.ra_run.specs.declared.status.Status.{Status}
+use Rattle.ra_run.specs.declared.status.Status.TheVariants.{Done, Infeasible, Wrong, WriteFault, NoMemory}
+use Rattle.ra_run.specs.Comes.{KnownTo, InfeasibleComes}
+use Rattle.ra_run.specs.Complete.{AreValid}
+use Rattle.ra_run.specs.Ends.{Ends}
+use Rattle.ra_run.specs.Files.{Held, Faults, Names, name_of, Passes, solve_names, verify_names}
+use Rattle.ra_run.specs.Outputs.{Solved}
+use Rattle.ra_run.specs.Refusals.{Says, Nothing, InitialBreaks, ChangedBreaks, CanTell}
+use Rattle.ra_run.specs.Solving.{IsStart}
+use Rattle.ra_run.specs.Statuses.{status_of}
+use Rattle.ra_run.specs.Verifying.{CountSays, IsCounted, IsRead, IsRightAt, IsRightReport, IsSolved, IsWrongAt, IsWrongReport, ReportWrong, VerdictComes, Verified, VerifyOwn}
+use Rattle.ra_run.proofs.ComesLemmas.{Listed, Went, infeasible_of, known_model, passed_went, told_of}
+use Rattle.ra_run.proofs.CompleteLemmas.{OwnRefused, is_done}
+use Rattle.ra_run.proofs.MeaningLemmas.{Told, no_model, no_closed, no_initial, no_initial_break}
+use Rattle.ra_run.proofs.SolveLemmas.{solved}
+use Rattle.ra_run.proofs.StageLemmas.{can_tell, rose_later, says_more}
+
+-- ---- the stages
+
+pub start_for : (held : Held) (model : List ℕ) (closed : Option (List ℕ)) (initial report : List ℕ) (i : Tables) (a0 : List Machine) → IsStart held (solve_names model closed initial) i a0 → IsStart held (verify_names model closed initial report) i a0
+start_for held model closed initial report i a0 start = record { accepts = record { instance = start.accepts.instance; initial = start.accepts.initial; changed = tt }; fits = start.fits }
+
+-- a refusal of the files before the report
+pub says_before : (held : Held) (model : List ℕ) (closed : Option (List ℕ)) (initial report : List ℕ) (before now : Faults) (own : Refusal → Type 0) (refusal : Refusal) → Says held (solve_names model closed initial) before now Nothing refusal → Says held (verify_names model closed initial report) before now own refusal
+unfolding name_of
+says_before held model closed initial report before now own (Read file.Model) says = record { earlier = tt; named = tt; rose = says.rose }
+says_before held model closed initial report before now own (Read file.Closed) says = record { earlier = says.earlier; named = says.named; rose = says.rose }
+says_before held model closed initial report before now own (Read file.Initial) says = record { earlier = says.earlier; named = says.named; rose = says.rose }
+says_before held model closed initial report before now own (Read file.Changed) says = absurd (let none = says.named in cc)
+says_before held model closed initial report before now own (Read file.Report) says = absurd (let none = says.named in cc)
+says_before held model closed initial report before now own (Read file.Edits) says = absurd (let none = says.named in cc)
+says_before held model closed initial report before now own (Model fault) says = says
+says_before held model closed initial report before now own (Closed fault) says = says
+says_before held model closed initial report before now own (Initial fault) says = record { tables = says.tables; instance = says.instance; name = says.name; named = says.named; refused = says.refused }
+says_before held model closed initial report before now own (Changed fault) says = absurd (let none = says.named in cc)
+says_before held model closed initial report before now own Memory says = tt
+says_before held model closed initial report before now own refusal says = absurd says
+
+passes_from : (held : Held) (names : Names) (i : Tables) (a0 : List Machine) → IsStart held names i a0 → Feasible i a0 a0 → Passes held names i a0 a0
+passes_from held names i a0 start feasible = record { accepts = start.accepts; initial = feasible; changed = feasible }
+
+-- a right report is one of `solve`
+solved_so : (held : Held) (names : Names) (i : Tables) (a0 : List Machine) (l : Lots) (n : ℕ) (bytes : List ℕ) → WellFormed i → IsStart held names i a0 → Feasible i a0 a0 → IsRightAt i a0 l n bytes → IsSolved held names l n bytes
+unfolding solved
+solved_so held names i a0 l n bytes limits start feasible right = record {
+  solved = solved held names i a0 l (λ text. text ≡ bytes) limits start (record { start = feasible; journal = right.report.journal; legal = right.report.legal; whole = right.report.whole; text = sym right.report.text });
+  number = right.report.number;
+  none_wrong = right.none_wrong;
+}
+
+some_then : (told : Option (List ℕ)) (P Q : List ℕ → Type 0) → ((bytes : List ℕ) → P bytes → Q bytes) → IfSome told P → IfSome told Q
+some_then None P Q step is = tt
+some_then (Some bytes) P Q step is = step bytes is
+
+pub read_so : (held later : Held) (model : List ℕ) (closed : Option (List ℕ)) (initial report : List ℕ) (i : Tables) (a0 : List Machine) (l : Lots) (n : ℕ) → ((other : List ℕ) → later other ≡ held other) → WellFormed i → IsStart held (solve_names model closed initial) i a0 → IsCounted later report i a0 l n → IsRead held (verify_names model closed initial report) l n
+unfolding name_of
+read_so held later model closed initial report i a0 l n same limits read counted =
+    let names = verify_names model closed initial report in
+    let start = start_for held model closed initial report i a0 read in
+    record {
+      tables = i;
+      a0 = a0;
+      passes = passes_from held names i a0 start counted.start;
+      report = some_then (held report) (IsRightAt i a0 l n) (IsSolved held names l n) (λ bytes right. solved_so held names i a0 l n bytes limits start counted.start right) (rw (sym (same report)) counted.report);
+    }
+
+pub says_count : (held later : Held) (model : List ℕ) (closed : Option (List ℕ)) (initial report : List ℕ) (i : Tables) (a0 : List Machine) (l : Lots) (first before now : Faults) (written : Type 0) → ((other : List ℕ) → later other ≡ held other) → ((other : List ℕ) → first other ≤ before other) → IsStart held (solve_names model closed initial) i a0 → (refusal : Refusal) → CountSays later report i a0 l before now refusal
+    → Says held (verify_names model closed initial report) first now (VerifyOwn held (verify_names model closed initial report) l written) refusal
+unfolding name_of
+says_count held later model closed initial report i a0 l first before now written same never_fell read (InitialBroken cause) says =
+    let start = start_for held model closed initial report i a0 read in
+    record { tables = i; a0 = a0; a = a0; named = refl; accepts = start.accepts; broken = says }
+says_count held later model closed initial report i a0 l first before now written same never_fell read (Read file.Report) says =
+    let start = start_for held model closed initial report i a0 read in
+    record { earlier = (i, a0, passes_from held (verify_names model closed initial report) i a0 start says.0); named = refl; rose = rose_later (first report) (before report) (now report) (never_fell report) says.1 }
+says_count held later model closed initial report i a0 l first before now written same never_fell read (WrongLine line) says =
+    let start = start_for held model closed initial report i a0 read in
+    record { tables = i; a0 = a0; passes = passes_from held (verify_names model closed initial report) i a0 start says.0; wrong = rw (sym (same report)) says.1 }
+says_count held later model closed initial report i a0 l first before now written same never_fell read Memory says = tt
+says_count held later model closed initial report i a0 l first before now written same never_fell read refusal says = absurd says
+
+-- what the verifier answers
+pub right_so : (i : Tables) (a0 : List Machine) (l : Lots) (told : Option (List ℕ)) (n : ℕ) → IfSome told (λ bytes. IsFirstWrong i a0 l bytes None) → IfSome told (λ bytes. IsReport i a0 l bytes n) → IfSome told (IsRightAt i a0 l n)
+right_so i a0 l None n none report = tt
+right_so i a0 l (Some bytes) n none report = record { report = report; none_wrong = none }
+
+pub wrong_so : (i : Tables) (a0 : List Machine) (l : Lots) (told : Option (List ℕ)) (line : ℕ) → WellFormed i → Small i → IsAssignment i a0 → Feasible i a0 a0 → IfSome told (λ bytes. IsFirstWrong i a0 l bytes (Some line)) → IfSome told (IsWrongAt i a0 l line)
+wrong_so i a0 l None line limits small fits start wrong = tt
+wrong_so i a0 l (Some bytes) line limits small fits start wrong = record {
+  first = wrong;
+  no_report = λ n report. let both : Some line ≡ None = one_first_wrong i a0 l bytes (Some line) None wrong (report_has_none_wrong i a0 l bytes n limits small fits start report) in cc;
+}
+
+-- ---- its own refusals
+
+pub own_more : (held : Held) (names : Names) (l : Lots) (written more : Type 0) → (written → more) → (refusal : Refusal) → VerifyOwn held names l written refusal → VerifyOwn held names l more refusal
+own_more held names l written more step (InitialBroken cause) says = says
+own_more held names l written more step (WrongLine line) says = says
+own_more held names l written more step Write says = step says
+own_more held names l written more step refusal says = says
+
+own_tells : (held : Held) (names : Names) (l : Lots) (written : Type 0) (refusal : Refusal) → VerifyOwn held names l written refusal → CanTell names refusal
+own_tells held names l written (InitialBroken cause) says = says.named
+own_tells held names l written (WrongLine line) says = tt
+own_tells held names l written Write says = tt
+own_tells held names l written refusal says = absurd says
+
+pub verified_went : (held : Held) (names : Names) (l : Lots) (way : List ℕ → Type 0) → Verified held names l way → Went held names
+verified_went held names l way v = passed_went held names v.read.tables v.read.a0 v.read.a0 v.read.passes
+
+pub own_listed : (held : Held) (names : Names) (l : Lots) (written : Type 0) → (written → Went held names) → (refusal : Refusal) → VerifyOwn held names l written refusal → Listed held names
+own_listed held names l written went (InitialBroken cause) says = record { tables = says.tables; a0 = says.a0; a = says.a; accepts = says.accepts }
+own_listed held names l written went (WrongLine line) says = record { tables = says.tables; a0 = says.a0; a = says.a0; accepts = says.passes.accepts }
+own_listed held names l written went Write says = (went says).listed
+own_listed held names l written went refusal says = absurd says
+
+own_stops : (held : Held) (names : Names) (l : Lots) (written : Type 0) → (written → Went held names) → (Went held names → ⊥) → (refusal : Refusal) → VerifyOwn held names l written refusal → status_of refusal ≡ Infeasible
+unfolding status_of
+own_stops held names l written went never (InitialBroken cause) says = refl
+own_stops held names l written went never (WrongLine line) says = absurd (never (passed_went held names says.tables says.a0 says.a0 says.passes))
+own_stops held names l written went never Write says = absurd (never (went says))
+own_stops held names l written went never refusal says = absurd says
+
+own_broke : (held : Held) (names : Names) (l : Lots) (written : Type 0) (before now : Faults) (refusal : Refusal) → Says held names before now (VerifyOwn held names l written) refusal → status_of refusal ≡ Infeasible → (cause : Cause) × (InitialBreaks held names cause ⊎ ChangedBreaks held names cause)
+unfolding status_of
+own_broke held names l written before now (InitialBroken cause) says e = (cause, inl says)
+own_broke held names l written before now (ChangedBroken cause) says e = absurd says
+own_broke held names l written before now refusal says e = absurd (cc)
+
+pub verify_infeasible : {held : Held} {names : Names} {before now : Faults} {output : Type 0} {l : Lots} {written : Type 0} {tells : List ℕ → Type 0} {out_same err_same : Type 0} {status : Status} → Ends held names before now output (VerifyOwn held names l written) tells out_same err_same status → (output → Went held names) → (written → Went held names) → InfeasibleComes held names before now status
+verify_infeasible {held} {names} {before} {now} {output} {l} {written} ends printed went = infeasible_of ends printed (own_broke held names l written before now) (λ never. own_stops held names l written went never)
+
+own_wrong : (held : Held) (names : Names) (l : Lots) (written : Type 0) (before now : Faults) (refusal : Refusal) → Says held names before now (VerifyOwn held names l written) refusal → status_of refusal ≡ Wrong → (line : ℕ) × ReportWrong held names l line
+unfolding status_of
+own_wrong held names l written before now (WrongLine line) says e = (line, says)
+own_wrong held names l written before now refusal says e = absurd (cc)
+
+-- over known files that pass, a refusal is one of its own or of memory
+own_left : (held : Held) (model : List ℕ) (closed : Option (List ℕ)) (initial report : List ℕ) (before now : Faults) (own : Refusal → Type 0) (i : Tables) (a0 : List Machine) → Passes held (verify_names model closed initial report) i a0 a0 → KnownTo held (verify_names model closed initial report) before now file.Report → (refusal : Refusal) → Says held (verify_names model closed initial report) before now own refusal → own refusal ⊎ (status_of refusal ≡ NoMemory)
+unfolding name_of status_of
+own_left held model closed initial report before now own i a0 passes known (Read file.Model) says = absurd ((known.0 tt).1 says.rose)
+own_left held model closed initial report before now own i a0 passes known (Read file.Closed) says = absurd ((known.1 says.named).1 says.rose)
+own_left held model closed initial report before now own i a0 passes known (Read file.Initial) says = absurd ((known.2 says.named).1 says.rose)
+own_left held model closed initial report before now own i a0 passes known (Read file.Changed) says = absurd (let none = says.named in cc)
+own_left held model closed initial report before now own i a0 passes known (Read file.Report) says = absurd ((known.3 says.named).1 says.rose)
+own_left held model closed initial report before now own i a0 passes known (Read file.Edits) says = absurd (let none = says.named in cc)
+own_left held model closed initial report before now own i a0 passes known (Model fault) says = absurd (no_model held model (known.0 tt).0 fault says passes.accepts.instance.model passes.accepts.instance.read)
+own_left held model closed initial report before now own i a0 passes known (Closed fault) says = absurd (no_closed held model closed (known.0 tt).0 (told_of held closed _ known.1) fault says i passes.accepts.instance)
+own_left held model closed initial report before now own i a0 passes known (Initial fault) says =
+    absurd (no_initial held (verify_names model closed initial report) (known.0 tt).0 (told_of held closed _ known.1) (told_of held (Some initial) _ known.2) fault says i a0 passes.accepts.instance passes.accepts.initial)
+own_left held model closed initial report before now own i a0 passes known (Changed fault) says = absurd (let none = says.named in cc)
+own_left held model closed initial report before now own i a0 passes known Memory says = inr refl
+own_left held model closed initial report before now own i a0 passes known refusal says = inl says
+
+-- a told report has one first wrong line, or none
+told_not : (told : Option (List ℕ)) → IsSome told → (P Q : List ℕ → Type 0) → ((bytes : List ℕ) → P bytes → Q bytes → ⊥) → IfSome told P → IfSome told Q → ⊥
+told_not None some P Q never p q = absurd (cc)
+told_not (Some bytes) some P Q never p q = never bytes p q
+
+solved_passes : (held : Held) (names : Names) (l : Lots) (n : ℕ) (bytes : List ℕ) (s : IsSolved held names l n bytes) → Passes held names s.solved.tables s.solved.a0 s.solved.a0
+solved_passes held names l n bytes s = record { accepts = s.solved.accepts; initial = s.solved.start; changed = s.solved.start }
+
+-- no report is read whole whose line is wrong
+read_not : (held : Held) (names : Names) (l : Lots) (line n : ℕ) → IsSome (held (name_of names file.Report)) → IsWrongReport held names l line → IsRead held names l n → ⊥
+read_not held names l line n told wrong read = go (held (name_of names file.Report)) told read.report wrong
+  where
+    go : (o : Option (List ℕ)) → IsSome o → IfSome o (IsSolved held names l n) → ((i : Tables) (a0 : List Machine) → Passes held names i a0 a0 → IfSome o (λ bytes. IsFirstWrong i a0 l bytes (Some line))) → ⊥
+    go None some is first = absurd (cc)
+    go (Some bytes) some is first =
+        let both : None ≡ Some line = one_first_wrong is.solved.tables is.solved.a0 l bytes None (Some line) is.none_wrong (first is.solved.tables is.solved.a0 (solved_passes held names l n bytes is)) in
+        cc
+
+-- and none is wrong that is right
+wrong_not : (held : Held) (names : Names) (l : Lots) (line : ℕ) → IsSome (held (name_of names file.Report)) → IsRightReport held names l → ReportWrong held names l line → ⊥
+wrong_not held names l line told right wrong = told_not (held (name_of names file.Report)) told (IsWrongAt wrong.tables wrong.a0 l line) (λ bytes. (n : ℕ) × IsReport wrong.tables wrong.a0 l bytes n)
+    (λ bytes is report. is.no_report report.0 report.1) wrong.wrong (right wrong.tables wrong.a0 wrong.passes)
+
+wrong_own : (held : Held) (model : List ℕ) (closed : Option (List ℕ)) (initial report : List ℕ) (before now : Faults) (l : Lots) (way : List ℕ → Type 0) (i : Tables) (a0 : List Machine) → Passes held (verify_names model closed initial report) i a0 a0 → KnownTo held (verify_names model closed initial report) before now file.Report → (line : ℕ) → IsWrongReport held (verify_names model closed initial report) l line
+    → (refusal : Refusal) → VerifyOwn held (verify_names model closed initial report) l (Verified held (verify_names model closed initial report) l way) refusal → status_of refusal ≡ Wrong
+unfolding name_of status_of
+wrong_own held model closed initial report before now l way i a0 passes known line wrong (InitialBroken cause) says =
+    absurd (no_initial_break held (verify_names model closed initial report) (known.0 tt).0 (told_of held closed _ known.1) (told_of held (Some initial) _ known.2) cause says i a0 a0 passes.accepts passes.initial)
+wrong_own held model closed initial report before now l way i a0 passes known line wrong (WrongLine other) says = refl
+wrong_own held model closed initial report before now l way i a0 passes known line wrong Write says = absurd (read_not held (verify_names model closed initial report) l line says.entries (known.3 refl).0 wrong says.read)
+wrong_own held model closed initial report before now l way i a0 passes known line wrong refusal says = absurd says
+
+right_own : (held : Held) (model : List ℕ) (closed : Option (List ℕ)) (initial report : List ℕ) (before now : Faults) (l : Lots) (way : List ℕ → Type 0) (i : Tables) (a0 : List Machine) → Passes held (verify_names model closed initial report) i a0 a0 → KnownTo held (verify_names model closed initial report) before now file.Report → IsRightReport held (verify_names model closed initial report) l
+    → (refusal : Refusal) → VerifyOwn held (verify_names model closed initial report) l (Verified held (verify_names model closed initial report) l way) refusal → status_of refusal ≡ WriteFault
+unfolding name_of status_of
+right_own held model closed initial report before now l way i a0 passes known right (InitialBroken cause) says =
+    absurd (no_initial_break held (verify_names model closed initial report) (known.0 tt).0 (told_of held closed _ known.1) (told_of held (Some initial) _ known.2) cause says i a0 a0 passes.accepts passes.initial)
+right_own held model closed initial report before now l way i a0 passes known right (WrongLine line) says = absurd (wrong_not held (verify_names model closed initial report) l line (known.3 refl).0 right says)
+right_own held model closed initial report before now l way i a0 passes known right Write says = refl
+right_own held model closed initial report before now l way i a0 passes known right refusal says = absurd says
+
+pub verify_verdict : {held : Held} {before now : Faults} {tells : List ℕ → Type 0} {out_same err_same : Type 0} {status : Status} (model : List ℕ) (closed : Option (List ℕ)) (initial report : List ℕ) (l : Lots) (are : Lots → Type 0) (prints breaks : List ℕ → Type 0) → are l
+    → Ends held (verify_names model closed initial report) before now (Verified held (verify_names model closed initial report) l prints) (VerifyOwn held (verify_names model closed initial report) l (Verified held (verify_names model closed initial report) l breaks)) tells out_same err_same status
+    → VerdictComes held (verify_names model closed initial report) are before now status
+unfolding name_of
+verify_verdict {held} {before} {now} {tells} {out_same} {err_same} {status} model closed initial report l are prints breaks is ends =
+    let names = verify_names model closed initial report in
+    let own : Refusal → Type 0 = VerifyOwn held names l (Verified held names l breaks) in
+    record {
+      wrong = λ (told : status ≡ Wrong).
+          let refused = ends.refused (λ (done : status ≡ Done). let e : Done ≡ Wrong = sym done ∙ told in cc) in
+          (l, is, own_wrong held names l (Verified held names l breaks) before now refused.refusal refused.says (sym refused.is ∙ told));
+      is_wrong = λ i a0 passes known line wrong. ⊎_elim
+          (λ (done : status ≡ Done). let v = ends.printed done in absurd (read_not held names l line v.entries (known.3 refl).0 (wrong l is) v.read))
+          (λ (other : status ≢ Done).
+          let refused = ends.refused other in
+          ⊎_elim
+          (λ (says : own refused.refusal). inl (refused.is ∙ wrong_own held model closed initial report before now l breaks i a0 passes known line (wrong l is) refused.refusal says))
+          (λ (memory : status_of refused.refusal ≡ NoMemory). inr (refused.is ∙ memory))
+          (own_left held model closed initial report before now own i a0 passes known refused.refusal refused.says))
+          (is_done status);
+      is_right = λ i a0 passes known right. ⊎_elim
+          (λ (done : status ≡ Done). inl done)
+          (λ (other : status ≢ Done).
+          let refused = ends.refused other in
+          ⊎_elim
+          (λ (says : own refused.refusal). inr (inl (refused.is ∙ right_own held model closed initial report before now l breaks i a0 passes known (right l is) refused.refusal says)))
+          (λ (memory : status_of refused.refusal ≡ NoMemory). inr (inr (refused.is ∙ memory)))
+          (own_left held model closed initial report before now own i a0 passes known refused.refusal refused.says))
+          (is_done status);
+    }
+
+-- over valid files a verdict is told
+valid_own : (held : Held) (names : Names) (l : Lots) (written : Type 0) → AreValid held names → (written → ⊥) → (refusal : Refusal) → VerifyOwn held names l written refusal → status_of refusal ≡ Wrong
+unfolding status_of
+valid_own held names l written valid whole (InitialBroken cause) says =
+    let none = unbroken_from_feasible says.tables says.a0 says.a0 (valid.initial says.named says.tables says.a0 says.a says.accepts) in
+    absurd (let both : None ≡ Some cause = sym none ∙ says.broken in cc)
+valid_own held names l written valid whole (WrongLine line) says = refl
+valid_own held names l written valid whole Write says = absurd (whole says)
+valid_own held names l written valid whole refusal says = absurd says
+
+pub verify_complete : (held : Held) (names : Names) (l : Lots) (written : Type 0) (status : Status) → AreValid held names → (written → ⊥) → (status ≡ Done) ⊎ ((status ≡ NoMemory) ⊎ OwnRefused (VerifyOwn held names l written) status) → (status ≡ Done) ⊎ ((status ≡ Wrong) ⊎ (status ≡ NoMemory))
+verify_complete held names l written status valid whole ended = ⊎_elim
+    (λ (done : status ≡ Done). inl done)
+    (λ (other : (status ≡ NoMemory) ⊎ OwnRefused (VerifyOwn held names l written) status). inr (⊎_elim
+    (λ (memory : status ≡ NoMemory). inr memory)
+    (λ (refused : OwnRefused (VerifyOwn held names l written) status). inl (refused.is ∙ valid_own held names l written valid whole refused.refusal refused.says))
+    other))
+    ended
+
+-- for other words of the lots
+pub verdict_more : (held : Held) (names : Names) (are more : Lots → Type 0) (before now : Faults) (status : Status) → ((l : Lots) → are l → more l) → VerdictComes held names are before now status → VerdictComes held names more before now status
+verdict_more held names are more before now status step v = record {
+  wrong = λ told. let w = v.wrong told in (w.0, step w.0 w.1, w.2);
+  is_wrong = λ i a0 passes known line wrong. v.is_wrong i a0 passes known line (λ l is. wrong l (step l is));
+  is_right = λ i a0 passes known right. v.is_right i a0 passes known (λ l is. right l (step l is));
+}
+
+pub can_tell_verdict : (held : Held) (names : Names) (before now : Faults) (l : Lots) (written : Type 0) (refusal : Refusal) → Says held names before now (VerifyOwn held names l written) refusal → CanTell names refusal
+can_tell_verdict held names before now l written = can_tell held names before now (VerifyOwn held names l written) (own_tells held names l written)
+
+-- a refusal before anything was written
+pub says_unwritten_verdict : (held : Held) (names : Names) (before now : Faults) (l : Lots) (written : Type 0) (refusal : Refusal) → Says held names before now (VerifyOwn held names l ⊥) refusal → Says held names before now (VerifyOwn held names l written) refusal
+says_unwritten_verdict held names before now l written refusal says = says_more held names before now (VerifyOwn held names l ⊥) (VerifyOwn held names l written) (own_more held names l ⊥ written (λ none. absurd none)) refusal says
+
+-- where memory was refused before the words were read
+pub verdict_not : (held : Held) (names : Names) (are : Lots → Type 0) (before now : Faults) (status : Status) → status ≡ NoMemory → VerdictComes held names are before now status
+verdict_not held names are before now status is = record {
+  wrong = λ told. absurd (let both : NoMemory ≡ Wrong = sym is ∙ told in cc);
+  is_wrong = λ i a0 passes known line wrong. inr is;
+  is_right = λ i a0 passes known right. inr (inr is);
+}

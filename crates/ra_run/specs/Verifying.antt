@@ -1,0 +1,92 @@
+-- `verify`: the report of a run is accepted, or its first wrong line is told.
+use Rattle.std.specs.Prelude.{◌≡◌, ◌⊎◌, ℕ, List, length, Some, None, IfSome}
+use Rattle.ra_base.specs.declared.ids.Machine.{Machine}
+use Rattle.ra_draws.specs.declared.budgets.Lots.{Lots}
+use Rattle.ra_io.specs.Faults.{Rose}
+use Rattle.ra_model.specs.declared.raw.Tables.{Tables}
+use Rattle.ra_model.specs.Broken.{first_broken}
+use Rattle.ra_model.specs.Feasible.{Feasible}
+use Rattle.ra_report.specs.JournalTexts.{accepted_line}
+use Rattle.ra_verify.specs.WrongLines.{IsFirstWrong, IsReport}
+use Rattle.ra_run.specs.declared.refusals.File.TheVariants as file
+use Rattle.ra_run.specs.declared.refusals.Refusal.{Refusal}
+use Rattle.ra_run.specs.declared.refusals.Refusal.TheVariants.{Read, InitialBroken, Wrong as WrongLine, Write, Memory}
+use Rattle.ra_run.specs.declared.status.Status.{Status}
+use Rattle.ra_run.specs.declared.status.Status.TheVariants.{Done, Wrong, WriteFault, NoMemory}
+use Rattle.ra_run.specs.Comes.{KnownTo}
+use Rattle.ra_run.specs.Files.{Held, Faults, Names, name_of, Passes}
+use Rattle.ra_run.specs.Outputs.{Solved}
+use Rattle.ra_run.specs.Refusals.{InitialBreaks}
+
+-- the bytes are a report of `solve`, the headline, whose journal has so many entries; none of its lines is wrong
+pub record IsSolved (held : Held) (names : Names) (l : Lots) (entries : ℕ) (bytes : List ℕ) : Type 0 where
+  pub solved : Solved held names l (λ text. text ≡ bytes)
+  pub number : length solved.journal ≡ entries
+  pub none_wrong : IsFirstWrong solved.tables solved.a0 l bytes None
+
+-- the other files pass, and the told bytes of the report are one of `solve`
+pub record IsRead (held : Held) (names : Names) (l : Lots) (entries : ℕ) : Type 0 where
+  pub tables : Tables
+  pub a0 : List Machine
+  pub passes : Passes held names tables a0 a0
+  pub report : IfSome (held (name_of names file.Report)) (IsSolved held names l entries)
+
+-- it is accepted: the line with the number of its entries went this way
+pub record Verified (held : Held) (names : Names) (l : Lots) (way : List ℕ → Type 0) : Type 0 where
+  pub entries : ℕ
+  pub read : IsRead held names l entries
+  pub text : way (accepted_line entries)
+
+-- these bytes have this line as their first wrong one, so that they are no report of a legal whole journal
+pub record IsWrongAt (i : Tables) (a0 : List Machine) (l : Lots) (line : ℕ) (bytes : List ℕ) : Type 0 where
+  pub first : IsFirstWrong i a0 l bytes (Some line)
+  pub no_report : (n : ℕ) → IsReport i a0 l bytes n → ⊥
+
+-- the other files pass, and this line of the told report is its first wrong one
+pub record ReportWrong (held : Held) (names : Names) (l : Lots) (line : ℕ) : Type 0 where
+  pub tables : Tables
+  pub a0 : List Machine
+  pub passes : Passes held names tables a0 a0
+  pub wrong : IfSome (held (name_of names file.Report)) (IsWrongAt tables a0 l line)
+
+-- its own refusals
+abbrev pub VerifyOwn : Held → Names → Lots → Type 0 → Refusal → Type 0
+VerifyOwn held names l written (InitialBroken cause) = InitialBreaks held names cause
+VerifyOwn held names l written (WrongLine line) = ReportWrong held names l line
+VerifyOwn held names l written Write = written
+VerifyOwn held names l written refusal = ⊥
+
+-- whatever tables with their rooms the other files mean, this line of the report is its first wrong one
+abbrev pub IsWrongReport : Held → Names → Lots → ℕ → Type 0
+IsWrongReport held names l line = (i : Tables) (a0 : List Machine) → Passes held names i a0 a0 → IfSome (held (name_of names file.Report)) (λ bytes. IsFirstWrong i a0 l bytes (Some line))
+
+-- and so it is the report of a legal whole journal
+abbrev pub IsRightReport : Held → Names → Lots → Type 0
+IsRightReport held names l = (i : Tables) (a0 : List Machine) → Passes held names i a0 a0 → IfSome (held (name_of names file.Report)) (λ bytes. (n : ℕ) × IsReport i a0 l bytes n)
+
+-- of a job with such lots: the status tells a wrong report, and over known files that pass a wrong report is told, and one
+-- that is right is accepted
+pub record VerdictComes (held : Held) (names : Names) (are : Lots → Type 0) (before now : Faults) (status : Status) : Type 0 where
+  pub wrong : status ≡ Wrong → (l : Lots) × are l × ((line : ℕ) × ReportWrong held names l line)
+  pub is_wrong : (i : Tables) (a0 : List Machine) → Passes held names i a0 a0 → KnownTo held names before now file.Report → (line : ℕ) → ((l : Lots) → are l → IsWrongReport held names l line) → (status ≡ Wrong) ⊎ (status ≡ NoMemory)
+  pub is_right : (i : Tables) (a0 : List Machine) → Passes held names i a0 a0 → KnownTo held names before now file.Report → ((l : Lots) → are l → IsRightReport held names l) → (status ≡ Done) ⊎ ((status ≡ WriteFault) ⊎ (status ≡ NoMemory))
+
+-- ---- the stages
+
+-- these bytes are the report of a legal whole journal of so many entries, and none of their lines is wrong
+pub record IsRightAt (i : Tables) (a0 : List Machine) (l : Lots) (entries : ℕ) (bytes : List ℕ) : Type 0 where
+  pub report : IsReport i a0 l bytes entries
+  pub none_wrong : IsFirstWrong i a0 l bytes None
+
+-- the initial list is feasible, and the told report is that of a legal whole journal of so many entries
+pub record IsCounted (held : Held) (name : List ℕ) (i : Tables) (a0 : List Machine) (l : Lots) (entries : ℕ) : Type 0 where
+  pub start : Feasible i a0 a0
+  pub report : IfSome (held name) (IsRightAt i a0 l entries)
+
+-- what a refusal of the report says
+abbrev pub CountSays : Held → List ℕ → Tables → List Machine → Lots → Faults → Faults → Refusal → Type 0
+CountSays held name i a0 l before now (InitialBroken cause) = first_broken i a0 a0 ≡ Some cause
+CountSays held name i a0 l before now (Read file.Report) = Feasible i a0 a0 × Rose (before name) (now name)
+CountSays held name i a0 l before now (WrongLine line) = Feasible i a0 a0 × IfSome (held name) (IsWrongAt i a0 l line)
+CountSays held name i a0 l before now Memory = Unit {0}
+CountSays held name i a0 l before now refusal = ⊥
