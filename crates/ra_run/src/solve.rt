@@ -2,9 +2,9 @@ ghost use Rattle.std.specs.Prelude.{◌≡◌, ◌≢◌, ◌⊎◌, ℕ, ◌≤
 ghost use Rattle.std.specs.Io.KnownBytes.{Appends};
 ghost use Rattle.std.specs.Option.{option_copied};
 ghost use Rattle.ra_io.specs.Faults.{Rose};
-ghost use Rattle.ra_check.specs.Made.{IsMadeFor};
 ghost use Rattle.ra_model.specs.Assignments.{IsAssignment};
 ghost use Rattle.ra_model.specs.Broken.{first_broken};
+ghost use Rattle.ra_model.specs.Costs.{parts_of};
 ghost use Rattle.ra_model.specs.Feasible.{Feasible};
 ghost use Rattle.ra_topology.specs.Fits.{IsTopologyOf};
 ghost use Rattle.ra_report.specs.JournalTexts.{best_state, text_of};
@@ -23,9 +23,9 @@ use crate::reading::read_instance;
 use crate::refusals::{JobFiles, Refusal};
 use crate::refusing::finish;
 use crate::status::Status;
-use ra_base::{Assignment, Name};
+use ra_base::{Assignment, Name, Parts};
 use ra_bounds::bound;
-use ra_check::{Scratch, parts};
+use ra_check::parts;
 use ra_draws::Lots;
 use ra_io::{Files, Gate, Sink};
 use ra_model::Instance;
@@ -169,25 +169,17 @@ fn run_from<R: Threads + Wait + Sync, O: Sink, G: Gate>(
     ensures out_never_falls { O.faults out.old ≤ O.faults out.new }
 {
     let mut scratch = judge_start(alloc, inst, initial)?;
+    let start = parts(inst, initial, initial, &mut scratch);
+    drop(scratch);
     let Ok(topo) = Topology::make(alloc, inst) else {
         return Err(Refusal::Memory);
     };
-    let ended = run_over(
-        rt,
-        alloc,
-        inst,
-        &topo,
-        initial,
-        lots,
-        &mut scratch,
-        out,
-        gate,
-    );
+    let ended = run_over(rt, alloc, inst, &topo, initial, lots, start, out, gate);
     drop(topo);
     ended
 }
 
-/// The run and its report, over the topology of the instance.
+/// The run and its report, over the topology of the instance. The start has these parts.
 fn run_over<R: Threads + Wait + Sync, O: Sink, G: Gate>(
     rt: &R,
     alloc: Global,
@@ -195,7 +187,7 @@ fn run_over<R: Threads + Wait + Sync, O: Sink, G: Gate>(
     topo: &Topology,
     initial: &Assignment,
     lots: &Lots,
-    scratch: &mut Scratch,
+    start: Parts,
     out: &mut O,
     gate: &G,
 ) -> Result<(), Refusal>
@@ -203,7 +195,7 @@ fn run_over<R: Threads + Wait + Sync, O: Sink, G: Gate>(
     requires feasible { Feasible inst.now.tables initial.now.items initial.now.items }
     requires unbroken { first_broken inst.now.tables initial.now.items initial.now.items ≡ None }
     requires topology { IsTopologyOf topo.now inst.now.tables }
-    requires made { IsMadeFor scratch.old inst.now.tables }
+    requires parts { start ≡ parts_of inst.now.tables initial.now.items initial.now.items }
     ensures printed { OnOk result (IsReported inst.now.tables initial.now.items lots.now
         (Appends (O.taken out.old) (O.taken out.new))) }
     ensures refused { IfErr result (RunSays inst.now.tables initial.now.items
@@ -212,7 +204,6 @@ fn run_over<R: Threads + Wait + Sync, O: Sink, G: Gate>(
     ensures untouched { IfErr result (λ refusal. refusal ≢ Refusal.Write → out.new ≡ out.old) }
     ensures out_never_falls { O.faults out.old ≤ O.faults out.new }
 {
-    let start = parts(inst, initial, initial, scratch);
     let Ok(prepared) = Prepared::make(alloc, inst, topo, initial, start, lots) else {
         return Err(Refusal::Memory);
     };
@@ -228,7 +219,7 @@ fn run_over<R: Threads + Wait + Sync, O: Sink, G: Gate>(
 /// Writes the report of a run.
 fn report<O: Sink>(out: &mut O, inst: &Instance, run: &Run<'_>) -> Result<(), WriteFault>
     requires instance { run.now.journal.inst.now.tables ≡ inst.now.tables }
-    requires best { run.now.world.kept.assignment.items ≡ best_state run.now.journal }
+    requires best { run.now.best.items ≡ best_state run.now.journal }
     ensures whole { OnOk result (Appends (O.taken out.old) (O.taken out.new)
         (text_of run.now.journal)) }
     ensures part { OnErr result (Breaks (O.taken out.old) (O.taken out.new) (O.faults out.old)

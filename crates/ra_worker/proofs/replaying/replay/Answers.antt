@@ -4,4 +4,4 @@ use Rattle.ra_worker.proofs.replaying.replay.Goals as goal
 
 pub loop-at-init : goal.loop-at-init
 unfolding state
-loop-at-init g c = record { here = c.requires.at_start; instance = refl; topology = refl; initial = refl }
+loop-at-init c = record { here = c.requires.at_start; room = refl }

@@ -1,17 +1,21 @@
-use Rattle.std.proofs.Common.{ap, ◌∙◌}
-use Rattle.ra_base.specs.Listed.{Listed}
-use Rattle.ra_base.specs.declared.ids.Machine.{Machine}
-use Rattle.ra_model.specs.declared.numbers.Instance.{Instance}
-use Rattle.ra_worker.proofs.FollowingLemmas.{entry_judged, next_stated}
+use Rattle.std.proofs.Common.{◌∙◌}
+use Rattle.ra_worker.proofs.FollowingLemmas.{done_moves, entry_judged, after_done, after_refused, next_stated}
 use Rattle.ra_worker.proofs.replaying.replay_entry.Goals as goal
 
-pub follow-requires : goal.follow-requires
-follow-requires g c =
+pub apply-requires-clause-distinct : goal.apply-requires-clause-distinct
+apply-requires-clause-distinct c =
     let journal = c.args.journal.now in
-    record {
-      judged = rw (ap (λ (i : Instance). i.tables) c.requires.instance, ap (λ (a : Listed Machine). a.items) c.requires.initial)
-          (entry_judged journal.inst.now.tables journal.a0.now.items _ journal.lots.now journal.book.entries.items c.args.at c.entry-entry.result journal.start.limits journal.start.fits journal.kept.legal c.requires.within c.entry-entry.ensures c.requires.here);
-    }
+    let judged = entry_judged journal.inst.now.tables journal.a0.now.items c.args.best.now.items journal.lots.now journal.book.entries.items c.args.at c.entry-entry.result journal.start.limits journal.start.fits journal.kept.legal c.requires.within c.entry-entry.ensures c.requires.here in
+    (done_moves _ _ _ _ c.in-Done.cost _ judged c.in-Done.is).distinct
 
-pub returns-clause-assignment : goal.returns-clause-assignment
-returns-clause-assignment g c = next_stated _ _ _ _ c.args.at c.entry-entry.result c.requires.here c.entry-entry.ensures c.follow.ensures.assignment
+pub apply-requires-clause-at_from : goal.apply-requires-clause-at_from
+apply-requires-clause-at_from c =
+    let journal = c.args.journal.now in
+    let judged = entry_judged journal.inst.now.tables journal.a0.now.items c.args.best.now.items journal.lots.now journal.book.entries.items c.args.at c.entry-entry.result journal.start.limits journal.start.fits journal.kept.legal c.requires.within c.entry-entry.ensures c.requires.here in
+    (done_moves _ _ _ _ c.in-Done.cost _ judged c.in-Done.is).stands
+
+pub returns-in-Done-clause-items : goal.returns-in-Done-clause-items
+returns-in-Done-clause-items c = next_stated _ _ _ _ c.args.at c.entry-entry.result c.requires.here c.entry-entry.ensures (c.apply.ensures.in_turn ∙ after_done _ _ c.in-Done.cost _ c.in-Done.is)
+
+pub returns-in-Refused-clause-items : goal.returns-in-Refused-clause-items
+returns-in-Refused-clause-items c = next_stated _ _ _ _ c.args.at c.entry-entry.result c.requires.here c.entry-entry.ensures (after_refused _ _ c.in-Refused.cause _ c.in-Refused.is)
