@@ -15,4 +15,5 @@ pub mod RecordingLemmas
 pub mod NewerLemmas
 pub mod CommitLemmas
 pub mod StartLemmas
+pub mod PackingLemmas
 pub mod SoloLemmas

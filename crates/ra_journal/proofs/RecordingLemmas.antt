@@ -25,10 +25,11 @@ use Rattle.ra_journal.specs.States.{state, cost_then}
 use Rattle.ra_journal.specs.Legal.{Legal}
 use Rattle.ra_journal.specs.Committing.{next_number, newer_since, IsCommit}
 use Rattle.ra_journal.specs.Keeping.{IsStart, IsKept}
+use Rattle.ra_journal.specs.Packing.{IsSmall}
 use Rattle.ra_journal.specs.Recording.{AreChangesOf, AreChangedBy, AreTouched, IsTakenIn}
 use Rattle.ra_journal.proofs.EndLemmas.{planned_at_end, next_is_legal}
 use Rattle.ra_journal.proofs.KeepingLemmas.{IsNext}
-use Rattle.ra_journal.proofs.RoomLemmas.{AreNumbered, entries_within, entries_fewer, budgets_few}
+use Rattle.ra_journal.proofs.RoomLemmas.{AreNumbered, entries_within, entries_few, entries_fewer, proposals_few, budgets_few}
 use Rattle.ra_journal.proofs.TouchedLemmas.{touched_nothing}
 
 -- there is room for one entry more
@@ -46,6 +47,14 @@ worker_below l w exists = omega (arith, l.fitting.few)
 
 pub made_few : (i : Tables) (a0 : List Machine) (l : Lots) (h : List Entry) (w : ℕ) → Legal i a0 l h → w < worker_count l → entries_of h (length h) w ≤ 1000000
 made_few i a0 l h w legal exists = omega (arith, entries_within l h (length h) w (numbered i a0 l h legal), budgets_few l w exists)
+
+-- the next entry can be packed
+pub small_next : (i : Tables) (a0 : List Machine) (l : Lots) (book : Book) (plan : Plan) (e : Entry) → IsKept i a0 l book → IsCommit i a0 l book.entries.items e.worker plan → e.k ≡ plan.k → e.q ≡ plan.q → IsSmall e
+small_next i a0 l book plan e kept commit number place = record {
+  worker = omega (arith, worker_below l e.worker commit.worker);
+  number = omega (arith, number, commit.within, budgets_few l e.worker commit.worker);
+  place = omega (arith, place, commit.place, entries_few l book.entries.items (length book.entries.items) (numbered i a0 l book.entries.items kept.legal), proposals_few l);
+}
 
 -- the moved counts of a weighing are changes of those before it
 pub counts_fit : (i : Tables) (a0 a : List Machine) (steps : List Step) (moved : MovedCounts) (kept : ℕ) (weighed : Weighed) → WellFormed i → IsSettling i a0 a steps moved kept weighed → AreChangesOf moved weighed

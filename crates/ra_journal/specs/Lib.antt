@@ -5,6 +5,7 @@ pub mod Entries
 pub mod Keeping
 pub mod Laws
 pub mod Legal
+pub mod Packing
 pub mod Recording
 pub mod Solo
 pub mod States

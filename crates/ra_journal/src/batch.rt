@@ -1,8 +1,10 @@
-ghost use Rattle.std.specs.Prelude.{◌≡◌, ◌<◌, ◌≤◌, [], length, IfOk};
+ghost use Rattle.std.specs.Prelude.{◌≡◌, ◌-◌, ◌<◌, ◌≤◌, min, [], length, IfOk};
+ghost use Rattle.ra_journal.specs.Batches.{batch_from};
 ghost use Rattle.ra_journal.specs.Entries.{entry_at};
 
 use crate::entries::Entry;
-use ra_base::{Fixed, NoMemory};
+use crate::listing::Entries;
+use ra_base::NoMemory;
 use std::alloc::Global;
 use std::marker::Model;
 
@@ -10,9 +12,9 @@ use std::marker::Model;
 const ROOM: usize = 1024;
 
 /// Some entries of a journal, one after another, copied out of it. Contracts see the list of them.
-#[derive(Debug, Drop)]
+#[derive(Drop)]
 pub struct Batch {
-    entries: Fixed<Entry>,
+    entries: Entries,
 }
 
 impl Model for Batch {
@@ -31,7 +33,7 @@ impl Batch {
     pub fn make(alloc: Global) -> Result<Batch, NoMemory>
         ensures { IfOk result (λ batch. batch ≡ []) }
     {
-        let entries = Fixed::make(alloc, ROOM)?;
+        let entries = Entries::make(alloc, ROOM)?;
         Ok(Batch { entries })
     }
 
@@ -44,7 +46,6 @@ impl Batch {
     }
 
     /// The entry at a place of the batch, counted from 0.
-    #[tactic(auto, unfolding(crate::specs::Entries::entry_at))]
     pub fn entry(&self, i: u64) -> Entry
         requires { i < length self.now }
         ensures { result ≡ entry_at self.now i }
@@ -52,12 +53,12 @@ impl Batch {
         self.entries.get(i as usize)
     }
 
-    /// Replaces all entries by others.
-    pub(crate) fn fill(&mut self, entries: &[Entry])
-        requires { length entries.now ≤ 1024 }
-        ensures { self.new ≡ entries.now }
+    /// Replaces all entries by those of a list from a place on, as many as there is room for, and tells their number.
+    pub(crate) fn fill(&mut self, entries: &Entries, at: usize) -> u64
+        requires { at ≤ length entries.now.items }
+        ensures entries { self.new ≡ batch_from entries.now.items at }
+        ensures number { result ≡ min 1024 (length entries.now.items - at) }
     {
-        self.entries.clear();
-        self.entries.extend_from_slice(entries);
+        self.entries.refill(entries, at) as u64
     }
 }

@@ -1,5 +1,4 @@
-use crate::entries::Entry;
-use ra_base::Fixed;
+use crate::listing::Entries;
 use ra_cells::Greatest;
 use ra_guards::Versions;
 
@@ -7,7 +6,7 @@ use ra_guards::Versions;
 #[derive(Drop)]
 pub(crate) struct Book {
     /// The entries.
-    pub(crate) entries: Fixed<Entry>,
+    pub(crate) entries: Entries,
     /// The version of each guard after them.
     pub(crate) versions: Versions,
     /// The moved counts of the state after them.

@@ -13,11 +13,11 @@ ghost use Rattle.ra_journal.specs.Keeping.{IsStart, IsKept};
 
 use crate::batch::Batch;
 use crate::book::Book;
-use crate::copying::copy_entries;
 use crate::entries::Entry;
+use crate::listing::Entries;
 use crate::recording::record;
 use crate::replies::Reply;
-use ra_base::{Assignment, Fixed, NoMemory, Parts};
+use ra_base::{Assignment, NoMemory, Parts};
 use ra_cells::Greatest;
 use ra_draws::Lots;
 use ra_guards::{Newer, Versions, first_newer, first_newer_read};
@@ -60,7 +60,7 @@ impl<'a> Journal<'a> {
         ensures lots { IfOk result (λ journal. journal.lots.now ≡ lots.now) }
         ensures entries { IfOk result (λ journal. journal.book.entries.items ≡ []) }
     {
-        let entries = Fixed::make(alloc, proposals(lots) as usize)?;
+        let entries = Entries::make(alloc, proposals(lots) as usize)?;
         let versions = Versions::make(alloc, inst.machines(), inst.services())?;
         let greatest = Greatest::make(alloc, inst)?;
         let book = Book {
@@ -174,7 +174,7 @@ impl<'a> Journal<'a> {
         ensures entries { batch.new ≡ batch_from self.now.book.entries.items at }
         ensures number { result ≡ min 1024 (length self.now.book.entries.items - at) }
     {
-        copy_entries(self.book.entries.as_slice(), at as usize, batch)
+        batch.fill(&self.book.entries, at as usize)
     }
 
     /// How many entries there are.
@@ -185,7 +185,6 @@ impl<'a> Journal<'a> {
     }
 
     /// The entry at a place, counted from 0.
-    #[tactic(auto, unfolding(crate::specs::Entries::entry_at))]
     pub fn entry(&self, at: u64) -> Entry
         requires { at < length self.now.book.entries.items }
         ensures { result ≡ entry_at self.now.book.entries.items at }
@@ -194,10 +193,10 @@ impl<'a> Journal<'a> {
     }
 
     /// All entries, in order.
-    pub fn entries(&self) -> &[Entry]
-        ensures { result.now ≡ self.now.book.entries.items }
+    pub fn entries(&self) -> &Entries
+        ensures { result.now ≡ self.now.book.entries }
     {
-        self.book.entries.as_slice()
+        &self.book.entries
     }
 
     /// How many entries a worker has made.

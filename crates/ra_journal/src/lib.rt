@@ -4,10 +4,12 @@
 
 mod batch;
 mod book;
-mod copying;
 mod entries;
 mod journal;
 pub mod laws;
+mod listing;
+mod outcomes;
+mod packed;
 mod recording;
 mod replies;
 mod states;
@@ -15,5 +17,6 @@ mod states;
 pub use batch::Batch;
 pub use entries::Entry;
 pub use journal::Journal;
+pub use listing::Entries;
 pub use replies::Reply;
 pub use states::{advance, cost_then};

@@ -6,6 +6,7 @@ ghost use Rattle.ra_guards.specs.Kept.{IsTableOf};
 ghost use Rattle.ra_journal.specs.Committing.{newer_since, next_entry, IsCommit};
 ghost use Rattle.ra_journal.specs.Entries.{allowed, steps_made};
 ghost use Rattle.ra_journal.specs.Keeping.{IsStart, IsKept};
+ghost use Rattle.ra_journal.specs.Packing.{IsSmall};
 ghost use Rattle.ra_journal.specs.Recording.{IsAdded, AreChangesOf, AreTouched, IsTakenIn, IsBestKept};
 ghost use Rattle.ra_journal.specs.States.{state};
 ghost use Rattle.ra_journal.specs.declared.replies.Reply.TheVariants.{Recorded};
@@ -55,7 +56,7 @@ pub(crate) fn record(
         mv: plan.mv,
         verdict,
     };
-    add(book, entry);
+    add(book, &entry);
     take_in(inst, topo, book, &plan.mv, &plan.weighed, &verdict);
     keep_best(book);
     Reply::Recorded { at, verdict }
@@ -86,11 +87,12 @@ fn judge_now(
 }
 
 /// Adds an entry at the end, which its worker has made.
-fn add(book: &mut Book, entry: Entry)
+fn add(book: &mut Book, entry: &Entry)
     requires room { length book.old.entries.items < book.old.entries.room }
-    requires there { entry.worker < length book.old.made }
-    requires few { slice_index book.old.made entry.worker < 2 ^ 63 }
-    ensures { IsAdded book.old book.new entry }
+    requires small { IsSmall entry.now }
+    requires there { entry.now.worker < length book.old.made }
+    requires few { slice_index book.old.made entry.now.worker < 2 ^ 63 }
+    ensures { IsAdded book.old book.new entry.now }
 {
     let place = entry.worker as usize;
     let made = book.made[place];

@@ -5,36 +5,38 @@ ghost use Rattle.ra_model.specs.Costs.{parts_of};
 ghost use Rattle.ra_topology.specs.Fits.{IsTopologyOf};
 ghost use Rattle.ra_journal.specs.Best.{best_of};
 ghost use Rattle.ra_journal.specs.States.{state};
-ghost use Rattle.ra_prepared.specs.Ready.{IsOver, IsFor, IsAtStart};
+ghost use Rattle.ra_check.specs.Made.{IsMadeFor};
+ghost use Rattle.ra_prepared.specs.Ready.{IsFor};
 ghost use Rattle.ra_prepared.specs.Runs.{IsRun};
 
 use crate::solved::Solved;
-use ra_base::{Assignment, NoMemory, Parts, Steps};
+use ra_base::{Assignment, Fixed, NoMemory, Parts};
+use ra_check::{Scratch, parts};
 use ra_crew::Crew;
 use ra_draws::Lots;
 use ra_io::Gate;
 use ra_journal::Journal;
 use ra_model::Instance;
 use ra_topology::Topology;
-use ra_worker::replay;
-use ra_world::World;
+use ra_worker::restore;
 use std::alloc::Global;
-use std::marker::{Brand, Sync};
+use std::marker::Sync;
 use std::sync::Wait;
-use std::sync::ledger::{Blank, Ledger};
 use std::thread::Threads;
 
-/// All that a run of 1 to 16 workers needs: the workers with the journal that they share, and a world for the best state.
-/// Only `make` takes memory.
+/// All that a run of 1 to 16 workers needs: the workers with the journal that they share, an assignment that becomes the
+/// best state, and tables in which the parts of its cost are summed. Only `make` takes memory.
 #[derive(Drop)]
 pub struct Prepared<'a> {
     inst: &'a Instance,
     a0: &'a Assignment,
     lots: &'a Lots,
     crew: Crew<'a>,
-    world: World<'a>,
+    best: Assignment,
+    scratch: Scratch,
     pub ghost opened: { IsFor inst.now a0.now lots.now crew },
-    pub ghost ready: { IsAtStart inst.now a0.now world },
+    pub ghost ready: { best.items ≡ a0.now.items },
+    pub ghost made: { IsMadeFor scratch inst.now.tables },
 }
 
 impl<'a> Prepared<'a> {
@@ -57,13 +59,15 @@ impl<'a> Prepared<'a> {
         ensures lots { IfOk result (λ prepared. prepared.lots.now ≡ lots.now) }
     {
         let crew = Crew::make(alloc, inst, topo, a0, start, lots)?;
-        let world = World::make(alloc, inst, topo, a0, start)?;
+        let best = copy_of(alloc, a0)?;
+        let scratch = Scratch::make(alloc, inst)?;
         Ok(Prepared {
             inst,
             a0,
             lots,
             crew,
-            world,
+            best,
+            scratch,
         })
     }
 
@@ -74,29 +78,49 @@ impl<'a> Prepared<'a> {
             self.entry.lots.now result }
     {
         let Prepared {
+            a0,
             crew,
-            mut world,
+            mut best,
+            mut scratch,
             ..
         } = self;
         let journal = crew.run(rt, gate);
-        bring_to_best::<Brand>(&journal, &mut world, Blank::new(1));
-        Solved { journal, world }
+        let parts = bring_to_best(&journal, a0, &mut best, &mut scratch);
+        Solved {
+            journal,
+            best,
+            parts,
+        }
     }
 }
 
-/// Brings a world from the initial assignment of a journal to the first of its states of least cost.
-fn bring_to_best<'a, L: Ledger>(journal: &Journal<'a>, world: &mut World<'a>, blank: Blank)
-    requires name { blank.name ≡ L.name }
-    requires parts { blank.parts ≡ L.parts }
-    requires some { 0 < blank.parts }
-    requires over { IsOver journal.now world.old }
-    requires at_start { world.old.kept.assignment.items ≡ journal.now.a0.now.items }
-    ensures over { IsOver journal.now world.new }
-    ensures best { world.new.kept.assignment.items ≡
+/// Brings the initial assignment of a journal to the first of its states of least cost, and gives the parts of that.
+fn bring_to_best(
+    journal: &Journal<'_>,
+    a0: &Assignment,
+    best: &mut Assignment,
+    scratch: &mut Scratch,
+) -> Parts
+    requires initial { a0.now ≡ journal.now.a0.now }
+    requires at_start { best.old.items ≡ journal.now.a0.now.items }
+    requires made { IsMadeFor scratch.old journal.now.inst.now.tables }
+    ensures best { best.new.items ≡
         state journal.now.a0.now.items journal.now.book.entries.items
         (best_of journal.now.inst.now.tables journal.now.a0.now.items
         journal.now.book.entries.items) }
+    ensures parts { result ≡
+        parts_of journal.now.inst.now.tables journal.now.a0.now.items best.new.items }
+    ensures made { IsMadeFor scratch.new journal.now.inst.now.tables }
 {
-    let mut steps = Steps::<L>::make(blank);
-    replay(journal, journal.best_at(), world, &mut steps);
+    restore(journal, journal.best_at(), best);
+    parts(journal.instance(), a0, best, scratch)
+}
+
+/// A copy of an assignment.
+fn copy_of(alloc: Global, a: &Assignment) -> Result<Assignment, NoMemory>
+    ensures { IfOk result (λ copy. copy.items ≡ a.now.items) }
+{
+    let mut copy = Fixed::make(alloc, a.len())?;
+    copy.extend_from_slice(a.as_slice());
+    Ok(copy)
 }

@@ -1,17 +1,16 @@
 ghost use Rattle.std.specs.Prelude.{◌≡◌};
 ghost use Rattle.ra_model.specs.Costs.{parts_of};
-ghost use Rattle.ra_prepared.specs.Ready.{IsOver};
 
 use ra_base::{Assignment, Parts};
 use ra_journal::Journal;
-use ra_world::World;
 
 /// A run that has ended: its journal, and the first of its states of least cost.
 #[derive(Drop)]
 pub struct Solved<'a> {
     pub(crate) journal: Journal<'a>,
-    pub(crate) world: World<'a>,
-    pub ghost same: { IsOver journal world },
+    pub(crate) best: Assignment,
+    pub(crate) parts: Parts,
+    pub ghost told: { parts ≡ parts_of journal.inst.now.tables journal.a0.now.items best.items },
 }
 
 impl<'a> Solved<'a> {
@@ -24,16 +23,16 @@ impl<'a> Solved<'a> {
 
     /// The best state.
     pub fn best(&self) -> &Assignment
-        ensures { result.now ≡ self.now.world.kept.assignment }
+        ensures { result.now ≡ self.now.best }
     {
-        self.world.assignment()
+        &self.best
     }
 
     /// The parts of its cost.
     pub fn parts(&self) -> Parts
         ensures { result ≡ parts_of self.now.journal.inst.now.tables self.now.journal.a0.now.items
-            self.now.world.kept.assignment.items }
+            self.now.best.items }
     {
-        self.world.parts()
+        self.parts
     }
 }

@@ -1,6 +1,6 @@
 -- The lines of a journal tell it, and a report tells the lines of its journal.
 use Rattle.std.proofs.Common.{◌≡◌, ℕ, zero, suc, ◌+◌, ◌<◌, ⊎_elim, List, [], ◌++◌, length, get_or, Option, refl, sym, ◌∙◌, ap, arith, append_assoc, length-append, subst, add-one, eq-or-lt_of_le, le_of_suc-le-suc}
-use Rattle.std.proofs.lemmas.List.{append-nil, ext_get_or, get_or_default}
+use Rattle.std.proofs.lemmas.List.{append-nil, ext_get_or}
 use Rattle.ra_journal.specs.declared.entries.Entry.{Entry}
 use Rattle.ra_journal.specs.Entries.{entry_at}
 use Rattle.ra_report.specs.JournalTexts.{entry_line, entries_text, IsJournalOf}
@@ -92,7 +92,3 @@ pub adds_line : {O : Type 0} (taken : O → Option (List ℕ)) (faults : O → �
     → Adds taken faults a b (entries_text h n) → Adds taken faults b c (entry_line n (entry_at h n)) → Adds taken faults a c (entries_text h (n + 1))
 unfolding entries_text
 adds_line taken faults h n a b c first next = rw add-one (adds_more taken faults a b c (entries_text h n) (entry_line n (entry_at h n)) first next)
-
-pub entry_read : (h : List Entry) (n : ℕ) (e : Entry) → n < length h → e ≡ get_or h n e → entry_at h n ≡ e
-unfolding entry_at
-entry_read h n e within read = get_or_default h n _ e within ∙ sym read

@@ -7,16 +7,17 @@ use crate::gathered::Gathered;
 use crate::pieces::{Piece, add_decimal, add_marked, add_pieces};
 use crate::texts::add_cause;
 use ra_io::Sink;
-use ra_journal::Entry;
+use ra_journal::{Entries, Entry};
 use ra_moves::{Move, MoveKind, Step, Verdict};
 
 /// Adds a line for each entry, in order.
-pub(crate) fn add_entries<O: Sink>(text: &mut Gathered<'_, O>, entries: &[Entry])
+pub(crate) fn add_entries<O: Sink>(text: &mut Gathered<'_, O>, entries: &Entries)
     ensures { Adds O.taken O.faults text.old text.new
-        (entries_text entries.now (length entries.now)) }
+        (entries_text entries.now.items (length entries.now.items)) }
 {
     for place in 0..entries.len() {
-        add_entry(text, place as u64, &entries[place]);
+        let entry = entries.get(place);
+        add_entry(text, place as u64, &entry);
     }
 }
 

@@ -10,7 +10,7 @@ use crate::texts::add_parts;
 use ra_base::{Assignment, Drawing, Machine, Parts};
 use ra_bounds::Bound;
 use ra_io::Sink;
-use ra_journal::Entry;
+use ra_journal::Entries;
 
 /// Adds the report of a run: the parts of the best assignment, the total of the bound, the place of the best
 /// assignment, the assignment itself, the drawing, and a line for each entry of the journal.
@@ -21,10 +21,11 @@ pub(crate) fn add_report<O: Sink>(
     bound: &Bound,
     best_at: u64,
     drawing: Drawing,
-    entries: &[Entry],
+    entries: &Entries,
 )
     ensures { Adds O.taken O.faults text.old text.new
-        (report_lines parts.now bound.now.total best_at best.now.items drawing entries.now) }
+        (report_lines parts.now bound.now.total best_at best.now.items drawing
+        entries.now.items) }
 {
     add_head(text, best, parts, bound.total, best_at, drawing);
     add_entries(text, entries)

@@ -6,7 +6,7 @@ use crate::gathered::Gathered;
 use crate::solved::{add_number, add_outcome};
 use ra_base::Parts;
 use ra_io::Sink;
-use ra_journal::Entry;
+use ra_journal::Entries;
 use ra_moves::Verdict;
 
 /// Adds the summary of a run: the parts, the total of the bound, a place, and how many entries are done and refused.
@@ -15,10 +15,10 @@ pub(crate) fn add_summary<O: Sink>(
     parts: &Parts,
     bound_total: u128,
     best_at: u64,
-    entries: &[Entry],
+    entries: &Entries,
 )
     ensures { Adds O.taken O.faults text.old text.new
-        (summary_lines parts.now bound_total best_at entries.now) }
+        (summary_lines parts.now bound_total best_at entries.now.items) }
 {
     let done = count_done(entries);
     let refused = entries.len() as u64 - done;
@@ -28,13 +28,13 @@ pub(crate) fn add_summary<O: Sink>(
 }
 
 /// How many entries are done.
-fn count_done(entries: &[Entry]) -> u64
-    ensures value { result ≡ done_count entries.now }
-    ensures within { result ≤ length entries.now }
+fn count_done(entries: &Entries) -> u64
+    ensures value { result ≡ done_count entries.now.items }
+    ensures within { result ≤ length entries.now.items }
 {
     let mut done = 0;
-    for entry in entries {
-        done += one_if_done(&entry.verdict);
+    for place in 0..entries.len() {
+        done += one_if_done(&entries.get(place).verdict);
     }
     done
 }

@@ -3,7 +3,7 @@ use super::*;
 use ra_base::{Assignment, Cause, Drawing, Fixed, Machine, Parts, Process, Resource, Service};
 use ra_bounds::Bound;
 use ra_io::MemorySink;
-use ra_journal::Entry;
+use ra_journal::{Entries, Entry};
 use ra_moves::{Move, Step, Verdict};
 use std::test::Fail;
 
@@ -71,7 +71,8 @@ fn refused(k: u64, cause: Cause) -> Entry {
 
 #[test]
 fn the_report_of_the_sample(rt: HostRuntime) -> Result<(), Fail> {
-    let entries = [entry(0, Move::shift(step(1, 3, 2)), Verdict::Done { cost: 3510 })];
+    let done = entry(0, Move::shift(step(1, 3, 2)), Verdict::Done { cost: 3510 });
+    let entries = listed(&rt, &[done])?;
     let mut out = sound(&rt)?;
     let machines = best(&rt)?;
     assert_eq!(rt;
@@ -96,11 +97,12 @@ fn the_report_of_the_sample(rt: HostRuntime) -> Result<(), Fail> {
 #[test]
 fn the_summary_of_one_done_and_two_refused(rt: HostRuntime) -> Result<(), Fail> {
     let process = Process(1);
-    let entries = [
+    let three = [
         refused(0, Cause::Same { process }),
         entry(1, Move::shift(step(1, 3, 2)), Verdict::Done { cost: 3510 }),
         refused(2, Cause::Repeat { process }),
     ];
+    let entries = listed(&rt, &three)?;
     let mut out = sound(&rt)?;
     assert_eq!(rt; write_counts(&mut out, &PARTS, &BOUND, 2, &entries), Ok(()));
     assert_eq!(rt;
@@ -112,7 +114,7 @@ fn the_summary_of_one_done_and_two_refused(rt: HostRuntime) -> Result<(), Fail> 
 
 #[test]
 fn a_report_with_no_entry_has_ten_lines(rt: HostRuntime) -> Result<(), Fail> {
-    let entries: [Entry; 0] = [];
+    let entries = listed(&rt, &[])?;
     let mut out = sound(&rt)?;
     let machines: Assignment = Fixed::make(rt.alloc(), 0)?;
     assert_eq!(rt;
@@ -161,10 +163,23 @@ fn lines_of_each_kind_of_move(rt: HostRuntime) -> Result<(), Fail> {
     Ok(())
 }
 
+/// A journal's list of entries.
+fn listed(rt: &impl AllocGlobal, entries: &[Entry]) -> Result<Entries, Fail> {
+    let mut list = Entries::make(rt.alloc(), entries.len())?;
+    for entry in entries {
+        if list.len() < list.room() && entry.is_small() {
+            list.push(entry);
+        }
+    }
+    Ok(list)
+}
+
 /// Writes the lines of entries alone.
 fn journal_of(out: &mut MemorySink, entries: &[Entry]) -> Result<(), WriteFault> {
     let mut text = gathered::Gathered::make(out);
-    journal::add_entries(&mut text, entries);
+    for place in 0..entries.len() {
+        journal::add_entry(&mut text, place as u64, &entries[place]);
+    }
     text.finish()
 }
 
@@ -237,6 +252,7 @@ fn lines_of_each_cause(rt: HostRuntime) -> Result<(), Fail> {
 fn a_failed_put_ends_the_report(rt: HostRuntime) -> Result<(), Fail> {
     let mut out = sink(&rt, 28, 2)?;
     let machines = best(&rt)?;
+    let entries = listed(&rt, &all_refused())?;
     assert_eq!(rt;
         write_lines(
             &mut out,
@@ -245,7 +261,7 @@ fn a_failed_put_ends_the_report(rt: HostRuntime) -> Result<(), Fail> {
             &BOUND,
             0,
             Drawing::One,
-            &all_refused()
+            &entries
         ),
         Err(WriteFault::Put)
     );

@@ -17,7 +17,7 @@ use crate::texts::{add_cause, add_parts};
 use ra_base::{Assignment, Cause, Drawing, Parts};
 use ra_bounds::Bound;
 use ra_io::Sink;
-use ra_journal::{Entry, Journal};
+use ra_journal::{Entries, Journal};
 
 /// Writes the six lines of the parts: `cost`, `load`, `balance`, `process`, `service`, `machine`.
 pub fn write_parts<O: Sink>(sink: &mut O, parts: &Parts) -> Result<(), WriteFault>
@@ -86,13 +86,15 @@ pub(crate) fn write_lines<O: Sink>(
     bound: &Bound,
     best_at: u64,
     drawing: Drawing,
-    entries: &[Entry],
+    entries: &Entries,
 ) -> Result<(), WriteFault>
     ensures whole { OnOk result (Appends (O.taken sink.old) (O.taken sink.new)
-        (report_lines parts.now bound.now.total best_at best.now.items drawing entries.now)) }
+        (report_lines parts.now bound.now.total best_at best.now.items drawing
+        entries.now.items)) }
     ensures part { OnErr result (Breaks (O.taken sink.old) (O.taken sink.new) (O.faults sink.old)
         (O.faults sink.new)
-        (report_lines parts.now bound.now.total best_at best.now.items drawing entries.now)) }
+        (report_lines parts.now bound.now.total best_at best.now.items drawing
+        entries.now.items)) }
     ensures never_falls { O.faults sink.old ≤ O.faults sink.new }
 {
     let mut text = Gathered::make(sink);
@@ -197,12 +199,12 @@ pub(crate) fn write_counts<O: Sink>(
     parts: &Parts,
     bound: &Bound,
     best_at: u64,
-    entries: &[Entry],
+    entries: &Entries,
 ) -> Result<(), WriteFault>
     ensures whole { OnOk result (Appends (O.taken sink.old) (O.taken sink.new)
-        (summary_lines parts.now bound.now.total best_at entries.now)) }
+        (summary_lines parts.now bound.now.total best_at entries.now.items)) }
     ensures part { OnErr result (Breaks (O.taken sink.old) (O.taken sink.new) (O.faults sink.old)
-        (O.faults sink.new) (summary_lines parts.now bound.now.total best_at entries.now)) }
+        (O.faults sink.new) (summary_lines parts.now bound.now.total best_at entries.now.items)) }
     ensures never_falls { O.faults sink.old ≤ O.faults sink.new }
 {
     let mut text = Gathered::make(sink);

@@ -47,7 +47,7 @@ run_told i a0 l run way is start text = record {
 }
 
 -- what the report asks for is what is known of a run
-pub best_told : (i : Tables) (a0 : List Machine) (l : Lots) (run : Run) → IsRun i a0 l run → run.world.kept.assignment.items ≡ best_state run.journal
+pub best_told : (i : Tables) (a0 : List Machine) (l : Lots) (run : Run) → IsRun i a0 l run → run.best.items ≡ best_state run.journal
 unfolding best_state
 best_told i a0 l run is = is.best ∙ rw (sym is.instance, sym is.initial) refl
 

@@ -3,9 +3,9 @@ ghost use Rattle.std.specs.Io.KnownBytes.{Appends};
 ghost use Rattle.std.specs.Option.{option_copied};
 ghost use Rattle.ra_io.specs.Faults.{Rose};
 ghost use Rattle.ra_bounds.specs.PinnedBounds.{pinned_bound_of};
-ghost use Rattle.ra_check.specs.Made.{IsMadeFor};
 ghost use Rattle.ra_model.specs.Assignments.{IsAssignment};
 ghost use Rattle.ra_model.specs.Broken.{first_broken};
+ghost use Rattle.ra_model.specs.Costs.{parts_of};
 ghost use Rattle.ra_model.specs.Feasible.{Feasible};
 ghost use Rattle.ra_topology.specs.Fits.{IsTopologyOf};
 ghost use Rattle.ra_report.specs.JournalTexts.{best_state, text_of};
@@ -25,9 +25,9 @@ use crate::reading::read_instance;
 use crate::refusals::{JobFiles, Refusal};
 use crate::refusing::finish;
 use crate::status::Status;
-use ra_base::{Assignment, Name};
+use ra_base::{Assignment, Name, Parts};
 use ra_bounds::Bound;
-use ra_check::{Scratch, parts};
+use ra_check::parts;
 use ra_draws::Lots;
 use ra_io::{Files, Gate, Sink};
 use ra_model::Instance;
@@ -178,26 +178,18 @@ fn run_from<R: Threads + Wait + Sync, O: Sink, G: Gate>(
     ensures out_never_falls { O.faults out.old ≤ O.faults out.new }
 {
     let mut scratch = judge_start(alloc, inst, initial)?;
+    let start = parts(inst, initial, initial, &mut scratch);
+    drop(scratch);
     let Ok(topo) = Topology::make(alloc, inst) else {
         return Err(Refusal::Memory);
     };
-    let ended = run_over(
-        rt,
-        alloc,
-        inst,
-        &topo,
-        initial,
-        lots,
-        &mut scratch,
-        out,
-        gate,
-    );
+    let ended = run_over(rt, alloc, inst, &topo, initial, lots, start, out, gate);
     drop(topo);
     ended
 }
 
-/// The run and its report, over the topology of the instance. The bound is made before the memory of the run is taken, so
-/// that after it only writing can refuse.
+/// The run and its report, over the topology of the instance. The start has these parts. The bound is made before the memory
+/// of the run is taken, so that after it only writing can refuse.
 fn run_over<R: Threads + Wait + Sync, O: Sink, G: Gate>(
     rt: &R,
     alloc: Global,
@@ -205,7 +197,7 @@ fn run_over<R: Threads + Wait + Sync, O: Sink, G: Gate>(
     topo: &Topology,
     initial: &Assignment,
     lots: &Lots,
-    scratch: &mut Scratch,
+    start: Parts,
     out: &mut O,
     gate: &G,
 ) -> Result<(), Refusal>
@@ -213,7 +205,7 @@ fn run_over<R: Threads + Wait + Sync, O: Sink, G: Gate>(
     requires feasible { Feasible inst.now.tables initial.now.items initial.now.items }
     requires unbroken { first_broken inst.now.tables initial.now.items initial.now.items ≡ None }
     requires topology { IsTopologyOf topo.now inst.now.tables }
-    requires made { IsMadeFor scratch.old inst.now.tables }
+    requires parts { start ≡ parts_of inst.now.tables initial.now.items initial.now.items }
     ensures printed { OnOk result (IsReported inst.now.tables initial.now.items lots.now
         (Appends (O.taken out.old) (O.taken out.new))) }
     ensures refused { IfErr result (RunSays inst.now.tables initial.now.items
@@ -225,7 +217,6 @@ fn run_over<R: Threads + Wait + Sync, O: Sink, G: Gate>(
     let Ok(bound) = bound_from(alloc, inst, initial) else {
         return Err(Refusal::Memory);
     };
-    let start = parts(inst, initial, initial, scratch);
     let Ok(prepared) = Prepared::make(alloc, inst, topo, initial, start, lots) else {
         return Err(Refusal::Memory);
     };
@@ -242,7 +233,7 @@ fn run_over<R: Threads + Wait + Sync, O: Sink, G: Gate>(
 fn report<O: Sink>(out: &mut O, bound: &Bound, run: &Run<'_>) -> Result<(), WriteFault>
     requires bound { bound.now ≡ pinned_bound_of run.now.journal.inst.now.tables
         run.now.journal.a0.now.items }
-    requires best { run.now.world.kept.assignment.items ≡ best_state run.now.journal }
+    requires best { run.now.best.items ≡ best_state run.now.journal }
     ensures whole { OnOk result (Appends (O.taken out.old) (O.taken out.new)
         (text_of run.now.journal)) }
     ensures part { OnErr result (Breaks (O.taken out.old) (O.taken out.new) (O.faults out.old)

@@ -238,10 +238,10 @@ fn summarize<O: Sink>(
     run: &Run<'_>,
 ) -> Result<(), WriteFault>
     requires parts { best.now ≡ parts_of run.now.journal.inst.now.tables
-        run.now.journal.a0.now.items run.now.world.kept.assignment.items }
+        run.now.journal.a0.now.items run.now.best.items }
     requires bound { bound.now ≡ pinned_bound_of run.now.journal.inst.now.tables
         run.now.journal.a0.now.items }
-    requires best { run.now.world.kept.assignment.items ≡ best_state run.now.journal }
+    requires best { run.now.best.items ≡ best_state run.now.journal }
     ensures whole { OnOk result (Appends (O.taken out.old) (O.taken out.new)
         (summary_of run.now.journal)) }
     ensures part { OnErr result (Breaks (O.taken out.old) (O.taken out.new) (O.faults out.old)

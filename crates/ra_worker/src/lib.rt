@@ -10,6 +10,7 @@ mod playing;
 mod proposals;
 mod replaying;
 mod replica;
+mod restoring;
 mod rounds;
 mod turns;
 
@@ -18,5 +19,6 @@ pub use events::{CoreEvent, CoreReply};
 pub use playing::{are_named, play};
 pub use replaying::replay;
 pub use replica::Replica;
+pub use restoring::restore;
 pub use rounds::round_robin;
 pub use turns::take_turn_at;

@@ -4,15 +4,15 @@ ghost use Rattle.ra_model.specs.Assignments.{IsAssignment};
 ghost use Rattle.ra_model.specs.Broken.{first_broken};
 ghost use Rattle.ra_model.specs.Costs.{parts_of};
 
-use ra_base::{Assignment, Fixed, Parts};
+use ra_base::{Assignment, Fixed, NoMemory, Parts};
 use ra_check::{Scratch, first_broken, parts};
 use ra_draws::Lots;
 use ra_io::Gate;
-use ra_journal::Entry;
+use ra_journal::{Entry, Journal};
 use ra_legal::first_illegal;
 use ra_model::Instance;
 use ra_prepared::{Prepared, Solved};
-use ra_samples::{assignment, list};
+use ra_samples::assignment;
 use ra_topology::Topology;
 use ra_words::{Job, read_words};
 use std::alloc::{AllocError, Global};
@@ -62,6 +62,17 @@ fn start_parts(rt: &impl Abort, alloc: Global, inst: &Instance, a0: &Assignment)
     parts(inst, a0, a0, &mut scratch)
 }
 
+/// The entries of a journal.
+fn entries_of(alloc: Global, journal: &Journal<'_>) -> Result<Fixed<Entry>, NoMemory> {
+    let mut entries = Fixed::make(alloc, journal.len() as usize)?;
+    for at in 0..journal.len() {
+        if entries.len() < entries.room() {
+            entries.push(journal.entry(at));
+        }
+    }
+    Ok(entries)
+}
+
 /// What is told of a run that has ended.
 fn tell(
     rt: &impl Abort,
@@ -74,8 +85,8 @@ fn tell(
     requires { IsAssignment inst.now.tables a0.now.items }
 {
     let journal = run.journal();
-    let entries = list(alloc, journal.entries()).expect(rt, "no memory");
-    let illegal = first_illegal(alloc, inst, a0, lots, journal.entries()).expect(rt, "no memory");
+    let entries = entries_of(alloc, journal).expect(rt, "no memory");
+    let illegal = first_illegal(alloc, inst, a0, lots, entries.as_slice()).expect(rt, "no memory");
     Made {
         entries,
         best_at: journal.best_at(),

@@ -6,11 +6,17 @@ use Rattle.ra_journal.specs.Recording.{AreChangesOf}
 use Rattle.ra_journal.specs.States.{state}
 use Rattle.ra_journal.proofs.EndLemmas.{planned_within, settling_now, next_entry_is}
 use Rattle.ra_journal.proofs.KeepingLemmas.{recorded_by, kept_more}
-use Rattle.ra_journal.proofs.RecordingLemmas.{has_room, worker_below, made_few, counts_fit, is_next}
+use Rattle.ra_journal.proofs.RecordingLemmas.{has_room, small_next, worker_below, made_few, counts_fit, is_next}
 use Rattle.ra_journal.proofs.recording.record.Goals as goal
 
 pub add-requires-clause-room : goal.add-requires-clause-room
 add-requires-clause-room c = has_room c.args.inst.now.tables c.args.a0.now.items c.args.lots.now c.args.book.now c.args.worker c.args.plan.now c.requires.kept c.requires.commit
+
+pub add-requires-clause-small : goal.add-requires-clause-small
+add-requires-clause-small c =
+    let plan = c.args.plan.now in
+    let e : Entry = record { worker = c.args.worker; k = plan.k; q = plan.q; mv = plan.mv; verdict = c.judge_now-verdict.result } in
+    small_next c.args.inst.now.tables c.args.a0.now.items c.args.lots.now c.args.book.now plan e c.requires.kept c.requires.commit refl refl
 
 pub add-requires-clause-there : goal.add-requires-clause-there
 add-requires-clause-there c = omega (arith, worker_below c.args.lots.now c.args.worker c.requires.commit.worker, c.requires.kept.made.long)

@@ -1,6 +1,7 @@
+use Rattle.std.proofs.Common.{sym}
 use Rattle.ra_report.specs.JournalTexts.{entries_text}
 use Rattle.ra_report.proofs.GatheringLemmas.{adds_none}
-use Rattle.ra_report.proofs.JournalTexts.{adds_line, entry_read}
+use Rattle.ra_report.proofs.JournalTexts.{adds_line}
 use Rattle.ra_report.proofs.journal.add_entries.Goals as goal
 
 pub loop-place-init : goal.loop-place-init
@@ -9,5 +10,5 @@ loop-place-init g c = adds_none g.O.Sink.taken g.O.Sink.faults c.args.text.now
 
 pub loop-place-preserved : goal.loop-place-preserved
 loop-place-preserved g c =
-    let read = entry_read c.args.entries.now c.loop-place.place c.index-entries-place.result c.loop-place-test.true c.index-entries-place.is in
-    adds_line g.O.Sink.taken g.O.Sink.faults c.args.entries.now c.loop-place.place c.args.text.now c.loop-place.text c.add_entry.new.text c.loop-place.invariant (rw read c.add_entry.ensures)
+    let read = sym c.get-entry.ensures in
+    adds_line g.O.Sink.taken g.O.Sink.faults c.args.entries.now.items c.loop-place.place c.args.text.now c.loop-place.text c.add_entry.new.text c.loop-place.invariant (rw read c.add_entry.ensures)

@@ -3,12 +3,12 @@ use Rattle.ra_report.specs.Summaries.{done_count}
 use Rattle.ra_report.proofs.Counts.{counted_more}
 use Rattle.ra_report.proofs.summary.count_done.Goals as goal
 
-pub loop-entry-init : goal.loop-entry-init
+pub loop-place-init : goal.loop-place-init
 unfolding done_count
-loop-entry-init c = (refl, omega arith)
+loop-place-init c = (refl, omega arith)
 
-pub loop-entry-preserved : goal.loop-entry-preserved
-loop-entry-preserved c =
+pub loop-place-preserved : goal.loop-place-preserved
+loop-place-preserved c =
     let one = c.one_if_done-done.ensures.one in
-    let before = c.loop-entry.invariant.1 in
-    (counted_more c.args.entries.now c.loop-entry.entry-index c.entry-item.result c.loop-entry.done _ c.loop-entry-test.true c.entry-item.is c.loop-entry.invariant.0 c.one_if_done-done.ensures.value, omega arith)
+    let before = c.loop-place.invariant.1 in
+    (counted_more c.args.entries.now.items c.loop-place.place c.get.result c.loop-place.done _ (omega (arith, c.loop-place-test.true, c.len-place-end.ensures.value)) c.get.ensures c.loop-place.invariant.0 c.one_if_done-done.ensures.value, omega arith)
