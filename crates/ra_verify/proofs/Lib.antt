@@ -1,0 +1,10 @@
+pub mod PlaceLemmas
+pub mod FollowLemmas
+pub mod AnswerLemmas
+pub mod ReadingLemmas
+pub mod HeadLemmas
+pub mod EntryLemmas
+pub mod CheckerLemmas
+pub mod ReportLemmas
+pub mod VerdictLemmas
+pub mod CheckLemmas

@@ -1,0 +1,8 @@
+use Rattle.std.proofs.Common.{◌≤◌, length, arith}
+use Rattle.ra_verify.proofs.FollowLemmas.{few_entries}
+use Rattle.ra_verify.proofs.entries.wrong_entry.Goals as goal
+
+pub overflow_add-result : goal.overflow_add-result
+overflow_add-result c =
+    let j = c.args.checker.now.journal in
+    record { fits = omega (arith, c.len.ensures, few_entries j.inst.now.tables j.a0.now.items j.lots.now j.book.entries.items j.kept.legal) }

@@ -1,0 +1,5 @@
+use Rattle.ra_verify.proofs.FollowLemmas.{one_next_entry}
+use Rattle.ra_verify.proofs.laws.one_next_entry.Goals as goal
+
+pub returns : goal.returns
+returns c = one_next_entry

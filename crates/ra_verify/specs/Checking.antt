@@ -1,0 +1,74 @@
+-- A journal that is built from the lines of a report, with a replica for each worker.
+use Rattle.std.specs.Prelude.{◌≡◌, ℕ, ◌<◌, ◌≤◌, Bool, true, false, List, [], ◌∷◌, ◌++◌, length}
+use Rattle.ra_base.specs.declared.ids.Machine.{Machine}
+use Rattle.ra_draws.specs.declared.budgets.Lots.{Lots}
+use Rattle.ra_model.specs.declared.raw.Tables.{Tables}
+use Rattle.ra_journal.specs.declared.entries.Entry.{Entry}
+use Rattle.ra_journal.specs.declared.replies.Reply.TheVariants.{Recorded, Stale}
+use Rattle.ra_journal.specs.Entries.{entry_at, worker_count}
+use Rattle.ra_journal.specs.Legal.{Legal}
+use Rattle.ra_report.specs.JournalTexts.{entry_line}
+use Rattle.ra_worker.specs.declared.events.CoreReply.{CoreReply}
+use Rattle.ra_worker.specs.declared.events.CoreReply.TheVariants.{Took, Answer, Skipped}
+use Rattle.ra_worker.specs.Core.{Core, place_of}
+use Rattle.ra_worker.specs.Replicas.{core_of}
+use Rattle.ra_verify.specs.declared.checker.Checker.{Checker}
+
+-- place q is behind all entries of worker w
+pub record IsBehind (h : List Entry) (w q : ℕ) : Type 0 where
+  pub seen : (j : ℕ) → j < length h → (entry_at h j).worker ≡ w → j < q
+
+-- no replica stands past a place at which its worker may have planned its next proposal
+pub record NoneIsPast (l : Lots) (h : List Entry) (c : Core) : Type 0 where
+  pub each : (w q : ℕ) → w < worker_count l → IsBehind h w q → place_of c w ≤ q
+
+-- the entries of a checker, and its core
+abbrev pub entries_in : Checker → List Entry
+entries_in c = c.journal.book.entries.items
+
+abbrev pub core_in : Checker → Core
+core_in c = core_of c.journal.book.entries.items c.replicas.items
+
+-- a checker can take entries in
+abbrev pub IsOpen : Checker → Type 0
+IsOpen c = NoneIsPast c.journal.lots.now (entries_in c) (core_in c)
+
+-- entry e may follow the entries of a checker
+abbrev pub MayFollow : Checker → Entry → Type 0
+MayFollow c e = Legal c.journal.inst.now.tables c.journal.a0.now.items c.journal.lots.now (entries_in c ++ e ∷ [])
+
+-- a checker has taken in an entry that may follow, and can take in the next
+pub record HasTaken (before after : Checker) (e : Entry) : Type 0 where
+  pub entries : entries_in after ≡ entries_in before ++ e ∷ []
+  pub legal : MayFollow before e
+  pub ready : IsOpen after
+
+-- it has taken in some entry
+pub record HasMore (before after : Checker) : Type 0 where
+  pub entry : Entry
+  pub taken : HasTaken before after entry
+
+-- a checker is of the same instance, initial assignment and lots as another
+pub record IsSameRun (before after : Checker) : Type 0 where
+  pub instance : after.journal.inst.now ≡ before.journal.inst.now
+  pub initial : after.journal.a0.now ≡ before.journal.a0.now
+  pub lots : after.journal.lots.now ≡ before.journal.lots.now
+
+-- it has taken in an entry whose line this is
+pub record HasTakenLine (before after : Checker) (line : List ℕ) : Type 0 where
+  pub entry : Entry
+  pub taken : HasTaken before after entry
+  pub text : line ≡ entry_line (length (entries_in before)) entry
+
+-- a worker exists, and a place is one of the journal that its replica hasn't passed
+pub record MayStand (c : Checker) (w q : ℕ) : Type 0 where
+  pub worker : w < worker_count c.journal.lots.now
+  pub place : q ≤ length (entries_in c)
+  pub ahead : place_of (core_in c) w ≤ q
+
+-- a proposal was recorded
+unfoldable pub is_recorded : CoreReply → Bool
+is_recorded (Took count) = false
+is_recorded (Answer (Recorded at verdict)) = true
+is_recorded (Answer (Stale guard at)) = false
+is_recorded Skipped = false

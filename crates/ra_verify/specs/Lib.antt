@@ -1,0 +1,5 @@
+pub mod WrongLines
+pub mod Laws
+pub mod Checking
+pub mod Judging
+pub mod Reading

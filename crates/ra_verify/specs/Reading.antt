@@ -1,0 +1,39 @@
+-- How far a report was read.
+use Rattle.std.specs.Prelude.{◌≡◌, ◌≢◌, ℕ, ◌+◌, ◌<◌, ◌≤◌, List, [], ◌∷◌, ◌++◌, length, take, drop, Option, Some, None}
+use Rattle.ra_base.specs.declared.ids.Machine.{Machine}
+use Rattle.ra_draws.specs.declared.budgets.Lots.{Lots}
+use Rattle.ra_model.specs.declared.raw.Tables.{Tables}
+use Rattle.ra_lines.specs.Lines.{lines_of, line_at}
+use Rattle.ra_journal.specs.declared.entries.Entry.{Entry}
+use Rattle.ra_journal.specs.Legal.{Legal}
+use Rattle.ra_report.specs.JournalTexts.{entry_line}
+use Rattle.ra_verify.specs.WrongLines.{over_long, AreRight}
+
+-- the bytes up to a place are the first n lines
+pub record AreLines (bytes : List ℕ) (place n : ℕ) : Type 0 where
+  pub lines : lines_of bytes ≡ lines_of (take place bytes) ++ lines_of (drop place bytes)
+  pub number : length (lines_of (take place bytes)) ≡ n
+
+-- they are the first ten, or all where there are fewer
+pub record AreFirst (bytes : List ℕ) (place n : ℕ) : Type 0 where
+  pub given : AreLines bytes place n
+  pub few : n ≤ 10
+  pub all : n < 10 → drop place bytes ≡ []
+
+-- these are their bytes, and none of the first ten lines is over long
+pub record IsHead (bytes : List ℕ) (place n : ℕ) (head : List ℕ) : Type 0 where
+  pub first : AreFirst bytes place n
+  pub text : head ≡ take place bytes
+  pub short : (k : ℕ) → k < 10 → over_long bytes k ≡ None
+
+-- the bytes up to a place are the head and the lines of the entries of a legal journal
+pub record AreRead (i : Tables) (a0 : List Machine) (l : Lots) (bytes : List ℕ) (place : ℕ) (h : List Entry) : Type 0 where
+  pub given : AreLines bytes place (10 + length h)
+  pub right : AreRight i a0 l bytes h
+
+-- behind the lines of a journal's entries, line n is there and is the line of no entry that may follow
+pub record IsWrongNext (i : Tables) (a0 : List Machine) (l : Lots) (bytes : List ℕ) (h : List Entry) (n : ℕ) : Type 0 where
+  pub right : AreRight i a0 l bytes h
+  pub there : 10 + length h < length (lines_of bytes)
+  pub wrong : (e : Entry) → Legal i a0 l (h ++ e ∷ []) → line_at (10 + length h) bytes ≢ Some (entry_line (length h) e)
+  pub number : n ≡ 11 + length h

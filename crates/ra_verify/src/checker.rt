@@ -1,0 +1,15 @@
+ghost use Rattle.std.specs.Prelude.{◌≡◌};
+ghost use Rattle.ra_worker.specs.Replicas.{AreAt};
+
+use ra_journal::Journal;
+use ra_worker::Replica;
+
+/// The entries of a report so far, as a journal, and a replica for each worker, which goes forward to each place at which
+/// a plan of the worker was made. Its memory is taken when it is made.
+#[derive(Drop)]
+pub(crate) struct Checker<'a> {
+    pub(crate) journal: Journal<'a>,
+    pub(crate) replicas: Vec<Replica<'a>>,
+    pub ghost at: { AreAt journal.inst.now.tables journal.a0.now.items journal.lots.now
+        journal.book.entries.items replicas.items },
+}

@@ -1,0 +1,17 @@
+//! Laws of reports: each function does nothing, and its contract is a law that was proved.
+ghost use Rattle.ra_verify.specs.Laws.{OneNextEntry, OneFirstWrong, NoneWrongIsReport};
+
+/// The entries so far, the worker and the place of a plan tell the one entry that may follow.
+pub fn one_next_entry()
+    ensures { OneNextEntry }
+{}
+
+/// Bytes have one first wrong line, or none.
+pub fn one_first_wrong()
+    ensures { OneFirstWrong }
+{}
+
+/// Bytes of which no line is wrong are the report of a legal whole journal.
+pub fn none_wrong_is_report()
+    ensures { NoneWrongIsReport }
+{}

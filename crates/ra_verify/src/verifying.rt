@@ -1,0 +1,74 @@
+ghost use Rattle.std.specs.Prelude.{◌≡◌, ◌≤◌, ℕ, List, None, Some, Err, IfSome, IfOk};
+ghost use Rattle.ra_io.specs.Faults.{Rose};
+ghost use Rattle.ra_model.specs.Assignments.{IsAssignment};
+ghost use Rattle.ra_model.specs.Broken.{first_broken};
+ghost use Rattle.ra_model.specs.Costs.{parts_of};
+ghost use Rattle.ra_topology.specs.Fits.{IsTopologyOf};
+ghost use Rattle.ra_verify.specs.WrongLines.{IsFirstWrong, IsReport};
+ghost use Rattle.ra_verify.specs.declared.faults.VerifyFault.TheVariants as fault;
+
+use crate::checker::Checker;
+use crate::checking::check;
+use crate::faults::VerifyFault;
+use crate::head::HEAD_BYTES;
+use ra_base::{Assignment, Fixed, Parts};
+use ra_draws::Lots;
+use ra_io::Files;
+use ra_lines::LineReader;
+use ra_model::Instance;
+use ra_report::LONGEST_LINE;
+use ra_topology::Topology;
+use ra_world::World;
+use std::alloc::Global;
+
+/// Checks the report `name` of a run with these lots from an initial assignment that is feasible, whose cost has these
+/// parts: whether it is the report of a legal whole journal, byte by byte. The answer is the number of its entries. All
+/// memory is taken before the first byte is read.
+///
+/// # Errors
+///
+/// `Wrong` tells the first wrong line; `ReadFault` comes only where the count of faults of the file rose.
+pub fn verify<'a, F: Files>(
+    alloc: Global,
+    files: &mut F,
+    name: &str,
+    inst: &'a Instance,
+    topo: &'a Topology,
+    a0: &'a Assignment,
+    start: Parts,
+    lots: &'a Lots,
+) -> Result<u64, VerifyFault>
+    requires fits { IsAssignment inst.now.tables a0.now.items }
+    requires topology { IsTopologyOf topo.now inst.now.tables }
+    requires unbroken { first_broken inst.now.tables a0.now.items a0.now.items ≡ None }
+    requires parts { start ≡ parts_of inst.now.tables a0.now.items a0.now.items }
+
+    // Where the bytes of the report are told: it is accepted where no line is wrong, and it is the report of a legal whole
+    // journal with so many entries; and else the first wrong line is told.
+    ensures none_wrong { IfSome (F.held files.old name.now) (λ bytes. IfOk result (λ n.
+        IsFirstWrong inst.now.tables a0.now.items lots.now bytes None)) }
+    ensures report { IfSome (F.held files.old name.now) (λ bytes. IfOk result (λ n.
+        IsReport inst.now.tables a0.now.items lots.now bytes n)) }
+    ensures wrong { IfSome (F.held files.old name.now) (λ bytes. (n : ℕ)
+        → result ≡ Err (fault.Wrong n) →
+        IsFirstWrong inst.now.tables a0.now.items lots.now bytes (Some n)) }
+
+    ensures fault { result ≡ Err fault.ReadFault →
+        Rose (F.faults files.old name.now) (F.faults files.new name.now) }
+    ensures kept { (other : List ℕ) → F.held files.new other ≡ F.held files.old other }
+    ensures never_fall { (other : List ℕ) → F.faults files.old other ≤ F.faults files.new other }
+{
+    let mut checker = Checker::make(alloc, inst, topo, a0, start, lots)?;
+    let mut world = World::make(alloc, inst, topo, a0, start)?;
+    let mut reader = LineReader::make(alloc, name)?;
+    let mut head = Fixed::make(alloc, HEAD_BYTES)?;
+    let mut line = Fixed::make(alloc, LONGEST_LINE)?;
+    check(
+        files,
+        &mut reader,
+        &mut head,
+        &mut line,
+        &mut checker,
+        &mut world,
+    )
+}
