@@ -41,13 +41,14 @@ impl Model for Pins {
 }
 
 impl Pins {
-    /// Finds the pinned processes. A process is pinned where it is blocked from every other machine: the machine is
-    /// closed, or the pinned processes that start there leave too little of some resource, or all that start there leave
-    /// too little of some transient resource, or a pinned process of the same service starts there. So one that is pinned
-    /// may pin others, round after round. With one machine every process is pinned.
+    /// Finds the pinned processes. A process is pinned where it is blocked from every other machine:
+    /// the machine is closed, or the pinned processes that start there leave too little of some
+    /// resource, or all that start there leave too little of some transient resource, or a pinned
+    /// process of the same service starts there. So one that is pinned may pin others, round after
+    /// round. With one machine every process is pinned.
     ///
-    /// The start needn't be feasible. Each process keeps one machine from which it isn't blocked, and looks further only
-    /// when a process that starts there was pinned.
+    /// The start needn't be feasible. Each process keeps one machine from which it isn't blocked, and
+    /// looks further only when a process that starts there was pinned.
     pub fn make(alloc: Global, inst: &Instance, a0: &Assignment) -> Result<Pins, NoMemory>
         requires fits { IsAssignment inst.now.tables a0.now.items }
         ensures { IfOk result (λ pins. ArePins pins inst.now.tables a0.now.items) }
