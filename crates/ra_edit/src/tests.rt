@@ -70,8 +70,14 @@ fn edits_of_the_sample(rt: HostRuntime) {
     let cost = draft.parts().total;
     let edited = draft.finish(alloc).expect(&rt, "no memory");
     assert_eq!(rt; cost, 5510);
-    assert_eq!(rt; edited.initial.as_slice(), [Machine(1), Machine(3), Machine(0)].as_slice());
-    assert_eq!(rt; edited.current.as_slice(), [Machine(1), Machine(2), Machine(0)].as_slice());
+    assert_eq!(rt;
+        edited.initial.as_slice(),
+        [Machine(1), Machine(3), Machine(0)].as_slice()
+    );
+    assert_eq!(rt;
+        edited.current.as_slice(),
+        [Machine(1), Machine(2), Machine(0)].as_slice()
+    );
     assert_eq!(rt; edited.instance.processes(), 3);
     drop(edited);
 }
