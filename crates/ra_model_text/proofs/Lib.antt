@@ -1,0 +1,4 @@
+pub mod Telling
+pub mod SmallNumbers
+pub mod Counts
+pub mod Meaning
