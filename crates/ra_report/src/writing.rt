@@ -17,7 +17,7 @@ use crate::texts::{add_cause, add_parts};
 use ra_base::{Assignment, Cause, Drawing, Parts};
 use ra_bounds::Bound;
 use ra_io::Sink;
-use ra_journal::{Entries, Journal};
+use ra_journal::{Entries, Entry, Journal};
 
 /// Writes the six lines of the parts: `cost`, `load`, `balance`, `process`, `service`, `machine`.
 pub fn write_parts<O: Sink>(sink: &mut O, parts: &Parts) -> Result<(), WriteFault>
