@@ -10,7 +10,7 @@ use Rattle.ra_model_read.specs.declared.faults.Field.TheVariants as field
 use Rattle.ra_model_read.specs.declared.faults.ModelFault.{ModelFault}
 use Rattle.ra_model_read.specs.declared.faults.ModelFault.TheVariants as model
 use Rattle.ra_report.specs.declared.faults.Fault.{Fault}
-use Rattle.ra_report.specs.declared.faults.Fault.TheVariants.{Usage, Read, Model, Closed, Assign, Infeasible, Wrong, Write, Memory}
+use Rattle.ra_report.specs.declared.faults.Fault.TheVariants.{Usage, Read, Model, Closed, Assign, Infeasible, Unrepaired, Wrong, Write, Memory}
 use Rattle.ra_report.specs.Pieces.{joined}
 use Rattle.ra_report.specs.Texts.{space, line_end, number_text, cause_text}
 
@@ -113,6 +113,8 @@ infeasible_line name cause = about (codes "infeasible: ") name (cause_text cause
 
 abbrev pub wrong_line : ℕ → List ℕ
 wrong_line line = joined (codes "wrong line " ∷ number_text line ∷ line_end ∷ [])
+abbrev pub unrepaired_line : List ℕ → Cause → List ℕ
+unrepaired_line name cause = about (codes "unrepaired: ") name (cause_text cause)
 
 abbrev pub write_fault_line : List ℕ
 write_fault_line = joined (codes "write fault" ∷ line_end ∷ [])
@@ -129,6 +131,7 @@ fault_text (Closed name fault) = closed_line name.now fault
 fault_text (Assign name fault) = assign_line name.now fault
 fault_text (Infeasible name cause) = infeasible_line name.now cause
 fault_text (Wrong line) = wrong_line line
+fault_text (Unrepaired name cause) = unrepaired_line name.now cause
 fault_text Write = write_fault_line
 fault_text Memory = memory_line
 
@@ -151,5 +154,6 @@ CanBeTold Usage = Unit {0}
 CanBeTold (Read name) = Unit {0}
 CanBeTold (Infeasible name cause) = Unit {0}
 CanBeTold (Wrong line) = Unit {0}
+CanBeTold (Unrepaired name cause) = Unit {0}
 CanBeTold Write = Unit {0}
 CanBeTold Memory = Unit {0}

@@ -6,4 +6,5 @@ pub mod Numbers
 pub mod Pieces
 pub mod ReportLaws
 pub mod Summaries
+pub mod RepairTexts
 pub mod Texts

@@ -27,6 +27,8 @@ pub enum Fault<'n> {
     Infeasible { name: &'n Name, cause: Cause },
     /// A line of a report is not what the run that it tells would have written, counted from 1.
     Wrong { line: u64 },
+    /// No try made the assignment of a file feasible: the last one breaks a constraint.
+    Unrepaired { name: &'n Name, cause: Cause },
     /// Writing the output failed.
     Write,
     /// Memory was refused.
@@ -57,6 +59,7 @@ pub(crate) fn add_fault<O: Sink>(text: &mut Gathered<'_, O>, fault: &Fault<'_>)
                 Piece::Text("\n"),
             ],
         ),
+        Fault::Unrepaired { name, cause } => add_about(text, "unrepaired: ", name, &cause),
         Fault::Write => add_pieces(text, &[Piece::Text("write fault"), Piece::Text("\n")]),
         Fault::Memory => add_pieces(text, &[Piece::Text("no memory"), Piece::Text("\n")]),
     }

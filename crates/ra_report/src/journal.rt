@@ -45,7 +45,7 @@ fn add_front<O: Sink>(text: &mut Gathered<'_, O>, place: u64, entry: &Entry)
 
 /// The printed name of a kind of moves.
 #[tactic(auto, unfolding(crate::specs::JournalTexts::kind_text))]
-fn kind_name(kind: MoveKind) -> &'static str
+pub(crate) fn kind_name(kind: MoveKind) -> &'static str
     ensures { result.now ≡ kind_text kind }
 {
     match kind {
@@ -56,7 +56,7 @@ fn kind_name(kind: MoveKind) -> &'static str
 }
 
 /// Adds the steps of a move, with a space behind each.
-fn add_steps<O: Sink>(text: &mut Gathered<'_, O>, mv: &Move)
+pub(crate) fn add_steps<O: Sink>(text: &mut Gathered<'_, O>, mv: &Move)
     ensures { Adds O.taken O.faults text.old text.new (steps_text mv.now.steps) }
 {
     for i in 0..mv.steps() {

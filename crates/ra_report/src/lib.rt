@@ -11,6 +11,7 @@ mod journal;
 pub mod laws;
 mod lengths;
 mod pieces;
+mod repair;
 mod solved;
 mod summary;
 mod texts;
@@ -21,6 +22,7 @@ pub use faults::Fault;
 pub use front::{Front, read_front};
 pub use gathered::WriteFault;
 pub use lengths::{LONGEST_FRONT, LONGEST_LINE};
+pub use repair::write_repair;
 pub use writing::{
     write_accepted, write_bound, write_cause, write_entry, write_fault, write_head, write_parts,
     write_report, write_summary,

@@ -89,7 +89,7 @@ fn drawing_number(drawing: Drawing) -> u128
 }
 
 /// Adds the line of an assignment.
-fn add_assignment<O: Sink>(text: &mut Gathered<'_, O>, machines: &[Machine])
+pub(crate) fn add_assignment<O: Sink>(text: &mut Gathered<'_, O>, machines: &[Machine])
     ensures { Adds O.taken O.faults text.old text.new (assignment_line machines.now) }
 {
     add_pieces(text, &[Piece::Text("assignment")]);

@@ -13,7 +13,7 @@ use Rattle.ra_draws.specs.declared.budgets.Lots.{Lots}
 use Rattle.ra_run.specs.declared.refusals.File.{File}
 use Rattle.ra_run.specs.declared.refusals.File.TheVariants as file
 use Rattle.ra_run.specs.declared.refusals.Refusal.{Refusal}
-use Rattle.ra_run.specs.declared.refusals.Refusal.TheVariants.{Read, Model, Closed, Initial, Changed, InitialBroken, ChangedBroken, Write, Memory}
+use Rattle.ra_run.specs.declared.refusals.Refusal.TheVariants.{Read, Model, Closed, Initial, Changed, InitialBroken, ChangedBroken, Unrepaired as Repaired, Write, Memory}
 use Rattle.ra_run.specs.declared.status.Status.{Status}
 use Rattle.ra_run.specs.declared.status.Status.TheVariants.{Done, ReadFault, BadModel, BadAssignment, Infeasible, WriteFault, NoMemory, BadClosed, Unrepaired}
 use Rattle.ra_run.specs.Comes.{IsKnown, KnownTo, Comes, InfeasibleComes}
@@ -252,6 +252,7 @@ only {held} {names} {before} {now} {output} {own} {tells} {out_same} {err_same} 
 puts_nothing : (refusal : Refusal) → status_of refusal ≢ WriteFault → status_of refusal ≢ Unrepaired → puts_first refusal ≡ false
 unfolding status_of
 puts_nothing Write read done = absurd (read refl)
+puts_nothing (Repaired cause) read done = absurd (done refl)
 puts_nothing refusal read done = refl
 
 not_written : {held : Held} {names : Names} {before now : Faults} {output : Type 0} {own : Refusal → Type 0} {tells : List ℕ → Type 0} {out_same err_same : Type 0} {status : Status} → Ends held names before now output own tells out_same err_same status → status ≢ Done → status ≢ WriteFault → status ≢ Unrepaired → out_same

@@ -9,3 +9,4 @@ pub mod ComesLemmas
 pub mod TrialLemmas
 pub mod VerifyLemmas
 pub mod RunLemmas
+pub mod RepairLemmas

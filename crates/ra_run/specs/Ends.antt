@@ -1,7 +1,7 @@
 -- How a job ends.
 use Rattle.std.specs.Prelude.{◌≡◌, ◌≢◌, List, ℕ, Bool, true, false}
 use Rattle.ra_run.specs.declared.refusals.Refusal.{Refusal}
-use Rattle.ra_run.specs.declared.refusals.Refusal.TheVariants.{Write}
+use Rattle.ra_run.specs.declared.refusals.Refusal.TheVariants.{Unrepaired, Write}
 use Rattle.ra_run.specs.declared.status.Status.{Status}
 use Rattle.ra_run.specs.declared.status.Status.TheVariants.{Done}
 use Rattle.ra_run.specs.Files.{Held, Faults, Names}
@@ -11,6 +11,7 @@ use Rattle.ra_run.specs.Statuses.{status_of}
 
 -- a refusal that comes after a part of the output was put, or all of it
 abbrev pub puts_first : Refusal → Bool
+puts_first (Unrepaired cause) = true
 puts_first Write = true
 puts_first refusal = false
 

@@ -35,6 +35,8 @@ pub enum Refusal {
     ChangedBroken(Cause),
     /// This line of the report is wrong first.
     Wrong(u64),
+    /// The last list of a repair breaks a constraint.
+    Unrepaired(Cause),
     /// Writing the output failed.
     Write,
     /// Memory was refused.

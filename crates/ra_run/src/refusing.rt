@@ -54,6 +54,7 @@ fn status(refusal: Refusal) -> Status
         Refusal::InitialBroken(_) => Status::Infeasible,
         Refusal::ChangedBroken(_) => Status::Infeasible,
         Refusal::Wrong(_) => Status::Wrong,
+        Refusal::Unrepaired(_) => Status::Unrepaired,
         Refusal::Write => Status::WriteFault,
         Refusal::Memory => Status::NoMemory,
     }
@@ -103,6 +104,10 @@ fn fault<'n>(names: &JobFiles<'n>, refusal: Refusal) -> Fault<'n>
             cause,
         },
         Refusal::Wrong(line) => Fault::Wrong { line },
+        Refusal::Unrepaired(cause) => Fault::Unrepaired {
+            name: names.name(File::Initial),
+            cause,
+        },
         Refusal::Write => Fault::Write,
         Refusal::Memory => Fault::Memory,
     }

@@ -8,3 +8,7 @@ returns-in-Assign g c = rw c.in-Assign.is c.add_about-in-Assign.ensures
 pub returns-in-Infeasible : goal.returns-in-Infeasible
 unfolding fault_text
 returns-in-Infeasible g c = rw c.in-Infeasible.is c.add_about-in-Infeasible.ensures
+
+pub returns-in-Unrepaired : goal.returns-in-Unrepaired
+unfolding fault_text
+returns-in-Unrepaired g c = rw c.in-Unrepaired.is c.add_about-in-Unrepaired.ensures

@@ -1,0 +1,11 @@
+pub mod ZeroLemmas
+pub mod FarLemmas
+pub mod StepLemmas
+pub mod ReadLemmas
+pub mod MoveLemmas
+pub mod BoundLemmas
+pub mod KeepLemmas
+pub mod OptionLemmas
+pub mod SumLemmas
+pub mod RunLemmas
+pub mod TestLemmas

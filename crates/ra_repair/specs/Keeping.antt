@@ -1,0 +1,22 @@
+-- What is kept of an assignment, and that it is what the definitions give.
+use Rattle.std.specs.Prelude.{◌≡◌, List}
+use Rattle.ra_base.specs.declared.ids.Machine.{Machine}
+use Rattle.ra_model.specs.declared.raw.Tables.{Tables}
+use Rattle.ra_model.specs.Assignments.{IsAssignment}
+use Rattle.ra_rows.specs.Rows as rows
+use Rattle.ra_cells.specs.Stands as cells
+use Rattle.ra_repair.specs.declared.kept.Kept.{Kept}
+use Rattle.ra_repair.specs.Penalty.{penalty}
+
+-- rows and counters of an instance and an initial assignment stand for the kept assignment
+pub record Stands (kept : Kept) (i : Tables) (a0 : List Machine) : Type 0 where
+  pub fits : IsAssignment i kept.assignment.items
+  pub tables : kept.rows.tables ≡ i
+  pub start : kept.rows.start ≡ a0
+  pub rows : rows.StandFor kept.rows kept.assignment.items
+  pub cells : cells.StandFor kept.cells i a0 kept.assignment.items
+
+-- and the kept penalty is that of the kept assignment, reached from a0
+pub record Keeps (kept : Kept) (i : Tables) (a0 : List Machine) : Type 0 where
+  pub stands : Stands kept i a0
+  pub penalty_is : kept.penalty ≡ penalty i a0 kept.assignment.items

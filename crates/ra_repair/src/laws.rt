@@ -1,0 +1,12 @@
+//! Laws of the definitions: each function does nothing, and its contract is a law that was proved.
+ghost use Rattle.ra_repair.specs.Laws.{ZeroIsFeasible, UsesItsBudget};
+
+/// The penalty of an assignment is 0 exactly where it is feasible.
+pub fn zero_is_feasible()
+    ensures { ZeroIsFeasible }
+{}
+
+/// A run that ends with a penalty has used its whole budget.
+pub fn uses_its_budget()
+    ensures { UsesItsBudget }
+{}

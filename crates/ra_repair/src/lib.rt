@@ -1,0 +1,23 @@
+//! From a start that breaks constraints: how far an assignment is from meeting all of them, and a run of tries that looks
+//! for a feasible one.
+#![tactic(auto)]
+
+mod above;
+mod apart;
+mod far;
+mod flaws;
+mod following;
+mod kept;
+pub mod laws;
+mod options;
+mod repair;
+mod sums;
+mod touched;
+mod tries;
+mod trying;
+
+pub use repair::Repair;
+pub use tries::Try;
+
+#[cfg(test)]
+mod tests;

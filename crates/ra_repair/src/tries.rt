@@ -1,0 +1,16 @@
+use ra_moves::Move;
+
+/// A try of a repair: the move that was chosen for a proposal, and whether it was taken.
+#[derive(Clone, Copy, Debug, PartialEq, Eq)]
+pub struct Try {
+    /// The number of the proposal, counted from 0.
+    pub k: u64,
+    /// The move.
+    pub mv: Move,
+    /// Whether the move was taken: it is where the penalty doesn't rise by it.
+    pub taken: bool,
+    /// The penalty before the move.
+    pub before: u128,
+    /// The penalty after the move, also where it wasn't taken; where no option was left, that before it.
+    pub after: u128,
+}

@@ -1,0 +1,22 @@
+-- The lines of tries, and the output of a repair.
+use Rattle.std.proofs.Common.{◌≡◌, ℕ, ◌+◌, List, Option, refl, add-one}
+use Rattle.ra_base.specs.declared.causes.Cause.{Cause}
+use Rattle.ra_model.specs.Broken.{first_broken}
+use Rattle.ra_repair.specs.declared.repair.Repair.{Repair}
+use Rattle.ra_repair.specs.declared.tries.Try.{Try}
+use Rattle.ra_repair.specs.Repairs.{try_in}
+use Rattle.ra_report.specs.declared.gathered.Gathered.{Gathered}
+use Rattle.ra_report.specs.Gathering.{Adds}
+use Rattle.ra_report.specs.RepairTexts.{try_line, tries_text, repair_lines, text_of_repair}
+use Rattle.ra_report.proofs.GatheringLemmas.{adds_more}
+
+-- one more line
+pub adds_try : {O : Type 0} (taken : O → Option (List ℕ)) (faults : O → ℕ) (tries : List Try) (n : ℕ) (a b c : Gathered O)
+    → Adds taken faults a b (tries_text tries n) → Adds taken faults b c (try_line (try_in tries n)) → Adds taken faults a c (tries_text tries (n + 1))
+unfolding tries_text
+adds_try taken faults tries n a b c first next = rw add-one (adds_more taken faults a b c (tries_text tries n) (try_line (try_in tries n)) first next)
+
+-- the lines with the first broken constraint are the output
+pub repair_told : (r : Repair) (broken : Option Cause) → broken ≡ first_broken r.inst.now.tables r.start.now.items r.kept.assignment.items → text_of_repair r ≡ repair_lines broken r.kept.assignment.items r.tries.items
+unfolding text_of_repair
+repair_told r broken is = rw is refl

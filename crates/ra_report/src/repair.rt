@@ -1,0 +1,129 @@
+ghost use Rattle.std.specs.Prelude.{◌≡◌, ◌≤◌, ◌++◌, length, codes, OnOk, OnErr};
+ghost use Rattle.std.specs.Io.KnownBytes.{Appends};
+ghost use Rattle.std.specs.Option.{option_copied};
+ghost use Rattle.ra_model.specs.Broken.{first_broken};
+ghost use Rattle.ra_report.specs.Gathering.{Adds};
+ghost use Rattle.ra_report.specs.Pieces.{Breaks};
+ghost use Rattle.ra_report.specs.Texts.{line_end, cause_text};
+ghost use Rattle.ra_report.specs.RepairTexts.{state_line, taken_text, try_front, try_back, try_line, tries_text, repair_lines, text_of_repair};
+
+use crate::gathered::{Gathered, WriteFault};
+use crate::journal::{add_steps, kind_name};
+use crate::pieces::{Piece, add_pieces};
+use crate::solved::add_assignment;
+use crate::texts::add_cause;
+use ra_base::Cause;
+use ra_io::Sink;
+use ra_repair::{Repair, Try};
+
+/// Writes the output of a repair: the line `feasible`, or `broken` and the cause, the line of its assignment, and a line
+/// for each try. `broken` is the first broken constraint of its assignment.
+pub fn write_repair<O: Sink>(
+    sink: &mut O,
+    broken: Option<&Cause>,
+    repair: &Repair<'_>,
+) -> Result<(), WriteFault>
+    requires { option_copied broken ≡ first_broken repair.now.inst.now.tables
+        repair.now.start.now.items repair.now.kept.assignment.items }
+    ensures whole { OnOk result (Appends (O.taken sink.old) (O.taken sink.new)
+        (text_of_repair repair.now)) }
+    ensures part { OnErr result (Breaks (O.taken sink.old) (O.taken sink.new) (O.faults sink.old)
+        (O.faults sink.new) (text_of_repair repair.now)) }
+    ensures never_falls { O.faults sink.old ≤ O.faults sink.new }
+{
+    let mut text = Gathered::make(sink);
+    add_repair(&mut text, broken, repair);
+    text.finish()
+}
+
+/// Adds the output of a repair.
+fn add_repair<O: Sink>(text: &mut Gathered<'_, O>, broken: Option<&Cause>, repair: &Repair<'_>)
+    ensures { Adds O.taken O.faults text.old text.new (repair_lines
+        (option_copied broken.entry) repair.now.kept.assignment.items repair.now.tries.items) }
+{
+    add_state(text, broken);
+    add_assignment(text, repair.assignment().as_slice());
+    add_tries(text, repair)
+}
+
+/// Adds the line that says whether an assignment is feasible, or what is broken first.
+fn add_state<O: Sink>(text: &mut Gathered<'_, O>, broken: Option<&Cause>)
+    ensures { Adds O.taken O.faults text.old text.new
+        (state_line (option_copied broken.entry)) }
+{
+    match broken {
+        None => add_pieces(text, &[Piece::Text("feasible\n")]),
+        Some(cause) => add_broken(text, cause),
+    }
+}
+
+/// Adds the line of a broken constraint.
+fn add_broken<O: Sink>(text: &mut Gathered<'_, O>, cause: &Cause)
+    ensures { Adds O.taken O.faults text.old text.new
+        (codes "broken " ++ (cause_text cause.now ++ line_end)) }
+{
+    text.add(b"broken ");
+    add_cause(text, cause);
+    text.add(b"\n")
+}
+
+/// Adds a line for each try, in order.
+fn add_tries<O: Sink>(text: &mut Gathered<'_, O>, repair: &Repair<'_>)
+    ensures { Adds O.taken O.faults text.old text.new
+        (tries_text repair.now.tries.items (length repair.now.tries.items)) }
+{
+    for place in 0..repair.tries() {
+        add_try(text, &repair.entry(place));
+    }
+}
+
+/// Adds the line of a try.
+fn add_try<O: Sink>(text: &mut Gathered<'_, O>, one: &Try)
+    ensures { Adds O.taken O.faults text.old text.new (try_line one.now) }
+{
+    add_front(text, one);
+    add_steps(text, &one.mv);
+    add_back(text, one)
+}
+
+/// Adds the words of a try before its steps.
+#[tactic(auto, unfolding(crate::specs::RepairTexts::try_front))]
+fn add_front<O: Sink>(text: &mut Gathered<'_, O>, one: &Try)
+    ensures { Adds O.taken O.faults text.old text.new (try_front one.now) }
+{
+    add_pieces(
+        text,
+        &[
+            Piece::Number(u128::from(one.k)),
+            Piece::Text(" "),
+            Piece::Text(kind_name(one.mv.kind())),
+            Piece::Text(" "),
+        ],
+    )
+}
+
+/// Adds the words of a try behind its steps.
+#[tactic(auto, unfolding(crate::specs::RepairTexts::try_back))]
+fn add_back<O: Sink>(text: &mut Gathered<'_, O>, one: &Try)
+    ensures { Adds O.taken O.faults text.old text.new (try_back one.now) }
+{
+    add_pieces(
+        text,
+        &[
+            Piece::Text(taken_word(one.taken)),
+            Piece::Text(" "),
+            Piece::Number(one.before),
+            Piece::Text(" "),
+            Piece::Number(one.after),
+            Piece::Text("\n"),
+        ],
+    )
+}
+
+/// The printed word for whether a move was taken.
+#[tactic(auto, unfolding(crate::specs::RepairTexts::taken_text))]
+fn taken_word(taken: bool) -> &'static str
+    ensures { result.now ≡ taken_text taken }
+{
+    if taken { "taken" } else { "left" }
+}
