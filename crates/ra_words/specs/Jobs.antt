@@ -1,5 +1,5 @@
 -- Which job a list of words is.
-use Rattle.std.specs.Prelude.{ℕ, ◌+◌, List, map, length, drop, codes, Bool, true, ◌==◌, ◌&&◌, ◌||◌, if◌then◌else◌, Option, Some, None}
+use Rattle.std.specs.Prelude.{◌≡◌, ℕ, ◌+◌, List, map, length, drop, codes, Bool, true, ◌==◌, ◌&&◌, ◌||◌, if◌then◌else◌, Option, Some, None}
 use Rattle.std.specs.Str.{bytes_eq}
 use Rattle.ra_base.specs.declared.causes.Drawing.{Drawing}
 use Rattle.ra_base.specs.declared.causes.Drawing.TheVariants.{One, Two}
@@ -145,6 +145,11 @@ is_repair words =
 -- what a repair says: its files and its lot, without slack, and with the second drawing
 unfoldable pub repair_says : List (List ℕ) → JobSays
 repair_says words = Repairs (word_at words 1) (word_at words 2) (value_at (codes "--closed") words 3) 0 Two (map lot_says (drop (lot_place words) words))
+
+-- a repair has one lot
+abbrev pub HasOneLot : JobSays → Type 0
+HasOneLot (Repairs model initial closed slack drawing lots) = length lots ≡ 1
+HasOneLot says = Unit {0}
 
 -- what the words say, and nothing where they are no job
 unfoldable pub job_of : List (List ℕ) → Option JobSays
