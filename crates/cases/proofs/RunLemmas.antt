@@ -1,7 +1,7 @@
 -- An ending that came is one that the top call promises, and so is the wanted one where they are the same.
 use Rattle.std.proofs.Common.{◌≡◌, ◌↔◌, ℕ, List, [], ◌++◌, Option, Some, None, IfSome, refl, sym, ◌∙◌, subst}
 use Rattle.std.specs.Io.KnownBytes.{Appends}
-use Rattle.ra_words.specs.Jobs.{JobSays, Checks, Bounds, Solves, Trials, Verifies, job_of}
+use Rattle.ra_words.specs.Jobs.{JobSays, Checks, Bounds, Solves, Trials, Verifies, Repairs, job_of}
 use Rattle.ra_draws.specs.declared.budgets.Lots.{Lots}
 use Rattle.ra_run.specs.declared.status.Status.{Status}
 use Rattle.ra_run.specs.declared.status.Status.TheVariants.{Done, Usage}
@@ -68,6 +68,9 @@ output_more : (held : Held) (says : JobSays) (way more : List ℕ → Type 0) �
 output_more held (Checks model initial changed closed) way more step p = printed_more held _ way more step p
 output_more held (Bounds model initial closed) way more step p = bound_more held _ way more step p
 output_more held (Solves model initial closed slack drawing lots) way more step p = (p.0, p.1, solved_more held _ p.0 way more step p.2)
+output_more held (Repairs model initial closed slack drawing lots) way more step p =
+    let t = p.2 in
+    (p.0, p.1, record { tables = t.tables; a0 = t.a0; accepts = t.accepts; lot = t.lot; one = t.one; run = record { is = t.run.is; feasible = t.run.feasible; tried = t.run.tried; text = step _ t.run.text } })
 output_more held (Trials number) way more step p = trial_more number way more step p
 output_more held (Verifies model initial report closed slack drawing lots) way more step p = (p.0, p.1, record { entries = p.2.entries; read = p.2.read; text = step _ p.2.text })
 
@@ -76,7 +79,7 @@ output_more held (Verifies model initial report closed slack drawing lots) way m
 -- how a job ends that puts to an output which had these bytes and now has those
 abbrev EndsWith : Held → JobSays → Faults → Faults → List ℕ → List ℕ → (List ℕ → Type 0) → (List ℕ → Type 0) → Type 0 → Type 0 → Status → Type 0
 EndsWith held says before now out taken breaks tells out_same err_same status = OfJob says
-    (λ names. Ends held names before now (OutputOf held says (Appends (Some out) (Some taken))) (OwnOf held says breaks) tells out_same err_same status)
+    (λ names. Ends held names before now (OutputOf held says (Appends (Some out) (Some taken))) (OwnOf held says (Appends (Some out) (Some taken)) breaks) tells out_same err_same status)
     (λ number. TrialEnds number (Appends (Some out) (Some taken)) breaks tells out_same err_same status)
 
 printed_by : (says : JobSays) (held : Held) (before now : Faults) (out taken : List ℕ) (breaks tells : List ℕ → Type 0) (out_same err_same : Type 0) (status : Status) → status ≡ Done → EndsWith held says before now out taken breaks tells out_same err_same status → OutputOf held says (Appends (Some out) (Some taken))

@@ -10,7 +10,7 @@ use Rattle.ra_model_read.specs.declared.faults.Field.TheVariants as field
 use Rattle.ra_model_read.specs.declared.faults.ModelFault.{ModelFault}
 use Rattle.ra_model_read.specs.declared.faults.ModelFault.TheVariants as model
 use Rattle.ra_report.specs.declared.faults.Fault.{Fault}
-use Rattle.ra_report.specs.declared.faults.Fault.TheVariants.{Usage, Read, Model, Closed, Assign, Infeasible, Wrong, Write, Memory, Unrepaired}
+use Rattle.ra_report.specs.declared.faults.Fault.TheVariants.{Usage, Read, Model, Closed, Assign, Infeasible, Unrepaired, Wrong, Write, Memory}
 use Rattle.ra_report.specs.Pieces.{joined}
 use Rattle.ra_report.specs.Texts.{space, line_end, number_text, cause_text}
 
@@ -86,7 +86,7 @@ closed_detail (closed.NoMachine at value) = joined (codes "no machine at " ∷ n
 closed_detail closed.NoMemory = []
 
 abbrev pub usage_line : List ℕ
-usage_line = codes "usage: reassign check MODEL INITIAL NEW [--closed FILE] | bound MODEL [INITIAL [--closed FILE]] | solve MODEL INITIAL [--slack N] [--closed FILE] [--draws 1|2] LOT ... | trial N | verify MODEL INITIAL REPORT [--slack N] [--closed FILE] [--draws 1|2] LOT ..."
+usage_line = codes "usage: reassign check MODEL INITIAL NEW [--closed FILE] | bound MODEL [INITIAL [--closed FILE]] | solve MODEL INITIAL [--slack N] [--closed FILE] [--draws 1|2] LOT ... | trial N | verify MODEL INITIAL REPORT [--slack N] [--closed FILE] [--draws 1|2] LOT ... | repair MODEL INITIAL [--closed FILE] LOT"
 
 -- a line about a file: what comes before, what is wrong, and the end of the line
 abbrev pub line_of : List ℕ → List ℕ → List ℕ

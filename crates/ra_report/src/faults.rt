@@ -36,7 +36,7 @@ pub enum Fault<'n> {
 }
 
 const USAGE: &str =
-    "usage: reassign check MODEL INITIAL NEW [--closed FILE] | bound MODEL [INITIAL [--closed FILE]] | solve MODEL INITIAL [--slack N] [--closed FILE] [--draws 1|2] LOT ... | trial N | verify MODEL INITIAL REPORT [--slack N] [--closed FILE] [--draws 1|2] LOT ...";
+    "usage: reassign check MODEL INITIAL NEW [--closed FILE] | bound MODEL [INITIAL [--closed FILE]] | solve MODEL INITIAL [--slack N] [--closed FILE] [--draws 1|2] LOT ... | trial N | verify MODEL INITIAL REPORT [--slack N] [--closed FILE] [--draws 1|2] LOT ... | repair MODEL INITIAL [--closed FILE] LOT";
 
 /// Adds the line of a fault.
 #[tactic(auto, unfolding(crate::specs::FaultTexts::fault_text))]

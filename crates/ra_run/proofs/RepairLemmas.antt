@@ -200,3 +200,21 @@ repair_comes {held} {model} {closed} {initial} {before} {now} {l} {prints} {brea
           (own_ends held names l prints breaks status refused.refusal refused.is (own_known held model closed initial before now own known i a0 accepts refused.refusal refused.says)))
           (is_done status);
     }
+
+-- for other words of the lots
+pub repair_more : (held : Held) (names : Names) (are more : Lots → Type 0) (before now : Faults) (status : Status) → ((l : Lots) → are l → more l) → RepairComes held names are before now status → RepairComes held names more before now status
+repair_more held names are more before now status step v = record {
+  never_infeasible = v.never_infeasible;
+  unrepaired = λ told. let w = v.unrepaired told in (w.0, step w.0 w.1, w.2);
+  stays = λ i a0 accepts known cause broken. v.stays i a0 accepts known cause (λ l is. broken l (step l is));
+  is_repaired = λ i a0 accepts known broken. v.is_repaired i a0 accepts known (λ l is. broken l (step l is));
+}
+
+-- where memory was refused before the words were read
+pub repair_not : (held : Held) (names : Names) (are : Lots → Type 0) (before now : Faults) (status : Status) → status ≡ NoMemory → RepairComes held names are before now status
+repair_not held names are before now status is = record {
+  never_infeasible = λ e. let both : NoMemory ≡ Infeasible = sym is ∙ e in cc;
+  unrepaired = λ told. absurd (let both : NoMemory ≡ Unrepaired = sym is ∙ told in cc);
+  stays = λ i a0 accepts known cause broken. inr (inr is);
+  is_repaired = λ i a0 accepts known broken. inr (inr is);
+}

@@ -1,6 +1,6 @@
 -- What is said of one command, as said of the job of the words.
 use Rattle.std.proofs.Common.{◌≡◌, ◌≢◌, ℕ, List, Option, Some, None, IfSome, ◌⊎◌, inl, inr, sym, ◌∙◌}
-use Rattle.ra_words.specs.Jobs.{JobSays, Checks, Bounds, Solves, Trials, Verifies}
+use Rattle.ra_words.specs.Jobs.{JobSays, Checks, Bounds, Solves, Trials, Verifies, Repairs}
 use Rattle.ra_run.specs.declared.refusals.Refusal.{Refusal}
 use Rattle.ra_run.specs.declared.refusals.Refusal.TheVariants.{Memory}
 use Rattle.ra_run.specs.declared.status.Status.{Status}
@@ -16,6 +16,7 @@ use Rattle.ra_run.specs.Trials.{TrialEnds}
 use Rattle.ra_run.specs.Verifying.{Verified}
 use Rattle.ra_run.proofs.ComesLemmas.{Went, comes, printed_went, bound_listed, solved_went, judges_listed, writes_listed}
 use Rattle.ra_run.proofs.EndLemmas.{ends_memory}
+use Rattle.ra_run.proofs.RepairLemmas.{own_listed as repair_listed, repair_not, tried_listed}
 use Rattle.ra_run.proofs.StageLemmas.{says_more}
 use Rattle.ra_run.proofs.TrialLemmas.{trial_memory}
 use Rattle.ra_run.proofs.VerifyLemmas.{own_listed, verdict_not, verified_went}
@@ -31,7 +32,7 @@ ends_more held names before now output output_more own own_more tells out_same e
 
 -- how a job of the words ends
 abbrev JobEnds : JobSays → Held → Faults → Faults → (List ℕ → Type 0) → (List ℕ → Type 0) → (List ℕ → Type 0) → Type 0 → Type 0 → Status → Type 0
-JobEnds says held before now prints breaks tells out_same err_same status = OfJob says (λ names. Ends held names before now (OutputOf held says prints) (OwnOf held says breaks) tells out_same err_same status) (λ number. TrialEnds number prints breaks tells out_same err_same status)
+JobEnds says held before now prints breaks tells out_same err_same status = OfJob says (λ names. Ends held names before now (OutputOf held says prints) (OwnOf held says prints breaks) tells out_same err_same status) (λ number. TrialEnds number prints breaks tells out_same err_same status)
 
 -- where memory was refused before the words were read, whatever job they are
 pub ends_memory_any : (job : Option JobSays) (held : Held) (before now : Faults) (prints breaks tells : List ℕ → Type 0) (out_same err_same : Type 0) (status : Status) → status ≡ NoMemory → ((names : Names) → tells (refusal_line names Memory)) → out_same
@@ -45,6 +46,7 @@ pub complete_memory_any : (job : Option JobSays) (held : Held) (before now : Fau
     → IfSome job (λ says. OfJob says (λ names. ValidFor held says → NoFault names before now → (rose → ⊥) → Answers says status) (λ number. (rose → ⊥) → (status ≡ Done) ⊎ (status ≡ NoMemory)))
 complete_memory_any None held before now rose status is = tt
 complete_memory_any (Some (Trials number)) held before now rose status is = λ whole. inr is
+complete_memory_any (Some (Repairs model initial closed slack drawing lots)) held before now rose status is = λ valid sound whole. inr (inr is)
 complete_memory_any (Some (Verifies model initial report closed slack drawing lots)) held before now rose status is = λ valid sound whole. inr (inr is)
 complete_memory_any (Some says) held before now rose status is = λ valid sound whole. inr is
 
@@ -57,6 +59,7 @@ own_memory_any None held before now status is = tt
 own_memory_any (Some (Checks model initial changed closed)) held before now status is = infeasible_not held (check_names model closed initial changed) before now status is
 own_memory_any (Some (Bounds model initial closed)) held before now status is = λ e. let both : NoMemory ≡ Infeasible = sym is ∙ e in cc
 own_memory_any (Some (Solves model initial closed slack drawing lots)) held before now status is = infeasible_not held (solve_names model closed initial) before now status is
+own_memory_any (Some (Repairs model initial closed slack drawing lots)) held before now status is = repair_not held (solve_names model closed initial) _ before now status is
 own_memory_any (Some (Trials number)) held before now status is = tt
 own_memory_any (Some (Verifies model initial report closed slack drawing lots)) held before now status is =
     (infeasible_not held (verify_names model closed initial report) before now status is, verdict_not held (verify_names model closed initial report) _ before now status is)
@@ -64,7 +67,7 @@ own_memory_any (Some (Verifies model initial report closed slack drawing lots)) 
 -- each status comes where its cause stands
 pub says_comes : (says : JobSays) (held : Held) (before now : Faults) (prints breaks tells : List ℕ → Type 0) (out_same err_same : Type 0) (status : Status)
     → JobEnds says held before now prints breaks tells out_same err_same status
-    → OfJob says (λ names. Comes held names before now (OwnOf held says breaks) out_same status) (λ number. Unit {0})
+    → OfJob says (λ names. Comes held names before now (OwnOf held says prints breaks) out_same status) (λ number. Unit {0})
 says_comes (Checks model initial changed closed) held before now prints breaks tells out_same err_same status ends =
     let names = check_names model closed initial changed in
     comes ends (λ p. (printed_went held names prints p).listed) (judges_listed held names (Printed held names breaks) (printed_went held names breaks))
@@ -75,6 +78,9 @@ says_comes (Solves model initial closed slack drawing lots) held before now prin
     let names = solve_names model closed initial in
     comes ends (λ p. (solved_went held model closed initial p.0 prints p.2).listed)
     (judges_listed held names (OutputOf held (Solves model initial closed slack drawing lots) breaks) (λ p. solved_went held model closed initial p.0 breaks p.2))
+says_comes (Repairs model initial closed slack drawing lots) held before now prints breaks tells out_same err_same status ends =
+    let names = solve_names model closed initial in
+    comes ends (λ p. tried_listed held names p.0 None prints p.2) (λ r p. repair_listed held names p.0 prints breaks r p.2)
 says_comes (Trials number) held before now prints breaks tells out_same err_same status ends = tt
 says_comes (Verifies model initial report closed slack drawing lots) held before now prints breaks tells out_same err_same status ends =
     let names = verify_names model closed initial report in
@@ -83,6 +89,6 @@ says_comes (Verifies model initial report closed slack drawing lots) held before
 -- and with the job of the words
 pub job_comes : (job : Option JobSays) (held : Held) (before now : Faults) (prints breaks tells : List ℕ → Type 0) (out_same err_same : Type 0) (status : Status)
     → IfSome job (λ says. JobEnds says held before now prints breaks tells out_same err_same status)
-    → IfSome job (λ says. OfJob says (λ names. Comes held names before now (OwnOf held says breaks) out_same status) (λ number. Unit {0}))
+    → IfSome job (λ says. OfJob says (λ names. Comes held names before now (OwnOf held says prints breaks) out_same status) (λ number. Unit {0}))
 job_comes None held before now prints breaks tells out_same err_same status ends = tt
 job_comes (Some says) held before now prints breaks tells out_same err_same status ends = says_comes says held before now prints breaks tells out_same err_same status ends

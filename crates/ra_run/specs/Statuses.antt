@@ -13,8 +13,8 @@ status_of (refusal.Initial fault) = BadAssignment
 status_of (refusal.Changed fault) = BadAssignment
 status_of (refusal.InitialBroken cause) = Infeasible
 status_of (refusal.ChangedBroken cause) = Infeasible
-status_of (refusal.Unrepaired cause) = Unrepaired
 status_of (refusal.Wrong line) = Wrong
+status_of (refusal.Unrepaired cause) = Unrepaired
 status_of refusal.Write = WriteFault
 status_of refusal.Memory = NoMemory
 

@@ -4,7 +4,7 @@ ghost use Rattle.ra_io.specs.Faults.{Rose};
 ghost use Rattle.ra_report.specs.FaultTexts.{usage_line};
 ghost use Rattle.ra_report.specs.Pieces.{Breaks, Puts, joined};
 ghost use Rattle.ra_report.specs.Texts.{line_end};
-ghost use Rattle.ra_words.specs.Jobs.{job_of};
+ghost use Rattle.ra_words.specs.Jobs.{HasOneLot, job_of};
 ghost use Rattle.ra_words.specs.Said.{said};
 ghost use Rattle.ra_words.specs.Words.{texts};
 ghost use Rattle.ra_run.specs.Commands.{Answers, OfJob, OutputOf, OwnComes, OwnOf, ValidFor};
@@ -16,6 +16,7 @@ ghost use Rattle.ra_run.specs.Trials.{TrialEnds};
 use crate::bound::bound_run;
 use crate::check::check_run;
 use crate::refusing::{refuse_memory, refuse_words};
+use crate::repair::repair_run;
 use crate::solve::solve_run;
 use crate::status::Status;
 use crate::trial::trial_run;
@@ -28,7 +29,7 @@ use std::sync::Wait;
 use std::thread::Threads;
 
 /// Does the job of the command words, which leave out the program's name: `check`, `bound`, `solve`
-/// with 1 to 16 lots, `trial`, or `verify`. All other words are a usage fault. On `solve` that is done the
+/// with 1 to 16 lots, `trial`, `verify`, or `repair`. All other words are a usage fault. On `solve` that is done the
 /// output is the report of one legal journal: see `Solved`. A `trial` reads no file of `files`.
 pub fn run<R: Threads + Wait + Sync, F: Files, O: Sink, E: Sink, G: Gate>(
     rt: &R,
@@ -46,7 +47,7 @@ pub fn run<R: Threads + Wait + Sync, F: Files, O: Sink, E: Sink, G: Gate>(
     ensures ends { IfSome (job_of (texts words.now)) (λ says. OfJob says
         (λ names. Ends (F.held files.old) names (F.faults files.old) (F.faults files.new)
         (OutputOf (F.held files.old) says (Appends (O.taken out.old) (O.taken out.new)))
-        (OwnOf (F.held files.old) says
+        (OwnOf (F.held files.old) says (Appends (O.taken out.old) (O.taken out.new))
         (Breaks (O.taken out.old) (O.taken out.new) (O.faults out.old) (O.faults out.new)))
         (Puts (E.taken err.old) (E.taken err.new) (E.faults err.old) (E.faults err.new))
         (out.new ≡ out.old) (err.new ≡ err.old) result)
@@ -58,7 +59,7 @@ pub fn run<R: Threads + Wait + Sync, F: Files, O: Sink, E: Sink, G: Gate>(
     // Each other status but `Done` comes where its cause stands, and only there.
     ensures comes { IfSome (job_of (texts words.now)) (λ says. OfJob says
         (λ names. Comes (F.held files.old) names (F.faults files.old) (F.faults files.new)
-        (OwnOf (F.held files.old) says
+        (OwnOf (F.held files.old) says (Appends (O.taken out.old) (O.taken out.new))
         (Breaks (O.taken out.old) (O.taken out.new) (O.faults out.old) (O.faults out.new)))
         (out.new ≡ out.old) result)
         (λ number. Unit {0})) }
@@ -94,10 +95,11 @@ fn do_job<R: Threads + Wait + Sync, F: Files, O: Sink, E: Sink, G: Gate>(
     err: &mut E,
     gate: &G,
 ) -> Status
+    requires { HasOneLot (said job.now) }
     ensures ends { OfJob (said job.now)
         (λ names. Ends (F.held files.old) names (F.faults files.old) (F.faults files.new)
         (OutputOf (F.held files.old) (said job.now) (Appends (O.taken out.old) (O.taken out.new)))
-        (OwnOf (F.held files.old) (said job.now)
+        (OwnOf (F.held files.old) (said job.now) (Appends (O.taken out.old) (O.taken out.new))
         (Breaks (O.taken out.old) (O.taken out.new) (O.faults out.old) (O.faults out.new)))
         (Puts (E.taken err.old) (E.taken err.new) (E.faults err.old) (E.faults err.new))
         (out.new ≡ out.old) (err.new ≡ err.old) result)
@@ -166,6 +168,21 @@ fn do_job<R: Threads + Wait + Sync, F: Files, O: Sink, E: Sink, G: Gate>(
             gate,
         ),
         Job::Trial { number } => trial_run(rt, alloc, *number, out, err, gate),
+        Job::Repair {
+            model,
+            initial,
+            closed,
+            lots,
+        } => repair_run(
+            alloc,
+            model,
+            initial,
+            closed.as_ref(),
+            lots,
+            files,
+            out,
+            err,
+        ),
         Job::Verify {
             model,
             initial,

@@ -33,10 +33,10 @@ pub enum Refusal {
     InitialBroken(Cause),
     /// The new list breaks a constraint.
     ChangedBroken(Cause),
-    /// The last list of a repair breaks a constraint.
-    Unrepaired(Cause),
     /// This line of the report is wrong first.
     Wrong(u64),
+    /// The last list of a repair breaks a constraint.
+    Unrepaired(Cause),
     /// Writing the output failed.
     Write,
     /// Memory was refused.

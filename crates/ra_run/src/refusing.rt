@@ -53,8 +53,8 @@ fn status(refusal: Refusal) -> Status
         Refusal::Changed(_) => Status::BadAssignment,
         Refusal::InitialBroken(_) => Status::Infeasible,
         Refusal::ChangedBroken(_) => Status::Infeasible,
-        Refusal::Unrepaired(_) => Status::Unrepaired,
         Refusal::Wrong(_) => Status::Wrong,
+        Refusal::Unrepaired(_) => Status::Unrepaired,
         Refusal::Write => Status::WriteFault,
         Refusal::Memory => Status::NoMemory,
     }
@@ -103,11 +103,11 @@ fn fault<'n>(names: &JobFiles<'n>, refusal: Refusal) -> Fault<'n>
             name: names.name(File::Changed),
             cause,
         },
+        Refusal::Wrong(line) => Fault::Wrong { line },
         Refusal::Unrepaired(cause) => Fault::Unrepaired {
             name: names.name(File::Initial),
             cause,
         },
-        Refusal::Wrong(line) => Fault::Wrong { line },
         Refusal::Write => Fault::Write,
         Refusal::Memory => Fault::Memory,
     }

@@ -13,12 +13,13 @@ use Rattle.std.proofs.lemmas.Str.Parse.{tells_all_ascii_digits}
 use Rattle.clap.proofs.WalkLemmas.{both}
 use Rattle.clap.specs.Words.{first_value}
 use Rattle.clap.specs.declared.parser.matches.Found.{Found}
+use Rattle.ra_base.specs.declared.causes.Drawing.TheVariants.{Two}
 use Rattle.ra_words.specs.Words.{behind, has_option, is_name, value_at, word_at}
 use Rattle.ra_words.specs.Numbers.{has_digits, is_number, worth}
 use Rattle.ra_words.specs.LotTexts.{are_lots, first_place, is_lot, is_seed_lot, is_written, is_written_lot, lot_says, seed_text}
 use Rattle.ra_words.specs.Lines.{Finds, Line, Spells, option_words, plain_of, words_of}
 use Rattle.ra_words.proofs.LotLaws.{lots_told}
-use Rattle.ra_words.specs.Jobs.{Bounds, Checks, Solves, Trials, Verifies, bound_says, bound_from_says, check_says, closed_place, closed_text, draws_place, draws_text, drawing_says, ends_closed, ends_in_lots, is_bound, is_bound_from, is_check, is_closed, is_drawing, is_slack, is_solve, lot_words, lots_place, slack_says, slack_text, solve_says, is_trial, trial_says, is_verify, verify_says}
+use Rattle.ra_words.specs.Jobs.{Bounds, Checks, Solves, Trials, Verifies, Repairs, bound_says, bound_from_says, check_says, closed_place, closed_text, draws_place, draws_text, drawing_says, ends_closed, ends_in_lots, is_bound, is_bound_from, is_check, is_closed, is_drawing, is_slack, is_solve, lot_words, lots_place, slack_says, slack_text, solve_says, is_trial, trial_says, is_verify, verify_says, is_repair, repair_says, lot_place}
 
 -- ---- words that are no option
 
@@ -417,3 +418,54 @@ verify_found words found verify finds =
       lots = ap (λ ws. are_lots (drop 3 ws)) f.plain ∙ is.lots;
       says = λ i. Verifies (word_at (f.plain i) 0) (word_at (f.plain i) 1) (word_at (f.plain i) 2) (f.closed i) (slack_says (f.slack i)) (drawing_says (f.draws i)) (map lot_says (drop 3 (f.plain i)));
     }
+
+-- ---- repair
+
+abbrev repair_line : List (List ℕ) → Line
+repair_line words = record {
+  command = word_at words 0;
+  files = words_from 1 words 2;
+  slack = None;
+  closed = value_at (codes "--closed") words 3;
+  draws = None;
+  behind = drop (lot_place words) words;
+}
+
+record IsRepair (words : List (List ℕ)) : Type 0 where
+  model : is_name (word_at words 1) ≡ true
+  initial : is_name (word_at words 2) ≡ true
+  closed : is_closed (value_at (codes "--closed") words 3) ≡ true
+  lots : are_lots (drop (lot_place words) words) ≡ true
+
+repair_parts : (words : List (List ℕ)) → is_repair words ≡ true → IsRepair words
+unfolding is_repair
+repair_parts words repair = record { model = grind (arith, common_steps); initial = grind (arith, common_steps); closed = grind (arith, common_steps); lots = grind (arith, common_steps) }
+
+repair_spelled : (words : List (List ℕ)) → is_repair words ≡ true → Spells (repair_line words) words
+unfolding words_of option_words lot_place
+repair_spelled words repair =
+    let is = repair_parts words repair in
+    let named = closed_named (value_at (codes "--closed") words 3) is.closed in
+    record {
+      is =
+          words_here 3 0 words (omega (arith, name_within words 2 is.initial))
+          ∙ ap (λ ws. words_from 0 words 3 ++ ws) (option_here (codes "--closed") words 3 named);
+      files = rw (is.model, is.initial) refl;
+      slack = refl;
+      closed = named;
+      draws = refl;
+      behind = lots_named (drop (lot_place words) words) (lots_told (drop (lot_place words) words) is.lots);
+    }
+
+pub repair_is_line : (words : List (List ℕ)) → is_repair words ≡ true → (line : Line) × Spells line words
+repair_is_line words is = (repair_line words, repair_spelled words is)
+
+pub repair_lots : (words : List (List ℕ)) (found : Found) → is_repair words ≡ true → ((line : Line) → Spells line words → Finds line found) → are_lots (drop 2 (plain_of found)) ≡ true
+repair_lots words found repair finds = ap (λ ws. are_lots (drop 2 ws)) (finds (repair_line words) (repair_spelled words repair)).plain ∙ (repair_parts words repair).lots
+
+pub repair_found : (words : List (List ℕ)) (found : Found) → is_repair words ≡ true → ((line : Line) → Spells line words → Finds line found)
+    → Repairs (word_at (plain_of found) 0) (word_at (plain_of found) 1) (first_value found (codes "closed")) 0 Two (map lot_says (drop 2 (plain_of found))) ≡ repair_says words
+unfolding repair_says word_at
+repair_found words found repair finds =
+    let f = finds (repair_line words) (repair_spelled words repair) in
+    λ i. Repairs (word_at (f.plain i) 0) (word_at (f.plain i) 1) (f.closed i) 0 Two (map lot_says (drop 2 (f.plain i)))

@@ -6,3 +6,4 @@ pub mod RowLaws
 pub mod LineWalk
 pub mod LineLaws
 pub mod JobLines
+pub mod OneLot

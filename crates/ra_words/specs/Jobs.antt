@@ -1,5 +1,5 @@
 -- Which job a list of words is.
-use Rattle.std.specs.Prelude.{ℕ, List, map, length, drop, codes, Bool, true, ◌==◌, ◌&&◌, ◌||◌, if◌then◌else◌, Option, Some, None}
+use Rattle.std.specs.Prelude.{◌≡◌, ℕ, ◌+◌, List, map, length, drop, codes, Bool, true, ◌==◌, ◌&&◌, ◌||◌, if◌then◌else◌, Option, Some, None}
 use Rattle.std.specs.Str.{bytes_eq}
 use Rattle.ra_base.specs.declared.causes.Drawing.{Drawing}
 use Rattle.ra_base.specs.declared.causes.Drawing.TheVariants.{One, Two}
@@ -14,6 +14,7 @@ pub data JobSays : Type 0 where
   Solves : (model initial : List ℕ) (closed : Option (List ℕ)) (slack : ℕ) (drawing : Drawing) (lots : List LotSays) → JobSays
   Trials : (number : ℕ) → JobSays
   Verifies : (model initial report : List ℕ) (closed : Option (List ℕ)) (slack : ℕ) (drawing : Drawing) (lots : List LotSays) → JobSays
+  Repairs : (model initial : List ℕ) (closed : Option (List ℕ)) (slack : ℕ) (drawing : Drawing) (lots : List LotSays) → JobSays
 
 -- the value of `--closed`, where it is given, is a file name
 abbrev pub is_closed : Option (List ℕ) → Bool
@@ -131,6 +132,25 @@ unfoldable pub verify_says : List (List ℕ) → JobSays
 verify_says words =
     Verifies (word_at words 1) (word_at words 2) (word_at words 3) (closed_text words 4) (slack_says (slack_text words 4)) (drawing_says (draws_text words 4)) (map lot_says (lot_words words 4))
 
+-- behind `repair` and two file names `--closed` may stand, and behind it the lot
+unfoldable pub lot_place : List (List ℕ) → ℕ
+lot_place words = behind (codes "--closed") words 3
+
+-- the word `repair` and two file names, then `--closed` and a file name, or nothing, then one lot
+unfoldable pub is_repair : List (List ℕ) → Bool
+is_repair words =
+    bytes_eq (word_at words 0) (codes "repair") && is_name (word_at words 1) && is_name (word_at words 2)
+    && is_closed (value_at (codes "--closed") words 3) && length words == lot_place words + 1 && are_lots (drop (lot_place words) words)
+
+-- what a repair says: its files and its lot, without slack, and with the second drawing
+unfoldable pub repair_says : List (List ℕ) → JobSays
+repair_says words = Repairs (word_at words 1) (word_at words 2) (value_at (codes "--closed") words 3) 0 Two (map lot_says (drop (lot_place words) words))
+
+-- a repair has one lot
+abbrev pub HasOneLot : JobSays → Type 0
+HasOneLot (Repairs model initial closed slack drawing lots) = length lots ≡ 1
+HasOneLot says = Unit {0}
+
 -- what the words say, and nothing where they are no job
 unfoldable pub job_of : List (List ℕ) → Option JobSays
 job_of words =
@@ -140,4 +160,5 @@ job_of words =
     else if is_solve words then Some (solve_says words)
     else if is_trial words then Some (trial_says words)
     else if is_verify words then Some (verify_says words)
+    else if is_repair words then Some (repair_says words)
     else None

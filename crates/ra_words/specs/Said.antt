@@ -4,9 +4,9 @@ use Rattle.ra_draws.specs.declared.sources.Source.{Source}
 use Rattle.ra_draws.specs.declared.sources.Source.TheVariants.{Seed, Written}
 use Rattle.ra_draws.specs.declared.sources.Lot.{Lot}
 use Rattle.ra_words.specs.declared.jobs.Job.{Job}
-use Rattle.ra_words.specs.declared.jobs.Job.TheVariants.{Check, Bound, Solve, Trial, Verify}
+use Rattle.ra_words.specs.declared.jobs.Job.TheVariants.{Check, Bound, Solve, Trial, Verify, Repair}
 use Rattle.ra_words.specs.LotTexts.{SourceSays, FromSeed, FromWords, LotSays}
-use Rattle.ra_words.specs.Jobs.{JobSays, Checks, Bounds, Solves, Trials, Verifies}
+use Rattle.ra_words.specs.Jobs.{JobSays, Checks, Bounds, Solves, Trials, Verifies, Repairs}
 
 -- what a source says: its seed, or its words
 abbrev pub said_source : Source → SourceSays
@@ -24,3 +24,4 @@ said (Bound model initial closed) = Bounds model initial closed
 said (Solve model initial closed lots) = Solves model initial closed lots.slack lots.drawing (map said_lot lots.lots.items)
 said (Trial number) = Trials number
 said (Verify model initial report closed lots) = Verifies model initial report closed lots.slack lots.drawing (map said_lot lots.lots.items)
+said (Repair model initial closed lots) = Repairs model initial closed lots.slack lots.drawing (map said_lot lots.lots.items)

@@ -1,7 +1,7 @@
-ghost use Rattle.std.specs.Prelude.{◌≡◌, ◌+◌, ◌≤◌, codes};
+ghost use Rattle.std.specs.Prelude.{◌≡◌, ◌+◌, ◌≤◌, codes, drop};
 ghost use Rattle.std.specs.Str.{bytes_eq};
 ghost use Rattle.ra_words.specs.Words.{texts, value_at};
-ghost use Rattle.ra_words.specs.Jobs.{is_check, is_bound, is_bound_from, is_solve, is_trial, is_verify, is_closed, is_slack, is_drawing, ends_closed, ends_in_lots, closed_place, draws_place, lots_place};
+ghost use Rattle.ra_words.specs.Jobs.{is_check, is_bound, is_bound_from, is_solve, is_trial, is_verify, is_repair, lot_place, is_closed, is_slack, is_drawing, ends_closed, ends_in_lots, closed_place, draws_place, lots_place};
 
 use crate::lots::are_lots;
 use crate::numbers::is_number;
@@ -67,6 +67,28 @@ pub(crate) fn is_verify(words: &[String]) -> bool
         && names_file(text_at(words, 2))
         && names_file(text_at(words, 3))
         && ends_in_lots(words, 4)
+}
+
+/// Whether the words ask for a repair.
+#[tactic(auto, unfolding(crate::specs::Jobs::is_repair))]
+pub(crate) fn is_repair(words: &[String]) -> bool
+    ensures { result ≡ is_repair (texts words.now) }
+{
+    text_at(words, 0) == "repair"
+        && names_file(text_at(words, 1))
+        && names_file(text_at(words, 2))
+        && fits_closed(words, 3)
+        && words.len() == lot_place(words) + 1
+        && are_lots(words, lot_place(words))
+}
+
+/// Where the lot of a repair stands.
+#[tactic(auto, unfolding(crate::specs::Jobs::lot_place))]
+fn lot_place(words: &[String]) -> usize
+    ensures value { result ≡ lot_place (texts words.now) }
+    ensures near { result ≤ 5 }
+{
+    behind(words, 3, "--closed")
 }
 
 /// Whether from a place on `--closed` and a file name stand, or nothing, and no more words.

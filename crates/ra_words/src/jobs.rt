@@ -1,12 +1,12 @@
 ghost use Rattle.std.specs.Prelude.{◌≡◌, true, None, Some, Err, IfOk, ◌↔◌};
 ghost use Rattle.ra_words.specs.Words.{texts};
-ghost use Rattle.ra_words.specs.Jobs.{job_of, is_check, check_says, is_bound, bound_says, is_bound_from, bound_from_says, is_solve, solve_says, is_trial, trial_says, is_verify, verify_says};
+ghost use Rattle.ra_words.specs.Jobs.{job_of, is_check, check_says, is_bound, bound_says, is_bound_from, bound_from_says, is_solve, solve_says, is_trial, trial_says, is_verify, verify_says, is_repair, repair_says};
 ghost use Rattle.ra_words.specs.Said.{said};
 
-use crate::forms::{is_bound, is_bound_from, is_check, is_solve, is_trial, is_verify};
-use crate::line::{closed_name, plain_at, plain_name, run_lots, take_line};
+use crate::forms::{is_bound, is_bound_from, is_check, is_repair, is_solve, is_trial, is_verify};
+use crate::line::{closed_name, lots, plain_at, plain_name, run_lots, take_line};
 use crate::numbers::number;
-use ra_base::{Name, NoMemory};
+use ra_base::{Drawing, Name, NoMemory};
 use ra_draws::Lots;
 use std::alloc::Global;
 
@@ -46,6 +46,14 @@ pub enum Job {
         model: Name,
         initial: Name,
         report: Name,
+        closed: Option<Name>,
+        lots: Lots,
+    },
+    /// Look for a list that meets all constraints from the list `initial` of a model, which may break some, with the machines
+    /// of the list `closed` closed, by the tries of one lot.
+    Repair {
+        model: Name,
+        initial: Name,
         closed: Option<Name>,
         lots: Lots,
     },
@@ -94,6 +102,9 @@ pub fn read_words(alloc: Global, words: &[String]) -> Result<Job, WordsFault>
     }
     if is_verify(words) {
         return Ok(verify_job(alloc, words)?);
+    }
+    if is_repair(words) {
+        return Ok(repair_job(alloc, words)?);
     }
     Err(WordsFault::Usage)
 }
@@ -184,5 +195,23 @@ fn verify_job(alloc: Global, words: &[String]) -> Result<Job, NoMemory>
         report,
         closed,
         lots,
+    })
+}
+
+#[tactic(auto, using(crate::proofs::JobLines::repair_is_line, crate::proofs::JobLines::repair_lots))]
+fn repair_job(alloc: Global, words: &[String]) -> Result<Job, NoMemory>
+    requires { is_repair (texts words.now) ≡ true }
+    ensures { IfOk result (λ job. said job ≡ repair_says (texts words.now)) }
+{
+    let taken = take_line(alloc, words)?;
+    let model = plain_name(alloc, &taken, 0)?;
+    let initial = plain_name(alloc, &taken, 1)?;
+    let closed = closed_name(alloc, &taken)?;
+    let lots = lots(alloc, &taken, 2)?;
+    Ok(Job::Repair {
+        model,
+        initial,
+        closed,
+        lots: Lots::of(0, Drawing::Two, lots),
     })
 }

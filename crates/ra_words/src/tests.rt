@@ -61,6 +61,10 @@ const JOBS: &[(&[&str], &str)] = &[
         ],
         "verify r solve m i closed c slack 7 drawing One lots 1 budget 3 seed 9",
     ),
+    (
+        &["repair", "m", "i", "--closed", "c", "9:1000000"],
+        "repair solve m i closed c slack 0 drawing Two lots 1 budget 1000000 seed 9",
+    ),
 ];
 
 #[test]
@@ -127,6 +131,15 @@ fn tell(alloc: Global, job: &Job) -> Result<String, AllocError> {
         } => {
             let run = tell_run(alloc, model, initial, closed, lots)?;
             format!(in alloc; "verify {} {}", report.as_str(), run.as_str())
+        }
+        Job::Repair {
+            model,
+            initial,
+            closed,
+            lots,
+        } => {
+            let run = tell_run(alloc, model, initial, closed, lots)?;
+            format!(in alloc; "repair {}", run.as_str())
         }
     }
 }

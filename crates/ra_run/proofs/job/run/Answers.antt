@@ -5,6 +5,7 @@ use Rattle.ra_report.specs.Pieces.{Breaks, Puts}
 use Rattle.ra_words.specs.Jobs.{job_of}
 use Rattle.ra_words.specs.Said.{said}
 use Rattle.ra_words.specs.Words.{texts}
+use Rattle.ra_words.proofs.OneLot.{has_one_lot}
 use Rattle.ra_run.proofs.RunLemmas.{ends_memory_any, complete_memory_any, job_comes, own_memory_any, says_comes}
 use Rattle.ra_run.proofs.job.run.Goals as goal
 
@@ -35,3 +36,6 @@ returns-in-Err-NoMemory-clause-complete g c = complete_memory_any (job_of (texts
 
 pub returns-in-Err-NoMemory-clause-own_comes : goal.returns-in-Err-NoMemory-clause-own_comes
 returns-in-Err-NoMemory-clause-own_comes g c = own_memory_any (job_of (texts c.args.words.now)) (g.F.Files.held c.args.files.now) (g.F.Files.faults c.args.files.now) (g.F.Files.faults c.args.files.now) c.refuse_memory.result c.refuse_memory.ensures.status
+
+pub do_job-requires : goal.do_job-requires
+do_job-requires g c = has_one_lot (texts c.args.words.now) (said c.in-Ok.job) c.in-Ok.ensures.ok
