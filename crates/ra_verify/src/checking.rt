@@ -1,4 +1,5 @@
 ghost use Rattle.std.specs.Prelude.{◌≡◌, ◌≤◌, ℕ, List, None, Some, [], Err, IfSome, IfOk};
+ghost use Rattle.ra_bounds.specs.PinnedBounds.{pinned_bound_of};
 ghost use Rattle.ra_io.specs.Faults.{Rose};
 ghost use Rattle.ra_lines.specs.Reading.{Reads};
 ghost use Rattle.ra_verify.specs.Checking.{entries_in, IsOpen};
@@ -12,6 +13,7 @@ use crate::faults::VerifyFault;
 use crate::head::{HEAD_BYTES, read_head};
 use crate::judging::judge;
 use ra_base::Fixed;
+use ra_bounds::Bound;
 use ra_io::Files;
 use ra_lines::LineReader;
 use ra_report::LONGEST_LINE;
@@ -26,6 +28,7 @@ pub(crate) fn check<'a, F: Files>(
     line: &mut Fixed<u8>,
     checker: &mut Checker<'a>,
     world: &mut World<'a>,
+    bound: &Bound,
 ) -> Result<u64, VerifyFault>
     requires reads { Reads (F.held files.old reader.old.name) reader.old }
     requires start { reader.old.place ≡ 0 }
@@ -37,6 +40,8 @@ pub(crate) fn check<'a, F: Files>(
     requires instance { world.old.inst.now ≡ checker.old.journal.inst.now }
     requires initial { world.old.start.now ≡ checker.old.journal.a0.now }
     requires at_start { world.old.kept.assignment.items ≡ checker.old.journal.a0.now.items }
+    requires bound { bound.now ≡ pinned_bound_of checker.old.journal.inst.now.tables
+        checker.old.journal.a0.now.items }
     ensures none_wrong { IfSome (F.held files.old reader.old.name) (λ bytes. IfOk result (λ n.
         IsFirstWrong checker.old.journal.inst.now.tables checker.old.journal.a0.now.items
         checker.old.journal.lots.now bytes None)) }
@@ -53,7 +58,16 @@ pub(crate) fn check<'a, F: Files>(
     ensures never_fall { (other : List ℕ) → F.faults files.old other ≤ F.faults files.new other }
 {
     match read_head(files, reader, head) {
-        Ok(lines) => check_rest(files, reader, head.as_slice(), lines, line, checker, world),
+        Ok(lines) => check_rest(
+            files,
+            reader,
+            head.as_slice(),
+            lines,
+            line,
+            checker,
+            world,
+            bound,
+        ),
         Err(why) => Err(why),
     }
 }
@@ -67,6 +81,7 @@ fn check_rest<'a, F: Files>(
     line: &mut Fixed<u8>,
     checker: &mut Checker<'a>,
     world: &mut World<'a>,
+    bound: &Bound,
 ) -> Result<u64, VerifyFault>
     requires reads { Reads (F.held files.old reader.old.name) reader.old }
     requires few { lines ≤ 10 }
@@ -79,6 +94,8 @@ fn check_rest<'a, F: Files>(
     requires instance { world.old.inst.now ≡ checker.old.journal.inst.now }
     requires initial { world.old.start.now ≡ checker.old.journal.a0.now }
     requires at_start { world.old.kept.assignment.items ≡ checker.old.journal.a0.now.items }
+    requires bound { bound.now ≡ pinned_bound_of checker.old.journal.inst.now.tables
+        checker.old.journal.a0.now.items }
     ensures none_wrong { IfSome (F.held files.old reader.old.name) (λ bytes. IfOk result (λ n.
         IsFirstWrong checker.old.journal.inst.now.tables checker.old.journal.a0.now.items
         checker.old.journal.lots.now bytes None)) }
@@ -95,7 +112,7 @@ fn check_rest<'a, F: Files>(
     ensures never_fall { (other : List ℕ) → F.faults files.old other ≤ F.faults files.new other }
 {
     match read_rest(files, reader, line, checker, lines) {
-        Ok(()) => judge(head, lines, &checker.journal, world),
+        Ok(()) => judge(head, lines, &checker.journal, world, bound),
         Err(why) => Err(why),
     }
 }

@@ -1,4 +1,5 @@
 ghost use Rattle.std.specs.Prelude.{◌≡◌, ◌≤◌, ◌<◌, ◌+◌, ◌↔◌, ℕ, true, Err, length, IfOk, IfErr, IfNone, IfSome};
+ghost use Rattle.ra_bounds.specs.PinnedBounds.{pinned_bound_of};
 ghost use Rattle.ra_lines.specs.Lines.{FirstUnlike};
 ghost use Rattle.ra_journal.specs.Legal.{Whole};
 ghost use Rattle.ra_report.specs.JournalTexts.{head_of};
@@ -7,7 +8,7 @@ ghost use Rattle.ra_verify.specs.declared.faults.VerifyFault.TheVariants as faul
 
 use crate::faults::VerifyFault;
 use ra_base::Steps;
-use ra_bounds::bound;
+use ra_bounds::Bound;
 use ra_journal::Journal;
 use ra_report::unlike_head;
 use ra_worker::replay;
@@ -17,14 +18,17 @@ use std::sync::ledger::{Blank, Ledger};
 
 /// Judges a report whose entry lines are all right: whether their journal is whole, and whether the first lines are the
 /// head of its report. `head` is the bytes of so many first lines, ten or all, and the world stands at the initial
-/// assignment.
+/// assignment, whose bound is given.
 pub(crate) fn judge<'a>(
     head: &[u8],
     lines: u64,
     journal: &Journal<'a>,
     world: &mut World<'a>,
+    bound: &Bound,
 ) -> Result<u64, VerifyFault>
     requires few { lines ≤ 10 }
+    requires bound { bound.now ≡
+        pinned_bound_of journal.now.inst.now.tables journal.now.a0.now.items }
     requires instance { world.old.inst.now ≡ journal.now.inst.now }
     requires initial { world.old.start.now ≡ journal.now.a0.now }
     requires at_start { world.old.kept.assignment.items ≡ journal.now.a0.now.items }
@@ -38,7 +42,7 @@ pub(crate) fn judge<'a>(
             line: lines + entries + 1,
         });
     }
-    match first_unlike::<Brand>(head, journal, world, Blank::new(1)) {
+    match first_unlike::<Brand>(head, journal, world, bound, Blank::new(1)) {
         Some(place) => Err(VerifyFault::Wrong {
             line: place as u64 + 1,
         }),
@@ -63,8 +67,11 @@ fn first_unlike<'a, L: Ledger>(
     head: &[u8],
     journal: &Journal<'a>,
     world: &mut World<'a>,
+    bound: &Bound,
     blank: Blank,
 ) -> Option<usize>
+    requires bound { bound.now ≡
+        pinned_bound_of journal.now.inst.now.tables journal.now.a0.now.items }
     requires name { blank.name ≡ L.name }
     requires parts { blank.parts ≡ L.parts }
     requires some { 0 < blank.parts }
@@ -77,6 +84,5 @@ fn first_unlike<'a, L: Ledger>(
 {
     let mut steps = Steps::<L>::make(blank);
     replay(journal, journal.best_at(), world, &mut steps);
-    let bound = bound(journal.instance());
-    unlike_head(head, world.assignment(), &world.parts(), &bound, journal)
+    unlike_head(head, world.assignment(), &world.parts(), bound, journal)
 }

@@ -1,4 +1,5 @@
 ghost use Rattle.std.specs.Prelude.{◌≡◌, ◌≤◌, ℕ, List, None, Some, Err, IfSome, IfOk};
+ghost use Rattle.ra_bounds.specs.PinnedBounds.{pinned_bound_of};
 ghost use Rattle.ra_io.specs.Faults.{Rose};
 ghost use Rattle.ra_model.specs.Assignments.{IsAssignment};
 ghost use Rattle.ra_model.specs.Broken.{first_broken};
@@ -11,11 +12,13 @@ use crate::checker::Checker;
 use crate::checking::check;
 use crate::faults::VerifyFault;
 use crate::head::HEAD_BYTES;
-use ra_base::{Assignment, Fixed, Parts};
+use ra_base::{Assignment, Fixed, NoMemory, Parts};
+use ra_bounds::{Bound, pinned_bound};
 use ra_draws::Lots;
 use ra_io::Files;
 use ra_lines::LineReader;
 use ra_model::Instance;
+use ra_pins::Pins;
 use ra_report::LONGEST_LINE;
 use ra_topology::Topology;
 use ra_world::World;
@@ -58,6 +61,7 @@ pub fn verify<'a, F: Files>(
     ensures kept { (other : List ℕ) → F.held files.new other ≡ F.held files.old other }
     ensures never_fall { (other : List ℕ) → F.faults files.old other ≤ F.faults files.new other }
 {
+    let bound = bound_from(alloc, inst, a0)?;
     let mut checker = Checker::make(alloc, inst, topo, a0, start, lots)?;
     let mut world = World::make(alloc, inst, topo, a0, start)?;
     let mut reader = LineReader::make(alloc, name)?;
@@ -70,5 +74,15 @@ pub fn verify<'a, F: Files>(
         &mut line,
         &mut checker,
         &mut world,
+        &bound,
     )
+}
+
+/// The bound of an instance and a start.
+fn bound_from(alloc: Global, inst: &Instance, a0: &Assignment) -> Result<Bound, NoMemory>
+    requires fits { IsAssignment inst.now.tables a0.now.items }
+    ensures { IfOk result (λ b. b ≡ pinned_bound_of inst.now.tables a0.now.items) }
+{
+    let pins = Pins::make(alloc, inst, a0)?;
+    Ok(pinned_bound(inst, &pins))
 }
