@@ -8,3 +8,4 @@ pub mod CheckerLemmas
 pub mod ReportLemmas
 pub mod VerdictLemmas
 pub mod CheckLemmas
+pub mod LimitLemmas

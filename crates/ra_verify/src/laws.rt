@@ -1,5 +1,5 @@
 //! Laws of reports: each function does nothing, and its contract is a law that was proved.
-ghost use Rattle.ra_verify.specs.Laws.{OneNextEntry, OneFirstWrong, NoneWrongIsReport};
+ghost use Rattle.ra_verify.specs.Laws.{OneNextEntry, OneFirstWrong, NoneWrongIsReport, ReportHasNoneWrong};
 
 /// The entries so far, the worker and the place of a plan tell the one entry that may follow.
 pub fn one_next_entry()
@@ -14,4 +14,9 @@ pub fn one_first_wrong()
 /// Bytes of which no line is wrong are the report of a legal whole journal.
 pub fn none_wrong_is_report()
     ensures { NoneWrongIsReport }
+{}
+
+/// In the report of a legal whole journal from a feasible start no line is wrong.
+pub fn report_has_none_wrong()
+    ensures { ReportHasNoneWrong }
 {}
