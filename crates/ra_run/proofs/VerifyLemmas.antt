@@ -13,7 +13,7 @@ use Rattle.ra_model.proofs.BrokenLemmas.{unbroken_from_feasible}
 use Rattle.ra_report.specs.JournalTexts.{accepted_line}
 use Rattle.ra_verify.specs.WrongLines.{IsFirstWrong, IsReport}
 use Rattle.ra_verify.proofs.AnswerLemmas.{one_first_wrong}
-use Rattle.ra_verify.proofs.ReportLemmas.{report_has_none_wrong}
+use Rattle.ra_verify.proofs.LimitLemmas.{report_has_none_wrong}
 use Rattle.ra_run.specs.declared.refusals.File.TheVariants as file
 use Rattle.ra_run.specs.declared.refusals.Refusal.{Refusal}
 use Rattle.ra_run.specs.declared.refusals.Refusal.TheVariants.{Read, Model, Closed, Initial, Changed, InitialBroken, ChangedBroken, Wrong as WrongLine, Write, Memory}
