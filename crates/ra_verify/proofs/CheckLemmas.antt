@@ -1,5 +1,5 @@
 -- What was read of a report, and what is answered.
-use Rattle.std.proofs.Common.{◌≡◌, ℕ, ◌+◌, ◌≤◌, ◌⊎◌, inl, inr, List, length, Option, Some, None, Result, Ok, Err, IfSome, IfOk, IfErr, OnOk, refl, sym, ap, ◌∙◌, subst}
+use Rattle.std.proofs.Common.{◌≡◌, ℕ, ◌+◌, inl, List, length, Option, Some, None, Result, Ok, Err, IfSome, IfOk, IfErr, OnOk, sym, ap, ◌∙◌, subst}
 use Rattle.ra_base.specs.Listed.{Listed}
 use Rattle.ra_base.specs.declared.ids.Machine.{Machine}
 use Rattle.ra_draws.specs.declared.budgets.Lots.{Lots}
@@ -14,7 +14,7 @@ use Rattle.ra_verify.specs.declared.faults.VerifyFault.TheVariants as fault
 use Rattle.ra_verify.specs.Checking.{IsSameRun}
 use Rattle.ra_verify.specs.Judging.{IsAccepted, IsMisjudged}
 use Rattle.ra_verify.specs.Reading.{IsHead, AreFirst, IsWrongNext}
-use Rattle.ra_verify.specs.WrongLines.{first_over_long, AreAllRight, NoneIsWrong, IsFirstWrong, IsReport}
+use Rattle.ra_verify.specs.WrongLines.{first_over_long, AreAllRight, IsFirstWrong, IsReport}
 use Rattle.ra_verify.proofs.VerdictLemmas.{accepted, reported, wrong_entry, misjudged}
 
 abbrev Told : Option (List ℕ) → (List ℕ → Type 0) → Type 0

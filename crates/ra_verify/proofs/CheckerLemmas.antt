@@ -1,5 +1,5 @@
 -- A checker that takes entries in.
-use Rattle.std.proofs.Common.{◌≡◌, ℕ, ◌+◌, ◌-◌, ◌<◌, ◌≤◌, Bool, true, false, List, [], ◌∷◌, ◌++◌, length, map, set, get_or, Option, Some, None, refl, sym, ap, ap₂, ◌∙◌, subst, arith}
+use Rattle.std.proofs.Common.{◌≡◌, ℕ, ◌+◌, ◌-◌, ◌<◌, ◌≤◌, true, List, [], ◌∷◌, ◌++◌, length, set, get_or, refl, sym, ap, ap₂, ◌∙◌, subst, arith}
 use Rattle.std.proofs.lemmas.List.{length_push, length-map, get_or-map, get_or_default}
 use Rattle.ra_base.specs.Listed.{Listed}
 use Rattle.ra_base.specs.declared.ids.Machine.{Machine}
@@ -19,7 +19,7 @@ use Rattle.ra_worker.specs.Core.{place_of, turn}
 use Rattle.ra_worker.specs.Replicas.{AreAt, core_of}
 use Rattle.ra_worker.proofs.TurnLemmas.{same_legal}
 use Rattle.ra_verify.specs.declared.checker.Checker.{Checker}
-use Rattle.ra_verify.specs.Checking.{IsBehind, NoneIsPast, entries_in, core_in, IsOpen, MayFollow, HasTaken, HasMore, HasTakenLine, IsSameRun, MayStand, is_recorded}
+use Rattle.ra_verify.specs.Checking.{NoneIsPast, entries_in, core_in, IsOpen, MayFollow, HasTaken, HasMore, HasTakenLine, IsSameRun, MayStand, is_recorded}
 use Rattle.ra_verify.proofs.FollowLemmas.{last_legal, one_next_entry, is_taken, none_past, none_past_start}
 
 -- what may follow may stand there

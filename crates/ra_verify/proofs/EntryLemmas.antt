@@ -1,8 +1,8 @@
 -- One entry line after another of a report.
-use Rattle.std.proofs.Common.{◌≡◌, ◌≢◌, ℕ, ◌+◌, ◌-◌, ◌^◌, ◌<◌, ◌≤◌, ◌⊎◌, inl, inr, Bool, true, false, cond, eqb, unwrap_or, Result, Ok, Err, IsOk, List, [], ◌∷◌, ◌++◌, length, take, drop, Option, Some, None, IfSome, refl, sym, ap, ◌∙◌, subst, ⊎_elim, arith, take-append-drop, length-append, length-take}
+use Rattle.std.proofs.Common.{◌≡◌, ℕ, ◌+◌, ◌-◌, ◌<◌, ◌≤◌, ◌⊎◌, Bool, true, false, cond, eqb, unwrap_or, Result, Ok, Err, IsOk, List, [], ◌∷◌, ◌++◌, length, take, drop, Option, Some, None, IfSome, refl, sym, ap, ◌∙◌, subst, ⊎_elim, arith, take-append-drop, length-take}
 use Rattle.std.proofs.lemmas.Bool.{cases_lt}
-use Rattle.std.proofs.lemmas.List.{append-nil, append_assoc, length_push, take-take, take-append-le, append_cancel_left}
-use Rattle.std.proofs.lemmas.Option.{slice_get_within, slice_get_past}
+use Rattle.std.proofs.lemmas.List.{length_push, take-append-le}
+use Rattle.std.proofs.lemmas.Option.{slice_get_within}
 use Rattle.ra_base.specs.declared.ids.Machine.{Machine}
 use Rattle.ra_draws.specs.declared.budgets.Lots.{Lots}
 use Rattle.ra_model.specs.declared.raw.Tables.{Tables}
@@ -20,8 +20,8 @@ use Rattle.ra_report.proofs.LineEnds.{entry_is_line, line_ends}
 use Rattle.ra_verify.specs.declared.faults.VerifyFault.{VerifyFault}
 use Rattle.ra_verify.specs.declared.faults.VerifyFault.TheVariants as fault
 use Rattle.ra_verify.specs.Reading.{AreLines, AreRead, IsWrongNext}
-use Rattle.ra_verify.specs.WrongLines.{AreRight, AreAllRight}
-use Rattle.ra_verify.proofs.ReadingLemmas.{ends_append, body_less, body_front, piece_is, lines_more, line_next, lines_last, lines_end}
+use Rattle.ra_verify.specs.WrongLines.{AreAllRight}
+use Rattle.ra_verify.proofs.ReadingLemmas.{body_less, body_front, piece_is, lines_more, line_next}
 
 -- what is told of bytes
 pub told_map : (told : Option (List ℕ)) (P Q : List ℕ → Type 0) → ((bytes : List ℕ) → P bytes → Q bytes) → IfSome told P → IfSome told Q

@@ -1,5 +1,5 @@
 -- The one entry that may follow the entries of a legal journal, by its worker and the place of its plan.
-use Rattle.std.proofs.Common.{◌≡◌, ℕ, zero, suc, ◌+◌, ◌<◌, ◌≤◌, Bool, true, false, ◌||◌, cond, eqb, List, [], ◌∷◌, ◌++◌, length, set, get_or, Option, Some, None, refl, sym, ap, ap₂, ◌∙◌, subst, ⊎_elim, arith}
+use Rattle.std.proofs.Common.{◌≡◌, ℕ, zero, suc, ◌+◌, ◌<◌, ◌≤◌, Bool, true, false, eqb, List, [], ◌∷◌, ◌++◌, length, set, get_or, Option, Some, None, refl, sym, ap, ap₂, ◌∙◌, subst, ⊎_elim, arith}
 use Rattle.std.proofs.lemmas.Bool.{cases_Bool, cases_eq, cases_lt, lt-leb, le-ltb, eqb-true}
 use Rattle.std.proofs.lemmas.List.{length_push, get_or-set_same, get_or-set_other}
 use Rattle.ra_base.specs.declared.ids.Machine.{Machine}
@@ -21,10 +21,10 @@ use Rattle.ra_journal.proofs.EndLemmas.{planned_within, next_entry_is}
 use Rattle.ra_journal.proofs.NewerLemmas.{committed_recorded}
 use Rattle.ra_journal.proofs.NextLemmas.{carried}
 use Rattle.ra_journal.proofs.RoomLemmas.{AreNumbered, entries_few, proposals_few, budgets_few}
-use Rattle.ra_journal.proofs.Places.{SameBelow, same_added, same_fewer, same_turned, entry_before, entry_added}
+use Rattle.ra_journal.proofs.Places.{same_added, same_fewer, same_turned, entry_before, entry_added}
 use Rattle.ra_report.specs.Fronts.{IsSmallEntry, IsSmallFront}
 use Rattle.ra_worker.specs.declared.events.CoreReply.{CoreReply}
-use Rattle.ra_worker.specs.declared.events.CoreReply.TheVariants.{Skipped, Answer}
+use Rattle.ra_worker.specs.declared.events.CoreReply.TheVariants.{Answer}
 use Rattle.ra_worker.specs.Core.{Core, place_of, has_used, is_behind, is_skipped, Turn, answered, turn}
 use Rattle.ra_worker.proofs.TurnLemmas.{turn_skipped, turn_answered}
 use Rattle.ra_verify.specs.Checking.{IsBehind, NoneIsPast, is_recorded}

@@ -1,5 +1,5 @@
 -- The lines of a report's head are short.
-use Rattle.std.proofs.Common.{◌≡◌, ℕ, zero, suc, ◌+◌, ◌*◌, ◌^◌, ◌<◌, ◌≤◌, List, [], ◌∷◌, ◌++◌, length, slice_get, get_or, Option, Some, None, unwrap_or, codes, refl, sym, ap, ◌∙◌, subst, arith, append_assoc, length-append, lt_trans}
+use Rattle.std.proofs.Common.{◌≡◌, ℕ, zero, suc, ◌+◌, ◌*◌, ◌^◌, ◌<◌, ◌≤◌, List, [], ◌∷◌, ◌++◌, length, slice_get, get_or, Option, Some, None, unwrap_or, codes, refl, ap, ◌∙◌, subst, arith, append_assoc, length-append, lt_trans}
 use Rattle.std.proofs.lemmas.Option.{slice_get-get_or, none-some}
 use Rattle.ra_base.specs.declared.causes.Drawing.{Drawing}
 use Rattle.ra_base.specs.declared.causes.Drawing.TheVariants.{One, Two}
@@ -27,7 +27,7 @@ use Rattle.ra_report.specs.JournalTexts.{machines_text, assignment_line, drawing
 use Rattle.ra_report.proofs.LengthLaws.{text_length, cost_length}
 use Rattle.ra_report.proofs.LineEnds.{IsLine, number_line_is_line, assignment_is_line, drawing_is_line, line_before, line_alone}
 use Rattle.ra_verify.specs.Laws.{ReportHasNoneWrong}
-use Rattle.ra_verify.specs.WrongLines.{most_bytes, over_long, first_over_long, AreAllRight, NoneIsWrong, IsReport}
+use Rattle.ra_verify.specs.WrongLines.{most_bytes, over_long}
 use Rattle.ra_verify.proofs.FollowLemmas.{few_entries}
 use Rattle.ra_verify.proofs.ReadingLemmas.{short_at, none_over}
 use Rattle.ra_verify.proofs.ReportLemmas.{report_at, report_long, report_entry_at}

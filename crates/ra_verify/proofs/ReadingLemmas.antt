@@ -1,16 +1,15 @@
 -- One line after another of some bytes.
-use Rattle.std.proofs.Common.{◌≡◌, ◌≢◌, ℕ, zero, suc, ◌+◌, ◌-◌, ◌<◌, ◌≤◌, Bool, true, false, cond, eqb, List, [], ◌∷◌, ◌++◌, length, take, drop, get_or, Option, Some, None, refl, sym, ap, ◌∙◌, subst, ⊎_elim, arith, take-append-drop, take-add, drop-drop, length-append}
-use Rattle.std.specs.Prelude.{slice_get, nat_lt}
-use Rattle.std.proofs.lemmas.Bool.{cases_lt, le-ltb, lt-ltb}
+use Rattle.std.proofs.Common.{◌≡◌, ℕ, zero, suc, ◌+◌, ◌-◌, ◌<◌, ◌≤◌, Bool, true, false, cond, eqb, List, [], ◌∷◌, ◌++◌, length, take, drop, Some, None, refl, sym, ap, ◌∙◌, subst, arith, take-append-drop, take-add, drop-drop, length-append}
+use Rattle.std.specs.Prelude.{slice_get}
+use Rattle.std.proofs.lemmas.Bool.{le-ltb, lt-ltb}
 use Rattle.std.proofs.lemmas.List.{append-nil, append_cancel_right}
 use Rattle.std.proofs.lemmas.Option.{slice_get_past}
-use Rattle.ra_base.specs.Searches.{first}
 use Rattle.ra_base.proofs.Searches.{first_found, first_none_from}
-use Rattle.ra_lines.specs.Lines.{lines_of, line_at, ends_line, body_of, IsOverLong}
+use Rattle.ra_lines.specs.Lines.{lines_of, line_at, ends_line, body_of}
 use Rattle.ra_lines.proofs.SplitLaws.{lines_append}
 use Rattle.ra_verify.specs.Reading.{AreLines}
 use Rattle.ra_verify.specs.WrongLines.{most_bytes, if_over_long, over_long, first_over_long}
-use Rattle.ra_verify.proofs.PlaceLemmas.{got_left, got_behind}
+use Rattle.ra_verify.proofs.PlaceLemmas.{got_behind}
 
 -- what ends with LF does so behind other bytes
 ends_cons : (b : ℕ) (z : List ℕ) → ends_line z ≡ true → ends_line (b ∷ z) ≡ true

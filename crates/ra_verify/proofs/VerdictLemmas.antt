@@ -1,12 +1,10 @@
 -- What a report's head and its entry lines say of the first wrong line.
-use Rattle.std.proofs.Common.{◌≡◌, ◌≢◌, ℕ, ◌+◌, ◌<◌, ◌≤◌, ◌⊎◌, inl, inr, List, [], ◌∷◌, ◌++◌, length, take, drop, slice_get, Option, Some, None, IfSome, refl, sym, ap, ◌∙◌, subst, ⊎_elim, arith, length-append}
+use Rattle.std.proofs.Common.{◌≡◌, ℕ, ◌+◌, ◌<◌, ◌≤◌, inl, inr, List, [], ◌++◌, length, drop, slice_get, Some, refl, sym, ap, ◌∙◌, subst, ⊎_elim, arith}
 use Rattle.std.proofs.lemmas.Bool.{cases_lt}
 use Rattle.std.proofs.lemmas.List.{append-nil}
 use Rattle.std.proofs.lemmas.Option.{slice_get_past}
-use Rattle.ra_base.specs.Listed.{Listed}
 use Rattle.ra_base.specs.declared.ids.Machine.{Machine}
 use Rattle.ra_draws.specs.declared.budgets.Lots.{Lots}
-use Rattle.ra_model.specs.declared.numbers.Instance.{Instance}
 use Rattle.ra_model.specs.declared.raw.Tables.{Tables}
 use Rattle.ra_lines.specs.Lines.{lines_of, line_at, FirstUnlike}
 use Rattle.ra_journal.specs.declared.entries.Entry.{Entry}
@@ -15,8 +13,8 @@ use Rattle.ra_journal.specs.Legal.{Legal, Whole}
 use Rattle.ra_report.specs.JournalTexts.{report_head, report_text, head_of}
 use Rattle.ra_report.proofs.LineEnds.{head_line_count}
 use Rattle.ra_verify.specs.Judging.{IsAccepted, IsUnfinished, HasUnlike, IsMisjudged}
-use Rattle.ra_verify.specs.Reading.{AreLines, AreFirst, IsHead, IsWrongNext}
-use Rattle.ra_verify.specs.WrongLines.{AreRight, AreAllRight, IsWrongEntry, IsCutOff, IsWrongHead, NoneIsWrong, IsFirstWrong, IsReport}
+use Rattle.ra_verify.specs.Reading.{AreFirst, IsHead, IsWrongNext}
+use Rattle.ra_verify.specs.WrongLines.{AreAllRight, IsCutOff, IsWrongHead, NoneIsWrong, IsFirstWrong, IsReport}
 use Rattle.ra_verify.proofs.PlaceLemmas.{got_left}
 use Rattle.ra_verify.proofs.ReadingLemmas.{lines_end, none_over}
 use Rattle.ra_verify.proofs.ReportLemmas.{report_at, is_report}

@@ -1,8 +1,6 @@
 -- A journal that is built from the lines of a report, with a replica for each worker.
 use Rattle.std.specs.Prelude.{◌≡◌, ℕ, ◌<◌, ◌≤◌, Bool, true, false, List, [], ◌∷◌, ◌++◌, length}
-use Rattle.ra_base.specs.declared.ids.Machine.{Machine}
 use Rattle.ra_draws.specs.declared.budgets.Lots.{Lots}
-use Rattle.ra_model.specs.declared.raw.Tables.{Tables}
 use Rattle.ra_journal.specs.declared.entries.Entry.{Entry}
 use Rattle.ra_journal.specs.declared.replies.Reply.TheVariants.{Recorded, Stale}
 use Rattle.ra_journal.specs.Entries.{entry_at, worker_count}

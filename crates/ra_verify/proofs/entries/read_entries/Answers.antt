@@ -1,4 +1,4 @@
-use Rattle.std.proofs.Common.{◌≡◌, Ok, ap}
+use Rattle.std.proofs.Common.{Ok, ap}
 use Rattle.ra_verify.proofs.CheckerLemmas.{more_smaller}
 use Rattle.ra_verify.proofs.entries.read_entries.Goals as goal
 

@@ -1,4 +1,4 @@
-use Rattle.std.proofs.Common.{◌≡◌, ℕ, ◌+◌, ◌*◌, ◌<◌, ◌≤◌, ◌++◌, ◌∷◌, [], List, Ok, Err, true, length, IfSome, IfErr, IsOk, sym, ap, ◌∙◌, subst, arith}
+use Rattle.std.proofs.Common.{◌≡◌, ◌+◌, Ok, Err, true, length, IfErr, sym, ap, ◌∙◌, subst, arith}
 use Rattle.ra_journal.specs.declared.entries.Entry.{Entry}
 use Rattle.ra_journal.specs.Legal.{Legal}
 use Rattle.ra_report.specs.JournalTexts.{entry_line}

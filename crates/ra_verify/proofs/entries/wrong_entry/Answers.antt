@@ -1,4 +1,4 @@
-use Rattle.std.proofs.Common.{◌≤◌, length, arith}
+use Rattle.std.proofs.Common.{arith}
 use Rattle.ra_verify.proofs.FollowLemmas.{few_entries}
 use Rattle.ra_verify.proofs.entries.wrong_entry.Goals as goal
 

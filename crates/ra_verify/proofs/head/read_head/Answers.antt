@@ -1,7 +1,5 @@
-use Rattle.std.proofs.Common.{◌≡◌, ℕ, ◌+◌, ◌*◌, ◌<◌, ◌≤◌, List, Option, Some, Err, length, IfSome, refl, sym, ap, ◌∙◌, subst, arith}
-use Rattle.std.proofs.lemmas.Bool.{cases_eq}
-use Rattle.ra_verify.specs.WrongLines.{first_over_long}
-use Rattle.ra_verify.proofs.HeadLemmas.{told_start, told_line, told_last, told_end, told_long, told_ten, long_told, early_more, late_more}
+use Rattle.std.proofs.Common.{ℕ, ◌+◌, List, length, refl, ap, ◌∙◌, arith}
+use Rattle.ra_verify.proofs.HeadLemmas.{told_start, told_line, told_last, told_end, told_long, long_told, early_more, late_more}
 use Rattle.ra_verify.proofs.head.read_head.Goals as goal
 
 pub loop-n-init : goal.loop-n-init

@@ -1,4 +1,4 @@
-use Rattle.std.proofs.Common.{◌≡◌, ℕ, List, Option, Some, None, Err, IfOk}
+use Rattle.std.proofs.Common.{◌≡◌, ℕ, Some, None, Err, IfOk}
 use Rattle.ra_verify.specs.WrongLines.{IsFirstWrong, IsReport}
 use Rattle.ra_verify.specs.declared.faults.VerifyFault.TheVariants as fault
 use Rattle.ra_verify.proofs.CheckLemmas.{moved}

@@ -1,4 +1,4 @@
-use Rattle.std.proofs.Common.{◌≡◌, true, false, sym, ap, ◌∙◌}
+use Rattle.std.proofs.Common.{sym, ◌∙◌}
 use Rattle.ra_verify.proofs.FollowLemmas.{none_may_follow}
 use Rattle.ra_verify.proofs.CheckerLemmas.{may_stand, taken}
 use Rattle.ra_verify.proofs.checker.Checker.take.Goals as goal

@@ -1,4 +1,4 @@
-use Rattle.std.proofs.Common.{◌≡◌, ◌≤◌, length, true, false, sym, ap, ◌∙◌, arith}
+use Rattle.std.proofs.Common.{length, sym, ap, ◌∙◌, arith}
 use Rattle.ra_journal.specs.Committing.{next_entry}
 use Rattle.ra_verify.proofs.CheckerLemmas.{line_taken, only_taken}
 use Rattle.ra_verify.proofs.checker.Checker.take_fronted.Goals as goal

@@ -1,4 +1,4 @@
-use Rattle.std.proofs.Common.{◌≡◌, true, false, sym, ap, ◌∙◌}
+use Rattle.std.proofs.Common.{◌≡◌}
 use Rattle.ra_verify.proofs.FollowLemmas.{small_entry, small_front}
 use Rattle.ra_verify.proofs.checker.Checker.take_line.Goals as goal
 
