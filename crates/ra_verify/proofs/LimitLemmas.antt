@@ -5,8 +5,8 @@ use Rattle.ra_base.specs.declared.causes.Drawing.{Drawing}
 use Rattle.ra_base.specs.declared.causes.Drawing.TheVariants.{One, Two}
 use Rattle.ra_base.specs.declared.costs.Parts.{Parts}
 use Rattle.ra_base.specs.declared.ids.Machine.{Machine}
-use Rattle.ra_bounds.specs.Bounds.{bound_of}
-use Rattle.ra_bounds.proofs.CostLemmas.{none_costs_less}
+use Rattle.ra_bounds.specs.PinnedBounds.{pinned_bound_of}
+use Rattle.ra_bounds.proofs.PinnedLemmas.{none_costs_less_pinned}
 use Rattle.ra_draws.specs.declared.budgets.Lots.{Lots}
 use Rattle.ra_model.specs.declared.raw.Tables.{Tables}
 use Rattle.ra_model.specs.Limits.{WellFormed, Small}
@@ -118,7 +118,7 @@ ten_are parts total best a d =
     (next_line _ _ _ (assignment_is_line a) (line_alone (drawing_line d) (drawing_is_line d))))))))))
 
 -- the ten lines of a report of a legal journal
-heads_short : (i : Tables) (a0 : List Machine) (l : Lots) (h : List Entry) → WellFormed i → Small i → IsAssignment i a0 → Feasible i a0 a0 → Legal i a0 l h → AreShort 0 (ten_lines (parts_of i a0 (state a0 h (best_of i a0 h))) (bound_of i).total (best_of i a0 h) (state a0 h (best_of i a0 h)) l.drawing)
+heads_short : (i : Tables) (a0 : List Machine) (l : Lots) (h : List Entry) → WellFormed i → Small i → IsAssignment i a0 → Feasible i a0 a0 → Legal i a0 l h → AreShort 0 (ten_lines (parts_of i a0 (state a0 h (best_of i a0 h))) (pinned_bound_of i a0).total (best_of i a0 h) (state a0 h (best_of i a0 h)) l.drawing)
 unfolding AreShort ten_lines most_bytes parts_of best_of body_of
 heads_short i a0 l h limits numbers fits feasible legal =
     let j = best_of i a0 h in
@@ -126,7 +126,7 @@ heads_short i a0 l h limits numbers fits feasible legal =
     let within : j ≤ length h = best_within i a0 h (length h) in
     let right = sound i a0 l h limits fits feasible legal j within in
     let cost = objective_under i a0 a limits numbers in
-    let bound = (none_costs_less i a0 a limits right.assignment right.feasible).total in (
+    let bound = (none_costs_less_pinned i a0 a limits right.assignment right.feasible).total in (
       number_short (codes "cost") (objective i a0 a) 64 refl (omega (arith, cost)) (omega arith),
       (
         number_short (codes "load") _ 64 refl (omega (arith, load_under i a limits numbers)) (omega arith),
@@ -139,7 +139,7 @@ heads_short i a0 l h limits numbers fits feasible legal =
               (
                 number_short (codes "machine") _ 64 refl (omega (arith, machine_under i a0 a limits numbers)) (omega arith),
                 (
-                  number_short (codes "bound") (bound_of i).total 64 refl (omega (arith, bound, cost)) (omega arith),
+                  number_short (codes "bound") (pinned_bound_of i a0).total 64 refl (omega (arith, bound, cost)) (omega arith),
                   (
                     number_short (codes "best_at") j 64 refl (omega (arith, within, few_entries i a0 l h legal)) (omega arith),
                     (
@@ -164,8 +164,8 @@ unfolding line_at report_head ten_lines
 report_short i a0 l h k limits numbers fits feasible legal within =
     let j = best_of i a0 h in
     let a = state a0 h j in
-    let lines = ten_lines (parts_of i a0 a) (bound_of i).total j a l.drawing in
-    let head : lines_of (report_head i a0 l h) ≡ lines = ten_are (parts_of i a0 a) (bound_of i).total j a l.drawing in
+    let lines = ten_lines (parts_of i a0 a) (pinned_bound_of i a0).total j a l.drawing in
+    let head : lines_of (report_head i a0 l h) ≡ lines = ten_are (parts_of i a0 a) (pinned_bound_of i a0).total j a l.drawing in
     let there : slice_get lines k ≡ Some (get_or lines k []) = slice_get-get_or lines k [] within in
     let at : line_at k (report_text i a0 l h) ≡ Some (get_or lines k []) = report_at i a0 l h k within ∙ ap (λ (t : List (List ℕ)). slice_get t k) head ∙ there in
     short_at (report_text i a0 l h) (get_or lines k []) k at (subst (λ (m : ℕ). length (body_of (get_or lines k [])) ≤ most_bytes m) {x = 0 + k} {y = k} (omega arith) (short_there 0 lines k (get_or lines k []) (heads_short i a0 l h limits numbers fits feasible legal) there))
