@@ -1,6 +1,6 @@
 -- How `verify` ends, from how its stages end.
 use Rattle.std.specs.Prelude.{unwrap_or}
-use Rattle.std.proofs.Common.{◌≡◌, ◌≢◌, ◌⊎◌, ℕ, ◌≤◌, List, [], Option, Some, None, IfSome, IsSome, inl, inr, ⊎_elim, refl, sym, ◌∙◌, subst}
+use Rattle.std.proofs.Common.{◌≡◌, ◌≢◌, ◌⊎◌, ℕ, ◌≤◌, List, [], Option, Some, None, Result, Err, IfSome, IsSome, inl, inr, ⊎_elim, refl, sym, ◌∙◌, subst}
 use Rattle.ra_base.specs.declared.causes.Cause.{Cause}
 use Rattle.ra_base.specs.declared.ids.Machine.{Machine}
 use Rattle.ra_draws.specs.declared.budgets.Lots.{Lots}
@@ -12,6 +12,8 @@ use Rattle.ra_model.specs.declared.raw.Tables.{Tables}
 use Rattle.ra_model.proofs.BrokenLemmas.{unbroken_from_feasible}
 use Rattle.ra_report.specs.JournalTexts.{accepted_line}
 use Rattle.ra_verify.specs.WrongLines.{IsFirstWrong, IsReport}
+use Rattle.ra_verify.specs.declared.faults.VerifyFault.{VerifyFault}
+use Rattle.ra_verify.specs.declared.faults.VerifyFault.TheVariants as fault
 use Rattle.ra_verify.proofs.AnswerLemmas.{one_first_wrong}
 use Rattle.ra_verify.proofs.LimitLemmas.{report_has_none_wrong}
 use Rattle.ra_run.specs.declared.refusals.File.TheVariants as file
@@ -27,7 +29,7 @@ use Rattle.ra_run.specs.Outputs.{Solved}
 use Rattle.ra_run.specs.Refusals.{Says, Nothing, InitialBreaks, ChangedBreaks, CanTell}
 use Rattle.ra_run.specs.Solving.{IsStart}
 use Rattle.ra_run.specs.Statuses.{status_of}
-use Rattle.ra_run.specs.Verifying.{CountSays, IsCounted, IsRead, IsRightAt, IsRightReport, IsSolved, IsWrongAt, IsWrongReport, ReportWrong, VerdictComes, Verified, VerifyOwn}
+use Rattle.ra_run.specs.Verifying.{CountSays, IsCounted, IsRead, IsRightAt, IsRightReport, IsSolved, IsWrongAt, IsWrongReport, ReportWrong, VerdictComes, Verified, VerifyOwn, refused_by}
 use Rattle.ra_run.proofs.ComesLemmas.{Listed, Went, infeasible_of, known_model, passed_went, told_of}
 use Rattle.ra_run.proofs.CompleteLemmas.{OwnRefused, is_done}
 use Rattle.ra_run.proofs.MeaningLemmas.{Told, no_model, no_closed, no_initial, no_initial_break}
@@ -109,6 +111,13 @@ wrong_so i a0 l (Some bytes) line limits small fits start wrong = record {
   first = wrong;
   no_report = λ n report. let both : Some line ≡ None = one_first_wrong i a0 l bytes (Some line) None wrong (report_has_none_wrong i a0 l bytes n limits small fits start report) in cc;
 }
+
+-- what its fault says, as a refusal
+pub fault_so : (held : Held) (name : List ℕ) (i : Tables) (a0 : List Machine) (l : Lots) (before now : Faults) (told : Result ℕ VerifyFault) (why : VerifyFault) → WellFormed i → Small i → IsAssignment i a0 → Feasible i a0 a0 → told ≡ Err why → IfSome (held name) (λ bytes. (n : ℕ) → told ≡ Err (fault.Wrong n) → IsFirstWrong i a0 l bytes (Some n)) → (told ≡ Err fault.ReadFault → Rose (before name) (now name)) → CountSays held name i a0 l before now (refused_by why)
+fault_so held name i a0 l before now told fault.ReadFault limits small fits start is wrong rose = (start, rose is)
+fault_so held name i a0 l before now told (fault.Wrong line) limits small fits start is wrong rose =
+    (start, wrong_so i a0 l (held name) line limits small fits start (some_then (held name) (λ bytes. (n : ℕ) → told ≡ Err (fault.Wrong n) → IsFirstWrong i a0 l bytes (Some n)) (λ bytes. IsFirstWrong i a0 l bytes (Some line)) (λ bytes each. each line is) wrong))
+fault_so held name i a0 l before now told fault.NoMemory limits small fits start is wrong rose = tt
 
 -- ---- its own refusals
 

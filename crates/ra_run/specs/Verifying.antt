@@ -8,6 +8,8 @@ use Rattle.ra_model.specs.Broken.{first_broken}
 use Rattle.ra_model.specs.Feasible.{Feasible}
 use Rattle.ra_report.specs.JournalTexts.{accepted_line}
 use Rattle.ra_verify.specs.WrongLines.{IsFirstWrong, IsReport}
+use Rattle.ra_verify.specs.declared.faults.VerifyFault.{VerifyFault}
+use Rattle.ra_verify.specs.declared.faults.VerifyFault.TheVariants as fault
 use Rattle.ra_run.specs.declared.refusals.File.TheVariants as file
 use Rattle.ra_run.specs.declared.refusals.Refusal.{Refusal}
 use Rattle.ra_run.specs.declared.refusals.Refusal.TheVariants.{Read, InitialBroken, Wrong as WrongLine, Write, Memory}
@@ -90,3 +92,9 @@ CountSays held name i a0 l before now (Read file.Report) = Feasible i a0 a0 × R
 CountSays held name i a0 l before now (WrongLine line) = Feasible i a0 a0 × IfSome (held name) (IsWrongAt i a0 l line)
 CountSays held name i a0 l before now Memory = Unit {0}
 CountSays held name i a0 l before now refusal = ⊥
+
+-- the refusal of a job whose report was not accepted
+abbrev pub refused_by : VerifyFault → Refusal
+refused_by fault.ReadFault = Read file.Report
+refused_by (fault.Wrong line) = WrongLine line
+refused_by fault.NoMemory = Memory

@@ -12,7 +12,7 @@ ghost use Rattle.ra_run.specs.Complete.{AreValid, NoFault};
 ghost use Rattle.ra_run.specs.Ends.{Ends};
 ghost use Rattle.ra_run.specs.Files.{verify_names};
 ghost use Rattle.ra_run.specs.Refusals.{Says};
-ghost use Rattle.ra_run.specs.Verifying.{CountSays, IsCounted, IsRead, VerdictComes, Verified, VerifyOwn};
+ghost use Rattle.ra_run.specs.Verifying.{CountSays, IsCounted, IsRead, VerdictComes, Verified, VerifyOwn, refused_by};
 
 use crate::judging::judge_start;
 use crate::refusals::{File, JobFiles, Refusal};
@@ -186,8 +186,17 @@ fn count_entries<F: Files>(
     drop(topo);
     match told {
         Ok(entries) => Ok(entries),
-        Err(VerifyFault::ReadFault) => Err(Refusal::Read(File::Report)),
-        Err(VerifyFault::Wrong { line }) => Err(Refusal::Wrong(line)),
-        Err(VerifyFault::NoMemory) => Err(Refusal::Memory),
+        Err(why) => Err(refused_by(why)),
+    }
+}
+
+/// The refusal of a job whose report was not accepted.
+fn refused_by(why: VerifyFault) -> Refusal
+    ensures { result ≡ refused_by why }
+{
+    match why {
+        VerifyFault::ReadFault => Refusal::Read(File::Report),
+        VerifyFault::Wrong { line } => Refusal::Wrong(line),
+        VerifyFault::NoMemory => Refusal::Memory,
     }
 }
