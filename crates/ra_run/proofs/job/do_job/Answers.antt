@@ -87,7 +87,7 @@ pub returns-in-Verify-clause-complete : goal.returns-in-Verify-clause-complete
 returns-in-Verify-clause-complete g c = rw c.in-Verify.is (rw c.as_ref-in-Verify.ensures.value at c.verify_run.ensures.complete)
 
 pub repair_run-requires : goal.repair_run-requires
-repair_run-requires g c = record { one = let one = rw c.in-Repair.is at c.requires.1 in sym (length-map c.in-Repair.lots.lots.items said_lot) ∙ one }
+repair_run-requires g c = record { one = let one = rw c.in-Repair.is at c.requires in sym (length-map c.in-Repair.lots.lots.items said_lot) ∙ one }
 
 pub returns-in-Repair-clause-ends : goal.returns-in-Repair-clause-ends
 returns-in-Repair-clause-ends g c =

@@ -37,5 +37,5 @@ returns-in-Err-NoMemory-clause-complete g c = complete_memory_any (job_of (texts
 pub returns-in-Err-NoMemory-clause-own_comes : goal.returns-in-Err-NoMemory-clause-own_comes
 returns-in-Err-NoMemory-clause-own_comes g c = own_memory_any (job_of (texts c.args.words.now)) (g.F.Files.held c.args.files.now) (g.F.Files.faults c.args.files.now) (g.F.Files.faults c.args.files.now) c.refuse_memory.result c.refuse_memory.ensures.status
 
-pub do_job-requires : goal.do_job-requires
-do_job-requires g c = (c.requires, has_one_lot (texts c.args.words.now) (said c.in-Ok.job) c.in-Ok.ensures.ok)
+pub do_job-requires-after_bounds : goal.do_job-requires-after_bounds
+do_job-requires-after_bounds g c lifetimes within = has_one_lot (texts c.args.words.now) (said c.in-Ok.job) c.in-Ok.ensures.ok
