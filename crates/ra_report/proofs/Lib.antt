@@ -10,3 +10,4 @@ pub mod LengthLaws
 pub mod FrontLaws
 pub mod ComparedLaws
 pub mod LineEnds
+pub mod ModelLines

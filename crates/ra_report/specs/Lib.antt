@@ -2,6 +2,7 @@ pub mod FaultTexts
 pub mod Fronts
 pub mod Gathering
 pub mod JournalTexts
+pub mod ModelLines
 pub mod Numbers
 pub mod Pieces
 pub mod ReportLaws

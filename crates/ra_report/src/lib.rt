@@ -1,5 +1,6 @@
-//! The printed lines: the parts of a cost, causes, the report of a run with its journal, a bound, and the line of each
-//! fault, gathered and put to a sink in large pieces; and lines of a report that are compared with what they should be.
+//! The printed lines: the parts of a cost, causes, the report of a run with its journal, a bound, the text of a model,
+//! and the line of each fault, gathered and put to a sink in large pieces; and lines of a report that are compared with
+//! what they should be.
 #![tactic(auto)]
 
 mod comparing;
@@ -10,6 +11,8 @@ mod gathered;
 mod journal;
 pub mod laws;
 mod lengths;
+mod model;
+mod model_lines;
 mod pieces;
 mod solved;
 mod summary;
@@ -21,6 +24,7 @@ pub use faults::Fault;
 pub use front::{Front, read_front};
 pub use gathered::WriteFault;
 pub use lengths::{LONGEST_FRONT, LONGEST_LINE};
+pub use model::write_model;
 pub use writing::{
     write_accepted, write_bound, write_cause, write_entry, write_fault, write_head, write_parts,
     write_report, write_summary,
