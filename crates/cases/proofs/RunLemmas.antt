@@ -1,7 +1,7 @@
 -- An ending that came is one that the top call promises, and so is the wanted one where they are the same.
 use Rattle.std.proofs.Common.{◌≡◌, ◌↔◌, ℕ, List, [], ◌++◌, Option, Some, None, IfSome, refl, sym, ◌∙◌, subst}
 use Rattle.std.specs.Io.KnownBytes.{Appends}
-use Rattle.ra_words.specs.Jobs.{JobSays, Checks, Bounds, Solves, Trials, Verifies, Repairs, job_of}
+use Rattle.ra_words.specs.Jobs.{JobSays, Checks, Bounds, Solves, Trials, Verifies, Repairs, Edits, job_of}
 use Rattle.ra_draws.specs.declared.budgets.Lots.{Lots}
 use Rattle.ra_run.specs.declared.status.Status.{Status}
 use Rattle.ra_run.specs.declared.status.Status.TheVariants.{Done, Usage}
@@ -71,6 +71,8 @@ output_more held (Solves model initial closed slack drawing lots) way more step 
 output_more held (Repairs model initial closed slack drawing lots) way more step p =
     let t = p.2 in
     (p.0, p.1, record { tables = t.tables; a0 = t.a0; accepts = t.accepts; lot = t.lot; one = t.one; run = record { is = t.run.is; feasible = t.run.feasible; tried = t.run.tried; text = step _ t.run.text } })
+output_more held (Edits model initial current edits closed) way more step p =
+    record { tables = p.tables; a0 = p.a0; a = p.a; edits = p.edits; taken = p.taken; run = record { start = p.run.start; current = p.run.current; left = p.run.left; text = step _ p.run.text } }
 output_more held (Trials number) way more step p = trial_more number way more step p
 output_more held (Verifies model initial report closed slack drawing lots) way more step p = (p.0, p.1, record { entries = p.2.entries; read = p.2.read; text = step _ p.2.text })
 

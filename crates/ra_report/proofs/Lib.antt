@@ -11,3 +11,5 @@ pub mod FrontLaws
 pub mod ComparedLaws
 pub mod LineEnds
 pub mod TryTexts
+pub mod EditedTexts
+pub mod ModelLines

@@ -5,12 +5,14 @@ use Rattle.ra_assign.specs.declared.faults.AssignFault.{AssignFault}
 use Rattle.ra_assign.specs.declared.faults.AssignFault.TheVariants as assign
 use Rattle.ra_assign.specs.declared.faults.ClosedFault.{ClosedFault}
 use Rattle.ra_assign.specs.declared.faults.ClosedFault.TheVariants as closed
+use Rattle.ra_edits_read.specs.declared.faults.EditsFault.{EditsFault}
+use Rattle.ra_edits_read.specs.declared.faults.EditsFault.TheVariants as edits
 use Rattle.ra_model_read.specs.declared.faults.Field.{Field}
 use Rattle.ra_model_read.specs.declared.faults.Field.TheVariants as field
 use Rattle.ra_model_read.specs.declared.faults.ModelFault.{ModelFault}
 use Rattle.ra_model_read.specs.declared.faults.ModelFault.TheVariants as model
 use Rattle.ra_report.specs.declared.faults.Fault.{Fault}
-use Rattle.ra_report.specs.declared.faults.Fault.TheVariants.{Usage, Read, Model, Closed, Assign, Infeasible, Unrepaired, Wrong, Write, Memory}
+use Rattle.ra_report.specs.declared.faults.Fault.TheVariants.{Usage, Read, Model, Closed, Assign, Edits, Infeasible, Unrepaired, Wrong, Write, Memory}
 use Rattle.ra_report.specs.Pieces.{joined}
 use Rattle.ra_report.specs.Texts.{space, line_end, number_text, cause_text}
 
@@ -85,8 +87,20 @@ closed_detail closed.TooLong = joined (codes "file too long" ∷ [])
 closed_detail (closed.NoMachine at value) = joined (codes "no machine at " ∷ number_text at ∷ codes ", value " ∷ number_text value ∷ [])
 closed_detail closed.NoMemory = []
 
+-- what is wrong with a file of edits
+unfoldable pub edits_detail : EditsFault → List ℕ
+edits_detail edits.ReadFault = []
+edits_detail (edits.BadByte at byte) = bad_byte at byte
+edits_detail (edits.TooLarge at) = too_large at
+edits_detail edits.TooLong = joined (codes "file too long" ∷ [])
+edits_detail (edits.Missing edit) = joined (codes "missing edit " ∷ number_text edit ∷ [])
+edits_detail (edits.Range at value least most) =
+    joined (codes "range at " ∷ number_text at ∷ codes ": " ∷ number_text value ∷ codes " not in " ∷ number_text least ∷ codes " to " ∷ number_text most ∷ [])
+edits_detail (edits.TooMany at) = joined (codes "too many edits at " ∷ number_text at ∷ [])
+edits_detail edits.NoMemory = []
+
 abbrev pub usage_line : List ℕ
-usage_line = codes "usage: reassign check MODEL INITIAL NEW [--closed FILE] | bound MODEL [INITIAL [--closed FILE]] | solve MODEL INITIAL [--slack N] [--closed FILE] [--draws 1|2] LOT ... | trial N | verify MODEL INITIAL REPORT [--slack N] [--closed FILE] [--draws 1|2] LOT ... | repair MODEL INITIAL [--closed FILE] LOT"
+usage_line = codes "usage: reassign check MODEL INITIAL NEW [--closed FILE] | bound MODEL [INITIAL [--closed FILE]] | solve MODEL INITIAL [--slack N] [--closed FILE] [--draws 1|2] LOT ... | trial N | verify MODEL INITIAL REPORT [--slack N] [--closed FILE] [--draws 1|2] LOT ... | repair MODEL INITIAL [--closed FILE] LOT | edit MODEL INITIAL CURRENT EDITS [--closed FILE]"
 
 -- a line about a file: what comes before, what is wrong, and the end of the line
 abbrev pub line_of : List ℕ → List ℕ → List ℕ
@@ -108,11 +122,15 @@ closed_line name fault = about (codes "bad closed list: ") name (closed_detail f
 abbrev pub assign_line : List ℕ → AssignFault → List ℕ
 assign_line name fault = about (codes "bad assignment: ") name (assign_detail fault)
 
+abbrev pub edits_line : List ℕ → EditsFault → List ℕ
+edits_line name fault = about (codes "bad edits: ") name (edits_detail fault)
+
 abbrev pub infeasible_line : List ℕ → Cause → List ℕ
 infeasible_line name cause = about (codes "infeasible: ") name (cause_text cause)
 
 abbrev pub wrong_line : ℕ → List ℕ
 wrong_line line = joined (codes "wrong line " ∷ number_text line ∷ line_end ∷ [])
+
 abbrev pub unrepaired_line : List ℕ → Cause → List ℕ
 unrepaired_line name cause = about (codes "unrepaired: ") name (cause_text cause)
 
@@ -129,6 +147,7 @@ fault_text (Read name) = read_fault_line name.now
 fault_text (Model fault) = model_line fault
 fault_text (Closed name fault) = closed_line name.now fault
 fault_text (Assign name fault) = assign_line name.now fault
+fault_text (Edits name fault) = edits_line name.now fault
 fault_text (Infeasible name cause) = infeasible_line name.now cause
 fault_text (Wrong line) = wrong_line line
 fault_text (Unrepaired name cause) = unrepaired_line name.now cause
@@ -145,11 +164,15 @@ IsInClosed fault = (fault ≢ closed.ReadFault) × (fault ≢ closed.NoMemory)
 abbrev pub IsInList : AssignFault → Type 0
 IsInList fault = (fault ≢ assign.ReadFault) × (fault ≢ assign.NoMemory)
 
+abbrev pub IsInEdits : EditsFault → Type 0
+IsInEdits fault = (fault ≢ edits.ReadFault) × (fault ≢ edits.NoMemory)
+
 -- a fault can be told: where a reader refused a file, that stands in the file
 abbrev pub CanBeTold : Fault → Type 0
 CanBeTold (Model fault) = IsInModel fault
 CanBeTold (Closed name fault) = IsInClosed fault
 CanBeTold (Assign name fault) = IsInList fault
+CanBeTold (Edits name fault) = IsInEdits fault
 CanBeTold Usage = Unit {0}
 CanBeTold (Read name) = Unit {0}
 CanBeTold (Infeasible name cause) = Unit {0}

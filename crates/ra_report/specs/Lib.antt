@@ -1,7 +1,9 @@
+pub mod EditedTexts
 pub mod FaultTexts
 pub mod Fronts
 pub mod Gathering
 pub mod JournalTexts
+pub mod ModelLines
 pub mod Numbers
 pub mod Pieces
 pub mod ReportLaws

@@ -2,13 +2,14 @@ ghost use Rattle.std.specs.Prelude.{◌≡◌, ◌++◌, List, ℕ};
 ghost use Rattle.ra_report.specs.Gathering.{Adds};
 ghost use Rattle.ra_report.specs.Pieces.{bytes_of};
 ghost use Rattle.ra_report.specs.Texts.{cause_text};
-ghost use Rattle.ra_report.specs.FaultTexts.{field_text, model_detail, assign_detail, closed_detail, line_of, about};
+ghost use Rattle.ra_report.specs.FaultTexts.{field_text, model_detail, assign_detail, closed_detail, edits_detail, line_of, about};
 
 use crate::gathered::Gathered;
 use crate::pieces::{Piece, add_pieces};
 use crate::texts::add_cause;
 use ra_assign::{AssignFault, ClosedFault};
 use ra_base::{Cause, Name};
+use ra_edits_read::EditsFault;
 use ra_io::Sink;
 use ra_model_read::{Field, ModelFault};
 
@@ -216,6 +217,61 @@ impl Detail for ClosedFault {
                 ],
             ),
             ClosedFault::NoMemory => {}
+        }
+    }
+}
+
+impl Detail for EditsFault {
+    ghost says = { edits_detail };
+
+    #[tactic(auto, unfolding(crate::specs::FaultTexts::edits_detail))]
+    fn add<O: Sink>(&self, text: &mut Gathered<'_, O>) {
+        match *self {
+            EditsFault::ReadFault => {}
+            EditsFault::BadByte { at, byte } => add_pieces(
+                text,
+                &[
+                    Piece::Text("bad byte "),
+                    Piece::Number(byte as u128),
+                    Piece::Text(" at "),
+                    Piece::Number(at as u128),
+                ],
+            ),
+            EditsFault::TooLarge { at } => add_pieces(
+                text,
+                &[
+                    Piece::Text("number too large at "),
+                    Piece::Number(at as u128),
+                ],
+            ),
+            EditsFault::TooLong => add_pieces(text, &[Piece::Text("file too long")]),
+            EditsFault::Missing { edit } => add_pieces(
+                text,
+                &[Piece::Text("missing edit "), Piece::Number(edit as u128)],
+            ),
+            EditsFault::Range {
+                at,
+                value,
+                least,
+                most,
+            } => add_pieces(
+                text,
+                &[
+                    Piece::Text("range at "),
+                    Piece::Number(at as u128),
+                    Piece::Text(": "),
+                    Piece::Number(value as u128),
+                    Piece::Text(" not in "),
+                    Piece::Number(least as u128),
+                    Piece::Text(" to "),
+                    Piece::Number(most as u128),
+                ],
+            ),
+            EditsFault::TooMany { at } => add_pieces(
+                text,
+                &[Piece::Text("too many edits at "), Piece::Number(at as u128)],
+            ),
+            EditsFault::NoMemory => {}
         }
     }
 }

@@ -6,11 +6,13 @@ use crate::gathered::Gathered;
 use crate::pieces::{Piece, add_pieces};
 use ra_assign::{AssignFault, ClosedFault};
 use ra_base::{Cause, Name};
+use ra_edits_read::EditsFault;
 use ra_io::Sink;
 use ra_model_read::ModelFault;
 
 /// Why a job was not done. The names are lent from the job. A reader's `ReadFault` is told as `Read` and its
-/// `NoMemory` as `Memory`: in `Model`, `Closed` and `Assign` they have no line.
+/// `NoMemory` as `Memory`: in `Model`, `Closed`, `Assign` and `Edits` they
+/// have no line.
 #[derive(Clone, Copy)]
 pub enum Fault<'n> {
     /// The words are no job.
@@ -23,6 +25,8 @@ pub enum Fault<'n> {
     Closed { name: &'n Name, fault: ClosedFault },
     /// A file is no assignment for the model.
     Assign { name: &'n Name, fault: AssignFault },
+    /// A file has no edits for the model.
+    Edits { name: &'n Name, fault: EditsFault },
     /// The assignment of a file breaks a constraint.
     Infeasible { name: &'n Name, cause: Cause },
     /// A line of a report is not what the run that it tells would have written, counted from 1.
@@ -36,7 +40,7 @@ pub enum Fault<'n> {
 }
 
 const USAGE: &str =
-    "usage: reassign check MODEL INITIAL NEW [--closed FILE] | bound MODEL [INITIAL [--closed FILE]] | solve MODEL INITIAL [--slack N] [--closed FILE] [--draws 1|2] LOT ... | trial N | verify MODEL INITIAL REPORT [--slack N] [--closed FILE] [--draws 1|2] LOT ... | repair MODEL INITIAL [--closed FILE] LOT";
+    "usage: reassign check MODEL INITIAL NEW [--closed FILE] | bound MODEL [INITIAL [--closed FILE]] | solve MODEL INITIAL [--slack N] [--closed FILE] [--draws 1|2] LOT ... | trial N | verify MODEL INITIAL REPORT [--slack N] [--closed FILE] [--draws 1|2] LOT ... | repair MODEL INITIAL [--closed FILE] LOT | edit MODEL INITIAL CURRENT EDITS [--closed FILE]";
 
 /// Adds the line of a fault.
 #[tactic(auto, unfolding(crate::specs::FaultTexts::fault_text))]
@@ -50,6 +54,7 @@ pub(crate) fn add_fault<O: Sink>(text: &mut Gathered<'_, O>, fault: &Fault<'_>)
         Fault::Model { fault } => add_line(text, &[Piece::Text("bad model: ")], &fault),
         Fault::Closed { name, fault } => add_about(text, "bad closed list: ", name, &fault),
         Fault::Assign { name, fault } => add_about(text, "bad assignment: ", name, &fault),
+        Fault::Edits { name, fault } => add_about(text, "bad edits: ", name, &fault),
         Fault::Infeasible { name, cause } => add_about(text, "infeasible: ", name, &cause),
         Fault::Wrong { line } => add_pieces(
             text,

@@ -99,7 +99,7 @@ pub(crate) fn add_assignment<O: Sink>(text: &mut Gathered<'_, O>, machines: &[Ma
 }
 
 /// Adds the numbers of machines, with a space before each.
-fn add_machines<O: Sink>(text: &mut Gathered<'_, O>, machines: &[Machine])
+pub(crate) fn add_machines<O: Sink>(text: &mut Gathered<'_, O>, machines: &[Machine])
     ensures { Adds O.taken O.faults text.old text.new (machines_text machines.now) }
 {
     for machine in machines {

@@ -5,6 +5,7 @@ use ra_bounds::Bound;
 use ra_io::MemorySink;
 use ra_journal::{Entries, Entry};
 use ra_moves::{Move, Step, Verdict};
+use ra_samples::sample;
 use std::test::Fail;
 
 /// A sink for 30,000 bytes that takes up to `each` at once, and whose put with this number fails.
@@ -339,5 +340,17 @@ fn the_laws_do_nothing(_rt: HostRuntime) -> Result<(), Fail> {
     laws::report_tells_its_journal();
     laws::same_line_same_entry();
     laws::report_has_its_lines();
+    Ok(())
+}
+
+#[test]
+fn the_text_of_the_sample_is_its_model_file(rt: HostRuntime) -> Result<(), Fail> {
+    let inst = sample(rt.alloc()).expect(&rt, "no instance");
+    let mut out = sound(&rt)?;
+    assert_eq!(rt; write_model(&mut out, &inst), Ok(()));
+    assert_eq!(rt;
+        out.bytes(),
+        b"2\n1 100\n0 10\n4\n0 0 30 400 16 80 0 1 4 5\n0 0 10 240 8 160 1 0 3 4\n1 1 15 100 12 80 4 3 0 2\n1 2 10 100 8 80 5 4 2 0\n2\n2 0\n1 1 0\n3\n0 12 10 1000\n0 10 20 100\n1 6 200 1\n1\n0 1 20\n10\n1 10 100\n".as_slice()
+    );
     Ok(())
 }

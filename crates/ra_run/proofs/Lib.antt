@@ -8,5 +8,6 @@ pub mod CompleteLemmas
 pub mod ComesLemmas
 pub mod TrialLemmas
 pub mod VerifyLemmas
+pub mod EditLemmas
 pub mod RunLemmas
 pub mod RepairLemmas

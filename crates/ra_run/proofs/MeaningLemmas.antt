@@ -84,7 +84,7 @@ closing_same held (Some name) told m n i j same one two =
     let flags = told_gives (one.0.items ≡ two.0.items) (λ bytes. IsClosedOf bytes m one.0.items) (λ bytes. IsClosedOf bytes n two.0.items) (held name) (told name refl) (λ bytes p q. flags_one bytes m n _ _ same p q) one.2 two.2 in
     rw (one.1, two.1) (bare_same (with_closed m one.0) (with_closed n two.0) (ap (λ (t : Tables). t.raw) same) (rw flags refl))
 
-instances_same : (held : Held) (name : List ℕ) (named : Option (List ℕ)) → IsSome (held name) → Told held named → (i j : Tables) → InstanceIs held name named i → InstanceIs held name named j → bare i ≡ bare j
+pub instances_same : (held : Held) (name : List ℕ) (named : Option (List ℕ)) → IsSome (held name) → Told held named → (i j : Tables) → InstanceIs held name named i → InstanceIs held name named j → bare i ≡ bare j
 instances_same held name named model told i j one two = closing_same held named told one.model two.model i j (models_same held name model one.model two.model one.read two.read) one.closed two.closed
 
 pub no_closed : (held : Held) (name : List ℕ) (named : Option (List ℕ)) → IsSome (held name) → Told held named → (fault : ClosedFault) → ClosedRefused held name named fault → (i : Tables) → InstanceIs held name named i → ⊥

@@ -1,6 +1,6 @@
 -- What is said of one command, as said of the job of the words.
 use Rattle.std.proofs.Common.{◌≡◌, ◌≢◌, ℕ, List, Option, Some, None, IfSome, ◌⊎◌, inl, inr, sym, ◌∙◌}
-use Rattle.ra_words.specs.Jobs.{JobSays, Checks, Bounds, Solves, Trials, Verifies, Repairs}
+use Rattle.ra_words.specs.Jobs.{JobSays, Checks, Bounds, Solves, Trials, Verifies, Repairs, Edits}
 use Rattle.ra_run.specs.declared.refusals.Refusal.{Refusal}
 use Rattle.ra_run.specs.declared.refusals.Refusal.TheVariants.{Memory}
 use Rattle.ra_run.specs.declared.status.Status.{Status}
@@ -9,12 +9,13 @@ use Rattle.ra_run.specs.Comes.{Comes, InfeasibleComes}
 use Rattle.ra_run.specs.Commands.{Answers, OfJob, OutputOf, OwnComes, OwnOf, ValidFor}
 use Rattle.ra_run.specs.Complete.{NoFault}
 use Rattle.ra_run.specs.Ends.{Ends}
-use Rattle.ra_run.specs.Files.{Held, Faults, Names, check_names, solve_names, bound_names, verify_names}
+use Rattle.ra_run.specs.Files.{Held, Faults, Names, check_names, solve_names, bound_names, verify_names, edit_names}
 use Rattle.ra_run.specs.Lines.{refusal_line}
 use Rattle.ra_run.specs.Outputs.{Printed, BoundPrinted, Solved}
 use Rattle.ra_run.specs.Trials.{TrialEnds}
 use Rattle.ra_run.specs.Verifying.{Verified}
 use Rattle.ra_run.proofs.ComesLemmas.{Went, comes, printed_went, bound_listed, solved_went, judges_listed, writes_listed}
+use Rattle.ra_run.proofs.EditLemmas.{edit_not, edited_listed, own_listed as edits_listed}
 use Rattle.ra_run.proofs.EndLemmas.{ends_memory}
 use Rattle.ra_run.proofs.RepairLemmas.{own_listed as repair_listed, repair_not, tried_listed}
 use Rattle.ra_run.proofs.StageLemmas.{says_more}
@@ -60,6 +61,7 @@ own_memory_any (Some (Checks model initial changed closed)) held before now stat
 own_memory_any (Some (Bounds model initial closed)) held before now status is = λ e. let both : NoMemory ≡ Infeasible = sym is ∙ e in cc
 own_memory_any (Some (Solves model initial closed slack drawing lots)) held before now status is = infeasible_not held (solve_names model closed initial) before now status is
 own_memory_any (Some (Repairs model initial closed slack drawing lots)) held before now status is = repair_not held (solve_names model closed initial) _ before now status is
+own_memory_any (Some (Edits model initial current edits closed)) held before now status is = edit_not held (edit_names model closed initial current edits) before now status is
 own_memory_any (Some (Trials number)) held before now status is = tt
 own_memory_any (Some (Verifies model initial report closed slack drawing lots)) held before now status is =
     (infeasible_not held (verify_names model closed initial report) before now status is, verdict_not held (verify_names model closed initial report) _ before now status is)
@@ -81,6 +83,9 @@ says_comes (Solves model initial closed slack drawing lots) held before now prin
 says_comes (Repairs model initial closed slack drawing lots) held before now prints breaks tells out_same err_same status ends =
     let names = solve_names model closed initial in
     comes ends (λ p. tried_listed held names p.0 None prints p.2) (λ r p. repair_listed held names p.0 prints breaks r p.2)
+says_comes (Edits model initial current edits closed) held before now prints breaks tells out_same err_same status ends =
+    let names = edit_names model closed initial current edits in
+    comes ends (edited_listed held names prints) (edits_listed held names breaks)
 says_comes (Trials number) held before now prints breaks tells out_same err_same status ends = tt
 says_comes (Verifies model initial report closed slack drawing lots) held before now prints breaks tells out_same err_same status ends =
     let names = verify_names model closed initial report in

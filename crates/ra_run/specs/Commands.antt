@@ -2,7 +2,7 @@
 use Rattle.std.specs.Prelude.{◌≡◌, ◌≢◌, ◌⊎◌, ℕ, List, None, map}
 use Rattle.ra_base.specs.declared.causes.Drawing.{Drawing}
 use Rattle.ra_draws.specs.declared.budgets.Lots.{Lots}
-use Rattle.ra_words.specs.Jobs.{JobSays, Checks, Bounds, Solves, Trials, Verifies, Repairs}
+use Rattle.ra_words.specs.Jobs.{JobSays, Checks, Bounds, Solves, Trials, Verifies, Repairs, Edits}
 use Rattle.ra_words.specs.LotTexts.{LotSays}
 use Rattle.ra_words.specs.Said.{said_lot}
 use Rattle.ra_run.specs.declared.refusals.Refusal.{Refusal}
@@ -10,9 +10,10 @@ use Rattle.ra_run.specs.declared.status.Status.{Status}
 use Rattle.ra_run.specs.declared.status.Status.TheVariants.{Done, Infeasible, NoMemory, Unrepaired, Wrong}
 use Rattle.ra_run.specs.Comes.{InfeasibleComes}
 use Rattle.ra_run.specs.Complete.{AreAccepted, AreValid}
-use Rattle.ra_run.specs.Files.{Held, Faults, Names, check_names, solve_names, bound_names, verify_names}
+use Rattle.ra_run.specs.Files.{Held, Faults, Names, check_names, solve_names, bound_names, verify_names, edit_names}
 use Rattle.ra_run.specs.Outputs.{Printed, BoundPrinted, Solved}
 use Rattle.ra_run.specs.Refusals.{Judges, OnlyWrites, Nothing}
+use Rattle.ra_run.specs.Editing.{AreEditable, EditComes, EditOwn, Edited}
 use Rattle.ra_run.specs.Repairing.{RepairComes, RepairOwn, Tried}
 use Rattle.ra_run.specs.Trials.{TrialPrinted}
 use Rattle.ra_run.specs.Verifying.{VerdictComes, Verified, VerifyOwn}
@@ -25,6 +26,7 @@ OfJob (Solves model initial closed slack drawing lots) by_names by_number = by_n
 OfJob (Trials number) by_names by_number = by_number number
 OfJob (Verifies model initial report closed slack drawing lots) by_names by_number = by_names (verify_names model closed initial report)
 OfJob (Repairs model initial closed slack drawing lots) by_names by_number = by_names (solve_names model closed initial)
+OfJob (Edits model initial current edits closed) by_names by_number = by_names (edit_names model closed initial current edits)
 
 -- lots are those that words say
 pub record AreLots (l : Lots) (slack : ℕ) (drawing : Drawing) (lots : List LotSays) : Type 0 where
@@ -40,6 +42,7 @@ OutputOf held (Solves model initial closed slack drawing lots) way = (l : Lots) 
 OutputOf held (Trials number) way = TrialPrinted number way
 OutputOf held (Verifies model initial report closed slack drawing lots) way = (l : Lots) × AreLots l slack drawing lots × Verified held (verify_names model closed initial report) l way
 OutputOf held (Repairs model initial closed slack drawing lots) way = (l : Lots) × AreLots l slack drawing lots × Tried held (solve_names model closed initial) l None way
+OutputOf held (Edits model initial current edits closed) way = Edited held (edit_names model closed initial current edits) way
 
 -- what its own refusals say, where its output was put whole one way, and a part of it another
 abbrev pub OwnOf : Held → JobSays → (List ℕ → Type 0) → (List ℕ → Type 0) → Refusal → Type 0
@@ -49,6 +52,7 @@ OwnOf held (Solves model initial closed slack drawing lots) whole way refusal = 
 OwnOf held (Trials number) whole way refusal = Nothing refusal
 OwnOf held (Verifies model initial report closed slack drawing lots) whole way refusal = (l : Lots) × AreLots l slack drawing lots × VerifyOwn held (verify_names model closed initial report) l (Verified held (verify_names model closed initial report) l way) refusal
 OwnOf held (Repairs model initial closed slack drawing lots) whole way refusal = (l : Lots) × AreLots l slack drawing lots × RepairOwn held (solve_names model closed initial) l whole way refusal
+OwnOf held (Edits model initial current edits closed) whole way refusal = EditOwn held (edit_names model closed initial current edits) (Edited held (edit_names model closed initial current edits) way) refusal
 
 -- where its own statuses come, beyond those of `Comes`
 abbrev pub OwnComes : Held → JobSays → Faults → Faults → Status → Type 0
@@ -60,6 +64,7 @@ OwnComes held (Verifies model initial report closed slack drawing lots) before n
     InfeasibleComes held (verify_names model closed initial report) before now status
     × VerdictComes held (verify_names model closed initial report) (λ l. AreLots l slack drawing lots) before now status
 OwnComes held (Repairs model initial closed slack drawing lots) before now status = RepairComes held (solve_names model closed initial) (λ l. AreLots l slack drawing lots) before now status
+OwnComes held (Edits model initial current edits closed) before now status = EditComes held (edit_names model closed initial current edits) before now status
 
 -- its files are valid
 abbrev pub ValidFor : Held → JobSays → Type 0
@@ -69,6 +74,7 @@ ValidFor held (Solves model initial closed slack drawing lots) = AreValid held (
 ValidFor held (Trials number) = Unit {0}
 ValidFor held (Verifies model initial report closed slack drawing lots) = AreValid held (verify_names model closed initial report)
 ValidFor held (Repairs model initial closed slack drawing lots) = AreAccepted held (solve_names model closed initial)
+ValidFor held (Edits model initial current edits closed) = AreEditable held (edit_names model closed initial current edits)
 
 -- and so it ends over valid files, and where no fault was counted
 abbrev pub Answers : JobSays → Status → Type 0

@@ -23,7 +23,7 @@ pub record Names : Type 0 where
   pub report : Option (List ℕ)
   pub edits : Option (List ℕ)
 
--- those of `check`, of `solve`, of `bound` and of `verify`
+-- those of `check`, of `solve`, of `bound`, of `verify` and of `edit`
 abbrev pub check_names : List ℕ → Option (List ℕ) → List ℕ → List ℕ → Names
 check_names model closed initial changed = record { model = model; closed = closed; initial = Some initial; changed = Some changed; report = None; edits = None }
 
@@ -35,6 +35,9 @@ bound_names model closed initial = record { model = model; closed = closed; init
 
 abbrev pub verify_names : List ℕ → Option (List ℕ) → List ℕ → List ℕ → Names
 verify_names model closed initial report = record { model = model; closed = closed; initial = Some initial; changed = None; report = Some report; edits = None }
+
+abbrev pub edit_names : List ℕ → Option (List ℕ) → List ℕ → List ℕ → List ℕ → Names
+edit_names model closed initial current edits = record { model = model; closed = closed; initial = Some initial; changed = Some current; report = None; edits = Some edits }
 
 -- those that are lent
 abbrev pub names_of : JobFiles → Names

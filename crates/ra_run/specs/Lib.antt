@@ -6,6 +6,7 @@ pub mod Files
 pub mod Lines
 pub mod Outputs
 pub mod Refusals
+pub mod Editing
 pub mod Repairing
 pub mod Solving
 pub mod Stages

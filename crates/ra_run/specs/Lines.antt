@@ -6,7 +6,7 @@ use Rattle.ra_report.specs.declared.faults.Fault.TheVariants as fault
 use Rattle.ra_report.specs.FaultTexts.{fault_text}
 use Rattle.ra_run.specs.declared.refusals.File.TheVariants as file
 use Rattle.ra_run.specs.declared.refusals.Refusal.{Refusal}
-use Rattle.ra_run.specs.declared.refusals.Refusal.TheVariants.{Read, Model, Closed, Initial, Changed, InitialBroken, ChangedBroken, Unrepaired, Wrong, Write, Memory}
+use Rattle.ra_run.specs.declared.refusals.Refusal.TheVariants.{Read, Model, Closed, Initial, Changed, Edits, InitialBroken, ChangedBroken, Unrepaired, Wrong, Write, Memory}
 use Rattle.ra_run.specs.Files.{Names, name_of}
 
 -- a name that is lent: from where is no matter of its line
@@ -20,6 +20,7 @@ fault_of names (Model why) = fault.Model why
 fault_of names (Closed why) = fault.Closed (lent (name_of names file.Closed)) why
 fault_of names (Initial why) = fault.Assign (lent (name_of names file.Initial)) why
 fault_of names (Changed why) = fault.Assign (lent (name_of names file.Changed)) why
+fault_of names (Edits why) = fault.Edits (lent (name_of names file.Edits)) why
 fault_of names (InitialBroken cause) = fault.Infeasible (lent (name_of names file.Initial)) cause
 fault_of names (ChangedBroken cause) = fault.Infeasible (lent (name_of names file.Changed)) cause
 fault_of names (Wrong line) = fault.Wrong line

@@ -12,11 +12,11 @@ use Rattle.ra_assign.specs.declared.faults.AssignFault.{AssignFault}
 use Rattle.ra_assign.specs.declared.faults.ClosedFault.{ClosedFault}
 use Rattle.ra_assign.specs.Lists.{assign_refusal}
 use Rattle.ra_assign.specs.ClosedLists.{closed_refusal}
-use Rattle.ra_report.specs.FaultTexts.{IsInModel, IsInClosed, IsInList}
+use Rattle.ra_report.specs.FaultTexts.{IsInModel, IsInClosed, IsInList, IsInEdits}
 use Rattle.ra_run.specs.declared.refusals.File.{File}
 use Rattle.ra_run.specs.declared.refusals.File.TheVariants as file
 use Rattle.ra_run.specs.declared.refusals.Refusal.{Refusal}
-use Rattle.ra_run.specs.declared.refusals.Refusal.TheVariants.{Read, Model, Closed, Initial, Changed, InitialBroken, ChangedBroken, Unrepaired, Write, Memory}
+use Rattle.ra_run.specs.declared.refusals.Refusal.TheVariants.{Read, Model, Closed, Initial, Changed, Edits, InitialBroken, ChangedBroken, Unrepaired, Write, Memory}
 use Rattle.ra_run.specs.Files.{Held, Faults, Names, name_of, IsNamed, ModelIs, InstanceIs, NamedListIs, Accepts, Passes}
 
 -- what was done before a file of the job is read: the model, then the closed list, then the initial list, then the new or
@@ -126,6 +126,7 @@ CanTell names (Model fault) = IsInModel fault
 CanTell names (Closed fault) = IsSome names.closed × IsInClosed fault
 CanTell names (Initial fault) = IsSome names.initial × IsInList fault
 CanTell names (Changed fault) = IsSome names.changed × IsInList fault
+CanTell names (Edits fault) = IsSome names.edits × IsInEdits fault
 CanTell names (InitialBroken cause) = IsSome names.initial
 CanTell names (ChangedBroken cause) = IsSome names.changed
 CanTell names (Unrepaired cause) = IsSome names.initial

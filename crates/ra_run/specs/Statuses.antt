@@ -11,6 +11,7 @@ status_of (refusal.Model fault) = BadModel
 status_of (refusal.Closed fault) = BadClosed
 status_of (refusal.Initial fault) = BadAssignment
 status_of (refusal.Changed fault) = BadAssignment
+status_of (refusal.Edits fault) = BadEdits
 status_of (refusal.InitialBroken cause) = Infeasible
 status_of (refusal.ChangedBroken cause) = Infeasible
 status_of (refusal.Wrong line) = Wrong

@@ -15,6 +15,7 @@ ghost use Rattle.ra_run.specs.Trials.{TrialEnds};
 
 use crate::bound::bound_run;
 use crate::check::check_run;
+use crate::edit::edit_run;
 use crate::refusing::{refuse_memory, refuse_words};
 use crate::repair::repair_run;
 use crate::solve::solve_run;
@@ -29,7 +30,7 @@ use std::sync::Wait;
 use std::thread::Threads;
 
 /// Does the job of the command words, which leave out the program's name: `check`, `bound`, `solve`
-/// with 1 to 16 lots, `trial`, `verify`, or `repair`. All other words are a usage fault. On `solve` that is done the
+/// with 1 to 16 lots, `trial`, `verify`, `repair`, or `edit`. All other words are a usage fault. On `solve` that is done the
 /// output is the report of one legal journal: see `Solved`. A `trial` reads no file of `files`.
 pub fn run<R: Threads + Wait + Sync, F: Files, O: Sink, E: Sink, G: Gate>(
     rt: &R,
@@ -179,6 +180,23 @@ fn do_job<R: Threads + Wait + Sync, F: Files, O: Sink, E: Sink, G: Gate>(
             initial,
             closed.as_ref(),
             lots,
+            files,
+            out,
+            err,
+        ),
+        Job::Edit {
+            model,
+            initial,
+            current,
+            edits,
+            closed,
+        } => edit_run(
+            alloc,
+            model,
+            initial,
+            current,
+            edits,
+            closed.as_ref(),
             files,
             out,
             err,

@@ -5,6 +5,7 @@
 
 mod bound;
 mod check;
+mod edit;
 mod job;
 mod judging;
 mod lists;
@@ -20,6 +21,7 @@ mod verify;
 
 pub use bound::bound_run;
 pub use check::check_run;
+pub use edit::edit_run;
 pub use job::run;
 pub use refusals::{File, JobFiles, Refusal};
 pub use refusing::refuse_unread;

@@ -3,6 +3,7 @@ ghost use Rattle.ra_run.specs.Files.{name_of, names_of, IsNamed};
 
 use ra_assign::{AssignFault, ClosedFault};
 use ra_base::{Cause, Name};
+use ra_edits_read::EditsFault;
 use ra_model_read::ModelFault;
 
 /// A file of a job.
@@ -29,6 +30,8 @@ pub enum Refusal {
     Initial(AssignFault),
     /// The new list is no assignment for the model.
     Changed(AssignFault),
+    /// The edits file has none for the model.
+    Edits(EditsFault),
     /// The initial list breaks a constraint.
     InitialBroken(Cause),
     /// The new list breaks a constraint.

@@ -51,6 +51,7 @@ fn status(refusal: Refusal) -> Status
         Refusal::Closed(_) => Status::BadClosed,
         Refusal::Initial(_) => Status::BadAssignment,
         Refusal::Changed(_) => Status::BadAssignment,
+        Refusal::Edits(_) => Status::BadEdits,
         Refusal::InitialBroken(_) => Status::Infeasible,
         Refusal::ChangedBroken(_) => Status::Infeasible,
         Refusal::Wrong(_) => Status::Wrong,
@@ -93,6 +94,10 @@ fn fault<'n>(names: &JobFiles<'n>, refusal: Refusal) -> Fault<'n>
         },
         Refusal::Changed(fault) => Fault::Assign {
             name: names.name(File::Changed),
+            fault,
+        },
+        Refusal::Edits(fault) => Fault::Edits {
+            name: names.name(File::Edits),
             fault,
         },
         Refusal::InitialBroken(cause) => Fault::Infeasible {

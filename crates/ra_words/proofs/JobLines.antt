@@ -19,7 +19,7 @@ use Rattle.ra_words.specs.Numbers.{has_digits, is_number, worth}
 use Rattle.ra_words.specs.LotTexts.{are_lots, first_place, is_lot, is_seed_lot, is_written, is_written_lot, lot_says, seed_text}
 use Rattle.ra_words.specs.Lines.{Finds, Line, Spells, option_words, plain_of, words_of}
 use Rattle.ra_words.proofs.LotLaws.{lots_told}
-use Rattle.ra_words.specs.Jobs.{Bounds, Checks, Solves, Trials, Verifies, Repairs, bound_says, bound_from_says, check_says, closed_place, closed_text, draws_place, draws_text, drawing_says, ends_closed, ends_in_lots, is_bound, is_bound_from, is_check, is_closed, is_drawing, is_slack, is_solve, lot_words, lots_place, slack_says, slack_text, solve_says, is_trial, trial_says, is_verify, verify_says, is_repair, repair_says, lot_place}
+use Rattle.ra_words.specs.Jobs.{Bounds, Checks, Solves, Trials, Verifies, Repairs, Edits, bound_says, bound_from_says, check_says, closed_place, closed_text, draws_place, draws_text, drawing_says, ends_closed, ends_in_lots, is_bound, is_bound_from, is_check, is_closed, is_drawing, is_slack, is_solve, lot_words, lots_place, slack_says, slack_text, solve_says, is_trial, trial_says, is_verify, verify_says, is_repair, repair_says, lot_place, is_edit, edit_says}
 
 -- ---- words that are no option
 
@@ -148,7 +148,7 @@ options_here words slack closed draws behind_slack behind_closed one two three =
     ∙ ap (λ k. first ++ (second ++ drop k words)) (sym behind_closed)
     ∙ ap (λ ws. first ++ (second ++ ws)) (option_here (codes "--draws") words draws three)
 
--- ---- files, and then `--closed` or nothing: check, and a bound from a start
+-- ---- files, and then `--closed` or nothing: check, a bound from a start, and edit
 
 -- the command word, so many names, and what `--closed` names behind them
 abbrev closing_line : ℕ → List (List ℕ) → Line
@@ -237,6 +237,38 @@ unfolding bound_from_says word_at
 bound_from_found words found bound finds =
     let f = finds (closing_line 2 words) (bound_from_spelled words bound) in
     λ i. Bounds (word_at (f.plain i) 0) (Some (word_at (f.plain i) 1)) (f.closed i)
+
+record IsEdit (words : List (List ℕ)) : Type 0 where
+  model : is_name (word_at words 1) ≡ true
+  initial : is_name (word_at words 2) ≡ true
+  current : is_name (word_at words 3) ≡ true
+  edits : is_name (word_at words 4) ≡ true
+  ends : ends_closed words 5 ≡ true
+
+edit_parts : (words : List (List ℕ)) → is_edit words ≡ true → IsEdit words
+unfolding is_edit
+edit_parts words edit = record {
+  model = grind (arith, common_steps);
+  initial = grind (arith, common_steps);
+  current = grind (arith, common_steps);
+  edits = grind (arith, common_steps);
+  ends = grind (arith, common_steps);
+}
+
+edit_spelled : (words : List (List ℕ)) → is_edit words ≡ true → Spells (closing_line 4 words) words
+edit_spelled words edit =
+    let is = edit_parts words edit in
+    closing_spelled 4 words (rw (is.model, is.initial, is.current, is.edits) refl) (name_within words 4 is.edits) is.ends
+
+pub edit_is_line : (words : List (List ℕ)) → is_edit words ≡ true → (line : Line) × Spells line words
+edit_is_line words is = (closing_line 4 words, edit_spelled words is)
+
+pub edit_found : (words : List (List ℕ)) (found : Found) → is_edit words ≡ true → ((line : Line) → Spells line words → Finds line found)
+    → Edits (word_at (plain_of found) 0) (word_at (plain_of found) 1) (word_at (plain_of found) 2) (word_at (plain_of found) 3) (first_value found (codes "closed")) ≡ edit_says words
+unfolding edit_says word_at
+edit_found words found edit finds =
+    let f = finds (closing_line 4 words) (edit_spelled words edit) in
+    λ i. Edits (word_at (f.plain i) 0) (word_at (f.plain i) 1) (word_at (f.plain i) 2) (word_at (f.plain i) 3) (f.closed i)
 
 -- ---- bound and trial
 

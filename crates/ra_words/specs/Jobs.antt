@@ -15,6 +15,7 @@ pub data JobSays : Type 0 where
   Trials : (number : ℕ) → JobSays
   Verifies : (model initial report : List ℕ) (closed : Option (List ℕ)) (slack : ℕ) (drawing : Drawing) (lots : List LotSays) → JobSays
   Repairs : (model initial : List ℕ) (closed : Option (List ℕ)) (slack : ℕ) (drawing : Drawing) (lots : List LotSays) → JobSays
+  Edits : (model initial current edits : List ℕ) (closed : Option (List ℕ)) → JobSays
 
 -- the value of `--closed`, where it is given, is a file name
 abbrev pub is_closed : Option (List ℕ) → Bool
@@ -151,6 +152,16 @@ abbrev pub HasOneLot : JobSays → Type 0
 HasOneLot (Repairs model initial closed slack drawing lots) = length lots ≡ 1
 HasOneLot says = Unit {0}
 
+-- the word `edit` and four file names, then `--closed` and a file name, or nothing
+unfoldable pub is_edit : List (List ℕ) → Bool
+is_edit words =
+    bytes_eq (word_at words 0) (codes "edit") && is_name (word_at words 1) && is_name (word_at words 2) && is_name (word_at words 3)
+    && is_name (word_at words 4) && ends_closed words 5
+
+-- what the edits of a model and its lists say: their files
+unfoldable pub edit_says : List (List ℕ) → JobSays
+edit_says words = Edits (word_at words 1) (word_at words 2) (word_at words 3) (word_at words 4) (value_at (codes "--closed") words 5)
+
 -- what the words say, and nothing where they are no job
 unfoldable pub job_of : List (List ℕ) → Option JobSays
 job_of words =
@@ -161,4 +172,5 @@ job_of words =
     else if is_trial words then Some (trial_says words)
     else if is_verify words then Some (verify_says words)
     else if is_repair words then Some (repair_says words)
+    else if is_edit words then Some (edit_says words)
     else None

@@ -4,9 +4,9 @@ use Rattle.ra_draws.specs.declared.sources.Source.{Source}
 use Rattle.ra_draws.specs.declared.sources.Source.TheVariants.{Seed, Written}
 use Rattle.ra_draws.specs.declared.sources.Lot.{Lot}
 use Rattle.ra_words.specs.declared.jobs.Job.{Job}
-use Rattle.ra_words.specs.declared.jobs.Job.TheVariants.{Check, Bound, Solve, Trial, Verify, Repair}
+use Rattle.ra_words.specs.declared.jobs.Job.TheVariants.{Check, Bound, Solve, Trial, Verify, Repair, Edit}
 use Rattle.ra_words.specs.LotTexts.{SourceSays, FromSeed, FromWords, LotSays}
-use Rattle.ra_words.specs.Jobs.{JobSays, Checks, Bounds, Solves, Trials, Verifies, Repairs}
+use Rattle.ra_words.specs.Jobs.{JobSays, Checks, Bounds, Solves, Trials, Verifies, Repairs, Edits}
 
 -- what a source says: its seed, or its words
 abbrev pub said_source : Source → SourceSays
@@ -25,3 +25,4 @@ said (Solve model initial closed lots) = Solves model initial closed lots.slack 
 said (Trial number) = Trials number
 said (Verify model initial report closed lots) = Verifies model initial report closed lots.slack lots.drawing (map said_lot lots.lots.items)
 said (Repair model initial closed lots) = Repairs model initial closed lots.slack lots.drawing (map said_lot lots.lots.items)
+said (Edit model initial current edits closed) = Edits model initial current edits closed

@@ -1,7 +1,7 @@
 ghost use Rattle.std.specs.Prelude.{◌≡◌, ◌+◌, ◌≤◌, codes, drop};
 ghost use Rattle.std.specs.Str.{bytes_eq};
 ghost use Rattle.ra_words.specs.Words.{texts, value_at};
-ghost use Rattle.ra_words.specs.Jobs.{is_check, is_bound, is_bound_from, is_solve, is_trial, is_verify, is_repair, lot_place, is_closed, is_slack, is_drawing, ends_closed, ends_in_lots, closed_place, draws_place, lots_place};
+ghost use Rattle.ra_words.specs.Jobs.{is_check, is_bound, is_bound_from, is_solve, is_trial, is_verify, is_repair, lot_place, is_edit, is_closed, is_slack, is_drawing, ends_closed, ends_in_lots, closed_place, draws_place, lots_place};
 
 use crate::lots::are_lots;
 use crate::numbers::is_number;
@@ -89,6 +89,19 @@ fn lot_place(words: &[String]) -> usize
     ensures near { result ≤ 5 }
 {
     behind(words, 3, "--closed")
+}
+
+/// Whether the words ask for edits.
+#[tactic(auto, unfolding(crate::specs::Jobs::is_edit))]
+pub(crate) fn is_edit(words: &[String]) -> bool
+    ensures { result ≡ is_edit (texts words.now) }
+{
+    text_at(words, 0) == "edit"
+        && names_file(text_at(words, 1))
+        && names_file(text_at(words, 2))
+        && names_file(text_at(words, 3))
+        && names_file(text_at(words, 4))
+        && ends_closed(words, 5)
 }
 
 /// Whether from a place on `--closed` and a file name stand, or nothing, and no more words.

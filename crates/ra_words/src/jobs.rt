@@ -1,9 +1,11 @@
 ghost use Rattle.std.specs.Prelude.{◌≡◌, true, None, Some, Err, IfOk, ◌↔◌};
 ghost use Rattle.ra_words.specs.Words.{texts};
-ghost use Rattle.ra_words.specs.Jobs.{job_of, is_check, check_says, is_bound, bound_says, is_bound_from, bound_from_says, is_solve, solve_says, is_trial, trial_says, is_verify, verify_says, is_repair, repair_says};
+ghost use Rattle.ra_words.specs.Jobs.{job_of, is_check, check_says, is_bound, bound_says, is_bound_from, bound_from_says, is_solve, solve_says, is_trial, trial_says, is_verify, verify_says, is_repair, repair_says, is_edit, edit_says};
 ghost use Rattle.ra_words.specs.Said.{said};
 
-use crate::forms::{is_bound, is_bound_from, is_check, is_repair, is_solve, is_trial, is_verify};
+use crate::forms::{
+    is_bound, is_bound_from, is_check, is_edit, is_repair, is_solve, is_trial, is_verify,
+};
 use crate::line::{closed_name, lots, plain_at, plain_name, run_lots, take_line};
 use crate::numbers::number;
 use ra_base::{Drawing, Name, NoMemory};
@@ -57,6 +59,15 @@ pub enum Job {
         closed: Option<Name>,
         lots: Lots,
     },
+    /// Add, retire and resize the processes of a model and of its lists `initial` and `current` as the list `edits` says, with
+    /// the machines of the list `closed` closed.
+    Edit {
+        model: Name,
+        initial: Name,
+        current: Name,
+        edits: Name,
+        closed: Option<Name>,
+    },
 }
 
 /// Why command words are refused.
@@ -105,6 +116,9 @@ pub fn read_words(alloc: Global, words: &[String]) -> Result<Job, WordsFault>
     }
     if is_repair(words) {
         return Ok(repair_job(alloc, words)?);
+    }
+    if is_edit(words) {
+        return Ok(edit_job(alloc, words)?);
     }
     Err(WordsFault::Usage)
 }
@@ -213,5 +227,20 @@ fn repair_job(alloc: Global, words: &[String]) -> Result<Job, NoMemory>
         initial,
         closed,
         lots: Lots::of(0, Drawing::Two, lots),
+    })
+}
+
+#[tactic(auto, using(crate::proofs::JobLines::edit_is_line, crate::proofs::JobLines::edit_found))]
+fn edit_job(alloc: Global, words: &[String]) -> Result<Job, NoMemory>
+    requires { is_edit (texts words.now) ≡ true }
+    ensures { IfOk result (λ job. said job ≡ edit_says (texts words.now)) }
+{
+    let taken = take_line(alloc, words)?;
+    Ok(Job::Edit {
+        model: plain_name(alloc, &taken, 0)?,
+        initial: plain_name(alloc, &taken, 1)?,
+        current: plain_name(alloc, &taken, 2)?,
+        edits: plain_name(alloc, &taken, 3)?,
+        closed: closed_name(alloc, &taken)?,
     })
 }

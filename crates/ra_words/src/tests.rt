@@ -65,6 +65,10 @@ const JOBS: &[(&[&str], &str)] = &[
         &["repair", "m", "i", "--closed", "c", "9:1000000"],
         "repair solve m i closed c slack 0 drawing Two lots 1 budget 1000000 seed 9",
     ),
+    (
+        &["edit", "m", "i", "n", "e", "--closed", "c"],
+        "edit m i n e closed c",
+    ),
 ];
 
 #[test]
@@ -141,6 +145,20 @@ fn tell(alloc: Global, job: &Job) -> Result<String, AllocError> {
             let run = tell_run(alloc, model, initial, closed, lots)?;
             format!(in alloc; "repair {}", run.as_str())
         }
+        Job::Edit {
+            model,
+            initial,
+            current,
+            edits,
+            closed,
+        } => format!(in alloc;
+            "edit {} {} {} {} closed {}",
+            model.as_str(),
+            initial.as_str(),
+            current.as_str(),
+            edits.as_str(),
+            name_of(closed)
+        ),
     }
 }
 

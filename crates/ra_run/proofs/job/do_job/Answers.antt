@@ -115,3 +115,12 @@ returns-in-Repair-clause-own_comes g c =
 
 pub returns-in-Repair-clause-complete : goal.returns-in-Repair-clause-complete
 returns-in-Repair-clause-complete g c = rw c.in-Repair.is (rw c.as_ref-in-Repair.ensures.value at c.repair_run.ensures.complete)
+
+pub returns-in-Edit-clause-ends : goal.returns-in-Edit-clause-ends
+returns-in-Edit-clause-ends g c = rw c.in-Edit.is (rw c.as_ref-in-Edit.ensures.value at c.edit_run.ensures.ends)
+
+pub returns-in-Edit-clause-own_comes : goal.returns-in-Edit-clause-own_comes
+returns-in-Edit-clause-own_comes g c = rw c.in-Edit.is (rw c.as_ref-in-Edit.ensures.value at c.edit_run.ensures.own_comes)
+
+pub returns-in-Edit-clause-complete : goal.returns-in-Edit-clause-complete
+returns-in-Edit-clause-complete g c = rw c.in-Edit.is (rw c.as_ref-in-Edit.ensures.value at c.edit_run.ensures.complete)
