@@ -1,9 +1,10 @@
-"""Makes a challenge-shaped instance with a feasible start.
+"""Makes a challenge-shaped instance and a start.
 
 usage: make_instance.py FOLDER MACHINES PROCESSES RESOURCES SEED [skewed]
 
 Writes FOLDER/model, FOLDER/initial and FOLDER/new. The start puts the processes of a service on different machines; each
-capacity is above the start's use. The new list is the start.
+capacity is above the start's use. The new list is the start. `check` says whether the start is feasible: with few machines
+a dependency may be broken.
 
 With `skewed` the machines are alike and every other one starts with three times the load of its neighbour, above its
 safety capacity, which is the average use: so many moves lower the cost. Without it the start costs what the bound says.
