@@ -1,3 +1,4 @@
 mod FirstLemmas
 mod LotLaws
+mod PassLemmas
 mod TurnLemmas

@@ -8,6 +8,7 @@ ghost use Rattle.ra_commits.specs.FirstPlans.{IsFirstPlan};
 
 mod first;
 mod lots;
+mod passes;
 mod turns;
 
 use first::{first_plan, hand_in, start_parts};
