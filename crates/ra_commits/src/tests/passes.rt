@@ -1,15 +1,19 @@
 //! What two workers are answered that take turns with a shared journal, each by its pass, one after the other on one
 //! thread.
-ghost use Rattle.std.specs.Prelude.{◌≡◌, ◌<◌, length};
+ghost use Rattle.std.specs.Prelude.{◌≡◌, ◌<◌, length, None};
+ghost use Rattle.ra_model.specs.Assignments.{IsAssignment};
+ghost use Rattle.ra_model.specs.Broken.{first_broken};
+ghost use Rattle.ra_model.specs.Costs.{parts_of};
+ghost use Rattle.ra_topology.specs.Fits.{IsTopologyOf};
 ghost use Rattle.ra_journal.specs.Entries.{worker_count};
 ghost use Rattle.ra_turn.specs.Passes.{EachAt};
-ghost use Rattle.ra_shared.specs.Shares.{start_of, IsAtRest, IsNew};
+ghost use Rattle.ra_shared.specs.Shares.{start_of, IsNew, IsLast};
 ghost use Rattle.ra_commits.specs.FirstPlans.{IsFirstPlan};
 
 use super::first::start_parts;
 use super::lots::single_proposals;
 use super::{AWAY, done, first_plans, shift, stale};
-use ra_base::{Guard, Machine, Process};
+use ra_base::{Assignment, Guard, Machine, Parts, Process};
 use ra_draws::Lots;
 use ra_journal::{Batch, Entry, Journal, Reply};
 use ra_model::Instance;
@@ -64,8 +68,7 @@ fn commit_first<'a, R: Abort + Wait>(
     requires exists { worker < worker_count lots.now }
     requires plan { IsFirstPlan (start_of shared.now).inst.tables (start_of shared.now).a0.items
         (start_of shared.now).lots worker plan.now }
-    ensures rest { IsAtRest shared.now pass.new }
-    ensures number { pass.new.number ≡ worker }
+    ensures last { IsLast shared.now worker pass.new }
     ensures left { 0 < pass.new.left }
 {
     assert!(rt; lots.lot(worker).budget > 0);
@@ -99,8 +102,8 @@ fn take_turns<'a, R: Abort + Wait>(
         (start_of shared.now).a0.items (start_of shared.now).lots 0 plans.now.0 }
     requires second_plan { IsFirstPlan (start_of shared.now).inst.tables
         (start_of shared.now).a0.items (start_of shared.now).lots 1 plans.now.1 }
-    ensures first { IsAtRest shared.now first.new × (first.new.number ≡ 0) }
-    ensures second { IsAtRest shared.now second.new × (second.new.number ≡ 1) }
+    ensures first { IsLast shared.now 0 first.new }
+    ensures second { IsLast shared.now 1 second.new }
 {
     let mut batch = Batch::make(alloc).expect(rt, "no memory");
     let one = commit_first(rt, shared, lots, first, 0, &plans.0);
@@ -124,8 +127,8 @@ fn close_both<'a>(
     second: WorkerPass<'a>,
 ) -> Journal<'a>
     requires two { worker_count (start_of shared).lots ≡ 2 }
-    requires first { IsAtRest shared first × (first.number ≡ 0) }
-    requires second { IsAtRest shared second × (second.number ≡ 1) }
+    requires first { IsLast shared 0 first }
+    requires second { IsLast shared 1 second }
 {
     let mut passes = Vec::with_capacity(alloc, 2).expect(rt, "no memory");
     passes.push_reserved(first);
@@ -133,25 +136,39 @@ fn close_both<'a>(
     shared.close(passes)
 }
 
-/// What two workers of these lots are answered at the start, and how many entries the journal then has.
-fn answers_on<R: Abort + Wait>(
+/// What two workers are answered over a start, and how many entries the journal then has.
+fn answers_over<R: Abort + Wait>(
     rt: &R,
     alloc: Global,
     inst: &Instance,
-    start: &[u32],
+    topo: &Topology,
+    a0: &Assignment,
+    costs: Parts,
     lots: &Lots,
-) -> (Answers, u64) {
-    let a0 = assignment(alloc, start).expect(rt, "no memory");
-    assert!(rt; inst.is_assignment(&a0));
-    let topo = Topology::make(alloc, inst).expect(rt, "no memory");
-    let costs = start_parts(rt, alloc, inst, &a0);
-    let plans = first_plans::<Brand>(rt, alloc, inst, &topo, &a0, costs, lots, Blank::new(1));
-    let journal = Journal::make(alloc, inst, &topo, &a0, costs, lots).expect(rt, "no memory");
+) -> (Answers, u64)
+    requires fits { IsAssignment inst.now.tables a0.now.items }
+    requires topology { IsTopologyOf topo.now inst.now.tables }
+    requires unbroken { first_broken inst.now.tables a0.now.items a0.now.items ≡ None }
+    requires costs { costs ≡ parts_of inst.now.tables a0.now.items a0.now.items }
+{
+    let blank = Blank::new(1);
+    let plans = first_plans::<Brand>(rt, alloc, inst, topo, a0, costs, lots, blank);
+    let journal = Journal::make(alloc, inst, topo, a0, costs, lots).expect(rt, "no memory");
     let (shared, passes) = Shared::make(alloc, journal).expect(rt, "no memory");
     let (mut first, mut second) = both(rt, &shared, passes);
     let answers = take_turns(rt, alloc, &shared, lots, &mut first, &mut second, &plans);
     let journal = close_both(rt, alloc, shared, first, second);
     (answers, journal.len())
+}
+
+/// The same on the sample. Worker 0 brings process 1 to machine 2, where worker 1 has planned to bring process 2.
+fn answers_on_sample<R: Abort + Wait>(rt: &R, alloc: Global, inst: &Instance) -> (Answers, u64) {
+    let lots = single_proposals(rt, alloc, &AWAY, &shift(2, 2)).expect(rt, "no memory");
+    let a0 = assignment(alloc, &[0, 3, 0]).expect(rt, "no memory");
+    assert!(rt; inst.is_assignment(&a0));
+    let topo = Topology::make(alloc, inst).expect(rt, "no memory");
+    let costs = start_parts(rt, alloc, inst, &a0);
+    answers_over(rt, alloc, inst, &topo, &a0, costs, &lots)
 }
 
 /// The entry of worker 0: process 1 goes from machine 3 to machine 2.
@@ -170,11 +187,9 @@ fn away() -> Entry {
     }
 }
 
-/// Worker 0 brings process 1 to machine 2, where worker 1 has planned to bring process 2. What worker 1 is answered shows it
-/// the entry that made its plan stale, and nothing else is recorded.
+/// What worker 1 is answered shows it the entry that made its plan stale, and nothing else is recorded.
 fn a_stale_pass_sees_the_entry<R: Abort + Wait>(rt: &R, alloc: Global, inst: &Instance) {
-    let lots = single_proposals(rt, alloc, &AWAY, &shift(2, 2)).expect(rt, "no memory");
-    let (answers, entries) = answers_on(rt, alloc, inst, &[0, 3, 0], &lots);
+    let (answers, entries) = answers_on_sample(rt, alloc, inst);
     let wanted = Answers {
         replies: [done(0, 3510), stale(Guard::Machine(Machine(2)))],
         seen: [1, 1],

@@ -1,4 +1,4 @@
-use Rattle.std.proofs.Common.{◌≡◌, ◌<◌, ap, subst, arith}
+use Rattle.std.proofs.Common.{◌<◌, ap, subst, arith}
 use Rattle.ra_draws.specs.Lots.{budget_of}
 use Rattle.ra_draws.specs.declared.budgets.Lots.{Lots}
 use Rattle.ra_draws.specs.declared.sources.Lot.{Lot}
