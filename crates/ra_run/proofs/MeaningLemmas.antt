@@ -110,7 +110,7 @@ pub no_changed : (held : Held) (names : Names) → IsSome (held names.model) →
 no_changed held names model closed changed fault refused i a instance list = no_list held names.changed changed refused.name refused.named refused.tables i
     (instances_same held names.model names.closed model closed refused.tables i refused.instance instance) fault refused.refused a list
 
-lists_same : (held : Held) (named : Option (List ℕ)) → Told held named → IsSome named → (i j : Tables) (a b : List Machine) → NamedListIs held named i a → NamedListIs held named j b → a ≡ b
+pub lists_same : (held : Held) (named : Option (List ℕ)) → Told held named → IsSome named → (i j : Tables) (a b : List Machine) → NamedListIs held named i a → NamedListIs held named j b → a ≡ b
 lists_same held None told some i j a b one two = absurd (cc)
 lists_same held (Some name) told some i j a b one two = told_gives (a ≡ b) (λ bytes. IsAssignmentOf bytes i a) (λ bytes. IsAssignmentOf bytes j b) (held name) (told name refl) (λ bytes p q. p.machines ∙ sym q.machines) one two
 

@@ -39,7 +39,9 @@ pub record IsTrialLots (number : ℕ) (l : Lots) : Type 0 where
 abbrev pub IsSummarized : Tables → List Machine → Lots → (List ℕ → Type 0) → Type 0
 IsSummarized i a0 l way = way (summary_text i a0 (solo i a0 l))
 
--- `trial`: so did that of the trial of a number, from its instance, its start and its lot
+-- `trial`: so did that of the trial of a number, from its instance, its start and its lot. Which instance and which lots
+-- of the number these are is no matter: they differ in rooms alone, and the text rests on the number (`laws`'
+-- `trials_have_one_text`)
 pub record TrialPrinted (number : ℕ) (way : List ℕ → Type 0) : Type 0 where
   pub tables : Tables
   pub lots : Lots

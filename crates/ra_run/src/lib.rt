@@ -8,6 +8,7 @@ mod check;
 mod edit;
 mod job;
 mod judging;
+pub mod laws;
 mod lists;
 mod reading;
 mod refusals;

@@ -1,0 +1,88 @@
+-- What jobs compute rests on the numbers of an instance, and never on the rooms of its lists. Each law is proved by a
+-- function of `laws`.
+use Rattle.std.specs.Prelude.{◌≡◌, ℕ, List, Bool, Option, Some, None, IsSome}
+use Rattle.ra_base.specs.Listed.{Listed}
+use Rattle.ra_base.specs.declared.causes.Drawing.{Drawing}
+use Rattle.ra_base.specs.declared.ids.Machine.{Machine}
+use Rattle.ra_bounds.specs.Bounds.{bound_of}
+use Rattle.ra_bounds.specs.PinnedBounds.{pinned_bound_of}
+use Rattle.ra_draws.specs.declared.budgets.Lots.{Lots}
+use Rattle.ra_draws.specs.declared.sources.Lot.{Lot}
+use Rattle.ra_journal.specs.declared.entries.Entry.{Entry}
+use Rattle.ra_journal.specs.Legal.{Legal}
+use Rattle.ra_journal.specs.Solo.{solo}
+use Rattle.ra_model.specs.declared.raw.Tables.{Tables}
+use Rattle.ra_model.specs.Broken.{first_broken}
+use Rattle.ra_model.specs.Costs.{parts_of}
+use Rattle.ra_model_read.specs.Lists.{lists_of}
+use Rattle.ra_moves.specs.declared.steps.Step.{Step}
+use Rattle.ra_moves.specs.Judging.{judge}
+use Rattle.ra_moves.specs.Options.{plan_of}
+use Rattle.ra_repair.specs.Runs.{repair_run}
+use Rattle.ra_report.specs.JournalTexts.{report_text}
+use Rattle.ra_report.specs.Summaries.{summary_text}
+use Rattle.ra_trial.specs.Instances.{IsTrial, start_list}
+use Rattle.ra_trial.specs.Numbers.{trial_word}
+use Rattle.ra_verify.specs.WrongLines.{IsFirstWrong, IsReport}
+use Rattle.ra_run.specs.declared.refusals.File.{File}
+use Rattle.ra_run.specs.Files.{Held, Names, name_of, IsNamed, Accepts}
+use Rattle.ra_run.specs.Trials.{IsTrialLots, TrialPrinted}
+
+-- the flags of a closed list, where there is one
+unfoldable pub flags_of : Option (Listed Bool) → Option (List Bool)
+flags_of None = None
+flags_of (Some flags) = Some flags.items
+
+-- two instances have the same numbers in their lists and the same flags of closed machines, whatever rooms the lists have
+pub record AreAlike (i j : Tables) : Type 0 where
+  pub lists : lists_of i.raw ≡ lists_of j.raw
+  pub flags : flags_of i.closed ≡ flags_of j.closed
+
+-- two values are the same lots, whatever room their lists have
+pub record AreAlikeLots (l k : Lots) : Type 0 where
+  pub slack : l.slack ≡ k.slack
+  pub drawing : l.drawing ≡ k.drawing
+  pub lots : l.lots.items ≡ k.lots.items
+
+-- what jobs compute from two instances is the same
+pub record RunAlike (i j : Tables) : Type 0 where
+  pub parts : (a0 a : List Machine) → parts_of i a0 a ≡ parts_of j a0 a
+  pub broken : (a0 a : List Machine) → first_broken i a0 a ≡ first_broken j a0 a
+  pub bound : bound_of i ≡ bound_of j
+  pub pinned_bound : (a0 : List Machine) → pinned_bound_of i a0 ≡ pinned_bound_of j a0
+  pub planned : (a0 a : List Machine) (x : List ℕ) (drawing : Drawing) (allowed : ℕ) → plan_of i a0 a x drawing allowed ≡ plan_of j a0 a x drawing allowed
+  pub judged : (a0 a : List Machine) (steps : List Step) (allowed : ℕ) → judge i a0 a steps allowed ≡ judge j a0 a steps allowed
+  pub legal : (a0 : List Machine) (l : Lots) (h : List Entry) → Legal i a0 l h → Legal j a0 l h
+  pub report : (a0 : List Machine) (l : Lots) (h : List Entry) → report_text i a0 l h ≡ report_text j a0 l h
+  pub is_report : (a0 : List Machine) (l : Lots) (bytes : List ℕ) (n : ℕ) → IsReport i a0 l bytes n → IsReport j a0 l bytes n
+  pub first_wrong : (a0 : List Machine) (l : Lots) (bytes : List ℕ) (line : Option ℕ) → IsFirstWrong i a0 l bytes line → IsFirstWrong j a0 l bytes line
+  pub alone : (a0 : List Machine) (l k : Lots) → AreAlikeLots l k → solo i a0 l ≡ solo j a0 k
+  pub summary : (a0 : List Machine) (h : List Entry) → summary_text i a0 h ≡ summary_text j a0 h
+  pub repaired : (a0 : List Machine) (lot : Lot) → repair_run i a0 lot ≡ repair_run j a0 lot
+
+-- instances that are alike run alike
+abbrev pub AlikeRunAlike : Type 0
+AlikeRunAlike = (i j : Tables) → AreAlike i j → RunAlike i j
+
+-- the bytes of each file that a job has are told
+abbrev pub AreTold : Held → Names → Type 0
+AreTold held names = (f : File) → IsNamed names f → IsSome (held (name_of names f))
+
+-- what the files of a job mean is alike, twice
+pub record MeanAlike (names : Names) (i j : Tables) (a0 b0 a b : List Machine) : Type 0 where
+  pub instance : AreAlike i j
+  pub initial : IsSome names.initial → a0 ≡ b0
+  pub changed : IsSome names.changed → a ≡ b
+
+-- told files mean one instance, but for the rooms of its lists, and one assignment each
+abbrev pub ToldFilesMeanOne : Type 0
+ToldFilesMeanOne = (held : Held) (names : Names) (i j : Tables) (a0 b0 a b : List Machine) → AreTold held names → Accepts held names i a0 a → Accepts held names j b0 b → MeanAlike names i j a0 b0 a b
+
+-- the text of a trial is one, whatever rooms the lists of its instance and of its lots have: it rests on the number alone
+abbrev pub TrialsHaveOneText : Type 0
+TrialsHaveOneText = (number : ℕ) (i j : Tables) (l k : Lots) → IsTrial (trial_word number) i → IsTrial (trial_word number) j → IsTrialLots number l → IsTrialLots number k
+    → summary_text i start_list (solo i start_list l) ≡ summary_text j start_list (solo j start_list k)
+
+-- so what two trials of a number print is the same
+abbrev pub TrialsPrintOneText : Type 0
+TrialsPrintOneText = (number : ℕ) (one other : List ℕ) → TrialPrinted number (λ text. one ≡ text) → TrialPrinted number (λ text. other ≡ text) → one ≡ other
