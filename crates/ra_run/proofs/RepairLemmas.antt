@@ -37,7 +37,8 @@ use Rattle.ra_run.specs.Statuses.{status_of}
 use Rattle.ra_run.proofs.CompleteLemmas.{is_done, complete_own, OwnRefused}
 use Rattle.ra_run.proofs.ComesLemmas.{Listed, known_model, told_of}
 use Rattle.ra_run.proofs.EndLemmas.{ends_refused}
-use Rattle.ra_run.proofs.MeaningLemmas.{no_model, no_closed, no_initial}
+use Rattle.ra_run.proofs.AlikeLemmas.{run_same}
+use Rattle.ra_run.proofs.MeaningLemmas.{no_model, no_closed, no_initial, instances_same, lists_same}
 
 -- the tries
 
@@ -146,9 +147,14 @@ own_known held model closed initial before now own known i a0 accepts refusal sa
 said : (held : Held) (names : Names) (l : Lots) (broken : Option Cause) (way : List ℕ → Type 0) → Tried held names l broken way → Tried held names l broken (λ text. Unit {0})
 said held names l broken way is = record { tables = is.tables; a0 = is.a0; accepts = is.accepts; lot = is.lot; one = is.one; run = record { is = is.run.is; feasible = is.run.feasible; tried = is.run.tried; text = tt } }
 
--- what a run leaves broken is what is always left
-broken_left : (held : Held) (names : Names) (l : Lots) (left broken : Option Cause) (way : List ℕ → Type 0) → Tried held names l broken way → LeavesBroken held names l left → broken ≡ left
-broken_left held names l left broken way is leaves = sym is.run.is ∙ leaves is.tables is.a0 is.accepts is.lot is.one
+-- what a run leaves broken is what a run from each instance that the files mean leaves
+broken_left : (held : Held) (model : List ℕ) (closed : Option (List ℕ)) (initial : List ℕ) (before now : Faults) (l : Lots) (left broken : Option Cause) (way : List ℕ → Type 0) (i : Tables) (a0 : List Machine) → Accepts held (solve_names model closed initial) i a0 a0 → KnownTo held (solve_names model closed initial) before now file.Initial → Tried held (solve_names model closed initial) l broken way → LeavesBroken i a0 l left → broken ≡ left
+unfolding name_of
+broken_left held model closed initial before now l left broken way i a0 accepts known is leaves =
+    let same = instances_same held model closed (known.0 tt).0 (told_of held closed _ known.1) is.tables i is.accepts.instance accepts.instance in
+    let start : is.a0 ≡ a0 = lists_same held (Some initial) (told_of held (Some initial) _ known.2) refl is.tables i is.a0 a0 is.accepts.initial accepts.initial in
+    let alike = run_same is.tables i same in
+    sym is.run.is ∙ alike.broken is.a0 (repair_run is.tables is.a0 is.lot).assignment ∙ rw (alike.repaired is.a0 is.lot, start) (leaves is.lot is.one)
 
 own_case : (held : Held) (names : Names) (l : Lots) (prints breaks : List ℕ → Type 0) (status : Status) (refusal : Refusal) → status ≡ status_of refusal → RepairOwn held names l prints breaks refusal → ((cause : Cause) × Tried held names l (Some cause) prints × (status ≡ Unrepaired)) ⊎ ((status ≡ WriteFault) ⊎ (status ≡ NoMemory))
 unfolding status_of
@@ -182,7 +188,7 @@ repair_comes {held} {model} {closed} {initial} {before} {now} {l} {prints} {brea
       never_infeasible = λ e. let refused = ends.refused (λ (done : status ≡ Done). let both : Done ≡ Infeasible = sym done ∙ e in cc) in own_infeasible held names before now l prints breaks refused.refusal refused.says (sym refused.is ∙ e);
       unrepaired = λ e. let refused = ends.refused (λ (done : status ≡ Done). let both : Done ≡ Unrepaired = sym done ∙ e in cc) in (l, refl, own_unrepaired held names before now l prints breaks refused.refusal refused.says (sym refused.is ∙ e));
       stays = λ i a0 accepts known cause leaves. ⊎_elim
-          (λ (done : status ≡ Done). absurd (let both = broken_left held names l (Some cause) None prints (ends.printed done) (leaves l refl) in cc))
+          (λ (done : status ≡ Done). absurd (let both = broken_left held model closed initial before now l (Some cause) None prints i a0 accepts known (ends.printed done) (leaves l refl) in cc))
           (λ (other : status ≢ Done).
           let refused = ends.refused other in
           ⊎_elim
@@ -195,7 +201,7 @@ repair_comes {held} {model} {closed} {initial} {before} {now} {l} {prints} {brea
           (λ (other : status ≢ Done).
           let refused = ends.refused other in
           ⊎_elim
-          (λ (left : (c : Cause) × Tried held names l (Some c) prints × (status ≡ Unrepaired)). absurd (let both = broken_left held names l None (Some left.0) prints left.1 (leaves l refl) in cc))
+          (λ (left : (c : Cause) × Tried held names l (Some c) prints × (status ≡ Unrepaired)). absurd (let both = broken_left held model closed initial before now l None (Some left.0) prints i a0 accepts known left.1 (leaves l refl) in cc))
           (λ (rest : (status ≡ WriteFault) ⊎ (status ≡ NoMemory)). inr rest)
           (own_ends held names l prints breaks status refused.refusal refused.is (own_known held model closed initial before now own known i a0 accepts refused.refusal refused.says)))
           (is_done status);

@@ -32,7 +32,9 @@ use Rattle.ra_run.specs.Statuses.{status_of}
 use Rattle.ra_run.specs.Verifying.{CountSays, IsCounted, IsRead, IsRightAt, IsRightReport, IsSolved, IsWrongAt, IsWrongReport, ReportWrong, VerdictComes, Verified, VerifyOwn, refused_by}
 use Rattle.ra_run.proofs.ComesLemmas.{Listed, Went, infeasible_of, known_model, passed_went, told_of}
 use Rattle.ra_run.proofs.CompleteLemmas.{OwnRefused, is_done}
-use Rattle.ra_run.proofs.MeaningLemmas.{Told, no_model, no_closed, no_initial, no_initial_break}
+use Rattle.ra_run.proofs.AlikeLemmas.{run_same}
+use Rattle.ra_run.proofs.BareLemmas.{bare}
+use Rattle.ra_run.proofs.MeaningLemmas.{Told, no_model, no_closed, no_initial, no_initial_break, instances_same, lists_same}
 use Rattle.ra_run.proofs.SolveLemmas.{solved}
 use Rattle.ra_run.proofs.StageLemmas.{can_tell, rose_later, says_more}
 
@@ -188,8 +190,36 @@ told_not (Some bytes) some P Q never p q = never bytes p q
 solved_passes : (held : Held) (names : Names) (l : Lots) (n : ℕ) (bytes : List ℕ) (s : IsSolved held names l n bytes) → Passes held names s.solved.tables s.solved.a0 s.solved.a0
 solved_passes held names l n bytes s = record { accepts = s.solved.accepts; initial = s.solved.start; changed = s.solved.start }
 
+-- what is wrong or right for one instance that the other files mean is so for each
+
+abbrev AllWrong : Held → Names → Lots → ℕ → Type 0
+AllWrong held names l line = (i : Tables) (a0 : List Machine) → Passes held names i a0 a0 → IsWrongReport held names i a0 l line
+
+abbrev AllRight : Held → Names → Lots → Type 0
+AllRight held names l = (i : Tables) (a0 : List Machine) → Passes held names i a0 a0 → IsRightReport held names i a0 l
+
+module _ (held : Held) (model : List ℕ) (closed : Option (List ℕ)) (initial report : List ℕ) (before now : Faults) (i : Tables) (a0 : List Machine) (passes : Passes held (verify_names model closed initial report) i a0 a0) (known : KnownTo held (verify_names model closed initial report) before now file.Report) where
+  abbrev these : Names
+  these = verify_names model closed initial report
+
+  instance_same : (j : Tables) (b0 : List Machine) → Passes held these j b0 b0 → bare i ≡ bare j
+  unfolding name_of
+  instance_same j b0 other = instances_same held model closed (known.0 tt).0 (told_of held closed _ known.1) i j passes.accepts.instance other.accepts.instance
+
+  start_same : (j : Tables) (b0 : List Machine) → Passes held these j b0 b0 → a0 ≡ b0
+  unfolding name_of
+  start_same j b0 other = lists_same held (Some initial) (told_of held (Some initial) _ known.2) refl i j a0 b0 passes.accepts.initial other.accepts.initial
+
+  all_wrong : (l : Lots) (line : ℕ) → IsWrongReport held these i a0 l line → AllWrong held these l line
+  all_wrong l line wrong j b0 other = some_then (held (name_of these file.Report)) (λ bytes. IsFirstWrong i a0 l bytes (Some line)) (λ bytes. IsFirstWrong j b0 l bytes (Some line))
+      (λ bytes is. subst (λ (a : List Machine). IsFirstWrong j a l bytes (Some line)) (start_same j b0 other) ((run_same i j (instance_same j b0 other)).first_wrong a0 l bytes (Some line) is)) wrong
+
+  all_right : (l : Lots) → IsRightReport held these i a0 l → AllRight held these l
+  all_right l right j b0 other = some_then (held (name_of these file.Report)) (λ bytes. (n : ℕ) × IsReport i a0 l bytes n) (λ bytes. (n : ℕ) × IsReport j b0 l bytes n)
+      (λ bytes is. (is.0, subst (λ (a : List Machine). IsReport j a l bytes is.0) (start_same j b0 other) ((run_same i j (instance_same j b0 other)).is_report a0 l bytes is.0 is.1))) right
+
 -- no report is read whole whose line is wrong
-read_not : (held : Held) (names : Names) (l : Lots) (line n : ℕ) → IsSome (held (name_of names file.Report)) → IsWrongReport held names l line → IsRead held names l n → ⊥
+read_not : (held : Held) (names : Names) (l : Lots) (line n : ℕ) → IsSome (held (name_of names file.Report)) → AllWrong held names l line → IsRead held names l n → ⊥
 read_not held names l line n told wrong read = go (held (name_of names file.Report)) told read.report wrong
   where
     go : (o : Option (List ℕ)) → IsSome o → IfSome o (IsSolved held names l n) → ((i : Tables) (a0 : List Machine) → Passes held names i a0 a0 → IfSome o (λ bytes. IsFirstWrong i a0 l bytes (Some line))) → ⊥
@@ -199,11 +229,11 @@ read_not held names l line n told wrong read = go (held (name_of names file.Repo
         cc
 
 -- and none is wrong that is right
-wrong_not : (held : Held) (names : Names) (l : Lots) (line : ℕ) → IsSome (held (name_of names file.Report)) → IsRightReport held names l → ReportWrong held names l line → ⊥
+wrong_not : (held : Held) (names : Names) (l : Lots) (line : ℕ) → IsSome (held (name_of names file.Report)) → AllRight held names l → ReportWrong held names l line → ⊥
 wrong_not held names l line told right wrong = told_not (held (name_of names file.Report)) told (IsWrongAt wrong.tables wrong.a0 l line) (λ bytes. (n : ℕ) × IsReport wrong.tables wrong.a0 l bytes n)
     (λ bytes is report. is.no_report report.0 report.1) wrong.wrong (right wrong.tables wrong.a0 wrong.passes)
 
-wrong_own : (held : Held) (model : List ℕ) (closed : Option (List ℕ)) (initial report : List ℕ) (before now : Faults) (l : Lots) (way : List ℕ → Type 0) (i : Tables) (a0 : List Machine) → Passes held (verify_names model closed initial report) i a0 a0 → KnownTo held (verify_names model closed initial report) before now file.Report → (line : ℕ) → IsWrongReport held (verify_names model closed initial report) l line
+wrong_own : (held : Held) (model : List ℕ) (closed : Option (List ℕ)) (initial report : List ℕ) (before now : Faults) (l : Lots) (way : List ℕ → Type 0) (i : Tables) (a0 : List Machine) → Passes held (verify_names model closed initial report) i a0 a0 → KnownTo held (verify_names model closed initial report) before now file.Report → (line : ℕ) → AllWrong held (verify_names model closed initial report) l line
     → (refusal : Refusal) → VerifyOwn held (verify_names model closed initial report) l (Verified held (verify_names model closed initial report) l way) refusal → status_of refusal ≡ Wrong
 unfolding name_of status_of
 wrong_own held model closed initial report before now l way i a0 passes known line wrong (InitialBroken cause) says =
@@ -212,7 +242,7 @@ wrong_own held model closed initial report before now l way i a0 passes known li
 wrong_own held model closed initial report before now l way i a0 passes known line wrong Write says = absurd (read_not held (verify_names model closed initial report) l line says.entries (known.3 refl).0 wrong says.read)
 wrong_own held model closed initial report before now l way i a0 passes known line wrong refusal says = absurd says
 
-right_own : (held : Held) (model : List ℕ) (closed : Option (List ℕ)) (initial report : List ℕ) (before now : Faults) (l : Lots) (way : List ℕ → Type 0) (i : Tables) (a0 : List Machine) → Passes held (verify_names model closed initial report) i a0 a0 → KnownTo held (verify_names model closed initial report) before now file.Report → IsRightReport held (verify_names model closed initial report) l
+right_own : (held : Held) (model : List ℕ) (closed : Option (List ℕ)) (initial report : List ℕ) (before now : Faults) (l : Lots) (way : List ℕ → Type 0) (i : Tables) (a0 : List Machine) → Passes held (verify_names model closed initial report) i a0 a0 → KnownTo held (verify_names model closed initial report) before now file.Report → AllRight held (verify_names model closed initial report) l
     → (refusal : Refusal) → VerifyOwn held (verify_names model closed initial report) l (Verified held (verify_names model closed initial report) l way) refusal → status_of refusal ≡ WriteFault
 unfolding name_of status_of
 right_own held model closed initial report before now l way i a0 passes known right (InitialBroken cause) says =
@@ -233,11 +263,11 @@ verify_verdict {held} {before} {now} {tells} {out_same} {err_same} {status} mode
           let refused = ends.refused (λ (done : status ≡ Done). let e : Done ≡ Wrong = sym done ∙ told in cc) in
           (l, is, own_wrong held names l (Verified held names l breaks) before now refused.refusal refused.says (sym refused.is ∙ told));
       is_wrong = λ i a0 passes known line wrong. ⊎_elim
-          (λ (done : status ≡ Done). let v = ends.printed done in absurd (read_not held names l line v.entries (known.3 refl).0 (wrong l is) v.read))
+          (λ (done : status ≡ Done). let v = ends.printed done in absurd (read_not held names l line v.entries (known.3 refl).0 (all_wrong held model closed initial report before now i a0 passes known l line (wrong l is)) v.read))
           (λ (other : status ≢ Done).
           let refused = ends.refused other in
           ⊎_elim
-          (λ (says : own refused.refusal). inl (refused.is ∙ wrong_own held model closed initial report before now l breaks i a0 passes known line (wrong l is) refused.refusal says))
+          (λ (says : own refused.refusal). inl (refused.is ∙ wrong_own held model closed initial report before now l breaks i a0 passes known line (all_wrong held model closed initial report before now i a0 passes known l line (wrong l is)) refused.refusal says))
           (λ (memory : status_of refused.refusal ≡ NoMemory). inr (refused.is ∙ memory))
           (own_left held model closed initial report before now own i a0 passes known refused.refusal refused.says))
           (is_done status);
@@ -246,7 +276,7 @@ verify_verdict {held} {before} {now} {tells} {out_same} {err_same} {status} mode
           (λ (other : status ≢ Done).
           let refused = ends.refused other in
           ⊎_elim
-          (λ (says : own refused.refusal). inr (inl (refused.is ∙ right_own held model closed initial report before now l breaks i a0 passes known (right l is) refused.refusal says)))
+          (λ (says : own refused.refusal). inr (inl (refused.is ∙ right_own held model closed initial report before now l breaks i a0 passes known (all_right held model closed initial report before now i a0 passes known l (right l is)) refused.refusal says)))
           (λ (memory : status_of refused.refusal ≡ NoMemory). inr (inr (refused.is ∙ memory)))
           (own_left held model closed initial report before now own i a0 passes known refused.refusal refused.says))
           (is_done status);

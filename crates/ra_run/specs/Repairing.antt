@@ -41,16 +41,17 @@ RepairOwn held names l prints breaks (Left cause) = Tried held names l (Some cau
 RepairOwn held names l prints breaks Write = (broken : Option Cause) × Tried held names l broken breaks
 RepairOwn held names l prints breaks refusal = ⊥
 
--- whatever tables with their rooms the files mean, the last list of the run breaks this constraint first, or none
-abbrev pub LeavesBroken : Held → Names → Lots → Option Cause → Type 0
-LeavesBroken held names l broken = (i : Tables) (a0 : List Machine) → Accepts held names i a0 a0 → (lot : Lot) → l.lots.items ≡ lot ∷ [] → first_broken i a0 (repair_run i a0 lot).assignment ≡ broken
+-- the last list of the run of the one lot breaks this constraint first, or none
+abbrev pub LeavesBroken : Tables → List Machine → Lots → Option Cause → Type 0
+LeavesBroken i a0 l broken = (lot : Lot) → l.lots.items ≡ lot ∷ [] → first_broken i a0 (repair_run i a0 lot).assignment ≡ broken
 
--- of a job with such lots: where each of its own statuses comes. No list has to be feasible
+-- of a job with such lots: where each of its own statuses comes. No list has to be feasible. Any instance that the files
+-- mean will do: by `laws`' `told_files_mean_one` and `alike_run_alike` the run is the same from each
 pub record RepairComes (held : Held) (names : Names) (are : Lots → Type 0) (before now : Faults) (status : Status) : Type 0 where
   pub never_infeasible : status ≢ Infeasible
   pub unrepaired : status ≡ Unrepaired → (l : Lots) × are l × ((cause : Cause) × Tried held names l (Some cause) (λ text. Unit {0}))
-  pub stays : (i : Tables) (a0 : List Machine) → Accepts held names i a0 a0 → KnownTo held names before now file.Initial → (cause : Cause) → ((l : Lots) → are l → LeavesBroken held names l (Some cause)) → (status ≡ Unrepaired) ⊎ ((status ≡ WriteFault) ⊎ (status ≡ NoMemory))
-  pub is_repaired : (i : Tables) (a0 : List Machine) → Accepts held names i a0 a0 → KnownTo held names before now file.Initial → ((l : Lots) → are l → LeavesBroken held names l None) → (status ≡ Done) ⊎ ((status ≡ WriteFault) ⊎ (status ≡ NoMemory))
+  pub stays : (i : Tables) (a0 : List Machine) → Accepts held names i a0 a0 → KnownTo held names before now file.Initial → (cause : Cause) → ((l : Lots) → are l → LeavesBroken i a0 l (Some cause)) → (status ≡ Unrepaired) ⊎ ((status ≡ WriteFault) ⊎ (status ≡ NoMemory))
+  pub is_repaired : (i : Tables) (a0 : List Machine) → Accepts held names i a0 a0 → KnownTo held names before now file.Initial → ((l : Lots) → are l → LeavesBroken i a0 l None) → (status ≡ Done) ⊎ ((status ≡ WriteFault) ⊎ (status ≡ NoMemory))
 
 -- ---- the stages
 

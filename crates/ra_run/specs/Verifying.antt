@@ -58,20 +58,21 @@ VerifyOwn held names l written (WrongLine line) = ReportWrong held names l line
 VerifyOwn held names l written Write = written
 VerifyOwn held names l written refusal = ⊥
 
--- whatever tables with their rooms the other files mean, this line of the report is its first wrong one
-abbrev pub IsWrongReport : Held → Names → Lots → ℕ → Type 0
-IsWrongReport held names l line = (i : Tables) (a0 : List Machine) → Passes held names i a0 a0 → IfSome (held (name_of names file.Report)) (λ bytes. IsFirstWrong i a0 l bytes (Some line))
+-- this line of the told report is its first wrong one
+abbrev pub IsWrongReport : Held → Names → Tables → List Machine → Lots → ℕ → Type 0
+IsWrongReport held names i a0 l line = IfSome (held (name_of names file.Report)) (λ bytes. IsFirstWrong i a0 l bytes (Some line))
 
--- and so it is the report of a legal whole journal
-abbrev pub IsRightReport : Held → Names → Lots → Type 0
-IsRightReport held names l = (i : Tables) (a0 : List Machine) → Passes held names i a0 a0 → IfSome (held (name_of names file.Report)) (λ bytes. (n : ℕ) × IsReport i a0 l bytes n)
+-- it is the report of a legal whole journal
+abbrev pub IsRightReport : Held → Names → Tables → List Machine → Lots → Type 0
+IsRightReport held names i a0 l = IfSome (held (name_of names file.Report)) (λ bytes. (n : ℕ) × IsReport i a0 l bytes n)
 
 -- of a job with such lots: the status tells a wrong report, and over known files that pass a wrong report is told, and one
--- that is right is accepted
+-- that is right is accepted. Any instance that the other files mean will do: by `laws`' `told_files_mean_one` and
+-- `alike_run_alike` a report is wrong for one of them exactly where it is for each
 pub record VerdictComes (held : Held) (names : Names) (are : Lots → Type 0) (before now : Faults) (status : Status) : Type 0 where
   pub wrong : status ≡ Wrong → (l : Lots) × are l × ((line : ℕ) × ReportWrong held names l line)
-  pub is_wrong : (i : Tables) (a0 : List Machine) → Passes held names i a0 a0 → KnownTo held names before now file.Report → (line : ℕ) → ((l : Lots) → are l → IsWrongReport held names l line) → (status ≡ Wrong) ⊎ (status ≡ NoMemory)
-  pub is_right : (i : Tables) (a0 : List Machine) → Passes held names i a0 a0 → KnownTo held names before now file.Report → ((l : Lots) → are l → IsRightReport held names l) → (status ≡ Done) ⊎ ((status ≡ WriteFault) ⊎ (status ≡ NoMemory))
+  pub is_wrong : (i : Tables) (a0 : List Machine) → Passes held names i a0 a0 → KnownTo held names before now file.Report → (line : ℕ) → ((l : Lots) → are l → IsWrongReport held names i a0 l line) → (status ≡ Wrong) ⊎ (status ≡ NoMemory)
+  pub is_right : (i : Tables) (a0 : List Machine) → Passes held names i a0 a0 → KnownTo held names before now file.Report → ((l : Lots) → are l → IsRightReport held names i a0 l) → (status ≡ Done) ⊎ ((status ≡ WriteFault) ⊎ (status ≡ NoMemory))
 
 -- ---- the stages
 
