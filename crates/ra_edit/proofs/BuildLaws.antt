@@ -1,5 +1,5 @@
 -- The instance that is built of copied lists.
-use Rattle.std.proofs.Common.{◌≡◌, ℕ, ◌<◌, List, Bool, false, length, refl, sym, ap, ◌∙◌, subst}
+use Rattle.std.proofs.Common.{◌≡◌, ℕ, ◌<◌, List, Bool, length, refl, sym, ap, ◌∙◌, subst}
 use Rattle.ra_base.specs.Listed.{Listed}
 use Rattle.ra_model.specs.declared.raw.ProcessRow.{ProcessRow}
 use Rattle.ra_model.specs.declared.raw.RawInstance.{RawInstance}

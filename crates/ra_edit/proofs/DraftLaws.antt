@@ -1,17 +1,16 @@
 -- What the answer to an edit is, and what is left after it.
-use Rattle.std.proofs.Common.{◌≡◌, ◌≢◌, ℕ, ◌+◌, ◌%◌, ◌^◌, ◌<◌, ◌≤◌, List, length, Option, Some, None, refl, sym, ap, ◌∙◌, subst, ⊎_elim, arith, eq-eqb, ne_eqb}
+use Rattle.std.proofs.Common.{◌≡◌, ◌≢◌, ℕ, ◌<◌, ◌≤◌, List, length, Some, None, refl, sym, ap, ◌∙◌, subst, ⊎_elim, eq-eqb, ne_eqb}
 use Rattle.std.proofs.Math.Nat.{mod-eq_of_lt}
 use Rattle.std.proofs.lemmas.Bool.{cases_lt, cases_eq, lt-ltb, le-ltb}
 use Rattle.ra_base.specs.declared.causes.Cause.{Cause}
 use Rattle.ra_base.specs.declared.costs.Parts.{Parts}
 use Rattle.ra_base.specs.declared.ids.Machine.{Machine}
-use Rattle.ra_base.specs.declared.ids.Service.{Service}
 use Rattle.ra_model.specs.declared.raw.ProcessRow.{ProcessRow}
 use Rattle.ra_model.specs.declared.raw.Tables.{Tables}
 use Rattle.ra_model.specs.Limits.{WellFormed}
 use Rattle.ra_model.specs.Assignments.{IsAssignment}
 use Rattle.ra_model.specs.Broken.{first_broken}
-use Rattle.ra_model.specs.Costs.{objective, parts_of}
+use Rattle.ra_model.specs.Costs.{parts_of}
 use Rattle.ra_model.specs.Feasible.{Feasible}
 use Rattle.ra_model.proofs.BrokenLemmas.{feasible_from_unbroken}
 use Rattle.ra_edits_read.specs.declared.edits.Edit.{Edit}
@@ -25,7 +24,7 @@ use Rattle.ra_edit.specs.Replies.{broken_in, cost_in, judged, barred, answer, ed
 use Rattle.ra_edit.specs.SameLists.{AreSameLists}
 use Rattle.ra_edit.specs.Keeping.{IsSound, IsKept}
 use Rattle.ra_edit.proofs.RowLaws.{process_same}
-use Rattle.ra_edit.proofs.JudgeLaws.{initial_fits, current_fits}
+use Rattle.ra_edit.proofs.JudgeLaws.{current_fits}
 use Rattle.ra_edit.proofs.SoundLaws.{edited_sound}
 use Rattle.ra_edit.proofs.SameLaws.{same_well, same_broken, same_parts}
 

@@ -1,11 +1,11 @@
 -- The lists that an edit makes, put together.
-use Rattle.std.proofs.Common.{◌≡◌, ℕ, ◌+◌, ◌*◌, List, [], ◌∷◌, ◌++◌, length, take, drop, refl, sym, ap, ◌∙◌}
+use Rattle.std.proofs.Common.{◌≡◌, ℕ, ◌+◌, ◌*◌, List, [], ◌∷◌, ◌++◌, length, take, drop, refl}
 use Rattle.std.specs.List.{swap_remove}
 use Rattle.ra_base.specs.declared.ids.Machine.{Machine}
 use Rattle.ra_model.specs.declared.raw.ProcessRow.{ProcessRow}
 use Rattle.ra_model.specs.Numbers.{resource_count}
 use Rattle.ra_edit.specs.Drafts.{Drafted}
-use Rattle.ra_edit.specs.Editing.{process_of, put_row, drop_row, added, retired, resized}
+use Rattle.ra_edit.specs.Editing.{process_of, drop_row, added, retired, resized}
 use Rattle.ra_edit.proofs.DraftLaws.{row_is}
 use Rattle.ra_edit.proofs.ListLaws.{put_here}
 

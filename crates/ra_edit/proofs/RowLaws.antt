@@ -1,5 +1,5 @@
 -- Rows with the same numbers are one row.
-use Rattle.std.proofs.Common.{◌≡◌, ℕ, ◌^◌, ◌<◌, Bool, refl, sym, ap, ◌∙◌, subst}
+use Rattle.std.proofs.Common.{◌≡◌, ℕ, ◌^◌, ◌<◌, Bool, ap, ◌∙◌, subst}
 use Rattle.std.specs.Coded.{le_prop}
 use Rattle.ra_base.specs.declared.ids.Service.{Service}
 use Rattle.ra_model.specs.declared.raw.MachineRow.{MachineRow}

@@ -1,5 +1,5 @@
 -- One edit more of a run.
-use Rattle.std.proofs.Common.{◌≡◌, ℕ, ◌+◌, ◌≤◌, List, [], ◌∷◌, ◌++◌, length, refl, sym, ap, ◌∙◌, subst, add-one}
+use Rattle.std.proofs.Common.{◌≡◌, ℕ, ◌+◌, ◌≤◌, List, [], ◌∷◌, ◌++◌, length, refl, ap, ◌∙◌, add-one}
 use Rattle.ra_edits_read.specs.EditLists.{EditLists}
 use Rattle.ra_edit.specs.declared.replies.EditReply.{EditReply}
 use Rattle.ra_edit.specs.Drafts.{Drafted}

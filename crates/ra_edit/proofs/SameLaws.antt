@@ -1,10 +1,7 @@
 -- Instances with the same lists are alike: they have the same first broken constraint and the same parts.
-use Rattle.std.proofs.Common.{◌≡◌, ℕ, ◌<◌, ◌≤◌, List, Option, None, Bool, refl, sym, ap, ap₂, ◌∙◌, subst, length}
-use Rattle.ra_base.specs.Tables.{cell}
-use Rattle.ra_base.specs.Searches.{first, or_else}
+use Rattle.std.proofs.Common.{◌≡◌, ℕ, ◌<◌, List, None, refl, sym, ap, ◌∙◌, subst}
+use Rattle.ra_base.specs.Searches.{first}
 use Rattle.ra_base.proofs.Searches.{first_same}
-use Rattle.ra_base.specs.declared.causes.Cause.{Cause}
-use Rattle.ra_base.specs.declared.costs.Parts.{Parts}
 use Rattle.ra_base.specs.declared.ids.Machine.{Machine}
 use Rattle.ra_base.specs.declared.ids.Service.{Service}
 use Rattle.ra_model.specs.declared.raw.BalanceRow.{BalanceRow}
@@ -19,7 +16,7 @@ use Rattle.ra_model.specs.Numbers.{resource_row, machine_row, service_row, proce
 use Rattle.ra_model.specs.Assignments.{IsAssignment, machine_at, tally}
 use Rattle.ra_model.specs.Usage.{use_share, use_of, transient_share, transient_of}
 use Rattle.ra_model.specs.Services.{is_of, of_service, members_at, on_machine, in_neighbourhood, in_location, locations_of, moved_of}
-use Rattle.ra_model.specs.Broken.{cause_if, capacity_test, row_capacity, broken_capacity, transient_test, row_transient, broken_transient, conflict_test, service_conflict, broken_conflict, spread_test, broken_spread, near_of, far_test, dependency_test, pair_dependency, service_dependency, broken_dependency, closed_test, broken_closed, first_broken}
+use Rattle.ra_model.specs.Broken.{capacity_test, row_capacity, broken_capacity, transient_test, row_transient, broken_transient, conflict_test, service_conflict, broken_conflict, spread_test, broken_spread, near_of, far_test, dependency_test, pair_dependency, service_dependency, broken_dependency, closed_test, broken_closed, first_broken}
 use Rattle.ra_model.specs.Costs.{excess_on, load_part, load_cost, available, shortfall, balance_part, balance_cost, process_share, process_cost, service_cost, way_share, machine_cost, objective, parts_of}
 use Rattle.ra_edit.specs.SameLists.{HasLists, AreSameLists}
 use Rattle.ra_edit.proofs.RowLaws.{Small, small_same}

@@ -1,30 +1,25 @@
 -- An edit leaves an instance within the limits, and two lists that fit it.
-use Rattle.std.proofs.Common.{◌≡◌, ◌≢◌, ℕ, suc, ◌+◌, ◌-◌, ◌*◌, ◌%◌, ◌^◌, ◌<◌, ◌≤◌, ◌⊎◌, Bool, true, false, List, [], ◌∷◌, ◌++◌, length, take, set, get_or, Option, Some, None, refl, sym, ap, ◌∙◌, subst, ⊎_elim, arith, length-append, eq-eqb}
-use Rattle.std.specs.Prelude.{nat_lt, nat_eq}
+use Rattle.std.proofs.Common.{◌≡◌, ◌≢◌, ℕ, ◌+◌, ◌-◌, ◌*◌, ◌<◌, ◌≤◌, List, [], ◌∷◌, ◌++◌, length, get_or, Some, None, refl, sym, ap, ◌∙◌, subst, ⊎_elim, arith, length-append, eq-eqb}
 use Rattle.std.specs.List.{swap_remove}
 use Rattle.std.proofs.Math.Seq.{get_or-append_seam}
-use Rattle.std.proofs.lemmas.Bool.{cases_lt, cases_eq, lt-ltb, le-ltb, eqb-true}
-use Rattle.std.proofs.lemmas.Bool.Decides.{nat_tests}
+use Rattle.std.proofs.lemmas.Bool.{cases_lt, lt-ltb, le-ltb}
 use Rattle.std.proofs.lemmas.List.{get_or_append_left, get_or_default}
-use Rattle.std.proofs.Math.Nat.{mod-eq_of_lt}
 use Rattle.ra_base.specs.declared.costs.Parts.{Parts}
 use Rattle.ra_base.specs.declared.ids.Machine.{Machine}
 use Rattle.ra_base.specs.declared.ids.Service.{Service}
 use Rattle.ra_model.specs.declared.raw.ProcessRow.{ProcessRow}
 use Rattle.ra_model.specs.declared.raw.Tables.{Tables}
 use Rattle.ra_model.specs.Limits.{WellFormed}
-use Rattle.ra_model.specs.Numbers.{resource_row, service_row, process_row, balance_row, resource_count, machine_count, service_count, process_count, balance_count, dependency_end, dependency_start, need_at, service_of, first_of, second_of}
+use Rattle.ra_model.specs.Numbers.{service_row, process_row, balance_row, resource_count, machine_count, service_count, process_count, balance_count, dependency_end, dependency_start, need_at, service_of, first_of, second_of}
 use Rattle.ra_model.specs.Assignments.{IsAssignment, machine_at}
 use Rattle.ra_edits_read.specs.declared.edits.Edit.{Edit}
 use Rattle.ra_edits_read.specs.declared.edits.Edit.TheVariants.{Add, Retire, Resize}
 use Rattle.ra_edits_read.specs.EditLists.{FitsInstance}
-use Rattle.ra_edit.specs.declared.replies.EditReply.{EditReply}
-use Rattle.ra_edit.specs.declared.replies.EditReply.TheVariants.{Done, NoProcess, Full, Last, Broken}
-use Rattle.ra_edit.specs.Drafts.{Drafted, with_processes, instance_of}
+use Rattle.ra_edit.specs.declared.replies.EditReply.TheVariants.{NoProcess, Full, Last}
+use Rattle.ra_edit.specs.Drafts.{Drafted, with_processes}
 use Rattle.ra_edit.specs.Editing.{process_of, put_row, drop_row, added, retired, resized, edited}
 use Rattle.ra_edit.specs.Replies.{barred}
 use Rattle.ra_edit.specs.Keeping.{IsSound, IsKept}
-use Rattle.ra_edit.proofs.RowLaws.{process_same}
 use Rattle.ra_edit.proofs.ListLaws.{removed_length, removed_item, put_length, dropped_length}
 
 -- the service of process p of some

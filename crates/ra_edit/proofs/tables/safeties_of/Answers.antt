@@ -1,4 +1,4 @@
-use Rattle.std.proofs.Common.{◌+◌, length, [], ◌∷◌, ap, ◌∙◌, arith, length-append}
+use Rattle.std.proofs.Common.{◌+◌, length, ap, ◌∙◌, length-append}
 use Rattle.ra_edit.proofs.CopyLaws.{safety_more}
 use Rattle.ra_edit.proofs.tables.safeties_of.Goals as goal
 

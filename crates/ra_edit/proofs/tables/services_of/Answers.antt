@@ -1,4 +1,4 @@
-use Rattle.std.proofs.Common.{◌+◌, ◌<◌, length, [], ◌∷◌, ap, ◌∙◌, arith, length-append}
+use Rattle.std.proofs.Common.{◌+◌, ◌<◌, length, ap, ◌∙◌, arith, length-append}
 use Rattle.ra_model.specs.Numbers.{service_count}
 use Rattle.ra_edit.proofs.CopyLaws.{service_more, end_next}
 use Rattle.ra_edit.proofs.tables.services_of.Goals as goal

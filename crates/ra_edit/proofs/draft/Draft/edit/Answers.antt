@@ -1,10 +1,10 @@
-use Rattle.std.proofs.Common.{◌≡◌, length, None, Some, ap, sym, ◌∙◌, subst}
-use Rattle.ra_edits_read.specs.EditLists.{edit_at, row_of}
+use Rattle.std.proofs.Common.{◌≡◌, length, ap, sym, ◌∙◌, subst}
+use Rattle.ra_edits_read.specs.EditLists.{edit_at}
 use Rattle.ra_edit.specs.declared.replies.EditReply.TheVariants.{Done, Broken}
 use Rattle.ra_edit.specs.Drafts.{Drafted}
 use Rattle.ra_edit.specs.Editing.{edited}
 use Rattle.ra_edit.specs.Replies.{barred, edit_answer, after_edit}
-use Rattle.ra_edit.specs.Keeping.{IsSound, drafted}
+use Rattle.ra_edit.specs.Keeping.{drafted}
 use Rattle.ra_edit.proofs.DraftLaws.{answered_barred, kept_barred, answered_broken, kept_broken, answered_done, kept_done, next_sound}
 use Rattle.ra_edit.proofs.draft.Draft.edit.Goals as goal
 
