@@ -1,6 +1,5 @@
 -- A journal as the value behind a lock.
-use Rattle.std.specs.Prelude.{◌≡◌, ℕ, Bool, List, length}
-use Rattle.ra_model.specs.declared.raw.Tables.{Tables}
+use Rattle.std.specs.Prelude.{◌≡◌, ℕ, Bool, List}
 use Rattle.ra_moves.specs.declared.verdicts.Plan.{Plan}
 use Rattle.ra_journal.specs.declared.entries.Entry.{Entry}
 use Rattle.ra_journal.specs.declared.journal.Journal.{Journal}
@@ -18,11 +17,11 @@ abbrev pub opening_of_journal : Journal → Opening
 opening_of_journal j = record { inst = j.inst.now; a0 = j.a0.now; lots = j.lots.now }
 
 abbrev pub opened_by : Book → Opening
-opened_by b = opening_of_journal b.journal
+opened_by b = opening_of_journal b.journal.value
 
 -- its entries
 abbrev pub entries_in : Book → List Entry
-entries_in b = b.journal.book.entries.items
+entries_in b = b.journal.value.book.entries.items
 
 -- what an entry makes touches the guard of a number; there is none from the guard count on
 abbrev pub entry_touches : Opening → Entry → ℕ → Bool

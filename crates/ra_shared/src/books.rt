@@ -14,10 +14,11 @@ pub struct Opening {
     pub lots: Lots,
 }
 
-/// A journal as the value behind a lock: its notes are its entries.
+/// A journal as the value behind a lock: its notes are its entries. It lies in a block of its own, so that a turn moves its
+/// address alone.
 #[derive(Drop)]
 pub struct Book<'a> {
-    pub(crate) journal: Journal<'a>,
+    pub(crate) journal: Box<Journal<'a>>,
 }
 
 /// The right of one worker to take turns with the journal. It knows which entries it has seen and made.

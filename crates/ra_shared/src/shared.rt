@@ -56,6 +56,7 @@ impl<'a> Shared<'a> {
         let topo = journal.topology();
         let workers = journal.lots().len();
         let guards = inst.machines() + inst.services();
+        let journal = Box::new(alloc, journal)?;
         let (turn, passes) = Turn::make(alloc, Book { journal }, workers, TURNS, guards)?;
         Ok((Shared { turn, inst, topo }, passes))
     }
@@ -178,6 +179,6 @@ impl<'a> Shared<'a> {
             topo: _,
         } = self;
         let Book { journal } = turn.close(passes);
-        journal
+        Box::into_inner(journal)
     }
 }

@@ -1,62 +1,67 @@
-use Rattle.std.proofs.Common.{◌≡◌, ◌+◌, inl, refl, ap, sym, ◌∙◌, subst, Contains, List, arith}
-use Rattle.ra_journal.specs.declared.entries.Entry.{Entry}
-use Rattle.ra_turn.specs.declared.sight.Grip.{Grip}
-use Rattle.ra_turn.specs.Notes.{grip}
+use Rattle.std.proofs.Common.{◌≡◌, refl, ap, sym, ◌∙◌, arith}
+use Rattle.ra_journal.specs.declared.journal.Journal.{Journal}
 use Rattle.ra_shared.specs.declared.books.Opening.{Opening}
 use Rattle.ra_shared.specs.Books.{opening_of_journal}
-use Rattle.ra_shared.specs.Numbers.{number_of}
 use Rattle.ra_shared.specs.Shares.{start_of}
-use Rattle.ra_shared.proofs.Turned.{IsTurned, turned_by, turned_commit, turned_held, turned_gives, turned_stale, turned_committed, legal_now}
+use Rattle.ra_shared.proofs.Turned.{IsTurned, turned_by, turned_commit, turned_held, turned_gives, turned_committed, legal_now}
 use Rattle.ra_shared.proofs.shared.Shared.commit_held.Goals as goal
 
 pub commit_held-reply-requires-clause-commit : goal.commit_held-reply-requires-clause-commit
 commit_held-reply-requires-clause-commit g c =
     let o : Opening = start_of c.args.self.now in
-    let j = c.take-held.result.value.journal in
+    let j : Journal = c.deref_mut.result.now in
     let p = c.args.pass.now in
     let q = c.take-held.new.pass in
     let took = c.take-held.ensures in
+    let opened : opening_of_journal j ≡ o = ap (λ (x : Journal). opening_of_journal x) c.deref_mut.ensures.value ∙ took.opening in
+    let seen : q.seat.me.0.own.seen ≡ j.book.entries.items = took.seen.0 ∙ ap (λ (x : Journal). x.book.entries.items) (sym c.deref_mut.ensures.value) in
     let may = c.requires.may in
     let turned : IsTurned p.number p.seat.me.0.own.seen p.seat.me.0.own.mine j.book.entries.items =
-    turned_by p.seat.me.0.own.number p.number q.number p.seat.me.0.own.seen p.seat.me.0.own.mine j.book.entries.items q.seat.me.0.own.seen q.seat.me.0.own.mine took.seen.1 took.seen.0 p.owned p.numbered took.pass.1.2 took.made.1 took.made.0 in
-    turned_commit o (opening_of_journal j) p.number c.number-worker.result p.seat.me.0.own.seen p.seat.me.0.own.mine j.book.entries.items c.args.plan.now took.opening c.number-worker.ensures turned may.commit
+    turned_by p.seat.me.0.own.number p.number q.number p.seat.me.0.own.seen p.seat.me.0.own.mine j.book.entries.items q.seat.me.0.own.seen q.seat.me.0.own.mine took.seen.1 seen p.owned p.numbered took.pass.1.2 took.made.1 took.made.0 in
+    turned_commit o (opening_of_journal j) p.number c.number-worker.result p.seat.me.0.own.seen p.seat.me.0.own.mine j.book.entries.items c.args.plan.now opened c.number-worker.ensures turned may.commit
 
 pub commit_held-reply-requires-clause-held : goal.commit_held-reply-requires-clause-held
 commit_held-reply-requires-clause-held g c =
     let o : Opening = start_of c.args.self.now in
-    let j = c.take-held.result.value.journal in
+    let j : Journal = c.deref_mut.result.now in
     let p = c.args.pass.now in
     let q = c.take-held.new.pass in
     let took = c.take-held.ensures in
+    let opened : opening_of_journal j ≡ o = ap (λ (x : Journal). opening_of_journal x) c.deref_mut.ensures.value ∙ took.opening in
+    let seen : q.seat.me.0.own.seen ≡ j.book.entries.items = took.seen.0 ∙ ap (λ (x : Journal). x.book.entries.items) (sym c.deref_mut.ensures.value) in
     let may = c.requires.may in
     let turned : IsTurned p.number p.seat.me.0.own.seen p.seat.me.0.own.mine j.book.entries.items =
-    turned_by p.seat.me.0.own.number p.number q.number p.seat.me.0.own.seen p.seat.me.0.own.mine j.book.entries.items q.seat.me.0.own.seen q.seat.me.0.own.mine took.seen.1 took.seen.0 p.owned p.numbered took.pass.1.2 took.made.1 took.made.0 in
+    turned_by p.seat.me.0.own.number p.number q.number p.seat.me.0.own.seen p.seat.me.0.own.mine j.book.entries.items q.seat.me.0.own.seen q.seat.me.0.own.mine took.seen.1 seen p.owned p.numbered took.pass.1.2 took.made.1 took.made.0 in
     let commit = turned_commit o o p.number p.number p.seat.me.0.own.seen p.seat.me.0.own.mine j.book.entries.items c.args.plan.now refl refl turned may.commit in
-    turned_held o (opening_of_journal j) p.number q.number j.book.entries.items q.seat.me.0.own.seen c.args.plan.now p.seat.me.0.grips q.seat.me.0.grips took.opening took.pass.1.2 took.seen.0 took.guards.0.0 j.start j.kept.legal commit c.requires.held took.guards.1
+    turned_held o (opening_of_journal j) p.number q.number j.book.entries.items q.seat.me.0.own.seen c.args.plan.now p.seat.me.0.grips q.seat.me.0.grips opened took.pass.1.2 seen took.guards.0.0 j.start j.kept.legal commit c.requires.held took.guards.1
 
 pub give-requires-clause-notes : goal.give-requires-clause-notes
 give-requires-clause-notes g c =
     let o : Opening = start_of c.args.self.now in
-    let j = c.take-held.result.value.journal in
+    let j : Journal = c.deref_mut.result.now in
     let p = c.args.pass.now in
     let q = c.take-held.new.pass in
     let took = c.take-held.ensures in
+    let opened : opening_of_journal j ≡ o = ap (λ (x : Journal). opening_of_journal x) c.deref_mut.ensures.value ∙ took.opening in
+    let seen : q.seat.me.0.own.seen ≡ j.book.entries.items = took.seen.0 ∙ ap (λ (x : Journal). x.book.entries.items) (sym c.deref_mut.ensures.value) in
     let may = c.requires.may in
     let turned : IsTurned p.number p.seat.me.0.own.seen p.seat.me.0.own.mine j.book.entries.items =
-    turned_by p.seat.me.0.own.number p.number q.number p.seat.me.0.own.seen p.seat.me.0.own.mine j.book.entries.items q.seat.me.0.own.seen q.seat.me.0.own.mine took.seen.1 took.seen.0 p.owned p.numbered took.pass.1.2 took.made.1 took.made.0 in
+    turned_by p.seat.me.0.own.number p.number q.number p.seat.me.0.own.seen p.seat.me.0.own.mine j.book.entries.items q.seat.me.0.own.seen q.seat.me.0.own.mine took.seen.1 seen p.owned p.numbered took.pass.1.2 took.made.1 took.made.0 in
     let commit = turned_commit o o p.number p.number p.seat.me.0.own.seen p.seat.me.0.own.mine j.book.entries.items c.args.plan.now refl refl turned may.commit in
-    turned_gives o (opening_of_journal j) p.number q.number c.number-worker.result j.book.entries.items q.seat.me.0.own.seen c.commit_held-reply.new.self.book.entries.items c.args.plan.now p.seat.me.0.grips q.seat.me.0.grips took.opening took.pass.1.2 c.number-worker.ensures took.seen.0 took.guards.0.0 commit c.requires.held c.commit_held-reply.ensures.journal
+    turned_gives o (opening_of_journal j) p.number q.number c.number-worker.result j.book.entries.items q.seat.me.0.own.seen c.commit_held-reply.new.self.book.entries.items c.args.plan.now p.seat.me.0.grips q.seat.me.0.grips opened took.pass.1.2 c.number-worker.ensures seen took.guards.0.0 commit c.requires.held c.commit_held-reply.ensures.journal
 
 pub returns-clause-done : goal.returns-clause-done
 returns-clause-done g c =
     let o : Opening = start_of c.args.self.now in
-    let j = c.take-held.result.value.journal in
+    let j : Journal = c.deref_mut.result.now in
     let p = c.args.pass.now in
     let q = c.take-held.new.pass in
     let took = c.take-held.ensures in
+    let opened : opening_of_journal j ≡ o = ap (λ (x : Journal). opening_of_journal x) c.deref_mut.ensures.value ∙ took.opening in
+    let seen : q.seat.me.0.own.seen ≡ j.book.entries.items = took.seen.0 ∙ ap (λ (x : Journal). x.book.entries.items) (sym c.deref_mut.ensures.value) in
     let may = c.requires.may in
     let turned : IsTurned p.number p.seat.me.0.own.seen p.seat.me.0.own.mine j.book.entries.items =
-    turned_by p.seat.me.0.own.number p.number q.number p.seat.me.0.own.seen p.seat.me.0.own.mine j.book.entries.items q.seat.me.0.own.seen q.seat.me.0.own.mine took.seen.1 took.seen.0 p.owned p.numbered took.pass.1.2 took.made.1 took.made.0 in
+    turned_by p.seat.me.0.own.number p.number q.number p.seat.me.0.own.seen p.seat.me.0.own.mine j.book.entries.items q.seat.me.0.own.seen q.seat.me.0.own.mine took.seen.1 seen p.owned p.numbered took.pass.1.2 took.made.1 took.made.0 in
     let gave = c.give.ensures in
     let new = c.commit_held-reply.new.self in
     record {
@@ -64,7 +69,7 @@ returns-clause-done g c =
       number = gave.pass.1.2 ∙ took.pass.1.2;
       left = (let a = gave.pass.2 in let b = took.pass.2 in omega arith);
       grips = gave.guards.0.0 ∙ took.guards.0.0;
-      legal = legal_now o (opening_of_journal j) (opening_of_journal new) new.book.entries.items c.give.new.pass.seat.me.0.own.seen took.opening c.commit_held-reply.ensures.instance c.commit_held-reply.ensures.initial c.commit_held-reply.ensures.lots gave.seen new.kept.legal;
+      legal = legal_now o (opening_of_journal j) (opening_of_journal new) new.book.entries.items c.give.new.pass.seat.me.0.own.seen opened c.commit_held-reply.ensures.instance c.commit_held-reply.ensures.initial c.commit_held-reply.ensures.lots gave.seen new.kept.legal;
       committed = turned_committed o (opening_of_journal j) p.number c.number-worker.result c.args.plan.now.q p.seat.me.0.own.seen p.seat.me.0.own.mine j.book.entries.items q.seat.me.0.own.seen q.seat.me.0.own.mine new.book.entries.items
-          c.give.new.pass.seat.me.0.own.seen c.give.new.pass.seat.me.0.own.mine c.commit_held-reply.result took.opening c.number-worker.ensures turned j.kept.legal took.seen.0 took.made.0 gave.seen gave.made c.commit_held-reply.ensures.journal c.commit_held-reply.ensures.reply;
+          c.give.new.pass.seat.me.0.own.seen c.give.new.pass.seat.me.0.own.mine c.commit_held-reply.result opened c.number-worker.ensures turned j.kept.legal seen took.made.0 gave.seen gave.made c.commit_held-reply.ensures.journal c.commit_held-reply.ensures.reply;
     }
