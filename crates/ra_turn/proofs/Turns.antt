@@ -6,6 +6,7 @@ use mathlib.Core.Option as maybe
 use mathlib.Core.List.{IsPrefix}
 use mathlib.Core.Logic.{dite}
 use native.Mathlib.Decide.{ℕ_discrete}
+use prog.Atomic.{either}
 use lib.ListN.{get_elem?}
 use Rattle.atomic_table.specs.Table.{State, Act, Me, Allows, step, keeps, takes, Valid, homes_after, carried_after}
 use Rattle.atomic_table.proofs.Lists.{set_here}
@@ -18,7 +19,7 @@ use Rattle.ra_turn.specs.Notes.{by, IsNews, ShutBy}
 use Rattle.ra_turn.specs.Locks.{Locks}
 use Rattle.ra_turn.specs.Law.{AtTicket, Scene, Kept, Ruled, Fits, Knows, AtHome, OutWith, left_of}
 use Rattle.ra_turn.specs.Stages.{IsPass, HasTicket, IsServed, HasSlot}
-use Rattle.ra_turn.specs.Steps.{with_stage, with_seen, with_ticket, drawn, looked, saw}
+use Rattle.ra_turn.specs.Steps.{with_stage, with_seen, with_ticket, peeked, drawn, looked, saw}
 use Rattle.std.proofs.lemmas.Bool.Decides.{nat_tests}
 use Rattle.ra_turn.proofs.Lists.{prefix_self, sum_has, at_below, all_first}
 use Rattle.ra_turn.proofs.Stages.{slot_served, served_ticket, pass_live}
@@ -76,15 +77,49 @@ module _ {V N O : Type 0} (opening : V → O) (notes : V → List N) (author : N
   pub few_turns : (c : Scene N) (gs : List ℕ) (s : State (Option V) (Sight N O)) (i : ℕ) (v : Sight N O) → Base c gs s → get_elem? s.views i ≡ some v → c.ticket + v.left ≤ passes * turns
   few_turns c gs s i v k at = let h = sum_has left_of s.views i v at in let t = k.turns_left in omega arith
 
-  -- a ticket is drawn
-  pub draws : (slots i : ℕ) (m : Me (Option V) (Sight N O)) → passes * turns < 2 ^ 62 → m.0.stage ≡ Idle → 0 < m.0.left
-      → Allows Rule slots i m 0 (λ n. (n + 1) % 2 ^ 64) (drawn (step slots 0 1 0 none) m)
-  draws slots i m small idle more s r len at fits =
+  -- nothing changes for an idle seat
+  idle_kept : (c : Scene N) (gs : List ℕ) (s : State (Option V) (Sight N O)) (i : ℕ) (v : Sight N O) (ticket : ℕ) → v.stage ≡ Idle → Base c gs s → get_elem? s.views i ≡ some v → ticket ≡ c.ticket
+      → Base c gs (record { words = ticket ∷ c.serving ∷ length c.history ∷ gs; homes = s.homes; views = set s.views i v })
+  idle_kept c gs s i v ticket idle k at same =
+      moved opening notes author passes turns o c c gs gs s i v v _ s.homes k at (ap (λ (n : ℕ). n ∷ c.serving ∷ length c.history ∷ gs) same) k.order (omega arith) k.numbers refl (λ n. refl) (λ n h. h)
+      (waits_stay opening notes author passes turns o c gs s i v v k at (λ t h. h)) k.unheard
+      (slot_stays opening notes author passes turns o c.history c.serving s.homes s.views i v v at (subst (λ (x : Stage). ¬ HasSlot x) (sym idle) (λ h. h)) k.slot)
+      (k.each i v at) (λ j u ne e. k.each j u e)
+
+  -- a look at how far the turns are
+  pub peeks : (slots i : ℕ) (m : Me (Option V) (Sight N O)) → passes * turns < 2 ^ 62 → m.0.stage ≡ Idle → Allows Rule slots i m 1 (λ n. n) (peeked (step slots 1 0 0 none) m)
+  peeks slots i m small idle s r len at fits =
       let k = r.kept in let c = r.scene in let v = m.0 in
+      let few : c.serving < 2 ^ 62 = (let most = few_turns c r.guard_words s i v k at in let h = k.order in omega arith) in
+      let P : List ℕ → Type 0 = λ ws. (w' : Sight N O) × (a : Act (Option V)) × Valid s.homes m.1 a
+      × Rule (record { words = set ws 1 (get_or ws 1 0); homes = homes_after s.homes m.1 a; views = set s.views i w' })
+      × peeked (step slots 1 0 0 none) m (get_or ws 1 0) (w', carried_after m.1 a) in
+      subst P (sym k.words) (
+        v,
+        keeps,
+        tt,
+        record {
+          scene = c;
+          guard_words = r.guard_words;
+          kept = idle_kept c r.guard_words s i v c.ticket idle k at refl;
+          locks = locks_view author touches o guards c.history r.guard_words s.views i v v r.locks at refl refl (λ h. h) (r.locks.news i v at);
+        },
+        (refl, few),
+      )
+
+  -- a try to draw a ticket
+  draws_at : (slots i : ℕ) (m : Me (Option V) (Sight N O)) (old : ℕ) (s : State (Option V) (Sight N O)) → m.0.stage ≡ Idle → 0 < m.0.left → (r : Rule s) → get_elem? s.views i ≡ some m.0
+      → (b : Bool) → (r.scene.ticket == old) ≡ b
+      → (w : Sight N O) × (a : Act (Option V)) × Valid s.homes m.1 a
+      × Rule (record { words = either (r.scene.ticket == old) (old + 1) r.scene.ticket ∷ r.scene.serving ∷ length r.scene.history ∷ r.guard_words; homes = homes_after s.homes m.1 a; views = set s.views i w })
+      × drawn (step slots 0 old (old + 1) none) m r.scene.ticket (w, carried_after m.1 a)
+  draws_at slots i m old s idle more r at true e =
+      let k = r.kept in let c = r.scene in let v = m.0 in
+      let found : c.ticket ≡ old = grind (arith, nat_tests) in
+      let raised : either (c.ticket == old) (old + 1) c.ticket ≡ c.ticket + 1 = ap (λ (b : Bool). either b (old + 1) c.ticket) e ∙ omega arith in
       let c' : Scene N = record c { ticket = c.ticket + 1; queue = λ t. cond (t == c.ticket) i (c.queue t) } in
       let w : Sight N O = with_ticket v c.ticket in
-      let most = few_turns c r.guard_words s i v k at in
-      let next : (c.ticket + 1) % 2 ^ 64 ≡ c.ticket + 1 = mod-eq_of_lt (omega arith) in
+      let m' : Me (Option V) (Sight N O) = (w, m.1) in
       let kv = k.each i v at in
       let pass : IsPass v.stage = subst IsPass (sym idle) tt in
       let mine : Known c' s.homes i w = record {
@@ -111,11 +146,7 @@ module _ {V N O : Type 0} (opening : V → O) (notes : V → List N) (author : N
       (w, (tt, sym e), ap (get_elem? (set s.views i w)) mine ∙ set_here s.views i w (at_below s.views i v at))))
       (λ ne. (let theirs : c'.queue t ≡ c.queue t = ap (λ (b : Bool). cond b i (c.queue t)) (ne_eqb t c.ticket ne) in
       let g = waits_stay opening notes author passes turns o c r.guard_words s i v w k at (λ q h. absurd (subst HasTicket idle h.0)) t from (omega arith) in
-      (g.0, g.1, ap (get_elem? (set s.views i w)) theirs ∙ g.2))) in
-      let P : List ℕ → Type 0 = λ ws. (w' : Sight N O) × (a : Act (Option V)) × Valid s.homes m.1 a
-      × Rule (record { words = set ws 0 ((get_or ws 0 0 + 1) % 2 ^ 64); homes = homes_after s.homes m.1 a; views = set s.views i w' })
-      × drawn (step slots 0 1 0 none) m (get_or ws 0 0) (w', carried_after m.1 a) in
-      subst P (sym k.words) (
+      (g.0, g.1, ap (get_elem? (set s.views i w)) theirs ∙ g.2))) in (
         w,
         keeps,
         tt,
@@ -123,14 +154,36 @@ module _ {V N O : Type 0} (opening : V → O) (notes : V → List N) (author : N
           scene = c';
           guard_words = r.guard_words;
           kept = moved opening notes author passes turns o c c' r.guard_words r.guard_words s i v w _ s.homes k at
-              (ap (λ (n : ℕ). n ∷ c.serving ∷ length c.history ∷ r.guard_words) next)
+              (ap (λ (n : ℕ). n ∷ c.serving ∷ length c.history ∷ r.guard_words) raised)
               (let h = k.order in omega arith) (omega arith) k.numbers refl (λ n. refl) (λ n h. (tt, h.1)) waits k.unheard
               (slot_stays opening notes author passes turns o c.history c.serving s.homes s.views i v w at (subst (λ (x : Stage). ¬ HasSlot x) (sym idle) (λ h. h)) k.slot)
               mine others;
           locks = locks_view author touches o guards c.history r.guard_words s.views i v w r.locks at refl refl (λ h. tt) (r.locks.news i v at);
         },
-        refl,
+        subst (λ (b : Bool). MatchBool b (m' ≡ m') (m' ≡ m)) (sym e) refl,
       )
+  draws_at slots i m old s idle more r at false e =
+      let k = r.kept in let c = r.scene in let v = m.0 in let m' : Me (Option V) (Sight N O) = (with_ticket v c.ticket, m.1) in
+      let same : either (c.ticket == old) (old + 1) c.ticket ≡ c.ticket = ap (λ (b : Bool). either b (old + 1) c.ticket) e in (
+        v,
+        keeps,
+        tt,
+        record {
+          scene = c;
+          guard_words = r.guard_words;
+          kept = idle_kept c r.guard_words s i v _ idle k at same;
+          locks = locks_view author touches o guards c.history r.guard_words s.views i v v r.locks at refl refl (λ h. h) (r.locks.news i v at);
+        },
+        subst (λ (b : Bool). MatchBool b (m ≡ m') (m ≡ m)) (sym e) refl,
+      )
+
+  pub draws : (slots i : ℕ) (m : Me (Option V) (Sight N O)) (old : ℕ) → m.0.stage ≡ Idle → 0 < m.0.left
+      → Allows Rule slots i m 0 (λ n. either (n == old) (old + 1) n) (drawn (step slots 0 old (old + 1) none) m)
+  draws slots i m old idle more s r len at fits =
+      let P : List ℕ → Type 0 = λ ws. (w' : Sight N O) × (a : Act (Option V)) × Valid s.homes m.1 a
+      × Rule (record { words = set ws 0 (either (get_or ws 0 0 == old) (old + 1) (get_or ws 0 0)); homes = homes_after s.homes m.1 a; views = set s.views i w' })
+      × drawn (step slots 0 old (old + 1) none) m (get_or ws 0 0) (w', carried_after m.1 a) in
+      subst P (sym r.kept.words) (draws_at slots i m old s idle more r at (r.scene.ticket == old) refl)
 
   -- the ticket that is served is one seat's
   pub served_one : (c : Scene N) (homes : List (maybe.Option (Option V))) (i j : ℕ) (v u : Sight N O) → Known c homes i v → Known c homes j u → IsServed v.stage → IsServed u.stage → i ≡ j

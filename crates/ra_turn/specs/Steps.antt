@@ -69,9 +69,13 @@ module _ {N O : Type 0} where
   spent = record { opened = None; stage = Spent; at = 0; left = 0; own = nothing 0; joined = []; grips = []; news = [] }
 
 module _ {V N O : Type 0} where
-  -- its ticket is the word that it found
+  -- the seat is told how far the turns are, and nothing changes
+  abbrev pub peeked : Step (Option V) → Me (Option V) (Sight N O) → ℕ → Me (Option V) (Sight N O) → Type 0
+  peeked s m n m' = (m' ≡ m) × (n < 2 ^ 62)
+
+  -- a ticket is drawn exactly where the word was as expected, and is the word that was found
   abbrev pub drawn : Step (Option V) → Me (Option V) (Sight N O) → ℕ → Me (Option V) (Sight N O) → Type 0
-  drawn s m n m' = m' ≡ (with_ticket (view m) n, slots m)
+  drawn s m n m' = MatchBool (n == s.first) (m' ≡ (with_ticket (view m) n, slots m)) (m' ≡ m)
 
   -- it is its turn exactly where the word is its ticket
   abbrev pub looked : Step (Option V) → Me (Option V) (Sight N O) → ℕ → Me (Option V) (Sight N O) → Type 0

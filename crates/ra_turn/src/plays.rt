@@ -1,9 +1,16 @@
 //! What each step on the table tells its seat.
-ghost use Rattle.ra_turn.specs.Steps.{drawn, looked, saw, noted, served, glanced, gripped, released, cut_left, cut_right, joined, spent};
+ghost use Rattle.ra_turn.specs.Steps.{peeked, drawn, looked, saw, noted, served, glanced, gripped, released, cut_left, cut_right, joined, spent};
 
 use crate::sight::Sight;
 use crate::story::Story;
 use atomic_table::{Join, Play, Split};
+
+/// A look at how far the turns are, before a ticket is drawn.
+pub(crate) struct Peek;
+
+impl<V: Story> Play<Option<V>, Sight<V::Note, V::Opening>> for Peek {
+    ghost then = { peeked };
+}
 
 /// A ticket is drawn.
 pub(crate) struct Draw;

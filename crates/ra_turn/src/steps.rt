@@ -1,5 +1,5 @@
 //! The steps of one turn, each on one word of the table.
-ghost use Rattle.std.specs.Prelude.{◌≡◌, ℕ, ◌+◌, ◌<◌, ◌^◌, [], ◌∷◌, ◌++◌, length, Some, None};
+ghost use Rattle.std.specs.Prelude.{◌≡◌, ℕ, ◌+◌, ◌<◌, ◌^◌, [], ◌∷◌, ◌++◌, length, MatchBool, Some, None};
 ghost use Rattle.ra_turn.specs.Views.{view, slots};
 ghost use Rattle.ra_turn.specs.declared.sight.Stage.TheVariants.{Idle, Drawn, Called, InTurn, Counted};
 ghost use Rattle.ra_turn.specs.Stages.{HasSlot};
@@ -8,7 +8,7 @@ ghost use Rattle.ra_turn.specs.Seats.{IsSized, IsSameSeat};
 ghost use Rattle.ra_turn.specs.Steps.{with_stage, with_seen, with_ticket, Shows, IsShut, IsTold};
 
 use crate::law::{Desk, Place};
-use crate::plays::{Count, Draw, Look, See, Serve};
+use crate::plays::{Count, Draw, Look, Peek, See, Serve};
 use crate::story::Story;
 use std::sync::Wait;
 use std::thread;
@@ -19,15 +19,37 @@ const SERVING: usize = 1;
 
 const COUNT: usize = 2;
 
-/// Draws a ticket, and returns it.
-pub(crate) fn draw<V: Story>(desk: &Desk<V>, seat: &mut Place<V>) -> u64
+/// Draws the next ticket where the ticket word is the one given, and says whether it did.
+fn try_draw<V: Story>(desk: &Desk<V>, seat: &mut Place<V>, ticket: u64) -> bool
+    requires table { (seat.old.table_id ≡ desk.now.table_id) ×
+        IsSized desk.now.table_id desk.now.key }
+    requires idle { ((view seat.old.me).stage ≡ Idle) × (0 < (view seat.old.me).left) }
+    requires small { ticket < 2 ^ 62 }
+    ensures same { IsSameSeat seat.old seat.new }
+    ensures view { MatchBool result
+        (seat.new.me ≡ (with_ticket (view seat.old.me) ticket, slots seat.old.me))
+        (seat.new.me ≡ seat.old.me) }
+{
+    desk.compare_exchange::<Draw>(seat, TICKET, ticket, ticket + 1) == ticket
+}
+
+/// Draws a ticket where it is served at once, and else gives the processor to others and tries again; returns it. So no
+/// turn waits for a worker that isn't running.
+pub(crate) fn draw<V: Story, R: Wait>(rt: &R, desk: &Desk<V>, seat: &mut Place<V>) -> u64
     requires table { (seat.old.table_id ≡ desk.now.table_id) ×
         IsSized desk.now.table_id desk.now.key }
     requires idle { ((view seat.old.me).stage ≡ Idle) × (0 < (view seat.old.me).left) }
     ensures same { IsSameSeat seat.old seat.new }
     ensures view { seat.new.me ≡ (with_ticket (view seat.old.me) result, slots seat.old.me) }
 {
-    desk.fetch_add::<Draw>(seat, TICKET, 1)
+    for _ in rt.forever() {
+        let serving = desk.load::<Peek>(seat, SERVING);
+        if try_draw(desk, seat, serving) {
+            return serving;
+        }
+        thread::yield_now();
+    }
+    unreachable!()
 }
 
 /// Waits until the ticket is served.
