@@ -1,22 +1,12 @@
-//! `cases`: the conformance suite of `reassign`. Standard input has the cases, as text that a
-//! person reads and writes: the command words, the files, what fails, then the status, the output
-//! and the error line that must come. Each is run by the top call over files and sinks in memory,
-//! and a line says whether it came so. docs/CASES.md has the form.
+//! `cases`: the conformance suite of `reassign`. Standard input has the cases; `ra_cases` tries each, and prints whether
+//! it came as it must. The status is 0 where all came so, 1 where one did not, and 2 where standard input can't be read
+//! or a line can't be written.
 #![tactic(auto)]
 
-mod endings;
-mod parts;
-mod suite;
-mod texts;
-mod tokens;
-mod trouble;
-mod trying;
-mod verdicts;
-
+use ra_cases::try_all;
 use ra_io::OutSink;
 use std::io;
 use std::process::ExitCode;
-use suite::try_all;
 
 fn main(rt: HostRuntime) -> ExitCode {
     let Ok(text) = io::read_to_string(rt.alloc(), rt.stdin()) else {

@@ -1,5 +1,5 @@
 ghost use Rattle.std.specs.Prelude.{◌≡◌, ◌↔◌, IsTrue};
-ghost use Rattle.cases.specs.Endings.{Same};
+ghost use Rattle.ra_cases.specs.Endings.{Same};
 
 /// How a run ended: its exit status, its output and its error line.
 #[derive(Clone, Copy)]

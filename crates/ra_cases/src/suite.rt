@@ -28,9 +28,9 @@ const HEADS: [&str; 12] = [
 
 /// How many cases were tried, and how many of them didn't end as they have to.
 #[derive(Clone, Copy)]
-pub(crate) struct Tally {
-    pub(crate) tried: u64,
-    pub(crate) failed: u64,
+pub struct Tally {
+    pub tried: u64,
+    pub failed: u64,
 }
 
 impl Tally {
@@ -52,7 +52,11 @@ impl Tally {
 }
 
 /// Tries all cases of a text, and puts a line for each, and last how many there were.
-pub(crate) fn try_all<R: Threads + Wait + Sync, O: Sink>(
+///
+/// # Errors
+///
+/// `NoMemory`, or `Write` where a line can't be put. A paragraph that isn't a case is counted as one that failed.
+pub fn try_all<R: Threads + Wait + Sync, O: Sink>(
     rt: &R,
     alloc: Global,
     text: &str,

@@ -1,6 +1,6 @@
 ghost use Rattle.std.specs.Prelude.{OnOk};
 ghost use Rattle.std.specs.Io.KnownBytes.{Appends};
-ghost use Rattle.cases.specs.Endings.{verdict_text, Grows};
+ghost use Rattle.ra_cases.specs.Endings.{verdict_text, Grows};
 
 use crate::endings::Ending;
 use crate::trouble::Trouble;

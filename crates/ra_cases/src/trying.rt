@@ -3,8 +3,8 @@ ghost use Rattle.std.specs.Io.KnownBytes.{Appends};
 ghost use Rattle.ra_io.specs.MemoryFiles as files;
 ghost use Rattle.ra_io.specs.MemorySink as taken;
 ghost use Rattle.ra_words.specs.Words.{texts};
-ghost use Rattle.cases.specs.Endings.{verdict_text, Grows, TellsFailure};
-ghost use Rattle.cases.specs.Runs.{Runs};
+ghost use Rattle.ra_cases.specs.Endings.{verdict_text, Grows, TellsFailure};
+ghost use Rattle.ra_cases.specs.Runs.{Runs};
 
 use crate::endings::{Ending, is_same};
 use crate::parts::{Case, files_of, number, sink_of, wanted, words_of};

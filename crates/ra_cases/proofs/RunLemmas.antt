@@ -11,9 +11,9 @@ use Rattle.ra_run.specs.Files.{Held, Faults, Names}
 use Rattle.ra_run.specs.Outputs.{Printed, BoundPrinted, Solved}
 use Rattle.ra_run.specs.Statuses.{number_of}
 use Rattle.ra_run.specs.Trials.{TrialPrinted, TrialEnds}
-use Rattle.cases.specs.declared.endings.Ending.{Ending}
-use Rattle.cases.specs.Endings.{Same}
-use Rattle.cases.specs.Runs.{Runs}
+use Rattle.ra_cases.specs.declared.endings.Ending.{Ending}
+use Rattle.ra_cases.specs.Endings.{Same}
+use Rattle.ra_cases.specs.Runs.{Runs}
 
 -- a status by its number
 

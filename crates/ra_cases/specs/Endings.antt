@@ -2,7 +2,7 @@
 use Rattle.std.specs.Prelude.{◌≡◌, ℕ, List, [], ◌∷◌, ◌++◌, Bool, true, false, Option, codes}
 use Rattle.std.specs.Io.KnownBytes.{Appends}
 use Rattle.ra_report.specs.Pieces.{joined}
-use Rattle.cases.specs.declared.endings.Ending.{Ending}
+use Rattle.ra_cases.specs.declared.endings.Ending.{Ending}
 
 -- two endings have the same status, the same output and the same error line
 pub record Same (came wanted : Ending) : Type 0 where

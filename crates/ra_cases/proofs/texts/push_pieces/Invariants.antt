@@ -1,5 +1,5 @@
 use Rattle.std.proofs.Common.{length, ◌≤◌, ◌-◌}
-use Rattle.cases.proofs.texts.push_pieces.Given as goal
+use Rattle.ra_cases.proofs.texts.push_pieces.Given as goal
 
 abbrev pub invariant-loop-at : goal.invariant-loop-at
 invariant-loop-at l = l.at ≤ length l.pieces

@@ -2,9 +2,9 @@ use ra_base::NoMemory;
 use ra_io::Failed;
 use std::alloc::{AllocError, AllocFailed};
 
-/// Why a paragraph was not tried.
+/// Why a paragraph, or the cases, were not tried to the end.
 #[derive(Clone, Copy, Debug, PartialEq, Eq)]
-pub(crate) enum Trouble {
+pub enum Trouble {
     /// It isn't in the form of cases.
     Unclear,
     /// Memory was refused.

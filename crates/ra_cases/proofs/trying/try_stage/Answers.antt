@@ -4,9 +4,9 @@ use Rattle.std.specs.Prelude.{String}
 use Rattle.ra_io.specs.MemoryFiles as files
 use Rattle.ra_io.specs.MemorySink as sinks
 use Rattle.ra_words.specs.Words.{texts}
-use Rattle.cases.specs.Runs.{Runs}
-use Rattle.cases.proofs.RunLemmas.{runs}
-use Rattle.cases.proofs.trying.try_stage.Goals as goal
+use Rattle.ra_cases.specs.Runs.{Runs}
+use Rattle.ra_cases.proofs.RunLemmas.{runs}
+use Rattle.ra_cases.proofs.trying.try_stage.Goals as goal
 
 pub returns-then-is_same-clause-ok : goal.returns-then-is_same-clause-ok
 returns-then-is_same-clause-ok g c = λ _. subst (λ (w : List (String Global)). Runs (texts w) (files.held c.args.stage.now.files) c.args.wanted.now) c.as_slice.ensures.value
