@@ -20,15 +20,12 @@ use std::alloc::{AllocError, Global};
 fn line_command<'a>(alloc: Global) -> Result<Command<'a>, AllocError>
     ensures { IfOk result (λ command. app_of command ≡ line_app) }
 {
-    let slack = Arg::new(alloc, "slack").long("slack");
-    let closed = Arg::new(alloc, "closed").long("closed");
-    let draws = Arg::new(alloc, "draws").long("draws");
-    let plain = Arg::new(alloc, "plain").action(ArgAction::Append);
+    // Each option is made where it is handed over, so that no exit has another one to end.
     let command = Command::new(alloc, "reassign")
-        .arg(slack)?
-        .arg(closed)?
-        .arg(draws)?
-        .arg(plain)?;
+        .arg(Arg::new(alloc, "slack").long("slack"))?
+        .arg(Arg::new(alloc, "closed").long("closed"))?
+        .arg(Arg::new(alloc, "draws").long("draws"))?
+        .arg(Arg::new(alloc, "plain").action(ArgAction::Append))?;
     Ok(command)
 }
 

@@ -5,13 +5,13 @@ use Rattle.ra_words.proofs.line.line_command.Goals as goal
 
 pub returns : goal.returns
 returns c =
-    let slack : rule_of c.long-slack.result ≡ option_rule (codes "slack") = search rules in
-    let closed : rule_of c.long-closed.result ≡ option_rule (codes "closed") = search rules in
-    let draws : rule_of c.long-draws.result ≡ option_rule (codes "draws") = search rules in
-    let plain : rule_of c.action-plain.result ≡ plain_rule = search rules in
+    let slack : rule_of c.long.result ≡ option_rule (codes "slack") = search rules in
+    let closed : rule_of c.long-2.result ≡ option_rule (codes "closed") = search rules in
+    let draws : rule_of c.long-3.result ≡ option_rule (codes "draws") = search rules in
+    let plain : rule_of c.action.result ≡ plain_rule = search rules in
     let is : app_of c.in_ok-command.command ≡ line_app =
     c.in_ok-command.ensures.shape (search rules)
     ∙ ap₂ with_rule (c.in_ok-arg-3.ensures.shape (search rules)
     ∙ ap₂ with_rule (c.in_ok-arg-2.ensures.shape (search rules)
-    ∙ ap₂ with_rule (c.in_ok-arg.ensures.shape (search rules) ∙ ap₂ with_rule c.new-5.ensures.app slack) closed) draws) plain in
+    ∙ ap₂ with_rule (c.in_ok-arg.ensures.shape (search rules) ∙ ap₂ with_rule c.new.ensures.app slack) closed) draws) plain in
     is
