@@ -3,6 +3,7 @@ ghost use Rattle.ra_base.specs.declared.ids.Machine.{Machine as Place};
 ghost use Rattle.ra_model.specs.declared.raw.Tables.{Tables};
 ghost use Rattle.ra_model.specs.Numbers.{machine_count, service_count, process_count};
 ghost use Rattle.ra_model.specs.Assignments.{machine_at, IsAssignment};
+ghost use Rattle.ra_model.specs.Members.{AreMembers};
 ghost use Rattle.ra_model.specs.Services.{on_machine, in_location, in_neighbourhood, locations_of, moved_of};
 ghost use Rattle.ra_model.specs.Sorting.{start_of, AreStarts};
 ghost use Rattle.ra_cells.specs.Marks.{away};
@@ -20,7 +21,7 @@ use std::alloc::Global;
 
 /// How the processes of each service are placed by an assignment that the cells stand for, and which they don't hold.
 /// The tables are made once and changed process by process.
-#[derive(Debug, Drop)]
+#[derive(Debug)]
 pub struct Cells<'a> {
     inst: &'a Instance,
     start: &'a Assignment,
@@ -45,6 +46,22 @@ pub struct Cells<'a> {
     pub ghost start_fits: { IsAssignment inst.now.tables start.now.items },
 }
 
+/// Lets all lists go in one call, so that the end of an owner is short to prove.
+impl Drop for Cells<'_> {
+    fn drop(self) {
+        let Cells {
+            inst: _,
+            start: _,
+            starts: _,
+            machines: _,
+            locations: _,
+            neighbourhoods: _,
+            spreads: _,
+            greatest: _,
+        } = self;
+    }
+}
+
 impl<'a> Cells<'a> {
     ghost use Rattle.ra_cells.specs.Stands.{StandFor, HavePlaced};
 
@@ -58,12 +75,27 @@ impl<'a> Cells<'a> {
         ensures { IfOk result (λ cells. StandFor cells inst.now.tables a0.now.items a0.now.items) }
     {
         let members = Members::make(alloc, inst)?;
-        let starts = starts_of(alloc, inst, &members)?;
-        let machines = labels_of(alloc, inst, a0, &members, Mark::OnMachine)?;
-        let locations = labels_of(alloc, inst, a0, &members, Mark::InLocation)?;
-        let neighbourhoods = labels_of(alloc, inst, a0, &members, Mark::InNeighbourhood)?;
-        let spreads = spreads_of(alloc, inst, &starts, &locations)?;
+        Cells::of_members(alloc, inst, a0, &members)
+    }
+
+    /// The same, with the processes of each service at hand. It owns only what it gives, so that its exits are short to
+    /// prove.
+    fn of_members(
+        alloc: Global,
+        inst: &'a Instance,
+        a0: &'a Assignment,
+        members: &Members,
+    ) -> Result<Cells<'a>, NoMemory>
+        requires assigned { IsAssignment inst.now.tables a0.now.items }
+        requires members { AreMembers members.now inst.now.tables }
+        ensures { IfOk result (λ cells. StandFor cells inst.now.tables a0.now.items a0.now.items) }
+    {
         let greatest = Greatest::make(alloc, inst)?;
+        let starts = starts_of(alloc, inst, members)?;
+        let locations = labels_of(alloc, inst, a0, members, Mark::InLocation)?;
+        let spreads = spreads_of(alloc, inst, &starts, &locations)?;
+        let machines = labels_of(alloc, inst, a0, members, Mark::OnMachine)?;
+        let neighbourhoods = labels_of(alloc, inst, a0, members, Mark::InNeighbourhood)?;
         Ok(Cells {
             inst,
             start: a0,

@@ -11,12 +11,24 @@ use std::marker::Model;
 
 /// The moved count of each service, which is the number of its processes that aren't on their initial machine, and the
 /// greatest of them. Contracts see the list of counts, and the limit that no count passes.
-#[derive(Debug, Drop)]
+#[derive(Debug)]
 pub struct Greatest {
     counts: Fixed<u32>,
     tallies: Fixed<u32>,
     limit: u32,
     most: u32,
+}
+
+/// Lets all lists go in one call, so that the end of an owner is short to prove.
+impl Drop for Greatest {
+    fn drop(self) {
+        let Greatest {
+            counts: _,
+            tallies: _,
+            limit: _,
+            most: _,
+        } = self;
+    }
 }
 
 impl Model for Greatest {

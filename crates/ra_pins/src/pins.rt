@@ -21,12 +21,24 @@ use std::sync::ledger::{Blank, Ledger};
 /// The pinned processes of an instance and a start: those that can be on no other machine than that on which they
 /// start, in any assignment that is feasible with respect to the start. And for each machine and resource what those of
 /// them that start there require.
-#[derive(Debug, Drop)]
+#[derive(Debug)]
 pub struct Pins {
     flags: Fixed<bool>,
     machines: u32,
     resources: u32,
     loads: Fixed<u64>,
+}
+
+/// Lets all lists go in one call, so that the end of an owner is short to prove.
+impl Drop for Pins {
+    fn drop(self) {
+        let Pins {
+            flags: _,
+            machines: _,
+            resources: _,
+            loads: _,
+        } = self;
+    }
 }
 
 impl Model for Pins {

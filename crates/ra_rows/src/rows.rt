@@ -17,12 +17,23 @@ use std::sync::ledger::{Blank, Ledger};
 /// The use and the transient use of each machine's resources, for one assignment at a time, which the rows don't hold.
 /// They are made for the initial assignment, and follow it by `shift`. Each machine has one row of use and one of
 /// transient use, with a number for each resource.
-#[derive(Drop)]
 pub struct Rows<'a> {
     inst: &'a Instance,
     a0: &'a Assignment,
     used: Fixed<u64>,
     between: Fixed<u64>,
+}
+
+/// Lets all lists go in one call, so that the end of an owner is short to prove.
+impl Drop for Rows<'_> {
+    fn drop(self) {
+        let Rows {
+            inst: _,
+            a0: _,
+            used: _,
+            between: _,
+        } = self;
+    }
 }
 
 impl<'a> Model for Rows<'a> {

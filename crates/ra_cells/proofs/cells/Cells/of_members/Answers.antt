@@ -3,13 +3,13 @@ use Rattle.std.proofs.Common.{ℕ, ◌∙◌, refl, ap, sym, get_or}
 use Rattle.std.proofs.lemmas.List.{get_or-replicate}
 use Rattle.ra_model.specs.Numbers.{service_count}
 use Rattle.ra_cells.proofs.CellLemmas.{moved_none}
-use Rattle.ra_cells.proofs.cells.Cells.make.Goals as goal
+use Rattle.ra_cells.proofs.cells.Cells.of_members.Goals as goal
 
 pub returns : goal.returns
 returns c = record {
   instance = refl;
   start = refl;
-  fits = c.requires;
+  fits = c.requires.assigned;
   on_machines = c.in_ok-machines.ensures.marks;
   in_locations = c.in_ok-locations.ensures.marks;
   in_neighbourhoods = c.in_ok-neighbourhoods.ensures.marks;
