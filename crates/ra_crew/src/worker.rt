@@ -17,11 +17,21 @@ use std::sync::ledger::{Blank, Ledger};
 
 /// One of the workers of a run: its replica, the pass with which it takes turns at the journal, and room for what it is
 /// told there.
-#[derive(Drop)]
 pub struct Worker<'a> {
     pub(crate) replica: Replica<'a>,
     pub(crate) pass: WorkerPass<'a>,
     pub(crate) batch: Batch,
+}
+
+/// Lets all parts go in one call, so that the end of an owner is short to prove.
+impl Drop for Worker<'_> {
+    fn drop(self) {
+        let Worker {
+            replica: _,
+            pass: _,
+            batch: _,
+        } = self;
+    }
 }
 
 impl<'a> Worker<'a> {

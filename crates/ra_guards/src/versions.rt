@@ -18,7 +18,10 @@ pub struct Versions {
 /// Lets all lists go in one call, so that the end of an owner is short to prove.
 impl Drop for Versions {
     fn drop(self) {
-        let Versions { machines: _, services: _ } = self;
+        let Versions {
+            machines: _,
+            services: _,
+        } = self;
     }
 }
 

@@ -3,7 +3,6 @@ use ra_cells::Greatest;
 use ra_guards::Versions;
 
 /// The entries of a journal, and what it keeps of them.
-#[derive(Drop)]
 pub(crate) struct Book {
     /// The entries.
     pub(crate) entries: Entries,
@@ -19,4 +18,19 @@ pub(crate) struct Book {
     pub(crate) best_at: u64,
     /// The cost of the state at that place.
     pub(crate) best_cost: u128,
+}
+
+/// Lets all lists go in one call, so that the end of an owner is short to prove.
+impl Drop for Book {
+    fn drop(self) {
+        let Book {
+            entries: _,
+            versions: _,
+            greatest: _,
+            kept: _,
+            made: _,
+            best_at: _,
+            best_cost: _,
+        } = self;
+    }
 }

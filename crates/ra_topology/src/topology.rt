@@ -23,7 +23,11 @@ pub struct Topology {
 /// Lets all lists go in one call, so that the end of an owner is short to prove.
 impl Drop for Topology {
     fn drop(self) {
-        let Topology { members: _, needs: _, dependants: _ } = self;
+        let Topology {
+            members: _,
+            needs: _,
+            dependants: _,
+        } = self;
     }
 }
 
