@@ -18,6 +18,3 @@ pub use labels::Places;
 pub use members::Members;
 pub use numbers::Instance;
 pub use raw::{BalanceRow, MachineRow, ProcessRow, RawInstance, ResourceRow, ServiceRow, Tables};
-
-#[cfg(test)]
-mod tests;
