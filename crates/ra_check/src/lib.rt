@@ -22,6 +22,3 @@ mod ways;
 pub use first::first_broken;
 pub use objective::parts;
 pub use scratch::Scratch;
-
-#[cfg(test)]
-mod tests;
