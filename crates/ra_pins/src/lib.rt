@@ -11,6 +11,3 @@ mod search;
 mod tables;
 
 pub use pins::Pins;
-
-#[cfg(test)]
-mod tests;
