@@ -12,6 +12,3 @@ mod sums;
 pub use costs::Bound;
 pub use lower::bound;
 pub use pinned::pinned_bound;
-
-#[cfg(test)]
-mod tests;
