@@ -9,6 +9,3 @@ mod needs;
 mod topology;
 
 pub use topology::Topology;
-
-#[cfg(test)]
-mod tests;
