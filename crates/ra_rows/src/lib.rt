@@ -7,6 +7,3 @@ mod shifts;
 mod sums;
 
 pub use rows::Rows;
-
-#[cfg(test)]
-mod tests;
