@@ -11,6 +11,3 @@ mod sifting;
 
 pub use cells::Cells;
 pub use greatest::Greatest;
-
-#[cfg(test)]
-mod tests;
