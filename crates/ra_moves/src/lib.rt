@@ -13,6 +13,3 @@ pub use moves::Move;
 pub use replace::{apply, undo};
 pub use steps::{MoveKind, Step};
 pub use verdicts::{Plan, Verdict, Weighed, settle};
-
-#[cfg(test)]
-mod tests;
