@@ -11,8 +11,6 @@ mod locations;
 mod marks;
 mod services;
 mod steps;
-#[cfg(test)]
-mod tests;
 mod trial;
 mod values;
 
