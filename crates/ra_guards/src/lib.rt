@@ -15,6 +15,3 @@ pub use guarding::is_guard;
 pub use newest::{Newer, first_newer, first_newer_read};
 pub use versions::Versions;
 pub use written::{WriteGuards, writes};
-
-#[cfg(test)]
-mod tests;
