@@ -18,6 +18,3 @@ mod trying;
 
 pub use repair::Repair;
 pub use tries::Try;
-
-#[cfg(test)]
-mod tests;
