@@ -13,6 +13,3 @@ mod tables;
 
 pub use draft::{Draft, Edited};
 pub use replies::EditReply;
-
-#[cfg(test)]
-mod tests;
