@@ -1,6 +1,7 @@
-ghost use Rattle.std.specs.Prelude.{IfOk};
-ghost use Rattle.ra_edit.specs.SameLists.{IsBaseOf};
+ghost use Rattle.std.specs.Prelude.{◌≡◌, IfOk};
+ghost use Rattle.ra_edit.specs.SameLists.{IsBaseOf, HasMachines, HasServices};
 
+use crate::building::copy_of;
 use crate::tables::{
     balances_of, capacities_of, dependencies_of, flags_of, machines_of, resources_of, safeties_of,
     services_of, ways_of,
@@ -10,15 +11,10 @@ use ra_model::{BalanceRow, Instance, MachineRow, ResourceRow, ServiceRow};
 use std::alloc::Global;
 
 /// The lists of an instance that edits leave alone, copied once, so that an edit copies slices and calls no accessor.
-#[derive(Debug)]
 pub(crate) struct Base {
     pub(crate) resources: Fixed<ResourceRow>,
-    pub(crate) machines: Fixed<MachineRow>,
-    pub(crate) capacities: Fixed<u32>,
-    pub(crate) safeties: Fixed<u32>,
-    pub(crate) move_costs: Fixed<u32>,
-    pub(crate) services: Fixed<ServiceRow>,
-    pub(crate) dependencies: Fixed<Service>,
+    pub(crate) machines: MachineLists,
+    pub(crate) services: ServiceLists,
     pub(crate) balances: Fixed<BalanceRow>,
     /// A flag for each machine that says whether it is closed.
     pub(crate) flags: Fixed<bool>,
@@ -30,15 +26,27 @@ impl Drop for Base {
         let Base {
             resources: _,
             machines: _,
-            capacities: _,
-            safeties: _,
-            move_costs: _,
             services: _,
-            dependencies: _,
             balances: _,
             flags: _,
         } = self;
     }
+}
+
+/// The lists of the machines: their labels, what they hold, and the ways between them.
+#[derive(Drop)]
+pub(crate) struct MachineLists {
+    pub(crate) rows: Fixed<MachineRow>,
+    pub(crate) capacities: Fixed<u32>,
+    pub(crate) safeties: Fixed<u32>,
+    pub(crate) move_costs: Fixed<u32>,
+}
+
+/// The services and their dependencies.
+#[derive(Drop)]
+pub(crate) struct ServiceLists {
+    pub(crate) rows: Fixed<ServiceRow>,
+    pub(crate) dependencies: Fixed<Service>,
 }
 
 impl Base {
@@ -46,16 +54,72 @@ impl Base {
     pub(crate) fn of(alloc: Global, inst: &Instance) -> Result<Base, NoMemory>
         ensures { IfOk result (λ base. IsBaseOf base inst.now.tables) }
     {
+        let resources = resources_of(alloc, inst)?;
+        let balances = balances_of(alloc, inst)?;
+        let flags = flags_of(alloc, inst)?;
+        let services = ServiceLists::of(alloc, inst)?;
+        let machines = MachineLists::of(alloc, inst)?;
         Ok(Base {
-            resources: resources_of(alloc, inst)?,
-            machines: machines_of(alloc, inst)?,
+            resources,
+            machines,
+            services,
+            balances,
+            flags,
+        })
+    }
+}
+
+impl MachineLists {
+    /// The lists of an instance's machines.
+    fn of(alloc: Global, inst: &Instance) -> Result<MachineLists, NoMemory>
+        ensures { IfOk result (λ lists. HasMachines lists inst.now.tables) }
+    {
+        Ok(MachineLists {
+            rows: machines_of(alloc, inst)?,
             capacities: capacities_of(alloc, inst)?,
             safeties: safeties_of(alloc, inst)?,
             move_costs: ways_of(alloc, inst)?,
-            services: services_of(alloc, inst)?,
+        })
+    }
+
+    /// The same lists once more.
+    pub(crate) fn copy(&self, alloc: Global) -> Result<MachineLists, NoMemory>
+        ensures rows { IfOk result (λ copy. copy.rows.items ≡ self.now.rows.items) }
+        ensures capacities { IfOk result (λ copy.
+            copy.capacities.items ≡ self.now.capacities.items) }
+        ensures safeties { IfOk result (λ copy. copy.safeties.items ≡ self.now.safeties.items) }
+        ensures move_costs { IfOk result (λ copy.
+            copy.move_costs.items ≡ self.now.move_costs.items) }
+    {
+        Ok(MachineLists {
+            rows: copy_of(alloc, self.rows.as_slice())?,
+            capacities: copy_of(alloc, self.capacities.as_slice())?,
+            safeties: copy_of(alloc, self.safeties.as_slice())?,
+            move_costs: copy_of(alloc, self.move_costs.as_slice())?,
+        })
+    }
+}
+
+impl ServiceLists {
+    /// The lists of an instance's services.
+    fn of(alloc: Global, inst: &Instance) -> Result<ServiceLists, NoMemory>
+        ensures { IfOk result (λ lists. HasServices lists inst.now.tables) }
+    {
+        Ok(ServiceLists {
+            rows: services_of(alloc, inst)?,
             dependencies: dependencies_of(alloc, inst)?,
-            balances: balances_of(alloc, inst)?,
-            flags: flags_of(alloc, inst)?,
+        })
+    }
+
+    /// The same lists once more.
+    pub(crate) fn copy(&self, alloc: Global) -> Result<ServiceLists, NoMemory>
+        ensures rows { IfOk result (λ copy. copy.rows.items ≡ self.now.rows.items) }
+        ensures dependencies { IfOk result (λ copy.
+            copy.dependencies.items ≡ self.now.dependencies.items) }
+    {
+        Ok(ServiceLists {
+            rows: copy_of(alloc, self.rows.as_slice())?,
+            dependencies: copy_of(alloc, self.dependencies.as_slice())?,
         })
     }
 }

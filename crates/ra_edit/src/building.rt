@@ -41,17 +41,23 @@ fn raw_of(
     ensures { IfOk result (λ raw. HasLists raw
         (with_processes inst.now.tables rows.now.items requirements.now.items).raw) }
 {
+    let processes = copy_of(alloc, rows.as_slice())?;
+    let requirements = copy_of(alloc, requirements.as_slice())?;
+    let balances = copy_of(alloc, base.balances.as_slice())?;
+    let resources = copy_of(alloc, base.resources.as_slice())?;
+    let services = base.services.copy(alloc)?;
+    let machines = base.machines.copy(alloc)?;
     Ok(RawInstance {
-        resources: copy_of(alloc, base.resources.as_slice())?,
-        machines: copy_of(alloc, base.machines.as_slice())?,
-        capacities: copy_of(alloc, base.capacities.as_slice())?,
-        safeties: copy_of(alloc, base.safeties.as_slice())?,
-        move_costs: copy_of(alloc, base.move_costs.as_slice())?,
-        services: copy_of(alloc, base.services.as_slice())?,
-        dependencies: copy_of(alloc, base.dependencies.as_slice())?,
-        processes: copy_of(alloc, rows.as_slice())?,
-        requirements: copy_of(alloc, requirements.as_slice())?,
-        balances: copy_of(alloc, base.balances.as_slice())?,
+        resources,
+        machines: machines.rows,
+        capacities: machines.capacities,
+        safeties: machines.safeties,
+        move_costs: machines.move_costs,
+        services: services.rows,
+        dependencies: services.dependencies,
+        processes,
+        requirements,
+        balances,
         process_weight: inst.process_weight(),
         service_weight: inst.service_weight(),
         machine_weight: inst.machine_weight(),

@@ -17,7 +17,6 @@ use std::sync::ledger::Blank;
 
 /// The lists of a draft that edits change: its processes, what they require, their initial machines and their machines
 /// now.
-#[derive(Debug)]
 pub(crate) struct Lists {
     pub(crate) rows: Fixed<ProcessRow>,
     /// By process, then resource.
