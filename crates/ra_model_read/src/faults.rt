@@ -63,7 +63,7 @@ pub enum ModelFault {
     #[error("read fault")]
     ReadFault,
     /// The byte at a place is neither a digit nor a blank.
-    #[error("byte {byte} at {at}")]
+    #[error("byte at {at} is neither a digit nor a blank")]
     BadByte {
         /// The place of the byte.
         at: u64,
@@ -80,7 +80,7 @@ pub enum ModelFault {
     #[error("too long")]
     TooLong,
     /// The file ends where a field is due.
-    #[error("{what:?} {item} is missing")]
+    #[error("{what:?} is missing")]
     Missing {
         /// The field.
         what: Field,
@@ -88,7 +88,7 @@ pub enum ModelFault {
         item: u64,
     },
     /// A count or a reference is not within its limits.
-    #[error("{what:?} {value} at {at} is not in {least} to {most}")]
+    #[error("number at {at} is not within its limits")]
     Range {
         /// The field.
         what: Field,
@@ -102,7 +102,7 @@ pub enum ModelFault {
         most: u32,
     },
     /// A transient flag is neither 0 nor 1.
-    #[error("flag {value} at {at}")]
+    #[error("flag at {at} is neither 0 nor 1")]
     Flag {
         /// The place of the number.
         at: u64,
