@@ -112,3 +112,10 @@ all_ends {Y} next y made = record { takes = none }
     none : (ts : List Token) → map value_of ts ≡ [] → (ends >>= next) (record { tokens = ts; fault = None }) ≡ Read y (record { tokens = []; fault = None })
     none [] e = bind_read ends next (record { tokens = []; fault = None }) (record { tokens = []; fault = None }) tt refl ∙ ap (λ g. g (record { tokens = []; fault = None })) made
     none (t ∷ ts) e = cc
+
+pub all_then : {X Y : Type 0} {f : Format X} (next : X → Format Y) {u : List ℕ} {x : X} {y : Y} → AcceptsAll f u x → next x ≡ pure y → AcceptsAll (f >>= next) u y
+unfolding pure
+all_then {X} {Y} {f} next {u} {x} {y} one made = record {
+  takes = λ ts e.
+      bind_read f next (record { tokens = ts; fault = None }) (record { tokens = []; fault = None }) x (one.takes ts e) ∙ ap (λ g. g (record { tokens = []; fault = None })) made;
+}

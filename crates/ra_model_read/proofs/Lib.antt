@@ -8,6 +8,7 @@ pub mod WholeTables
 pub mod Acceptance
 pub mod TextAccepted
 pub mod Inversion
+pub mod Parts
 pub mod TextTaken
 pub mod TextTakenParts
 pub mod ReadLimits

@@ -14,6 +14,7 @@ use Rattle.ra_model_read.specs.Lists.{ResourceNumbers, ServiceNumbers, ProcessNu
 use Rattle.ra_model_read.specs.ModelText.{resource, resources, machine, machines, dependency, service, services, process, processes, balance, balances, weights, model, all_of, answer_of, model_of}
 use Rattle.ra_model_read.proofs.Inversion.{bind_back, pure_back, along_known}
 use Rattle.ra_model_read.specs.TableShapes.{end_in}
+use Rattle.ra_model_read.proofs.Parts.{model_parts}
 use Rattle.ra_model_read.proofs.ReadLimits.{Within, within_back, Counted, counted_known, numbers_length}
 
 -- each element of a list that was made of another
@@ -287,32 +288,18 @@ limits_of raw resources machines services processes balances =
     }
 
 model_limits : (raw : RawInstance) (l m : Left) → model l ≡ Read (lists_of raw) m → WellFormed (all_open raw)
-unfolding model
 model_limits raw l m e =
-    let z : Lists = lists_of raw in
-    let one = bind_back resources _ l m z e in
-    let two = bind_back (machines (length one.value)) _ one.left m z one.second in
-    let three = bind_back services _ two.left m z two.second in
-    let four = bind_back (processes (length three.value.rows) (length one.value)) _ three.left m z three.second in
-    let five = bind_back (balances (length one.value)) _ four.left m z four.second in
-    let six = bind_back weights _ five.left m z five.second in
-    let seven = bind_back ends _ six.left m z six.second in
-    let made = pure_back (record { resources = one.value; machines = two.value; services = three.value; processes = four.value; balances = five.value; weights = six.value }) z seven.left m seven.second in
-    let R : length one.value ≡ length raw.resources.items = ap (λ t. length t.resources) made.0 ∙ length-map raw.resources.items of_resource in
-    let S : length three.value.rows ≡ length raw.services.items = ap (λ t. length t.services.rows) made.0 ∙ length-map raw.services.items of_service in
-    let resource_limits = resources_known l one.left one.value one.first in
-    let machine_limits = machines_known (length one.value) one.left two.left two.value two.first in
-    let service_limits = services_known two.left three.left three.value three.first in
-    let some_service : 1 ≤ length three.value.rows = omega (arith, service_limits.within.low, service_limits.known.rows) in
-    let process_limits = processes_known (length three.value.rows) (length one.value) three.left four.left four.value some_service four.first in
-    let balance_limits = balances_known (length one.value) four.left five.left five.value resource_limits.low five.first in
-    limits_of raw
-    (subst (Within 1 20) R resource_limits)
-    (subst (Counted 1 5000 (KnownMachines (length raw.resources.items))) (ap (λ t. t.machines) made.0) (subst (λ n. Counted 1 5000 (KnownMachines n) two.value) R machine_limits))
-    (subst (Counted 1 50000 KnownServices) (ap (λ t. t.services) made.0) service_limits)
-    (subst (Counted 1 50000 (λ c. KnownProcesses (length raw.services.items) (length raw.resources.items))) (ap (λ t. t.processes) made.0)
-    (subst (λ n. Counted 1 50000 (λ c. KnownProcesses (length raw.services.items) n) four.value) R (subst (λ n. Counted 1 50000 (λ c. KnownProcesses n (length one.value)) four.value) S process_limits)))
-    (subst (Counted 0 10 (λ c. KnownBalances (length raw.resources.items))) (ap (λ t. t.balances) made.0) (subst (λ n. Counted 0 10 (λ c. KnownBalances n) five.value) R balance_limits))
+    let parts = model_parts raw l m e in
+    let R : length (lists_of raw).resources ≡ length raw.resources.items = length-map raw.resources.items of_resource in
+    let S : length (lists_of raw).services.rows ≡ length raw.services.items = length-map raw.services.items of_service in
+    let resource_limits = subst (Within 1 20) R (resources_known l parts.after_resources _ parts.resource_part) in
+    let service_limits = services_known parts.after_machines parts.after_services _ parts.service_part in
+    let some_service : 1 ≤ length raw.services.items = omega (arith, service_limits.within.low, service_limits.known.rows, S) in
+    limits_of raw resource_limits
+    (machines_known _ parts.after_resources parts.after_machines _ parts.machine_part)
+    service_limits
+    (processes_known _ _ parts.after_services parts.others.after_processes _ some_service parts.others.process_part)
+    (balances_known _ parts.others.after_processes parts.others.after_balances _ resource_limits.low parts.others.balance_part)
 
 answer_limits : (raw : RawInstance) (l : Left) (o : Outcome Lists) → model l ≡ o → answer_of o ≡ Ok (lists_of raw) → WellFormed (all_open raw)
 unfolding answer_of

@@ -10,9 +10,9 @@ use Rattle.ra_model_read.specs.declared.faults.Field.{Field}
 use Rattle.ra_model_read.specs.declared.faults.Field.TheVariants.{ResourceCount, LoadWeight, MachineCount, Neighbourhood, Location, Capacity, Safety, MoveCost, ServiceCount, SpreadMin, DependencyCount, Dependency, ProcessCount, ProcessService, Requirement, ProcessCost, BalanceCount, BalanceFirst, BalanceSecond, BalanceTarget, BalanceWeight, ProcessWeight, ServiceWeight, MachineWeight}
 use Rattle.ra_model_read.specs.Formats.{Format, pure, along, number_more, numbers, ends}
 use Rattle.ra_model_read.specs.Lists.{MachineLists, ServiceLists, ProcessLists, of_resource, of_machine, of_service, of_process, of_balance, lists_of}
-use Rattle.ra_model_read.specs.ModelText.{resource, resources, machine, machines, dependency, service, services, process, processes, balance, balances, weights, model, all_of, answer_of, model_of}
+use Rattle.ra_model_read.specs.ModelText.{resource, resources, machine, machines, dependency, service, services, process, processes, balance, balances, weights, rest, model, all_of, answer_of, model_of}
 use Rattle.ra_model_read.specs.FieldOrder.{joined, row_of, resource_numbers, machine_numbers, service_numbers, process_numbers, balance_numbers, numbers_of, IsTextOf}
-use Rattle.ra_model_read.proofs.Acceptance.{Accepts, accepts_bind, accepts_then, accepts_any, accepts_field, accepts_flag, accepts_along, AcceptsAll, all_bind, all_ends}
+use Rattle.ra_model_read.proofs.Acceptance.{Accepts, accepts_bind, accepts_then, accepts_any, accepts_field, accepts_flag, accepts_along, AcceptsAll, all_bind, all_then, all_ends}
 
 accepts_steps : {X : Type 0} (step : ℕ → X → Format X) (made : ℕ → X) (text : ℕ → List ℕ) (n : ℕ) (x y : X) → made 0 ≡ x → made n ≡ y → ((k : ℕ) → k < n → Accepts (step k (made k)) (text k) (made (suc k))) → Accepts (along n step x) (joined n text) y
 accepts_steps step made text n x y from to each = subst (λ z. Accepts (along n step z) (joined n text) y) from (subst (Accepts (along n step (made 0)) (joined n text)) to (accepts_along step made text n each))
@@ -187,15 +187,27 @@ weights_accepted raw = accepts_bind _ (accepts_any ProcessWeight 0 raw.process_w
 accepts_same : {X : Type 0} {f g : Format X} {u : List ℕ} {x : X} → f ≡ g → Accepts f u x → Accepts g u x
 accepts_same {X} {f} {g} {u} {x} e h = subst (λ k. Accepts k u x) e h
 
+rest_accepted : (raw : RawInstance) → WellFormed (all_open raw) → AcceptsAll (rest (length raw.services.items) (length raw.resources.items))
+    ((process_count (all_open raw) ∷ joined (process_count (all_open raw)) (process_numbers (all_open raw)))
+    ++ ((balance_count (all_open raw) ∷ joined (balance_count (all_open raw)) (balance_numbers (all_open raw)))
+    ++ (process_weight_of (all_open raw) ∷ service_weight_of (all_open raw) ∷ machine_weight_of (all_open raw) ∷ [])))
+    (record { processes = (lists_of raw).processes; balances = (lists_of raw).balances; weights = (lists_of raw).weights })
+unfolding rest
+rest_accepted raw h = all_bind _ (processes_accepted raw h)
+    (all_bind _ (balances_accepted raw h)
+    (all_bind _ (weights_accepted raw)
+    (all_ends _ _ refl)))
+
+all_same : {X : Type 0} {f g : Format X} {u : List ℕ} {x : X} → f ≡ g → AcceptsAll f u x → AcceptsAll g u x
+all_same {X} {f} {g} {u} {x} e h = subst (λ k. AcceptsAll k u x) e h
+
 all_accepted : (raw : RawInstance) → WellFormed (all_open raw) → AcceptsAll model (numbers_of (all_open raw)) (lists_of raw)
 unfolding model numbers_of
 all_accepted raw h = all_bind _ (resources_accepted raw h)
     (all_bind _ (accepts_same (ap machines (sym (length-map raw.resources.items of_resource))) (machines_accepted raw h))
     (all_bind _ (services_accepted raw h)
-    (all_bind _ (accepts_same (ap₂ processes (sym (length-map raw.services.items of_service)) (sym (length-map raw.resources.items of_resource))) (processes_accepted raw h))
-    (all_bind _ (accepts_same (ap balances (sym (length-map raw.resources.items of_resource))) (balances_accepted raw h))
-    (all_bind _ (weights_accepted raw)
-    (all_ends _ (lists_of raw) refl))))))
+    (all_then _ (all_same (ap₂ rest (sym (length-map raw.services.items of_service)) (sym (length-map raw.resources.items of_resource))) (rest_accepted raw h))
+    refl)))
 
 pub text_accepted : (raw : RawInstance) (bytes : List ℕ) → WellFormed (all_open raw) → IsTextOf bytes (all_open raw) → model_of bytes ≡ Ok (lists_of raw)
 unfolding model_of all_of answer_of

@@ -13,6 +13,7 @@ use Rattle.ra_model_read.specs.Lists.{ServiceNumbers, BalanceNumbers, MachineLis
 use Rattle.ra_model_read.specs.ModelText.{resources, machine, machines, dependency, service, services, process, processes, balance, balances, weights, model, all_of, answer_of, model_of}
 use Rattle.ra_model_read.specs.FieldOrder.{joined, row_of, machine_numbers, service_numbers, process_numbers, balance_numbers, numbers_of, IsTextOf}
 use Rattle.ra_model_read.proofs.Inversion.{Took, took_then, bind_back, pure_back, any_back, field_back, ends_back, along_known, along_back, snoc_same}
+use Rattle.ra_model_read.proofs.Parts.{model_parts}
 use Rattle.ra_model_read.proofs.TextAccepted.{front_more, row_more, machines_to, services_to, processes_to, all_rows, row_end, row_within, all_machines, all_services, all_processes}
 use Rattle.ra_model_read.proofs.TextTaken.{took_value, nothing_known, resources_back, numbers_back, counted_back}
 
@@ -262,27 +263,17 @@ weights_back raw l m e =
     (took_value two.left three.left three.value _ (ap (λ t. t.machine) made.0) (any_back MachineWeight 0 two.left three.left three.value three.first))))
 
 model_back : (raw : RawInstance) → WellFormed (all_open raw) → (l m : Left) → model l ≡ Read (lists_of raw) m → (map value_of l.tokens ≡ numbers_of (all_open raw)) × (l.fault ≡ None)
-unfolding model numbers_of
+unfolding numbers_of
 model_back raw h l m e =
-    let z : Lists = lists_of raw in
-    let one = bind_back resources _ l m z e in
-    let two = bind_back (machines (length one.value)) _ one.left m z one.second in
-    let three = bind_back services _ two.left m z two.second in
-    let four = bind_back (processes (length three.value.rows) (length one.value)) _ three.left m z three.second in
-    let five = bind_back (balances (length one.value)) _ four.left m z four.second in
-    let six = bind_back weights _ five.left m z five.second in
-    let seven = bind_back ends _ six.left m z six.second in
-    let made = pure_back (record { resources = one.value; machines = two.value; services = three.value; processes = four.value; balances = five.value; weights = six.value }) z seven.left m seven.second in
-    let ended = ends_back six.left seven.left seven.value seven.first in
-    let R : length one.value ≡ length raw.resources.items = ap (λ t. length t.resources) made.0 ∙ length-map raw.resources.items of_resource in
-    let S : length three.value.rows ≡ length raw.services.items = ap (λ t. length t.services.rows) made.0 ∙ length-map raw.services.items of_service in
-    let all = took_then l one.left six.left _ _ (resources_back raw l one.left (one.first ∙ ap (λ x. Read x one.left) (ap (λ t. t.resources) made.0)))
-    (took_then one.left two.left six.left _ _ (machines_back raw h one.left two.left (ap (λ n. machines n one.left) (sym R) ∙ two.first ∙ ap (λ x. Read x two.left) (ap (λ t. t.machines) made.0)))
-    (took_then two.left three.left six.left _ _ (services_back raw h two.left three.left (three.first ∙ ap (λ x. Read x three.left) (ap (λ t. t.services) made.0)))
-    (took_then three.left four.left six.left _ _ (processes_back raw h three.left four.left (ap₂ (λ a b. processes a b three.left) (sym S) (sym R) ∙ four.first ∙ ap (λ x. Read x four.left) (ap (λ t. t.processes) made.0)))
-    (took_then four.left five.left six.left _ _ (balances_back raw four.left five.left (ap (λ n. balances n four.left) (sym R) ∙ five.first ∙ ap (λ x. Read x five.left) (ap (λ t. t.balances) made.0)))
-    (weights_back raw five.left six.left (six.first ∙ ap (λ x. Read x six.left) (ap (λ t. t.weights) made.0))))))) in
-    (all.values ∙ ap (λ rest. numbers_of (all_open raw) ++ map value_of rest) ended.0 ∙ append-nil (numbers_of (all_open raw)), sym all.fault ∙ ended.1)
+    let parts = model_parts raw l m e in
+    let others = parts.others in
+    let all = took_then l parts.after_resources others.last _ _ (resources_back raw l parts.after_resources parts.resource_part)
+    (took_then parts.after_resources parts.after_machines others.last _ _ (machines_back raw h parts.after_resources parts.after_machines parts.machine_part)
+    (took_then parts.after_machines parts.after_services others.last _ _ (services_back raw h parts.after_machines parts.after_services parts.service_part)
+    (took_then parts.after_services others.after_processes others.last _ _ (processes_back raw h parts.after_services others.after_processes others.process_part)
+    (took_then others.after_processes others.after_balances others.last _ _ (balances_back raw others.after_processes others.after_balances others.balance_part)
+    (weights_back raw others.after_balances others.last others.weight_part))))) in
+    (all.values ∙ ap (λ left. numbers_of (all_open raw) ++ map value_of left) others.ended.0 ∙ append-nil (numbers_of (all_open raw)), sym all.fault ∙ others.ended.1)
 
 answer_back : (raw : RawInstance) → WellFormed (all_open raw) → (l : Left) (o : Outcome Lists) → model l ≡ o → answer_of o ≡ Ok (lists_of raw) → (map value_of l.tokens ≡ numbers_of (all_open raw)) × (l.fault ≡ None)
 unfolding answer_of

@@ -51,6 +51,12 @@ pub record Weights : Type 0 where
   pub service : ℕ
   pub machine : ℕ
 
+-- what follows the services
+pub record Rest : Type 0 where
+  pub processes : ProcessLists
+  pub balances : List BalanceNumbers
+  pub weights : Weights
+
 pub record Lists : Type 0 where
   pub resources : List ResourceNumbers
   pub machines : MachineLists

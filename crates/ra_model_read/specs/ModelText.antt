@@ -8,7 +8,7 @@ use Rattle.ra_token.specs.TokenList.{tokens}
 use Rattle.ra_model_read.specs.declared.faults.Field.TheVariants.{ResourceCount, LoadWeight, MachineCount, Neighbourhood, Location, Capacity, Safety, MoveCost, ServiceCount, SpreadMin, DependencyCount, Dependency, ProcessCount, ProcessService, Requirement, ProcessCost, BalanceCount, BalanceFirst, BalanceSecond, BalanceTarget, BalanceWeight, ProcessWeight, ServiceWeight, MachineWeight}
 use Rattle.ra_model_read.specs.declared.faults.ModelFault.{ModelFault}
 use Rattle.ra_model_read.specs.Formats.{Left, Outcome, Read, Refused, Format, pure, ◌>>=◌, any, field, flag, along, numbers, ends}
-use Rattle.ra_model_read.specs.Lists.{ResourceNumbers, BalanceNumbers, MachineLists, ServiceLists, ProcessLists, Weights, Lists, lists_of}
+use Rattle.ra_model_read.specs.Lists.{ResourceNumbers, BalanceNumbers, MachineLists, ServiceLists, ProcessLists, Weights, Rest, Lists, lists_of}
 
 -- resource r
 unfoldable pub resource : ℕ → List ResourceNumbers → Format (List ResourceNumbers)
@@ -102,17 +102,23 @@ weights = do
   machine ← any MachineWeight 0
   pure (record { process = process; service = service; machine = machine })
 
+-- what follows S services, where there are R resources, up to the end of the file
+unfoldable pub rest : ℕ → ℕ → Format Rest
+rest S R = do
+  processes ← processes S R
+  balances ← balances R
+  weights ← weights
+  nothing ← ends
+  pure (record { processes = processes; balances = balances; weights = weights })
+
 -- the whole file
 unfoldable pub model : Format Lists
 model = do
   resources ← resources
   machines ← machines (length resources)
   services ← services
-  processes ← processes (length services.rows) (length resources)
-  balances ← balances (length resources)
-  weights ← weights
-  nothing ← ends
-  pure (record { resources = resources; machines = machines; services = services; processes = processes; balances = balances; weights = weights })
+  rest ← rest (length services.rows) (length resources)
+  pure (record { resources = resources; machines = machines; services = services; processes = rest.processes; balances = rest.balances; weights = rest.weights })
 
 -- the tokens of the bytes, and their fault
 unfoldable pub all_of : List ℕ → Left

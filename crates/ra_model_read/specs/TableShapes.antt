@@ -8,8 +8,9 @@ use Rattle.ra_model.specs.declared.raw.BalanceRow.{BalanceRow}
 use Rattle.ra_model_read.specs.declared.tables.MachineTables.{MachineTables}
 use Rattle.ra_model_read.specs.declared.tables.ServiceTables.{ServiceTables}
 use Rattle.ra_model_read.specs.declared.tables.ProcessTables.{ProcessTables}
+use Rattle.ra_model_read.specs.declared.tables.RestTables.{RestTables}
 use Rattle.ra_model_read.specs.declared.tables.WeightNumbers.{WeightNumbers}
-use Rattle.ra_model_read.specs.Lists.{MachineLists, ServiceLists, ProcessLists, Weights, of_machine, of_service, of_process}
+use Rattle.ra_model_read.specs.Lists.{MachineLists, ServiceLists, ProcessLists, Weights, Rest, of_machine, of_service, of_process, of_balance}
 
 -- the lists of tables
 
@@ -24,6 +25,9 @@ process_lists t = record { rows = map of_process t.rows.items; requirements = t.
 
 abbrev pub weight_numbers : WeightNumbers → Weights
 weight_numbers w = record { process = w.process; service = w.service; machine = w.machine }
+
+abbrev pub rest_lists : RestTables → Rest
+rest_lists t = record { processes = process_lists t.processes; balances = map of_balance t.balances.items; weights = weight_numbers t.weights }
 
 -- m machines of M were read, where there are R resources
 pub record HasMachines (R M m : ℕ) (t : MachineTables) : Type 0 where
@@ -99,3 +103,9 @@ pub record IsProcesses (S R : ℕ) (t : ProcessTables) : Type 0 where
   pub some : 1 ≤ length t.rows.items
   pub few : length t.rows.items ≤ 50000
   pub has : HasProcesses S R (length t.rows.items) (length t.rows.items) t
+
+-- what follows the services was read
+pub record IsRest (S R : ℕ) (t : RestTables) : Type 0 where
+  pub processes : IsProcesses S R t.processes
+  pub few : length t.balances.items ≤ 10
+  pub among : AreBalances R t.balances.items

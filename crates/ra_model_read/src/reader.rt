@@ -1,12 +1,12 @@
-ghost use Rattle.std.specs.Prelude.{◌≡◌, ℕ, ◌≤◌, List, Some, Err, IsTrue, IfSome, IfOk, IfErr};
+ghost use Rattle.std.specs.Prelude.{◌≡◌, ℕ, ◌<◌, ◌≤◌, List, Some, Err, IsTrue, IfSome, IfOk, IfErr};
 ghost use Rattle.ra_io.specs.Faults.{Rose};
 ghost use Rattle.ra_model.specs.Limits.{WellFormed};
 ghost use Rattle.ra_model.specs.Numbers.{all_open};
 ghost use Rattle.ra_model_read.specs.FieldOrder.{IsTextOf};
 ghost use Rattle.ra_model_read.specs.Lists.{lists_of};
-ghost use Rattle.ra_model_read.specs.ModelText.{weights, model, IsModel, model_refusal};
+ghost use Rattle.ra_model_read.specs.ModelText.{weights, rest, model, IsModel, model_refusal};
 ghost use Rattle.ra_model_read.specs.Reading.{here, Stands, Gives, Refuses, is_by_content};
-ghost use Rattle.ra_model_read.specs.TableShapes.{weight_numbers};
+ghost use Rattle.ra_model_read.specs.TableShapes.{IsRest, rest_lists, weight_numbers};
 ghost use Rattle.ra_model_read.specs.Texts.{ModelIsItsNumbers};
 
 use crate::balances::read_balances;
@@ -16,7 +16,7 @@ use crate::machines::read_machines;
 use crate::processes::read_processes;
 use crate::resources::read_resources;
 use crate::services::read_services;
-use crate::tables::WeightNumbers;
+use crate::tables::{RestTables, WeightNumbers};
 use ra_io::Files;
 use ra_model::{Instance, RawInstance};
 use ra_token::Tokens;
@@ -77,10 +77,7 @@ fn read_raw<F: Files>(
     let machines = read_machines(alloc, files, tokens, resource_count)?;
     let services = read_services(alloc, files, tokens)?;
     let service_count = services.rows.len() as u32;
-    let processes = read_processes(alloc, files, tokens, service_count, resource_count)?;
-    let balances = read_balances(alloc, files, tokens, resource_count)?;
-    let weights = read_weights(files, tokens)?;
-    read_end(files, tokens)?;
+    let rest = read_rest(alloc, files, tokens, service_count, resource_count)?;
     Ok(RawInstance {
         resources,
         machines: machines.rows,
@@ -89,12 +86,43 @@ fn read_raw<F: Files>(
         move_costs: machines.move_costs,
         services: services.rows,
         dependencies: services.dependencies,
-        processes: processes.rows,
-        requirements: processes.requirements,
+        processes: rest.processes.rows,
+        requirements: rest.processes.requirements,
+        balances: rest.balances,
+        process_weight: rest.weights.process,
+        service_weight: rest.weights.service,
+        machine_weight: rest.weights.machine,
+    })
+}
+
+/// What follows so many services, where there are so many resources, up to the end of the file.
+fn read_rest<F: Files>(
+    alloc: Global,
+    files: &mut F,
+    tokens: &mut Tokens,
+    service_count: u32,
+    resource_count: u32,
+) -> Result<RestTables, ModelFault>
+    requires stands { Stands (here (F.held files.old) (F.faults files.old) tokens.old) }
+    requires services { 0 < service_count }
+    requires some { 0 < resource_count }
+    requires few { resource_count ≤ 20 }
+    ensures shape { IfOk result (IsRest service_count resource_count) }
+    ensures gives { IfOk result (λ tables. Gives (rest service_count resource_count)
+        (here (F.held files.old) (F.faults files.old) tokens.old)
+        (here (F.held files.new) (F.faults files.new) tokens.new) (rest_lists tables)) }
+    ensures refuses { IfErr result (Refuses (rest service_count resource_count)
+        (here (F.held files.old) (F.faults files.old) tokens.old)
+        (here (F.held files.new) (F.faults files.new) tokens.new)) }
+{
+    let processes = read_processes(alloc, files, tokens, service_count, resource_count)?;
+    let balances = read_balances(alloc, files, tokens, resource_count)?;
+    let weights = read_weights(files, tokens)?;
+    read_end(files, tokens)?;
+    Ok(RestTables {
+        processes,
         balances,
-        process_weight: weights.process,
-        service_weight: weights.service,
-        machine_weight: weights.machine,
+        weights,
     })
 }
 

@@ -1,7 +1,7 @@
 ghost use Rattle.std.specs.Prelude.{◌^◌, ◌<◌};
 
 use ra_base::{Fixed, Service};
-use ra_model::{MachineRow, ProcessRow, ServiceRow};
+use ra_model::{BalanceRow, MachineRow, ProcessRow, ServiceRow};
 
 /// The machines of a model, with the tables that have a row for each.
 #[derive(Drop)]
@@ -35,4 +35,12 @@ pub struct WeightNumbers {
     ghost small_process: { process < 2 ^ 32 },
     ghost small_service: { service < 2 ^ 32 },
     ghost small_machine: { machine < 2 ^ 32 },
+}
+
+/// What follows the services of a model.
+#[derive(Drop)]
+pub struct RestTables {
+    pub processes: ProcessTables,
+    pub balances: Fixed<BalanceRow>,
+    pub weights: WeightNumbers,
 }
