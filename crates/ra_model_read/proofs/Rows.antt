@@ -1,7 +1,8 @@
 -- One row more at the end of a list of rows.
-use Rattle.std.proofs.Common.{◌≡◌, ℕ, zero, suc, ◌+◌, ◌<◌, ◌≤◌, refl, ap, ◌∙◌, sym, subst, List, [], ◌∷◌, ◌++◌, length, map, arith, add-one, ⊎_elim}
+use Rattle.std.proofs.Common.{◌≡◌, ℕ, zero, suc, ◌+◌, ◌*◌, ◌<◌, ◌≤◌, refl, ap, ◌∙◌, sym, subst, List, [], ◌∷◌, ◌++◌, length, map, arith, add-one, ⊎_elim}
 use Rattle.std.proofs.lemmas.List.{map-append, length-map, get_or_append_left, length_push, nil_from_length}
 use Rattle.std.proofs.lemmas.Bool.{cases_lt}
+use Rattle.std.proofs.Math.Nat.{mul-le-mul_right}
 use Rattle.std.proofs.Math.Seq.{get_or-append_seam}
 use Rattle.ra_base.specs.declared.ids.Service.{Service}
 use Rattle.ra_model.specs.declared.raw.BalanceRow.{BalanceRow}
@@ -37,6 +38,25 @@ counted f rows n e = e ∙ sym (length-map rows f)
 -- what holds of each of n, and of the next
 below_next : (P : ℕ → Type 0) (n : ℕ) → ((k : ℕ) → k < n → P k) → P n → (k : ℕ) → k < n + 1 → P k
 below_next P n before here k within = ⊎_elim (λ (h : k < n). before k h) (λ (h : n ≤ k). let e : n ≡ k = omega arith in subst P e here) (cases_lt k n)
+
+-- machines
+
+pub row_within : (R M m n room : ℕ) → n ≡ m * R → room ≡ M * R → m < M → n + R ≤ room
+row_within R M m n room items all below = let wide : (m + 1) * R ≤ M * R = mul-le-mul_right R (omega arith) in omega (arith, items, all, wide)
+
+pub has_machine : (R M m : ℕ) (t new : MachineTables) (row : MachineRow) → HasMachines R M m t → new.rows.items ≡ t.rows.items ++ row ∷ []
+    → length new.capacities.items ≡ length t.capacities.items + R → length new.safeties.items ≡ length t.safeties.items + R → length new.move_costs.items ≡ length t.move_costs.items + M
+    → new.rows.room ≡ t.rows.room → new.capacities.room ≡ t.capacities.room → new.safeties.room ≡ t.safeties.room → new.move_costs.room ≡ t.move_costs.room → HasMachines R M (m + 1) new
+has_machine R M m t new row h e capacities safeties move_costs rows_room capacities_room safeties_room move_costs_room = record {
+  rows = ap length e ∙ length_push t.rows.items row ∙ ap (λ n. n + 1) h.rows;
+  capacities = omega (arith, h.capacities, capacities);
+  safeties = omega (arith, h.safeties, safeties);
+  move_costs = omega (arith, h.move_costs, move_costs);
+  rows_room = rows_room ∙ h.rows_room;
+  capacities_room = capacities_room ∙ h.capacities_room;
+  safeties_room = safeties_room ∙ h.safeties_room;
+  move_costs_room = move_costs_room ∙ h.move_costs_room;
+}
 
 -- the services of processes
 

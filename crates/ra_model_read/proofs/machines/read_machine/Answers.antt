@@ -1,7 +1,7 @@
 use Rattle.std.proofs.Common.{refl}
 use Rattle.ra_model_read.specs.ModelText.{machine}
 use Rattle.ra_model_read.proofs.Steps.{gives_bind, gives_then, refuses_first, refuses_next, refused_at_exit}
-use Rattle.ra_model_read.proofs.Rows.{machine_pushed}
+use Rattle.ra_model_read.proofs.Rows.{machine_pushed, row_within, has_machine}
 use Rattle.ra_model_read.proofs.machines.read_machine.Goals as goal
 
 pub returns-in_err-neighbourhood-clause-refuses : goal.returns-in_err-neighbourhood-clause-refuses
@@ -27,3 +27,15 @@ returns-in_err-read_numbers-3-clause-refuses g c = refused_at_exit _ c.from_resi
 pub returns-clause-gives : goal.returns-clause-gives
 unfolding machine
 returns-clause-gives g c = gives_bind _ c.in_ok-neighbourhood.ensures.gives (gives_bind _ c.in_ok-location.ensures.gives (gives_bind _ c.in_ok-read_numbers.ensures.gives (gives_bind _ c.in_ok-read_numbers-2.ensures.gives (gives_then _ c.in_ok-read_numbers-3.ensures.gives (rw (machine_pushed _ _ _ c.push.ensures.items) refl)))))
+
+pub returns-clause-has : goal.returns-clause-has
+returns-clause-has g c = has_machine _ _ _ _ _ _ c.requires.has c.push.ensures.items c.in_ok-read_numbers.ensures.length c.in_ok-read_numbers-2.ensures.length c.in_ok-read_numbers-3.ensures.length c.push.ensures.room c.in_ok-read_numbers.ensures.room c.in_ok-read_numbers-2.ensures.room c.in_ok-read_numbers-3.ensures.room
+
+pub read_numbers-requires-clause-room : goal.read_numbers-requires-clause-room
+read_numbers-requires-clause-room g c = row_within _ _ _ _ _ c.requires.has.capacities c.requires.has.capacities_room c.requires.below
+
+pub read_numbers-requires-2-clause-room : goal.read_numbers-requires-2-clause-room
+read_numbers-requires-2-clause-room g c = row_within _ _ _ _ _ c.requires.has.safeties c.requires.has.safeties_room c.requires.below
+
+pub read_numbers-requires-3-clause-room : goal.read_numbers-requires-3-clause-room
+read_numbers-requires-3-clause-room g c = row_within _ _ _ _ _ c.requires.has.move_costs c.requires.has.move_costs_room c.requires.below
