@@ -1,4 +1,5 @@
-use Rattle.std.proofs.Common.{sym, ap, arith}
+use Rattle.std.proofs.Common.{sym, ap, ◌∙◌, length, arith}
+use Rattle.std.proofs.lemmas.List.{length_push}
 use Rattle.ra_model_read.specs.Formats.{pure}
 use Rattle.ra_model_read.specs.ModelText.{balance}
 use Rattle.ra_model_read.proofs.Steps.{gives_bind, gives_then, refuses_first, refuses_next, refused_at_exit}
@@ -27,3 +28,9 @@ returns-clause-gives g c = gives_bind _ c.in_ok-first.ensures.gives (gives_bind 
 
 pub returns-clause-among : goal.returns-clause-among
 returns-clause-among g c = balances_pushed _ _ _ _ c.push.ensures.items c.requires.among (omega (arith, c.in_ok-first.ensures.high)) (omega (arith, c.in_ok-second.ensures.high))
+
+pub returns-clause-length : goal.returns-clause-length
+returns-clause-length g c = ap length c.push.ensures.items ∙ length_push _ _
+
+pub push-requires : goal.push-requires
+push-requires g c = c.requires.room
