@@ -9,9 +9,9 @@ use Rattle.ra_model.specs.declared.raw.ServiceRow.{ServiceRow}
 use Rattle.ra_model.specs.Limits.{WellFormed}
 use Rattle.ra_model.specs.Numbers.{all_open, service_row, process_row, balance_row, resource_count, machine_count, service_count, process_count, balance_count, dependency_start, dependency_end, need_at, service_of, first_of, second_of}
 use Rattle.ra_model_read.specs.declared.faults.Field.TheVariants.{ResourceCount, LoadWeight, MachineCount, Neighbourhood, Location, Capacity, Safety, MoveCost, ServiceCount, SpreadMin, DependencyCount, Dependency, ProcessCount, ProcessService, Requirement, ProcessCost, BalanceCount, BalanceFirst, BalanceSecond, BalanceTarget, BalanceWeight}
-use Rattle.ra_model_read.specs.Formats.{Left, Outcome, Read, Refused, any, field, flag, along, numbers, ends}
+use Rattle.ra_model_read.specs.Formats.{Left, Outcome, Read, Refused, any, field, flag, along, numbers}
 use Rattle.ra_model_read.specs.Lists.{ResourceNumbers, ServiceNumbers, ProcessNumbers, BalanceNumbers, MachineLists, ServiceLists, ProcessLists, Lists, of_resource, of_machine, of_service, of_process, of_balance, lists_of}
-use Rattle.ra_model_read.specs.ModelText.{resource, resources, machine, machines, dependency, service, services, process, processes, balance, balances, weights, model, all_of, answer_of, model_of}
+use Rattle.ra_model_read.specs.ModelText.{resource, resources, machine, machines, dependency, service, services, process, processes, balance, balances, model, all_of, answer_of, model_of}
 use Rattle.ra_model_read.proofs.Inversion.{bind_back, pure_back, along_known}
 use Rattle.ra_model_read.specs.TableShapes.{end_in}
 use Rattle.ra_model_read.proofs.Parts.{model_parts}

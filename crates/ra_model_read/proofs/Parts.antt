@@ -1,5 +1,5 @@
 -- A whole model read backwards: what each part of its format read.
-use Rattle.std.proofs.Common.{◌≡◌, ℕ, ap, ap₂, ◌∙◌, sym, List, [], length, None}
+use Rattle.std.proofs.Common.{◌≡◌, ℕ, ap, ap₂, ◌∙◌, sym, [], length, None}
 use Rattle.std.proofs.lemmas.List.{length-map}
 use Rattle.ra_model.specs.declared.raw.RawInstance.{RawInstance}
 use Rattle.ra_model_read.specs.Formats.{Left, Read, ends}

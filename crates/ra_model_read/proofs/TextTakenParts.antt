@@ -1,5 +1,5 @@
 -- The tokens that were taken for the machines, services, processes and balance objectives of an instance.
-use Rattle.std.proofs.Common.{◌≡◌, ℕ, zero, suc, ◌+◌, ◌-◌, ◌*◌, ◌<◌, ◌≤◌, refl, ap, ap₂, ◌∙◌, sym, subst, List, [], ◌∷◌, ◌++◌, length, map, take, get_or, None, Ok, arith, add-zero, add-one}
+use Rattle.std.proofs.Common.{◌≡◌, ℕ, zero, suc, ◌+◌, ◌-◌, ◌*◌, ◌<◌, ◌≤◌, refl, ap, ◌∙◌, sym, subst, List, [], ◌∷◌, ◌++◌, length, map, take, get_or, None, Ok, arith, add-zero, add-one}
 use Rattle.std.proofs.lemmas.List.{append-nil, length-map, length_push}
 use Rattle.ra_base.specs.declared.ids.Service.{Service}
 use Rattle.ra_base.specs.Tables.{cell}
@@ -9,10 +9,10 @@ use Rattle.ra_model.specs.Numbers.{all_open, machine_row, service_row, process_r
 use Rattle.ra_token.specs.Values.{value_of}
 use Rattle.ra_model_read.specs.declared.faults.Field.TheVariants.{MachineCount, Neighbourhood, Location, Capacity, Safety, MoveCost, ServiceCount, SpreadMin, DependencyCount, Dependency, ProcessCount, ProcessService, Requirement, ProcessCost, BalanceCount, BalanceFirst, BalanceSecond, BalanceTarget, BalanceWeight, ProcessWeight, ServiceWeight, MachineWeight}
 use Rattle.ra_model_read.specs.Formats.{Left, Outcome, Read, Refused, any, field, along, numbers, ends}
-use Rattle.ra_model_read.specs.Lists.{ServiceNumbers, BalanceNumbers, MachineLists, ServiceLists, ProcessLists, Weights, Lists, of_resource, of_machine, of_service, of_process, of_balance, lists_of}
-use Rattle.ra_model_read.specs.ModelText.{resources, machine, machines, dependency, service, services, process, processes, balance, balances, weights, model, all_of, answer_of, model_of}
+use Rattle.ra_model_read.specs.Lists.{ServiceNumbers, BalanceNumbers, MachineLists, ServiceLists, ProcessLists, Weights, Lists, of_machine, of_service, of_process, of_balance, lists_of}
+use Rattle.ra_model_read.specs.ModelText.{machine, machines, dependency, service, services, process, processes, balance, balances, weights, model, all_of, answer_of, model_of}
 use Rattle.ra_model_read.specs.FieldOrder.{joined, row_of, machine_numbers, service_numbers, process_numbers, balance_numbers, numbers_of, IsTextOf}
-use Rattle.ra_model_read.proofs.Inversion.{Took, took_then, bind_back, pure_back, any_back, field_back, ends_back, along_known, along_back, snoc_same}
+use Rattle.ra_model_read.proofs.Inversion.{Took, took_then, bind_back, pure_back, any_back, field_back, along_known, along_back, snoc_same}
 use Rattle.ra_model_read.proofs.Parts.{model_parts}
 use Rattle.ra_model_read.proofs.TextAccepted.{front_more, row_more, machines_to, services_to, processes_to, all_rows, row_end, row_within, all_machines, all_services, all_processes}
 use Rattle.ra_model_read.proofs.TextTaken.{took_value, nothing_known, resources_back, numbers_back, counted_back}

@@ -1,7 +1,7 @@
 use Rattle.std.proofs.Common.{refl, arith}
 use Rattle.ra_model_read.specs.ModelText.{process}
 use Rattle.ra_model_read.proofs.Steps.{gives_bind, gives_then, refuses_first, refuses_next, refused_at_exit}
-use Rattle.ra_model_read.proofs.Rows.{process_pushed, has_process}
+use Rattle.ra_model_read.proofs.Rows.{process_pushed, row_within, has_process}
 use Rattle.ra_model_read.proofs.processes.read_process.Goals as goal
 
 pub returns-in_err-service-clause-refuses : goal.returns-in_err-service-clause-refuses
@@ -22,3 +22,6 @@ returns-clause-gives g c = gives_bind _ c.in_ok-service.ensures.gives (gives_bin
 
 pub returns-clause-has : goal.returns-clause-has
 returns-clause-has g c = has_process _ _ _ _ _ _ _ c.requires.has c.push.ensures.items c.in_ok-read_numbers.ensures.length (omega (arith, c.in_ok-service.ensures.high)) c.push.ensures.room c.in_ok-read_numbers.ensures.room
+
+pub read_numbers-requires-clause-room : goal.read_numbers-requires-clause-room
+read_numbers-requires-clause-room g c = row_within _ _ _ _ _ c.requires.has.requirements c.requires.has.requirements_room c.requires.below
