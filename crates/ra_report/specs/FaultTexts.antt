@@ -1,5 +1,5 @@
 -- The lines on the error sink.
-use Rattle.std.specs.Prelude.{◌≢◌, ℕ, List, [], ◌∷◌, ◌++◌, codes}
+use Rattle.std.specs.Prelude.{◌≢◌, ℕ, List, [], ◌∷◌, codes}
 use Rattle.ra_base.specs.declared.causes.Cause.{Cause}
 use Rattle.ra_assign.specs.declared.faults.AssignFault.{AssignFault}
 use Rattle.ra_assign.specs.declared.faults.AssignFault.TheVariants as assign
@@ -102,19 +102,19 @@ edits_detail edits.NoMemory = []
 abbrev pub usage_line : List ℕ
 usage_line = codes "usage: reassign check MODEL INITIAL NEW [--closed FILE] | bound MODEL [INITIAL [--closed FILE]] | solve MODEL INITIAL [--slack N] [--closed FILE] [--draws 1|2] LOT ... | trial N | verify MODEL INITIAL REPORT [--slack N] [--closed FILE] [--draws 1|2] LOT ... | repair MODEL INITIAL [--closed FILE] LOT | edit MODEL INITIAL CURRENT EDITS [--closed FILE]"
 
--- a line about a file: what comes before, what is wrong, and the end of the line
+-- a line: some words, what is wrong, and the end of the line
 abbrev pub line_of : List ℕ → List ℕ → List ℕ
-line_of before detail = before ++ (detail ++ line_end)
+line_of words detail = joined (words ∷ detail ∷ line_end ∷ [])
 
 -- a line about a file: some words, its name, and what is wrong with it
 abbrev pub about : List ℕ → List ℕ → List ℕ → List ℕ
-about words name detail = line_of (joined (words ∷ name ∷ codes ": " ∷ [])) detail
+about words name detail = joined (words ∷ name ∷ codes ": " ∷ detail ∷ line_end ∷ [])
 
 abbrev pub read_fault_line : List ℕ → List ℕ
 read_fault_line name = joined (codes "read fault: " ∷ name ∷ line_end ∷ [])
 
 abbrev pub model_line : ModelFault → List ℕ
-model_line fault = line_of (joined (codes "bad model: " ∷ [])) (model_detail fault)
+model_line fault = line_of (codes "bad model: ") (model_detail fault)
 
 abbrev pub closed_line : List ℕ → ClosedFault → List ℕ
 closed_line name fault = about (codes "bad closed list: ") name (closed_detail fault)

@@ -4,6 +4,7 @@ pub mod Fronts
 pub mod Gathering
 pub mod JournalTexts
 pub mod ModelLines
+pub mod Notes
 pub mod Numbers
 pub mod Pieces
 pub mod ReportLaws

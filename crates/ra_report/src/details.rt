@@ -1,279 +1,113 @@
-ghost use Rattle.std.specs.Prelude.{◌≡◌, ◌++◌, List, ℕ};
-ghost use Rattle.ra_report.specs.Gathering.{Adds};
-ghost use Rattle.ra_report.specs.Pieces.{bytes_of};
-ghost use Rattle.ra_report.specs.Texts.{cause_text};
-ghost use Rattle.ra_report.specs.FaultTexts.{field_text, model_detail, assign_detail, closed_detail, edits_detail, line_of, about};
+ghost use Rattle.std.specs.Prelude.{◌≡◌};
+ghost use Rattle.ra_report.specs.Notes.{note_text};
+ghost use Rattle.ra_report.specs.FaultTexts.{field_text, bad_byte, too_large, model_detail, assign_detail, closed_detail, edits_detail};
 
-use crate::gathered::Gathered;
-use crate::pieces::{Piece, add_pieces};
-use crate::texts::add_cause;
+use crate::notes::Note;
 use ra_assign::{AssignFault, ClosedFault};
-use ra_base::{Cause, Name};
 use ra_edits_read::EditsFault;
-use ra_io::Sink;
 use ra_model_read::{Field, ModelFault};
 
-/// What a line says of a fault.
-pub(crate) trait Detail {
-    ghost says: { Self → List ℕ };
+const TOO_LONG: Note<'static> = Note::Words("file too long");
 
-    /// Adds it, with no end of the line.
-    fn add<O: Sink>(&self, text: &mut Gathered<'_, O>)
-        ensures { Adds O.taken O.faults text.old text.new (says self.now) };
-}
-
-/// Adds a line: what comes before, what is wrong, and the end of the line.
-pub(crate) fn add_line<O: Sink, D: Detail>(
-    text: &mut Gathered<'_, O>,
-    before: &[Piece<'_>],
-    detail: &D,
-)
-    ensures { Adds O.taken O.faults text.old text.new
-        (line_of (bytes_of before.now) (D.says detail.now)) }
+/// What is wrong with a model file.
+#[tactic(auto, unfolding(crate::specs::Notes::note_text, crate::specs::FaultTexts::model_detail))]
+pub(crate) fn model_note(fault: ModelFault) -> Note<'static>
+    ensures { note_text result ≡ model_detail fault }
 {
-    add_pieces(text, before);
-    detail.add(text);
-    add_pieces(text, &[Piece::Text("\n")])
+    match fault {
+        ModelFault::ReadFault => Note::Nothing,
+        ModelFault::BadByte { at, byte } => bad_byte_note(at, byte),
+        ModelFault::TooLarge { at } => too_large_note(at),
+        ModelFault::TooLong => TOO_LONG,
+        ModelFault::Missing { what, item } => Note::Field("missing ", field_name(what), item),
+        ModelFault::Range {
+            what,
+            at,
+            value,
+            least,
+            most,
+        } => Note::Range("range ", field_name(what), at, value, least, most),
+        ModelFault::Flag { at, value } => Note::Numbers("flag at ", at, ": ", value as u64),
+        ModelFault::Extra { at } => Note::Number("extra at ", at as u128),
+        ModelFault::NoMemory => Note::Nothing,
+    }
 }
 
-/// Adds a line about a file: some words, its name, and what is wrong with it.
-pub(crate) fn add_about<'x, O: Sink, D: Detail>(
-    text: &mut Gathered<'_, O>,
-    words: &'x str,
-    name: &'x Name,
-    detail: &D,
-)
-    ensures { Adds O.taken O.faults text.old text.new
-        (about words.now name.now (D.says detail.now)) }
+/// What is wrong with an assignment file.
+#[tactic(auto, unfolding(crate::specs::Notes::note_text, crate::specs::FaultTexts::assign_detail))]
+pub(crate) fn assign_note(fault: AssignFault) -> Note<'static>
+    ensures { note_text result ≡ assign_detail fault }
 {
-    let before = [
-        Piece::Text(words),
-        Piece::Text(name.as_str()),
-        Piece::Text(": "),
-    ];
-    add_line(text, &before, detail)
-}
-
-impl Detail for Cause {
-    ghost says = { cause_text };
-
-    fn add<O: Sink>(&self, text: &mut Gathered<'_, O>) {
-        add_cause(text, self)
+    match fault {
+        AssignFault::ReadFault => Note::Nothing,
+        AssignFault::BadByte { at, byte } => bad_byte_note(at, byte),
+        AssignFault::TooLarge { at } => too_large_note(at),
+        AssignFault::TooLong => TOO_LONG,
+        AssignFault::Missing { process } => { Note::Number("missing process ", process.0 as u128) }
+        AssignFault::NoMachine { process, value } => Note::Numbers(
+            "no machine for process ",
+            process.0 as u64,
+            ", value ",
+            value as u64,
+        ),
+        AssignFault::Extra { at } => Note::Number("extra at ", at as u128),
+        AssignFault::NoMemory => Note::Nothing,
     }
 }
 
-impl Detail for ModelFault {
-    ghost says = { model_detail };
-
-    #[tactic(auto, unfolding(crate::specs::FaultTexts::model_detail))]
-    fn add<O: Sink>(&self, text: &mut Gathered<'_, O>) {
-        match *self {
-            ModelFault::ReadFault => {}
-            ModelFault::BadByte { at, byte } => add_pieces(
-                text,
-                &[
-                    Piece::Text("bad byte "),
-                    Piece::Number(byte as u128),
-                    Piece::Text(" at "),
-                    Piece::Number(at as u128),
-                ],
-            ),
-            ModelFault::TooLarge { at } => add_pieces(
-                text,
-                &[
-                    Piece::Text("number too large at "),
-                    Piece::Number(at as u128),
-                ],
-            ),
-            ModelFault::TooLong => add_pieces(text, &[Piece::Text("file too long")]),
-            ModelFault::Missing { what, item } => add_pieces(
-                text,
-                &[
-                    Piece::Text("missing "),
-                    Piece::Text(field_name(what)),
-                    Piece::Text(" "),
-                    Piece::Number(item as u128),
-                ],
-            ),
-            ModelFault::Range {
-                what,
-                at,
-                value,
-                least,
-                most,
-            } => add_pieces(
-                text,
-                &[
-                    Piece::Text("range "),
-                    Piece::Text(field_name(what)),
-                    Piece::Text(" at "),
-                    Piece::Number(at as u128),
-                    Piece::Text(": "),
-                    Piece::Number(value as u128),
-                    Piece::Text(" not in "),
-                    Piece::Number(least as u128),
-                    Piece::Text(" to "),
-                    Piece::Number(most as u128),
-                ],
-            ),
-            ModelFault::Flag { at, value } => add_pieces(
-                text,
-                &[
-                    Piece::Text("flag at "),
-                    Piece::Number(at as u128),
-                    Piece::Text(": "),
-                    Piece::Number(value as u128),
-                ],
-            ),
-            ModelFault::Extra { at } => add_pieces(
-                text,
-                &[Piece::Text("extra at "), Piece::Number(at as u128)],
-            ),
-            ModelFault::NoMemory => {}
+/// What is wrong with a closed list.
+#[tactic(auto, unfolding(crate::specs::Notes::note_text, crate::specs::FaultTexts::closed_detail))]
+pub(crate) fn closed_note(fault: ClosedFault) -> Note<'static>
+    ensures { note_text result ≡ closed_detail fault }
+{
+    match fault {
+        ClosedFault::ReadFault => Note::Nothing,
+        ClosedFault::BadByte { at, byte } => bad_byte_note(at, byte),
+        ClosedFault::TooLarge { at } => too_large_note(at),
+        ClosedFault::TooLong => TOO_LONG,
+        ClosedFault::NoMachine { at, value } => {
+            Note::Numbers("no machine at ", at, ", value ", value as u64)
         }
+        ClosedFault::NoMemory => Note::Nothing,
     }
 }
 
-impl Detail for AssignFault {
-    ghost says = { assign_detail };
-
-    #[tactic(auto, unfolding(crate::specs::FaultTexts::assign_detail))]
-    fn add<O: Sink>(&self, text: &mut Gathered<'_, O>) {
-        match *self {
-            AssignFault::ReadFault => {}
-            AssignFault::BadByte { at, byte } => add_pieces(
-                text,
-                &[
-                    Piece::Text("bad byte "),
-                    Piece::Number(byte as u128),
-                    Piece::Text(" at "),
-                    Piece::Number(at as u128),
-                ],
-            ),
-            AssignFault::TooLarge { at } => add_pieces(
-                text,
-                &[
-                    Piece::Text("number too large at "),
-                    Piece::Number(at as u128),
-                ],
-            ),
-            AssignFault::TooLong => add_pieces(text, &[Piece::Text("file too long")]),
-            AssignFault::Missing { process } => add_pieces(
-                text,
-                &[
-                    Piece::Text("missing process "),
-                    Piece::Number(process.0 as u128),
-                ],
-            ),
-            AssignFault::NoMachine { process, value } => add_pieces(
-                text,
-                &[
-                    Piece::Text("no machine for process "),
-                    Piece::Number(process.0 as u128),
-                    Piece::Text(", value "),
-                    Piece::Number(value as u128),
-                ],
-            ),
-            AssignFault::Extra { at } => add_pieces(
-                text,
-                &[Piece::Text("extra at "), Piece::Number(at as u128)],
-            ),
-            AssignFault::NoMemory => {}
-        }
+/// What is wrong with a file of edits.
+#[tactic(auto, unfolding(crate::specs::Notes::note_text, crate::specs::FaultTexts::edits_detail))]
+pub(crate) fn edits_note(fault: EditsFault) -> Note<'static>
+    ensures { note_text result ≡ edits_detail fault }
+{
+    match fault {
+        EditsFault::ReadFault => Note::Nothing,
+        EditsFault::BadByte { at, byte } => bad_byte_note(at, byte),
+        EditsFault::TooLarge { at } => too_large_note(at),
+        EditsFault::TooLong => TOO_LONG,
+        EditsFault::Missing { edit } => Note::Number("missing edit ", edit as u128),
+        EditsFault::Range {
+            at,
+            value,
+            least,
+            most,
+        } => Note::Range("range", "", at, value, least, most),
+        EditsFault::TooMany { at } => Note::Number("too many edits at ", at as u128),
+        EditsFault::NoMemory => Note::Nothing,
     }
 }
 
-impl Detail for ClosedFault {
-    ghost says = { closed_detail };
-
-    #[tactic(auto, unfolding(crate::specs::FaultTexts::closed_detail))]
-    fn add<O: Sink>(&self, text: &mut Gathered<'_, O>) {
-        match *self {
-            ClosedFault::ReadFault => {}
-            ClosedFault::BadByte { at, byte } => add_pieces(
-                text,
-                &[
-                    Piece::Text("bad byte "),
-                    Piece::Number(byte as u128),
-                    Piece::Text(" at "),
-                    Piece::Number(at as u128),
-                ],
-            ),
-            ClosedFault::TooLarge { at } => add_pieces(
-                text,
-                &[
-                    Piece::Text("number too large at "),
-                    Piece::Number(at as u128),
-                ],
-            ),
-            ClosedFault::TooLong => add_pieces(text, &[Piece::Text("file too long")]),
-            ClosedFault::NoMachine { at, value } => add_pieces(
-                text,
-                &[
-                    Piece::Text("no machine at "),
-                    Piece::Number(at as u128),
-                    Piece::Text(", value "),
-                    Piece::Number(value as u128),
-                ],
-            ),
-            ClosedFault::NoMemory => {}
-        }
-    }
+/// A byte that is neither a digit nor a blank.
+#[tactic(auto, unfolding(crate::specs::Notes::note_text))]
+fn bad_byte_note(at: u64, byte: u8) -> Note<'static>
+    ensures { note_text result ≡ bad_byte at byte }
+{
+    Note::Numbers("bad byte ", byte as u64, " at ", at)
 }
 
-impl Detail for EditsFault {
-    ghost says = { edits_detail };
-
-    #[tactic(auto, unfolding(crate::specs::FaultTexts::edits_detail))]
-    fn add<O: Sink>(&self, text: &mut Gathered<'_, O>) {
-        match *self {
-            EditsFault::ReadFault => {}
-            EditsFault::BadByte { at, byte } => add_pieces(
-                text,
-                &[
-                    Piece::Text("bad byte "),
-                    Piece::Number(byte as u128),
-                    Piece::Text(" at "),
-                    Piece::Number(at as u128),
-                ],
-            ),
-            EditsFault::TooLarge { at } => add_pieces(
-                text,
-                &[
-                    Piece::Text("number too large at "),
-                    Piece::Number(at as u128),
-                ],
-            ),
-            EditsFault::TooLong => add_pieces(text, &[Piece::Text("file too long")]),
-            EditsFault::Missing { edit } => add_pieces(
-                text,
-                &[Piece::Text("missing edit "), Piece::Number(edit as u128)],
-            ),
-            EditsFault::Range {
-                at,
-                value,
-                least,
-                most,
-            } => add_pieces(
-                text,
-                &[
-                    Piece::Text("range at "),
-                    Piece::Number(at as u128),
-                    Piece::Text(": "),
-                    Piece::Number(value as u128),
-                    Piece::Text(" not in "),
-                    Piece::Number(least as u128),
-                    Piece::Text(" to "),
-                    Piece::Number(most as u128),
-                ],
-            ),
-            EditsFault::TooMany { at } => add_pieces(
-                text,
-                &[Piece::Text("too many edits at "), Piece::Number(at as u128)],
-            ),
-            EditsFault::NoMemory => {}
-        }
-    }
+/// A number that is too large.
+#[tactic(auto, unfolding(crate::specs::Notes::note_text))]
+fn too_large_note(at: u64) -> Note<'static>
+    ensures { note_text result ≡ too_large at }
+{
+    Note::Number("number too large at ", at as u128)
 }
 
 /// The printed name of a field of a model file.

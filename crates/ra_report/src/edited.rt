@@ -2,14 +2,16 @@ ghost use Rattle.std.specs.Prelude.{◌≡◌, ◌≤◌, length, OnOk, OnErr};
 ghost use Rattle.std.specs.Io.KnownBytes.{Appends};
 ghost use Rattle.ra_model.specs.Costs.{parts_of};
 ghost use Rattle.ra_report.specs.Gathering.{Adds};
+ghost use Rattle.ra_report.specs.Notes.{note_text};
 ghost use Rattle.ra_report.specs.Pieces.{Breaks};
 ghost use Rattle.ra_report.specs.EditedTexts.{initial_line, reply_text, edit_line, edits_text, model_part, edited_lines, edited_text};
 
 use crate::gathered::{Gathered, WriteFault};
 use crate::model::add_model;
+use crate::notes::{Note, add_note};
 use crate::pieces::{Piece, add_pieces};
 use crate::solved::{add_assignment, add_machines};
-use crate::texts::{add_cause, add_parts};
+use crate::texts::add_parts;
 use ra_base::{Fixed, Machine, Parts};
 use ra_edit::{EditReply, Edited};
 use ra_io::Sink;
@@ -90,27 +92,21 @@ fn add_edit<O: Sink>(text: &mut Gathered<'_, O>, place: u64, reply: &EditReply)
             Piece::Text(" "),
         ],
     );
-    add_reply(text, reply);
+    add_note(text, reply_note(reply));
     text.add(b"\n")
 }
 
-/// Adds the answer to an edit.
-#[tactic(auto, unfolding(crate::specs::EditedTexts::reply_text))]
-fn add_reply<O: Sink>(text: &mut Gathered<'_, O>, reply: &EditReply)
-    ensures { Adds O.taken O.faults text.old text.new (reply_text reply.now) }
+/// The answer to an edit.
+#[tactic(auto, unfolding(crate::specs::Notes::note_text, crate::specs::EditedTexts::reply_text))]
+fn reply_note(reply: &EditReply) -> Note<'static>
+    ensures { note_text result ≡ reply_text reply.now }
 {
     match *reply {
-        EditReply::Done { cost } => add_pieces(text, &[Piece::Text("done "), Piece::Number(cost)]),
-        EditReply::NoProcess { process } => add_pieces(
-            text,
-            &[Piece::Text("no process "), Piece::Number(process as u128)],
-        ),
-        EditReply::Full => add_pieces(text, &[Piece::Text("full")]),
-        EditReply::Last => add_pieces(text, &[Piece::Text("last")]),
-        EditReply::Broken { cause } => {
-            add_pieces(text, &[Piece::Text("refused ")]);
-            add_cause(text, &cause)
-        }
+        EditReply::Done { cost } => Note::Number("done ", cost),
+        EditReply::NoProcess { process } => Note::Number("no process ", process as u128),
+        EditReply::Full => Note::Words("full"),
+        EditReply::Last => Note::Words("last"),
+        EditReply::Broken { cause } => Note::Cause("refused ", cause),
     }
 }
 

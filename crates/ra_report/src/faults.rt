@@ -1,8 +1,11 @@
+ghost use Rattle.std.specs.Prelude.{◌≡◌};
 ghost use Rattle.ra_report.specs.Gathering.{Adds};
-ghost use Rattle.ra_report.specs.FaultTexts.{CanBeTold, fault_text, read_fault_line};
+ghost use Rattle.ra_report.specs.Notes.{note_text, line_said};
+ghost use Rattle.ra_report.specs.FaultTexts.{CanBeTold, fault_text, line_of, about};
 
-use crate::details::{add_about, add_line};
+use crate::details::{assign_note, closed_note, edits_note, model_note};
 use crate::gathered::Gathered;
+use crate::notes::{Note, add_note};
 use crate::pieces::{Piece, add_pieces};
 use ra_assign::{AssignFault, ClosedFault};
 use ra_base::{Cause, Name};
@@ -42,44 +45,81 @@ pub enum Fault<'n> {
 const USAGE: &str =
     "usage: reassign check MODEL INITIAL NEW [--closed FILE] | bound MODEL [INITIAL [--closed FILE]] | solve MODEL INITIAL [--slack N] [--closed FILE] [--draws 1|2] LOT ... | trial N | verify MODEL INITIAL REPORT [--slack N] [--closed FILE] [--draws 1|2] LOT ... | repair MODEL INITIAL [--closed FILE] LOT | edit MODEL INITIAL CURRENT EDITS [--closed FILE]";
 
+/// What the line of a fault says: some words, a name and what stands behind it, and a note.
+#[derive(Clone, Copy)]
+struct FaultLine<'n> {
+    words: &'static str,
+    name: &'n str,
+    behind: &'static str,
+    note: Note<'n>,
+}
+
 /// Adds the line of a fault.
-#[tactic(auto, unfolding(crate::specs::FaultTexts::fault_text))]
 pub(crate) fn add_fault<O: Sink>(text: &mut Gathered<'_, O>, fault: &Fault<'_>)
     requires { CanBeTold fault.now }
     ensures { Adds O.taken O.faults text.old text.new (fault_text fault.now) }
 {
-    match *fault {
-        Fault::Usage => add_pieces(text, &[Piece::Text(USAGE), Piece::Text("\n")]),
-        Fault::Read { name } => add_read_fault(text, name),
-        Fault::Model { fault } => add_line(text, &[Piece::Text("bad model: ")], &fault),
-        Fault::Closed { name, fault } => add_about(text, "bad closed list: ", name, &fault),
-        Fault::Assign { name, fault } => add_about(text, "bad assignment: ", name, &fault),
-        Fault::Edits { name, fault } => add_about(text, "bad edits: ", name, &fault),
-        Fault::Infeasible { name, cause } => add_about(text, "infeasible: ", name, &cause),
-        Fault::Wrong { line } => add_pieces(
-            text,
-            &[
-                Piece::Text("wrong line "),
-                Piece::Number(line as u128),
-                Piece::Text("\n"),
-            ],
-        ),
-        Fault::Unrepaired { name, cause } => add_about(text, "unrepaired: ", name, &cause),
-        Fault::Write => add_pieces(text, &[Piece::Text("write fault"), Piece::Text("\n")]),
-        Fault::Memory => add_pieces(text, &[Piece::Text("no memory"), Piece::Text("\n")]),
-    }
-}
-
-/// Adds the line of a file that was not read.
-fn add_read_fault<O: Sink>(text: &mut Gathered<'_, O>, name: &Name)
-    ensures { Adds O.taken O.faults text.old text.new (read_fault_line name.now) }
-{
+    let line = fault_line(fault);
     add_pieces(
         text,
         &[
-            Piece::Text("read fault: "),
-            Piece::Text(name.as_str()),
-            Piece::Text("\n"),
+            Piece::Text(line.words),
+            Piece::Text(line.name),
+            Piece::Text(line.behind),
         ],
-    )
+    );
+    add_note(text, line.note);
+    add_pieces(text, &[Piece::Text("\n")])
+}
+
+/// The line of a fault.
+#[tactic(auto, unfolding(crate::specs::FaultTexts::fault_text, crate::specs::Notes::note_text))]
+fn fault_line<'n>(fault: &Fault<'n>) -> FaultLine<'n>
+    ensures { line_said result ≡ fault_text fault.now }
+{
+    match *fault {
+        Fault::Usage => plain(USAGE, Note::Nothing),
+        Fault::Read { name } => plain("read fault: ", Note::Words(name.as_str())),
+        Fault::Model { fault } => plain("bad model: ", model_note(fault)),
+        Fault::Closed { name, fault } => about_file("bad closed list: ", name, closed_note(fault)),
+        Fault::Assign { name, fault } => about_file("bad assignment: ", name, assign_note(fault)),
+        Fault::Edits { name, fault } => about_file("bad edits: ", name, edits_note(fault)),
+        Fault::Infeasible { name, cause } => about_file(
+            "infeasible: ",
+            name,
+            Note::Cause("", cause),
+        ),
+        Fault::Wrong { line } => plain("", Note::Number("wrong line ", line as u128)),
+        Fault::Unrepaired { name, cause } => about_file(
+            "unrepaired: ",
+            name,
+            Note::Cause("", cause),
+        ),
+        Fault::Write => plain("write fault", Note::Nothing),
+        Fault::Memory => plain("no memory", Note::Nothing),
+    }
+}
+
+/// A line of some words and a note.
+fn plain<'n>(words: &'static str, note: Note<'n>) -> FaultLine<'n>
+    ensures { line_said result ≡ line_of words.now (note_text note.entry) }
+{
+    FaultLine {
+        words,
+        name: "",
+        behind: "",
+        note,
+    }
+}
+
+/// A line about a file: some words, its name, and what is wrong with it.
+fn about_file<'n>(words: &'static str, name: &'n Name, note: Note<'n>) -> FaultLine<'n>
+    ensures { line_said result ≡ about words.now name.now (note_text note.entry) }
+{
+    FaultLine {
+        words,
+        name: name.as_str(),
+        behind: ": ",
+        note,
+    }
 }

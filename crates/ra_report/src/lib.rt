@@ -14,6 +14,7 @@ pub mod laws;
 mod lengths;
 mod model;
 mod model_lines;
+mod notes;
 mod pieces;
 mod repair;
 mod solved;

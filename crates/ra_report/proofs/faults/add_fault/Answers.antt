@@ -1,14 +1,17 @@
-use Rattle.ra_report.specs.FaultTexts.{fault_text}
+use Rattle.std.proofs.Common.{◌≡◌, ℕ, List, [], ◌∷◌, ◌++◌, append_assoc, refl, ◌∙◌, subst}
+use Rattle.ra_report.specs.Gathering.{Adds}
+use Rattle.ra_report.specs.Pieces.{joined}
+use Rattle.ra_report.specs.Texts.{line_end}
+use Rattle.ra_report.specs.Notes.{note_text, line_said}
+use Rattle.ra_report.proofs.GatheringLemmas.{adds_more}
 use Rattle.ra_report.proofs.faults.add_fault.Goals as goal
 
-pub returns-in-Assign : goal.returns-in-Assign
-unfolding fault_text
-returns-in-Assign g c = rw c.in-Assign.is c.add_about-in-Assign.ensures
-
-pub returns-in-Infeasible : goal.returns-in-Infeasible
-unfolding fault_text
-returns-in-Infeasible g c = rw c.in-Infeasible.is c.add_about-in-Infeasible.ensures
-
-pub returns-in-Unrepaired : goal.returns-in-Unrepaired
-unfolding fault_text
-returns-in-Unrepaired g c = rw c.in-Unrepaired.is c.add_about-in-Unrepaired.ensures
+pub returns : goal.returns
+returns g c =
+    let line = c.fault_line-line.result in
+    let front = joined (line.words.now ∷ line.name.now ∷ line.behind.now ∷ []) in
+    let note = note_text line.note in
+    let same : front ++ (note ++ line_end) ≡ line_said line = simp append_assoc refl in
+    subst (λ (t : List ℕ). Adds g.O.Sink.taken g.O.Sink.faults c.args.text.now c.add_pieces-2.new.text t) (same ∙ c.fault_line-line.ensures)
+    (adds_more g.O.Sink.taken g.O.Sink.faults c.args.text.now c.add_pieces.new.text c.add_pieces-2.new.text front (note ++ line_end) c.add_pieces.ensures
+    (adds_more g.O.Sink.taken g.O.Sink.faults c.add_pieces.new.text c.add_note.new.text c.add_pieces-2.new.text note line_end c.add_note.ensures c.add_pieces-2.ensures))
