@@ -55,6 +55,22 @@ three_length word a b c = let two = two_length word a b in rw (length-append, le
 pub four_length : (word : List ℕ) (a b c d : ℕ) → length (with_four word a b c d) ≡ length word + 4 + length (number_text a) + length (number_text b) + length (number_text c) + length (number_text d)
 four_length word a b c d = let three = three_length word a b c in rw (length-append, length-append) (omega arith)
 
+-- short words and numbers
+pub one_short : (word : List ℕ) (a : ℕ) → length word ≤ 10 → length (number_text a) ≤ 10 → length (with_one word a) ≤ 105
+one_short word a w x = let l : length (with_one word a) ≡ length word + 1 + length (number_text a) = one_length word a in omega arith
+
+pub two_short : (word : List ℕ) (a b : ℕ) → length word ≤ 10 → length (number_text a) ≤ 10 → length (number_text b) ≤ 10 → length (with_two word a b) ≤ 105
+two_short word a b w x y = let l : length (with_two word a b) ≡ length word + 2 + length (number_text a) + length (number_text b) = two_length word a b in omega arith
+
+pub three_short : (word : List ℕ) (a b c : ℕ) → length word ≤ 10 → length (number_text a) ≤ 10 → length (number_text b) ≤ 10 → length (number_text c) ≤ 10 → length (with_three word a b c) ≤ 105
+three_short word a b c w x y z = let l : length (with_three word a b c) ≡ length word + 3 + length (number_text a) + length (number_text b) + length (number_text c) = three_length word a b c in omega arith
+
+pub four_short : (word : List ℕ) (a b c d : ℕ) → length word ≤ 10 → length (number_text a) ≤ 10 → length (number_text b) ≤ 10 → length (number_text c) ≤ 20 → length (number_text d) ≤ 10 → length (with_four word a b c d) ≤ 105
+four_short word a b c d w x y z u = let l : length (with_four word a b c d) ≡ length word + 4 + length (number_text a) + length (number_text b) + length (number_text c) + length (number_text d) = four_length word a b c d in omega arith
+
+pub rise_short : (a b c : ℕ) → length (number_text a) ≤ 39 → length (number_text b) ≤ 39 → length (number_text c) ≤ 20 → length (with_three (codes "rise") a b c) ≤ 105
+rise_short a b c x y z = let l : length (with_three (codes "rise") a b c) ≡ 4 + 3 + length (number_text a) + length (number_text b) + length (number_text c) = three_length (codes "rise") a b c in omega arith
+
 pub kind_length : (k : MoveKind) → length (kind_text k) ≤ 5
 unfolding kind_text
 kind_length Shift = omega arith

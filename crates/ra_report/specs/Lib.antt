@@ -1,3 +1,4 @@
+pub mod CauseTexts
 pub mod EditedTexts
 pub mod FaultTexts
 pub mod Fronts

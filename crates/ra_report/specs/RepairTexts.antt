@@ -15,9 +15,12 @@ use Rattle.ra_report.specs.Texts.{space, line_end, number_text, cause_text}
 use Rattle.ra_report.specs.JournalTexts.{kind_text, steps_text, assignment_line}
 
 -- the line `feasible`, or `broken` and the cause
+unfoldable pub state_text : Option Cause → List ℕ
+state_text None = codes "feasible"
+state_text (Some cause) = codes "broken " ++ cause_text cause
+
 unfoldable pub state_line : Option Cause → List ℕ
-state_line None = joined (codes "feasible\n" ∷ [])
-state_line (Some cause) = codes "broken " ++ (cause_text cause ++ line_end)
+state_line broken = state_text broken ++ line_end
 
 -- whether a move was taken
 unfoldable pub taken_text : Bool → List ℕ

@@ -1,9 +1,10 @@
 //! How long the line of an entry is at most. Each function does nothing, and its contract is a bound that holds of the
 //! values of its types.
-ghost use Rattle.std.specs.Prelude.{◌≤◌, ◌++◌, length, codes};
-ghost use Rattle.ra_report.specs.Texts.{space, number_text, cause_text, with_one, with_two, with_three, with_four};
+ghost use Rattle.std.specs.Prelude.{◌≤◌, ◌++◌, length};
+ghost use Rattle.ra_report.specs.Texts.{space, number_text, cause_text};
 ghost use Rattle.ra_report.specs.JournalTexts.{step_text, steps_text, verdict_text, entry_line};
 
+use crate::texts::{CauseWords, cause_words};
 use ra_base::Cause;
 use ra_journal::Entry;
 use ra_moves::{Move, Step, Verdict};
@@ -73,88 +74,30 @@ fn verdict_is_short(verdict: &Verdict)
 }
 
 /// The words of a cause are short.
-#[tactic(auto, unfolding(crate::specs::Texts::cause_text))]
 fn cause_is_short(cause: &Cause)
     ensures { length (cause_text cause.now) ≤ 105 }
 {
-    match *cause {
-        Cause::Repeat { process } => one_is_short("repeat", process.0),
-        Cause::Same { process } => one_is_short("same", process.0),
-        Cause::Capacity {
-            machine,
-            resource,
-            used,
-            cap,
-        } => four_are_short("capacity", machine.0, resource.0, used, cap),
-        Cause::Transient {
-            machine,
-            resource,
-            used,
-            cap,
-        } => four_are_short("transient", machine.0, resource.0, used, cap),
-        Cause::Conflict { service, machine } => two_are_short("conflict", service.0, machine.0),
-        Cause::Spread {
-            service,
-            has,
-            wants,
-        } => three_are_short("spread", service.0, has, wants),
-        Cause::Dependency {
-            service,
-            needs,
-            neighbourhood,
-        } => three_are_short("dependency", service.0, needs.0, neighbourhood),
-        Cause::Rise {
-            before,
-            after,
-            allowed,
-        } => rise_is_short(before, after, allowed),
-        Cause::Closed { process, machine } => two_are_short("closed", process.0, machine.0),
+    match cause_words(cause) {
+        CauseWords::One(_, a) => label_is_short(a),
+        CauseWords::Two(_, a, b) => {
+            label_is_short(a);
+            label_is_short(b)
+        }
+        CauseWords::Three(_, a, b, c) => {
+            label_is_short(a);
+            label_is_short(b);
+            label_is_short(c)
+        }
+        CauseWords::Four(_, a, b, c, d) => {
+            label_is_short(a);
+            label_is_short(b);
+            number_is_short(c);
+            label_is_short(d)
+        }
+        CauseWords::Rise(before, after, allowed) => {
+            cost_is_short(before);
+            cost_is_short(after);
+            number_is_short(allowed)
+        }
     }
-}
-
-/// A word and a number.
-fn one_is_short(word: &str, a: u32)
-    requires { length word.now ≤ 10 }
-    ensures { length (with_one word.now a) ≤ 105 }
-{
-    label_is_short(a)
-}
-
-/// A word and two numbers.
-fn two_are_short(word: &str, a: u32, b: u32)
-    requires { length word.now ≤ 10 }
-    ensures { length (with_two word.now a b) ≤ 105 }
-{
-    label_is_short(a);
-    label_is_short(b)
-}
-
-/// A word and three numbers.
-fn three_are_short(word: &str, a: u32, b: u32, c: u32)
-    requires { length word.now ≤ 10 }
-    ensures { length (with_three word.now a b c) ≤ 105 }
-{
-    label_is_short(a);
-    label_is_short(b);
-    label_is_short(c)
-}
-
-/// A word and four numbers.
-fn four_are_short(word: &str, a: u32, b: u32, c: u64, d: u32)
-    requires { length word.now ≤ 10 }
-    ensures { length (with_four word.now a b c d) ≤ 105 }
-{
-    label_is_short(a);
-    label_is_short(b);
-    number_is_short(c);
-    label_is_short(d)
-}
-
-/// The cause that a cost rises.
-fn rise_is_short(before: u128, after: u128, allowed: u64)
-    ensures { length (with_three (codes "rise") before after allowed) ≤ 105 }
-{
-    cost_is_short(before);
-    cost_is_short(after);
-    number_is_short(allowed)
 }

@@ -1,17 +1,17 @@
-ghost use Rattle.std.specs.Prelude.{◌≡◌, ◌≤◌, ◌++◌, length, codes, OnOk, OnErr};
+ghost use Rattle.std.specs.Prelude.{◌≡◌, ◌≤◌, length, OnOk, OnErr};
 ghost use Rattle.std.specs.Io.KnownBytes.{Appends};
 ghost use Rattle.std.specs.Option.{option_copied};
 ghost use Rattle.ra_model.specs.Broken.{first_broken};
 ghost use Rattle.ra_report.specs.Gathering.{Adds};
 ghost use Rattle.ra_report.specs.Pieces.{Breaks};
-ghost use Rattle.ra_report.specs.Texts.{line_end, cause_text};
-ghost use Rattle.ra_report.specs.RepairTexts.{state_line, taken_text, try_front, try_back, try_line, tries_text, repair_lines, text_of_repair};
+ghost use Rattle.ra_report.specs.Notes.{note_text};
+ghost use Rattle.ra_report.specs.RepairTexts.{state_text, state_line, taken_text, try_front, try_back, try_line, tries_text, repair_lines, text_of_repair};
 
 use crate::gathered::{Gathered, WriteFault};
 use crate::journal::{add_steps, kind_name};
+use crate::notes::{Note, add_note};
 use crate::pieces::{Piece, add_pieces};
 use crate::solved::add_assignment;
-use crate::texts::add_cause;
 use ra_base::Cause;
 use ra_io::Sink;
 use ra_repair::{Repair, Try};
@@ -51,20 +51,19 @@ fn add_state<O: Sink>(text: &mut Gathered<'_, O>, broken: Option<&Cause>)
     ensures { Adds O.taken O.faults text.old text.new
         (state_line (option_copied broken.entry)) }
 {
-    match broken {
-        None => add_pieces(text, &[Piece::Text("feasible\n")]),
-        Some(cause) => add_broken(text, cause),
-    }
+    add_note(text, state_note(broken));
+    text.add(b"\n")
 }
 
-/// Adds the line of a broken constraint.
-fn add_broken<O: Sink>(text: &mut Gathered<'_, O>, cause: &Cause)
-    ensures { Adds O.taken O.faults text.old text.new
-        (codes "broken " ++ (cause_text cause.now ++ line_end)) }
+/// Whether an assignment is feasible, or what is broken first.
+#[tactic(auto, unfolding(crate::specs::Notes::note_text, crate::specs::RepairTexts::state_text))]
+fn state_note(broken: Option<&Cause>) -> Note<'static>
+    ensures { note_text result ≡ state_text (option_copied broken.entry) }
 {
-    text.add(b"broken ");
-    add_cause(text, cause);
-    text.add(b"\n")
+    match broken {
+        None => Note::Words("feasible"),
+        Some(cause) => Note::Cause("broken ", *cause),
+    }
 }
 
 /// Adds a line for each try, in order.

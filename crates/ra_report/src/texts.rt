@@ -1,5 +1,7 @@
+ghost use Rattle.std.specs.Prelude.{◌≡◌, ◌≤◌, length};
+ghost use Rattle.ra_report.specs.CauseTexts.{words_text, cause_name};
 ghost use Rattle.ra_report.specs.Gathering.{Adds};
-ghost use Rattle.ra_report.specs.Texts.{parts_text, cause_text, with_one, with_two, with_three, with_four};
+ghost use Rattle.ra_report.specs.Texts.{parts_text, cause_text, with_four};
 
 use crate::gathered::Gathered;
 use crate::pieces::{Piece, add_marked, add_pieces};
@@ -32,87 +34,98 @@ pub(crate) fn add_parts<O: Sink>(text: &mut Gathered<'_, O>, parts: &Parts)
 }
 
 /// Adds a cause: its name and its numbers, with no end of the line.
-#[tactic(auto, unfolding(crate::specs::Texts::cause_text))]
+#[tactic(auto, unfolding(crate::specs::CauseTexts::words_text))]
 pub(crate) fn add_cause<O: Sink>(text: &mut Gathered<'_, O>, cause: &Cause)
     ensures { Adds O.taken O.faults text.old text.new (cause_text cause.now) }
 {
+    match cause_words(cause) {
+        CauseWords::One(name, a) => {
+            add_pieces(text, &[Piece::Text(name), Piece::Marked(b' ', a as u64)])
+        }
+        CauseWords::Two(name, a, b) => add_pieces(
+            text,
+            &[
+                Piece::Text(name),
+                Piece::Marked(b' ', a as u64),
+                Piece::Marked(b' ', b as u64),
+            ],
+        ),
+        CauseWords::Three(name, a, b, c) => add_pieces(
+            text,
+            &[
+                Piece::Text(name),
+                Piece::Marked(b' ', a as u64),
+                Piece::Marked(b' ', b as u64),
+                Piece::Marked(b' ', c as u64),
+            ],
+        ),
+        CauseWords::Four(name, a, b, c, d) => add_four(text, name, a, b, c, d),
+        CauseWords::Rise(before, after, allowed) => add_pieces(
+            text,
+            &[
+                Piece::Text("rise "),
+                Piece::Number(before),
+                Piece::Text(" "),
+                Piece::Number(after),
+                Piece::Marked(b' ', allowed),
+            ],
+        ),
+    }
+}
+
+/// The name of a cause and its numbers.
+#[derive(Clone, Copy)]
+pub(crate) enum CauseWords {
+    One(&'static str, u32),
+    Two(&'static str, u32, u32),
+    Three(&'static str, u32, u32, u32),
+    Four(&'static str, u32, u32, u64, u32),
+    /// Those of a cost that rises.
+    Rise(u128, u128, u64),
+}
+
+/// The name of a cause, which is short, and its numbers.
+#[inline(always)]
+#[tactic(auto, unfolding(crate::specs::CauseTexts::words_text, crate::specs::Texts::cause_text))]
+pub(crate) fn cause_words(cause: &Cause) -> CauseWords
+    ensures text { words_text result ≡ cause_text cause.now }
+    ensures short { length (cause_name result) ≤ 10 }
+{
     match *cause {
-        Cause::Repeat { process } => add_one(text, "repeat", process.0),
-        Cause::Same { process } => add_one(text, "same", process.0),
+        Cause::Repeat { process } => CauseWords::One("repeat", process.0),
+        Cause::Same { process } => CauseWords::One("same", process.0),
         Cause::Capacity {
             machine,
             resource,
             used,
             cap,
-        } => { add_four(text, "capacity", machine.0, resource.0, used, cap) }
+        } => CauseWords::Four("capacity", machine.0, resource.0, used, cap),
         Cause::Transient {
             machine,
             resource,
             used,
             cap,
-        } => { add_four(text, "transient", machine.0, resource.0, used, cap) }
-        Cause::Conflict { service, machine } => add_two(text, "conflict", service.0, machine.0),
+        } => CauseWords::Four("transient", machine.0, resource.0, used, cap),
+        Cause::Conflict { service, machine } => {
+            CauseWords::Two("conflict", service.0, machine.0)
+        }
         Cause::Spread {
             service,
             has,
             wants,
-        } => { add_three(text, "spread", service.0 as u128, has as u128, wants as u64) }
+        } => CauseWords::Three("spread", service.0, has, wants),
         Cause::Dependency {
             service,
             needs,
             neighbourhood,
-        } => add_three(
-            text,
-            "dependency",
-            service.0 as u128,
-            needs.0 as u128,
-            neighbourhood as u64,
-        ),
+        } => CauseWords::Three("dependency", service.0, needs.0, neighbourhood),
         Cause::Rise {
             before,
             after,
             allowed,
-        } => { add_three(text, "rise", before, after, allowed) }
-        Cause::Closed { process, machine } => add_two(text, "closed", process.0, machine.0),
+        } => CauseWords::Rise(before, after, allowed),
+        Cause::Closed { process, machine } => CauseWords::Two("closed", process.0, machine.0),
     }
-}
-
-/// A word and a number.
-fn add_one<O: Sink>(text: &mut Gathered<'_, O>, word: &str, a: u32)
-    ensures { Adds O.taken O.faults text.old text.new (with_one word.now a) }
-{
-    add_pieces(text, &[Piece::Text(word), Piece::Marked(b' ', a as u64)])
-}
-
-/// A word and two numbers.
-fn add_two<O: Sink>(text: &mut Gathered<'_, O>, word: &str, a: u32, b: u32)
-    ensures { Adds O.taken O.faults text.old text.new (with_two word.now a b) }
-{
-    add_pieces(
-        text,
-        &[
-            Piece::Text(word),
-            Piece::Marked(b' ', a as u64),
-            Piece::Marked(b' ', b as u64),
-        ],
-    )
-}
-
-/// A word and three numbers.
-fn add_three<O: Sink>(text: &mut Gathered<'_, O>, word: &str, a: u128, b: u128, c: u64)
-    ensures { Adds O.taken O.faults text.old text.new (with_three word.now a b c) }
-{
-    add_pieces(
-        text,
-        &[
-            Piece::Text(word),
-            Piece::Text(" "),
-            Piece::Number(a),
-            Piece::Text(" "),
-            Piece::Number(b),
-            Piece::Marked(b' ', c),
-        ],
-    )
 }
 
 /// A word and four numbers.

@@ -1,10 +1,9 @@
-use Rattle.ra_report.specs.RepairTexts.{state_line}
+use Rattle.std.specs.Option.{option_copied}
+use Rattle.ra_report.specs.Texts.{line_end}
+use Rattle.ra_report.specs.RepairTexts.{state_text, state_line}
+use Rattle.ra_report.proofs.GatheringLemmas.{adds_more}
 use Rattle.ra_report.proofs.repair.add_state.Goals as goal
 
-pub returns-in-None : goal.returns-in-None
+pub returns : goal.returns
 unfolding state_line
-returns-in-None g c = rw c.in-None.is c.add_pieces.ensures
-
-pub returns-in-Some : goal.returns-in-Some
-unfolding state_line
-returns-in-Some g c = rw c.in-Some.is c.add_broken.ensures
+returns g c = adds_more g.O.Sink.taken g.O.Sink.faults c.args.text.now c.add_note.new.text c.add.new.self (state_text (option_copied c.args.broken)) line_end (rw c.state_note.ensures at c.add_note.ensures) c.add.ensures
