@@ -11,6 +11,3 @@ mod shared;
 pub use books::{Book, Opening, WorkerPass};
 pub use labour::{Labour, all_labour};
 pub use shared::Shared;
-
-#[cfg(test)]
-mod tests;

@@ -10,8 +10,6 @@ mod plays;
 mod sight;
 mod steps;
 mod story;
-#[cfg(test)]
-mod tests;
 mod turn;
 
 pub use guards::Hold;

@@ -3,7 +3,7 @@ ghost use Rattle.std.specs.Prelude.{◌≡◌, ◌+◌, ◌*◌, ◌<◌, ◌≤
 ghost use Rattle.ra_turn.specs.Passes.{IsReady, guards_of, grips_of};
 
 use super::pad::{Line, Pad, empty, plain, write_held, write_line};
-use crate::{Pass, Turn};
+use ra_turn::{Pass, Turn};
 use std::alloc::Global;
 use std::sync::Wait;
 use std::test::Fail;

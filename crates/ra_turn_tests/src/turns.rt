@@ -4,8 +4,8 @@ mod threads;
 ghost use Rattle.std.specs.Prelude.{◌≡◌, ◌+◌, ◌<◌, ◌^◌, [], length, IfSome};
 ghost use Rattle.ra_turn.specs.Passes.{EachAt, IsDone, IsReady, guards_of, grips_of, passes_of};
 
-use crate::{Hold, Pass, Turn};
 use pad::{Pad, empty, hold_and_release, plain, take_turn, touching, write_held};
+use ra_turn::{Hold, Pass, Turn};
 use std::alloc::Global;
 use std::test::Fail;
 

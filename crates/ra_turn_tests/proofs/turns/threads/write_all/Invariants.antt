@@ -1,6 +1,6 @@
 use Rattle.std.proofs.Common.{◌≡◌, ◌+◌, []}
 use Rattle.ra_turn.specs.Passes.{IsReady, grips_of}
-use Rattle.ra_turn.proofs.tests.threads.write_all.Given as goal
+use Rattle.ra_turn_tests.proofs.turns.threads.write_all.Given as goal
 
 abbrev pub invariant-loop-number : goal.invariant-loop-number
 invariant-loop-number g l = record {

@@ -3,7 +3,7 @@ ghost use Rattle.std.specs.Prelude.{◌≡◌, ℕ, ◌+◌, ◌<◌, ◌≤◌,
 ghost use Rattle.ra_turn.specs.Notes.{IsVersion, grip};
 ghost use Rattle.ra_turn.specs.Passes.{IsReady, guards_of, grips_of, seen_by};
 
-use crate::{Hold, Pass, Story, Turn};
+use ra_turn::{Hold, Pass, Story, Turn};
 use std::alloc::Global;
 use std::sync::Wait;
 

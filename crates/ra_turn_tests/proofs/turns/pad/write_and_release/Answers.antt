@@ -2,9 +2,9 @@ use Rattle.std.proofs.Common.{◌≡◌, ◌⊎◌, ℕ, ◌+◌, ◌==◌, ◌�
 use Rattle.std.proofs.lemmas.Bool.Decides.{nat_tests}
 use mathlib.Core.List.{IsPrefix}
 use Rattle.ra_turn.specs.declared.sight.Grip.{Grip}
-use Rattle.ra_turn.specs.declared.tests.pad.Line.{Line}
+use Rattle.ra_turn_tests.specs.declared.turns.pad.Line.{Line}
 use Rattle.ra_turn.specs.Notes.{grip}
-use Rattle.ra_turn.proofs.tests.pad.write_and_release.Goals as goal
+use Rattle.ra_turn_tests.proofs.turns.pad.write_and_release.Goals as goal
 
 -- the one guard that the line touches is held
 only_one : (line : Line) (guard v : ℕ) (held : List Grip) → line.touched ≡ guard + 1 → held ≡ grip guard v ∷ [] → (g : ℕ) → (line.touched == g + 1) ≡ true → (w : ℕ) × Contains held (grip g w)

@@ -2,7 +2,7 @@
 ghost use Rattle.std.specs.Prelude.{◌≡◌, ◌+◌, ◌<◌, ◌≤◌, [], ◌++◌, ◌∷◌, false, length, IfSome, MatchBool};
 ghost use Rattle.ra_turn.specs.Passes.{EachAt, IsDone, IsReady, grips_of, passes_of};
 
-use crate::{Labour, all_labour};
+use ra_shared::{Labour, all_labour};
 use ra_turn::{Pass, Story, Turn};
 use std::alloc::Global;
 use std::sync::Wait;
