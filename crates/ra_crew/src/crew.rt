@@ -26,13 +26,23 @@ use std::thread::Threads;
 
 /// The workers of a run before they begin, one for each lot, with the journal that they share. No memory is taken once it
 /// is made.
-#[derive(Drop)]
 pub struct Crew<'a> {
     shared: Shared<'a>,
     workers: Vec<Worker<'a>>,
     passes: Vec<WorkerPass<'a>>,
     pub ghost ready: { AreReady shared workers.items },
     pub ghost room: { (passes.items ≡ []) × (length workers.items ≤ vec_capacity passes) },
+}
+
+/// Lets all parts go in one call, so that the end of an owner is short to prove.
+impl Drop for Crew<'_> {
+    fn drop(self) {
+        let Crew {
+            shared: _,
+            workers: _,
+            passes: _,
+        } = self;
+    }
 }
 
 impl<'a> Crew<'a> {
