@@ -10,6 +10,3 @@ pub use assignments::read_assignment;
 pub use closed::read_closed;
 pub use faults::{AssignFault, ClosedFault};
 pub use text::assignment_text;
-
-#[cfg(test)]
-mod tests;

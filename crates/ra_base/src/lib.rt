@@ -15,6 +15,3 @@ pub use counter::Steps;
 pub use ids::{Guard, Machine, Process, Resource, Service};
 pub use lists::{Assignment, Fixed, NoMemory};
 pub use names::Name;
-
-#[cfg(test)]
-mod tests;

@@ -11,6 +11,3 @@ pub use allowance::allow;
 pub use budgets::Lots;
 pub use sources::{Lot, Source};
 pub use words::Draws;
-
-#[cfg(test)]
-mod tests;

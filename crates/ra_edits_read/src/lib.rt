@@ -9,6 +9,3 @@ mod reading;
 pub use edits::{Edit, Edits};
 pub use faults::EditsFault;
 pub use reading::{MOST_EDITS, read_edits};
-
-#[cfg(test)]
-mod tests;

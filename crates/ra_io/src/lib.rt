@@ -22,6 +22,3 @@ pub use pairs::PairGate;
 pub use steady::{CountSink, SteadyFiles};
 pub use streams::{ErrSink, OutSink};
 pub use whole::{MOST_BYTES, Unread, put_all, read_all};
-
-#[cfg(test)]
-mod tests;

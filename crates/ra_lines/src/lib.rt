@@ -14,6 +14,3 @@ mod window;
 pub use answers::{Next, ReadFault};
 pub use expected::Expected;
 pub use reader::LineReader;
-
-#[cfg(test)]
-mod tests;

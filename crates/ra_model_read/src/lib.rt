@@ -16,6 +16,3 @@ mod tables;
 
 pub use faults::{Field, ModelFault};
 pub use reader::read_model;
-
-#[cfg(test)]
-mod tests;

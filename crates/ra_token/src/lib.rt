@@ -11,6 +11,3 @@ mod window;
 
 pub use answers::{LARGEST, PLACE_LIMIT, Token, TokenFault};
 pub use reader::Tokens;
-
-#[cfg(test)]
-mod tests;

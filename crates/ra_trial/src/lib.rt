@@ -12,6 +12,3 @@ mod trials;
 mod words;
 
 pub use trials::{TrialText, trial_text};
-
-#[cfg(test)]
-mod tests;

@@ -12,6 +12,3 @@ mod pieces;
 mod words;
 
 pub use jobs::{Job, WordsFault, read_words};
-
-#[cfg(test)]
-mod tests;

@@ -1,33 +1,34 @@
+//! Lists of a reserved room, names, guards and the counter.
 ghost use Rattle.std.specs.Prelude.{◌≡◌, ◌<◌};
 
-use super::*;
+use super::found::same;
+use ra_base::{Assignment, Fixed, Guard, Machine, Name, Service, Steps};
 use std::marker::Brand;
 use std::sync::ledger::{Blank, Ledger};
-use std::test::Fail;
 
 #[test]
-fn a_fixed_list_keeps_its_items_in_order(rt: HostRuntime) -> Result<(), Fail> {
-    let mut list: Assignment = Fixed::make(rt.alloc(), 3)?;
-    assert_eq!(rt; list.room(), 3);
+fn a_fixed_list_keeps_its_items_in_order(rt: HostRuntime) {
+    let mut list: Assignment = Fixed::make(rt.alloc(), 3).expect(&rt, "no memory");
+    same(&rt, list.room(), 3);
     list.push(Machine(7));
     list.push(Machine(8));
     list.set(0, Machine(9));
-    assert_eq!(rt; list.get(1), Machine(8));
-    assert_eq!(rt; list.as_slice(), [Machine(9), Machine(8)].as_slice());
+    same(&rt, list.get(1), Machine(8));
+    same(&rt, list.as_slice(), &[Machine(9), Machine(8)]);
     list.clear();
     list.extend_from_slice(&[Machine(1), Machine(2)]);
-    assert_eq!(rt; list.as_slice(), [Machine(1), Machine(2)].as_slice());
+    same(&rt, list.as_slice(), &[Machine(1), Machine(2)]);
     list.clear();
-    assert_eq!(rt; list.len(), 0);
-    assert_eq!(rt; list.room(), 3);
-    Ok(())
+    same(&rt, list.len(), 0);
+    same(&rt, list.room(), 3);
+    drop(list);
 }
 
 #[test]
-fn a_name_is_its_text(rt: HostRuntime) -> Result<(), Fail> {
-    let name = Name::make(rt.alloc(), "model.txt")?;
-    assert_eq!(rt; name.as_str(), "model.txt");
-    Ok(())
+fn a_name_is_its_text(rt: HostRuntime) {
+    let name = Name::make(rt.alloc(), "model.txt").expect(&rt, "no memory");
+    same(&rt, name.as_str(), "model.txt");
+    drop(name);
 }
 
 #[test]
@@ -50,7 +51,7 @@ fn two_ticks<L: Ledger>(blank: Blank)
 #[test]
 fn a_counter_starts_over_a_new_ledger(rt: HostRuntime) {
     two_ticks::<Brand>(Blank::new(1));
-    assert_eq!(rt; size_of_counter(), 0);
+    same(&rt, size_of_counter(), 0);
 }
 
 fn size_of_counter() -> usize {

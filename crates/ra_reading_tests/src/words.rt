@@ -1,8 +1,10 @@
-use super::*;
+//! Command words of each form.
+use super::found::same;
 use ra_base::Name;
 use ra_draws::{Lot, Lots, Source};
+use ra_words::{Job, read_words};
 use std::alloc::{AllocError, Global};
-use std::test::Fail;
+use std::process::Abort;
 
 /// Words of each form, with the job told in words of this file. The conformance suite has the words that are none.
 const JOBS: &[(&[&str], &str)] = &[
@@ -71,27 +73,50 @@ const JOBS: &[(&[&str], &str)] = &[
     ),
 ];
 
-#[test]
-fn words_of_each_form_are_jobs(rt: HostRuntime) -> Result<(), Fail> {
-    for (words, want) in JOBS {
-        let list = strings(rt.alloc(), words)?;
-        match read_words(rt.alloc(), list.as_slice()) {
-            Ok(job) => {
-                let told = tell(rt.alloc(), &job)?;
-                assert_eq!(rt; told.as_str(), *want);
-            }
-            Err(_) => assert!(rt; false, "no job: {want}"),
-        }
-    }
-    Ok(())
-}
-
 fn strings(alloc: Global, words: &[&str]) -> Result<Vec<String>, AllocError> {
     let mut list = Vec::new(alloc);
     for word in words {
         list.push(String::from_str(alloc, word)?)?;
     }
     Ok(list)
+}
+
+/// Demands that words are a job, which is told like this.
+fn demand(rt: &impl Abort, alloc: Global, words: &[&str], want: &str) {
+    let list = strings(alloc, words).expect(rt, "no memory");
+    let read = read_words(alloc, list.as_slice());
+    drop(list);
+    let job = read.expect(rt, "no job");
+    let told = tell(alloc, &job).expect(rt, "no memory");
+    drop(job);
+    same(rt, told.as_str(), want);
+    drop(told);
+}
+
+#[test]
+fn words_of_each_form_are_jobs(rt: HostRuntime) {
+    for row in JOBS {
+        demand(&rt, rt.alloc(), row.0, row.1);
+    }
+}
+
+/// Words with a blank between them.
+fn joined(alloc: Global, words: &[&str]) -> Result<String, AllocError> {
+    let mut text = String::new(alloc);
+    for word in words {
+        if !text.is_empty() {
+            text.push(' ')?;
+        }
+        text.push_str(word)?;
+    }
+    Ok(text)
+}
+
+/// Words, with the lots of a run behind them.
+fn joined_with(alloc: Global, words: &[&str], lots: &Lots) -> Result<String, AllocError> {
+    let front = joined(alloc, words)?;
+    let told = tell_lots(alloc, lots)?;
+    joined(alloc, &[front.as_str(), told.as_str()])
 }
 
 /// What a job is, in words of this file.
@@ -102,29 +127,48 @@ fn tell(alloc: Global, job: &Job) -> Result<String, AllocError> {
             initial,
             changed,
             closed,
-        } => format!(in alloc;
-            "check {} {} {} closed {}",
-            model.as_str(),
-            initial.as_str(),
-            changed.as_str(),
-            name_of(closed)
+        } => joined(
+            alloc,
+            &[
+                "check",
+                model.as_str(),
+                initial.as_str(),
+                changed.as_str(),
+                "closed",
+                name_of(closed),
+            ],
         ),
         Job::Bound {
             model,
             initial,
             closed,
-        } => format!(in alloc;
-            "bound {} initial {} closed {}",
-            model.as_str(),
-            name_of(initial),
-            name_of(closed)
+        } => joined(
+            alloc,
+            &[
+                "bound",
+                model.as_str(),
+                "initial",
+                name_of(initial),
+                "closed",
+                name_of(closed),
+            ],
         ),
         Job::Solve {
             model,
             initial,
             closed,
             lots,
-        } => tell_run(alloc, model, initial, closed, lots),
+        } => joined_with(
+            alloc,
+            &[
+                "solve",
+                model.as_str(),
+                initial.as_str(),
+                "closed",
+                name_of(closed),
+            ],
+            lots,
+        ),
         Job::Trial { number } => format!(in alloc; "trial {}", number),
         Job::Verify {
             model,
@@ -132,50 +176,62 @@ fn tell(alloc: Global, job: &Job) -> Result<String, AllocError> {
             report,
             closed,
             lots,
-        } => {
-            let run = tell_run(alloc, model, initial, closed, lots)?;
-            format!(in alloc; "verify {} {}", report.as_str(), run.as_str())
-        }
+        } => joined_with(
+            alloc,
+            &[
+                "verify",
+                report.as_str(),
+                "solve",
+                model.as_str(),
+                initial.as_str(),
+                "closed",
+                name_of(closed),
+            ],
+            lots,
+        ),
         Job::Repair {
             model,
             initial,
             closed,
             lots,
-        } => {
-            let run = tell_run(alloc, model, initial, closed, lots)?;
-            format!(in alloc; "repair {}", run.as_str())
-        }
+        } => joined_with(
+            alloc,
+            &[
+                "repair",
+                "solve",
+                model.as_str(),
+                initial.as_str(),
+                "closed",
+                name_of(closed),
+            ],
+            lots,
+        ),
         Job::Edit {
             model,
             initial,
             current,
             edits,
             closed,
-        } => format!(in alloc;
-            "edit {} {} {} {} closed {}",
-            model.as_str(),
-            initial.as_str(),
-            current.as_str(),
-            edits.as_str(),
-            name_of(closed)
+        } => joined(
+            alloc,
+            &[
+                "edit",
+                model.as_str(),
+                initial.as_str(),
+                current.as_str(),
+                edits.as_str(),
+                "closed",
+                name_of(closed),
+            ],
         ),
     }
 }
 
-/// A run of lots, of which the last is told.
-fn tell_run(
-    alloc: Global,
-    model: &Name,
-    initial: &Name,
-    closed: &Option<Name>,
-    lots: &Lots,
-) -> Result<String, AllocError> {
+/// The lots of a run, of which the last is told.
+fn tell_lots(alloc: Global, lots: &Lots) -> Result<String, AllocError> {
     let last = tell_lot(alloc, lots.lot(lots.len() - 1))?;
     format!(in alloc;
-        "solve {} {} closed {} slack {} drawing {:?} lots {} {}",
-        model.as_str(),
-        initial.as_str(),
-        name_of(closed),
+        "slack {} drawing {:?} lots {} {}",
         lots.slack(),
         lots.drawing(),
         lots.len(),

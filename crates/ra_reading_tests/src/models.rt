@@ -1,9 +1,11 @@
+//! Models that are read, and those that are refused with the first thing that is wrong.
 ghost use Rattle.std.specs.Prelude.{◌<◌};
 
-use super::*;
-use ra_base::{Fixed, Machine, Process, Resource, Service};
-use ra_io::{MemoryFiles, SteadyFiles};
+use super::files::{failing, steady};
+use super::found::same;
+use ra_base::{Machine, Process, Resource, Service};
 use ra_model::Instance;
+use ra_model_read::{Field, ModelFault, read_model};
 use std::alloc::Global;
 use std::process::Abort;
 
@@ -13,8 +15,7 @@ const SAMPLE: &[u8; 184] =
 
 /// What is read of a file that has these bytes.
 fn read(rt: &impl Abort, alloc: Global, bytes: &[u8]) -> Result<Instance, ModelFault> {
-    let mut files = SteadyFiles::make(alloc).expect(rt, "no memory");
-    files.add(alloc, "model", bytes).expect(rt, "no memory");
+    let mut files = steady(alloc, "model", bytes).expect(rt, "no memory");
     read_model(alloc, &mut files, "model")
 }
 
@@ -219,42 +220,42 @@ const CUT: &[(usize, ModelFault)] = &[
 ];
 
 fn counts_are_read(rt: &impl Abort, inst: &Instance) {
-    assert_eq!(rt; inst.resources(), 2);
-    assert_eq!(rt; inst.machines(), 4);
-    assert_eq!(rt; inst.services(), 2);
-    assert_eq!(rt; inst.processes(), 3);
-    assert_eq!(rt; inst.balances(), 1);
+    same(rt, inst.resources(), 2);
+    same(rt, inst.machines(), 4);
+    same(rt, inst.services(), 2);
+    same(rt, inst.processes(), 3);
+    same(rt, inst.balances(), 1);
 }
 
 fn numbers_are_read(rt: &impl Abort, inst: &Instance) {
     assert_eq!(rt; inst.resources(), 2);
     assert_eq!(rt; inst.machines(), 4);
-    assert!(rt; inst.transient(Resource(0)));
-    assert_eq!(rt; inst.load_weight(Resource(1)), 10);
-    assert_eq!(rt; inst.neighbourhood(Machine(3)), 1);
-    assert_eq!(rt; inst.location(Machine(3)), 2);
-    assert_eq!(rt; inst.capacity(Machine(1), Resource(1)), 240);
-    assert_eq!(rt; inst.safety(Machine(2), Resource(0)), 12);
-    assert_eq!(rt; inst.move_cost(Machine(3), Machine(0)), 5);
+    same(rt, inst.transient(Resource(0)), true);
+    same(rt, inst.load_weight(Resource(1)), 10);
+    same(rt, inst.neighbourhood(Machine(3)), 1);
+    same(rt, inst.location(Machine(3)), 2);
+    same(rt, inst.capacity(Machine(1), Resource(1)), 240);
+    same(rt, inst.safety(Machine(2), Resource(0)), 12);
+    same(rt, inst.move_cost(Machine(3), Machine(0)), 5);
 }
 
 fn services_are_read(rt: &impl Abort, inst: &Instance) {
     assert_eq!(rt; inst.services(), 2);
     assert_eq!(rt; inst.processes(), 3);
-    assert_eq!(rt; inst.spread_min(Service(0)), 2);
-    assert_eq!(rt; inst.depends(Service(1)), [Service(0)].as_slice());
-    assert_eq!(rt; inst.service_of(Process(2)), Service(1));
-    assert_eq!(rt; inst.process_cost(Process(0)), 1000);
+    same(rt, inst.spread_min(Service(0)), 2);
+    same(rt, inst.depends(Service(1)), &[Service(0)]);
+    same(rt, inst.service_of(Process(2)), Service(1));
+    same(rt, inst.process_cost(Process(0)), 1000);
 }
 
 fn weights_are_read(rt: &impl Abort, inst: &Instance) {
     assert_eq!(rt; inst.balances(), 1);
     let row = inst.balance(0);
-    assert_eq!(rt; (row.first, row.second), (Resource(0), Resource(1)));
-    assert_eq!(rt; (row.target, row.weight), (20, 10));
-    assert_eq!(rt; inst.process_weight(), 1);
-    assert_eq!(rt; inst.service_weight(), 10);
-    assert_eq!(rt; inst.machine_weight(), 100);
+    same(rt, (row.first, row.second), (Resource(0), Resource(1)));
+    same(rt, (row.target, row.weight), (20, 10));
+    same(rt, inst.process_weight(), 1);
+    same(rt, inst.service_weight(), 10);
+    same(rt, inst.machine_weight(), 100);
 }
 
 #[test]
@@ -271,7 +272,7 @@ fn the_sample_is_read(rt: HostRuntime) {
 fn the_first_thing_that_is_wrong_is_told(rt: HostRuntime) {
     for row in REFUSED {
         let found = fault(&rt, rt.alloc(), row.0.as_bytes());
-        assert_eq!(rt; found, Some(row.1), "at {}", row.0);
+        same(&rt, found, Some(row.1));
     }
 }
 
@@ -279,7 +280,7 @@ fn the_first_thing_that_is_wrong_is_told(rt: HostRuntime) {
 fn a_weight_that_is_missing_is_named(rt: HostRuntime) {
     for row in CUT {
         let front = SAMPLE.get(..row.0).expect(&rt, "too long");
-        assert_eq!(rt; fault(&rt, rt.alloc(), front), Some(row.1), "at {}", row.0);
+        same(&rt, fault(&rt, rt.alloc(), front), Some(row.1));
     }
 }
 
@@ -288,26 +289,23 @@ fn the_file_is_read_to_its_end(rt: HostRuntime) {
     let extra = Some(ModelFault::Extra { at: 184 });
     let mut longer = Vec::from_slice(rt.alloc(), SAMPLE).expect(&rt, "no memory");
     longer.push(b'7').expect(&rt, "no memory");
-    assert_eq!(rt; fault(&rt, rt.alloc(), &longer), extra);
+    same(&rt, fault(&rt, rt.alloc(), &longer), extra);
     longer.push(b'-').expect(&rt, "no memory");
-    assert_eq!(rt; fault(&rt, rt.alloc(), &longer), extra);
+    same(&rt, fault(&rt, rt.alloc(), &longer), extra);
 }
 
 /// The sample's file, of which the third fetch fails, read twice: whether the second time it is an instance.
 fn read_again(rt: &impl Abort, alloc: Global, each: usize) -> bool
     requires { 0 < each }
 {
-    let mut fails = Fixed::make(alloc, 1).expect(rt, "no memory");
-    fails.extend_from_slice(&[3]);
-    let mut files = MemoryFiles::make(alloc, each, fails).expect(rt, "no memory");
-    files.add(alloc, "model", SAMPLE).expect(rt, "no memory");
+    let mut files = failing(alloc, each, &[3], "model", SAMPLE).expect(rt, "no memory");
     let first = read_model(alloc, &mut files, "model").err();
-    assert_eq!(rt; first, Some(ModelFault::ReadFault));
+    same(rt, first, Some(ModelFault::ReadFault));
     read_model(alloc, &mut files, "model").is_ok()
 }
 
 #[test]
 fn a_failed_fetch_in_mid_file_is_a_read_fault(rt: HostRuntime) {
-    assert!(rt; read_again(&rt, rt.alloc(), 1));
-    assert!(rt; read_again(&rt, rt.alloc(), 40));
+    same(&rt, read_again(&rt, rt.alloc(), 1), true);
+    same(&rt, read_again(&rt, rt.alloc(), 40), true);
 }
