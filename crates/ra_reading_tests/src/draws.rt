@@ -42,8 +42,8 @@ fn demand_words(rt: &impl Abort, lot: &Lot, first: &[u64; 8], second: &[u64; 8])
     same(rt, draws.words_for_next(), *second);
 }
 
-/// Seeds with the words of the first two proposals. The values come from xoshiro256++ with its state filled by splitmix64,
-/// written anew in Python from the reference code in C.
+/// Seeds with the words of the first two proposals. The values come from xoshiro256++ with its state filled by
+/// splitmix64, written anew in Python from the reference code in C.
 const SEEDED: &[(u64, [u64; 8], [u64; 8])] = &[
     (
         0,

@@ -142,7 +142,7 @@ fn a_number_may_be_cut_by_the_buffer(rt: HostRuntime) {
     cut_by_the_buffer(&rt, rt.alloc(), 65_536);
 }
 
-/// What `next_values` answers for a text with two numbers and a fault behind them, however it is fetched.
+/// What `next_values` answers of a text with a fault behind its numbers, however it is fetched.
 fn values_until_a_fault(rt: &impl Abort, alloc: Global, each: usize)
     requires some { 0 < each }
 {
