@@ -7,7 +7,7 @@ pub enum EditsFault {
     #[error("read fault")]
     ReadFault,
     /// The byte at a place is neither a digit nor a blank.
-    #[error("byte {byte} at {at}")]
+    #[error("byte at {at} is neither a digit nor a blank")]
     BadByte {
         at: u64,
         byte: u8,
@@ -27,7 +27,7 @@ pub enum EditsFault {
     },
     /// The number at a place is out of its range: a kind that isn't one, or the service or the machine of an added
     /// process that doesn't exist.
-    #[error("range at {at}: {value} not in {least} to {most}")]
+    #[error("number at {at} is out of its range")]
     Range {
         at: u64,
         value: u32,
