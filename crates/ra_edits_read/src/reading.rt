@@ -45,6 +45,28 @@ pub fn read_edits<F: Files>(
     let Ok(mut tokens) = Tokens::make(alloc, name) else {
         return Err(EditsFault::NoMemory);
     };
+    read_lists(alloc, files, &mut tokens, inst)
+}
+
+/// All edits, from the start of the file to its end.
+fn read_lists<F: Files>(
+    alloc: Global,
+    files: &mut F,
+    tokens: &mut Tokens,
+    inst: &Instance,
+) -> Result<Edits, EditsFault>
+    requires stands { Stands (here (F.held files.old) (F.faults files.old) tokens.old) }
+    requires start { (bytes : List ℕ) → tokens_before bytes tokens.old.place ≡ 0 }
+    ensures gives { IfOk result (λ edits. Went (λ bytes before after.
+        AreEditsOf bytes inst.now.tables edits)
+        (here (F.held files.old) (F.faults files.old) tokens.old)
+        (here (F.held files.new) (F.faults files.new) tokens.new)) }
+    ensures fits { IfOk result (λ edits. AreEditsFor inst.now.tables edits) }
+    ensures refuses { IfErr result (λ fault. Refuses EditsFault.ReadFault (λ bytes before.
+        IsEditsRefusal bytes inst.now.tables fault)
+        (here (F.held files.old) (F.faults files.old) tokens.old)
+        (here (F.held files.new) (F.faults files.new) tokens.new) fault) }
+{
     let Ok(mut edits) = Fixed::make(alloc, MOST_EDITS as usize) else {
         return Err(EditsFault::NoMemory);
     };
@@ -53,7 +75,7 @@ pub fn read_edits<F: Files>(
     let Ok(mut requirements) = Fixed::make(alloc, room) else {
         return Err(EditsFault::NoMemory);
     };
-    read_all(files, &mut tokens, inst, &mut edits, &mut requirements)?;
+    read_all(files, tokens, inst, &mut edits, &mut requirements)?;
     Ok(Edits {
         width,
         edits,
