@@ -8,7 +8,7 @@ ghost use Rattle.ra_edits_read.specs.EditLists.{AreEditsFor};
 use crate::common::fitting;
 use ra_base::{Assignment, Machine, Parts};
 use ra_check::{Scratch, first_broken, parts};
-use ra_edit::{Draft, EditReply};
+use ra_edit::{Draft, EditReply, Edited};
 use ra_edits_read::{Edits, read_edits};
 use ra_io::SteadyFiles;
 use ra_model::Instance;
@@ -45,6 +45,19 @@ fn edits_of(rt: &impl Abort, alloc: Global, inst: &Instance, bytes: &[u8]) -> Ed
     read_edits(alloc, &mut files, "edits", inst).expect(rt, "refused")
 }
 
+/// The first process is the added one, and the retired one is gone.
+fn compare_edited(rt: &impl Abort, edited: &Edited) {
+    assert_eq!(rt;
+        edited.initial.as_slice(),
+        [Machine(1), Machine(3), Machine(0)].as_slice()
+    );
+    assert_eq!(rt;
+        edited.current.as_slice(),
+        [Machine(1), Machine(2), Machine(0)].as_slice()
+    );
+    assert_eq!(rt; edited.instance.processes(), 3);
+}
+
 #[test]
 fn edits_of_the_sample(rt: HostRuntime) {
     let alloc = rt.alloc();
@@ -57,20 +70,17 @@ fn edits_of_the_sample(rt: HostRuntime) {
     let mut draft = Draft::make(alloc, &inst, &topo, &a0, &a, start).expect(&rt, "no memory");
     assert!(rt; edits.len() == 3);
     let added = draft.edit(alloc, &edits, 0).expect(&rt, "no memory");
-    assert_eq!(rt; added, EditReply::Done { cost: 3510 });
     let retired = draft.edit(alloc, &edits, 1).expect(&rt, "no memory");
-    assert_eq!(rt; retired, EditReply::Done { cost: 5510 });
     let cost = draft.parts().total;
     let edited = draft.finish(alloc).expect(&rt, "no memory");
-    assert_eq!(rt; cost, 5510);
-    assert_eq!(rt;
-        edited.initial.as_slice(),
-        [Machine(1), Machine(3), Machine(0)].as_slice()
-    );
-    assert_eq!(rt;
-        edited.current.as_slice(),
-        [Machine(1), Machine(2), Machine(0)].as_slice()
-    );
-    assert_eq!(rt; edited.instance.processes(), 3);
+    compare_edited(&rt, &edited);
     drop(edited);
+    drop(edits);
+    drop(a);
+    drop(a0);
+    drop(topo);
+    drop(inst);
+    assert_eq!(rt; added, EditReply::Done { cost: 3510 });
+    assert_eq!(rt; retired, EditReply::Done { cost: 5510 });
+    assert_eq!(rt; cost, 5510);
 }

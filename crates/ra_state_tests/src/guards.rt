@@ -65,16 +65,8 @@ fn moves_meet_at_machines(rt: &impl Abort, inst: &Instance) {
     ];
     for (process, from, to, apart) in table {
         let other = shift(process, from, to);
-        assert_eq!(rt;
-            from_first(inst, &other),
-            Some(apart),
-            "{process} from {from} to {to}"
-        );
-        assert_eq!(rt;
-            to_first(inst, &other),
-            Some(apart),
-            "{process} from {from} to {to}"
-        );
+        let both = [from_first(inst, &other), to_first(inst, &other)];
+        assert_eq!(rt; both, [Some(apart); 2], "{process} from {from} to {to}");
     }
 }
 
@@ -90,22 +82,25 @@ fn moves_meet_at_services(rt: &impl Abort, inst: &Instance) {
     ];
     for (process, apart) in table {
         let other = shift(process, 2, 3);
-        assert_eq!(rt; from_first(inst, &other), Some(apart), "{process}");
-        assert_eq!(rt; to_first(inst, &other), Some(apart), "{process}");
+        let both = [from_first(inst, &other), to_first(inst, &other)];
+        assert_eq!(rt; both, [Some(apart); 2], "{process}");
     }
 }
 
 fn each_step_counts(rt: &impl Abort, inst: &Instance) {
     let swap = Move::swap(step(3, 2, 3), step(4, 3, 2));
-    assert_eq!(rt; from_first(inst, &swap), Some(true));
     let far = Move::chain(step(3, 2, 3), step(4, 3, 4), step(5, 4, 5));
-    assert_eq!(rt; to_first(inst, &far), Some(true));
     let near = Move::chain(step(3, 2, 3), step(4, 3, 4), step(5, 4, 0));
-    assert_eq!(rt; from_first(inst, &near), Some(false));
-    assert_eq!(rt; to_first(inst, &near), Some(false));
     let joined = Move::swap(step(3, 2, 3), step(2, 3, 2));
-    assert_eq!(rt; from_first(inst, &joined), Some(false));
-    assert_eq!(rt; to_first(inst, &joined), Some(false));
+    let apart = [from_first(inst, &swap), to_first(inst, &far)];
+    assert_eq!(rt; apart, [Some(true), Some(true)]);
+    let meeting = [
+        from_first(inst, &near),
+        to_first(inst, &near),
+        from_first(inst, &joined),
+        to_first(inst, &joined),
+    ];
+    assert_eq!(rt; meeting, [Some(false); 4]);
 }
 
 #[test]

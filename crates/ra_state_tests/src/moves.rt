@@ -165,15 +165,12 @@ fn weighed(broken: Option<Cause>, local: i128) -> Weighed
 #[tactic(auto, unfolding(ra_moves::specs::Settling::settled_cost))]
 fn a_weighed_move_is_done_or_refused(rt: HostRuntime) {
     let done = |cost| Verdict::Done { cost };
-    assert_eq!(rt;
+    let found = [
         settle(3510, 1, 1, 10, &weighed(None, -1099), 0),
-        done(2411)
-    );
-    assert_eq!(rt;
         settle(3510, 1, 0, 10, &weighed(None, 700), 690),
-        done(4200)
-    );
-    assert_eq!(rt; settle(3510, 0, 2, 10, &weighed(None, 0), 20), done(3530));
+        settle(3510, 0, 2, 10, &weighed(None, 0), 20),
+    ];
+    assert_eq!(rt; found, [done(2411), done(4200), done(3530)]);
     let cause = Cause::Rise {
         before: 3510,
         after: 4200,

@@ -1,11 +1,9 @@
 //! Pinned processes and their load.
-use crate::common::closing;
+use crate::common::{closing, fitting};
 use ra_base::{Machine, Process, Resource};
 use ra_model::{Instance, ResourceRow};
 use ra_pins::Pins;
-use ra_samples::{
-    Lists, NotMade, assignment, instance, machine, process, resource, service, tight_pair,
-};
+use ra_samples::{Lists, NotMade, instance, machine, process, resource, service, tight_pair};
 use std::alloc::Global;
 use std::process::Abort;
 
@@ -32,11 +30,10 @@ fn six_and_five(alloc: Global) -> Result<Instance, NotMade> {
 
 /// Which of two processes are pinned, and the load of each of two machines.
 fn pins_of(rt: &impl Abort, alloc: Global, inst: &Instance) -> ([bool; 2], [u64; 2]) {
-    let a0 = assignment(alloc, &[0, 1]).expect(rt, "no memory");
-    assert!(rt; inst.is_assignment(&a0));
-    assert_eq!(rt; inst.processes(), 2);
-    assert_eq!(rt; inst.machines(), 2);
-    assert_eq!(rt; inst.resources(), 1);
+    assert!(rt; inst.processes() == 2);
+    assert!(rt; inst.machines() == 2);
+    assert!(rt; inst.resources() == 1);
+    let a0 = fitting(rt, alloc, inst, &[0, 1]);
     let pins = Pins::make(alloc, inst, &a0).expect(rt, "no memory");
     (
         [pins.pinned(Process(0)), pins.pinned(Process(1))],

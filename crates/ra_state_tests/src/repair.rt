@@ -3,17 +3,16 @@ ghost use Rattle.std.specs.Prelude.{◌≡◌, ◌∷◌, [], length};
 ghost use Rattle.ra_draws.specs.Lots.{IsLots};
 ghost use Rattle.ra_model.specs.Assignments.{IsAssignment};
 
-use crate::common::step;
+use crate::common::{fitting, step};
 use ra_base::{Assignment, Fixed, Machine};
 use ra_draws::{Lot, Source};
 use ra_model::Instance;
 use ra_moves::Move;
 use ra_repair::{Repair, Try};
-use ra_samples::{assignment, list, sample};
+use ra_samples::{list, sample};
 use ra_topology::Topology;
 use std::alloc::Global;
 use std::process::Abort;
-use std::test::Fail;
 
 /// A lot of one proposal, with these eight words.
 fn one_proposal(words: Fixed<u64>) -> Lot
@@ -35,20 +34,27 @@ fn compare(
     words: &[u64; 8],
     wanted: Try,
     last: &[Machine],
-) -> Result<(), Fail>
+)
     requires { IsAssignment inst.now.tables start.now.items }
 {
-    let lot = one_proposal(list(alloc, words)?);
-    let topo = Topology::make(alloc, inst)?;
-    let mut repair = Repair::make(alloc, inst, &topo, start, &lot)?;
-    assert_eq!(rt; repair.penalty(), wanted.before);
+    let lot = one_proposal(list(alloc, words).expect(rt, "no memory"));
+    let topo = Topology::make(alloc, inst).expect(rt, "no memory");
+    let made = Repair::make(alloc, inst, &topo, start, &lot);
+    let mut repair = made.expect(rt, "no memory");
+    let before = repair.penalty();
     repair.run();
-    assert_eq!(rt; repair.tries(), 1);
-    assert_eq!(rt; repair.entry(0), wanted);
-    assert_eq!(rt; repair.assignment().as_slice(), last);
+    compare_run(rt, &repair, wanted, last);
     drop(repair);
     drop(topo);
-    Ok(())
+    drop(lot);
+    assert_eq!(rt; before, wanted.before);
+}
+
+/// Compares the one try of a run, and the list after it.
+fn compare_run(rt: &impl Abort, repair: &Repair<'_>, wanted: Try, last: &[Machine]) {
+    assert!(rt; repair.tries() == 1);
+    assert_eq!(rt; repair.entry(0), wanted);
+    assert_eq!(rt; repair.assignment().as_slice(), last);
 }
 
 /// A try of a shift by one process.
@@ -63,11 +69,10 @@ fn shift(p: u32, from: u32, to: u32, taken: bool, before: u128, after: u128) -> 
 }
 
 #[test]
-fn a_conflict_of_the_sample_is_mended_by_one_shift(rt: HostRuntime) -> Result<(), Fail> {
+fn a_conflict_of_the_sample_is_mended_by_one_shift(rt: HostRuntime) {
     let inst = sample(rt.alloc()).expect(&rt, "no instance");
-    let start = assignment(rt.alloc(), &[0, 0, 0])?;
-    assert!(rt; inst.is_assignment(&start));
-    let result = compare(
+    let start = fitting(&rt, rt.alloc(), &inst, &[0, 0, 0]);
+    compare(
         &rt,
         rt.alloc(),
         &inst,
@@ -76,16 +81,15 @@ fn a_conflict_of_the_sample_is_mended_by_one_shift(rt: HostRuntime) -> Result<()
         shift(1, 0, 2, true, 2, 0),
         &[Machine(0), Machine(2), Machine(0)],
     );
+    drop(start);
     drop(inst);
-    result
 }
 
 #[test]
-fn a_try_that_mends_nothing_is_taken_where_nothing_gets_worse(rt: HostRuntime) -> Result<(), Fail> {
+fn a_try_that_mends_nothing_is_taken_where_nothing_gets_worse(rt: HostRuntime) {
     let inst = sample(rt.alloc()).expect(&rt, "no instance");
-    let start = assignment(rt.alloc(), &[0, 0, 0])?;
-    assert!(rt; inst.is_assignment(&start));
-    let result = compare(
+    let start = fitting(&rt, rt.alloc(), &inst, &[0, 0, 0]);
+    compare(
         &rt,
         rt.alloc(),
         &inst,
@@ -94,6 +98,6 @@ fn a_try_that_mends_nothing_is_taken_where_nothing_gets_worse(rt: HostRuntime) -
         shift(2, 0, 1, true, 2, 2),
         &[Machine(0), Machine(0), Machine(1)],
     );
+    drop(start);
     drop(inst);
-    result
 }

@@ -4,10 +4,11 @@ ghost use Rattle.ra_model.specs.Numbers.{resource_count, machine_count, process_
 ghost use Rattle.ra_model.specs.Assignments.{IsAssignment, machine_at};
 ghost use Rattle.ra_rows.specs.Rows.{HasAt};
 
+use crate::common::fitting;
 use ra_base::{Assignment, Machine, Process, Resource, Steps};
 use ra_model::Instance;
 use ra_rows::Rows;
-use ra_samples::{assignment, pair_at_limits, sample};
+use ra_samples::{pair_at_limits, sample};
 use std::alloc::Global;
 use std::marker::Brand;
 use std::process::Abort;
@@ -18,10 +19,12 @@ fn compare_machine(rt: &impl Abort, rows: &Rows<'_>, m: Machine, used: [u64; 2],
     requires machine { m.0 < machine_count rows.now.tables }
     requires resources { resource_count rows.now.tables ≡ 2 }
 {
-    assert_eq!(rt; rows.usage(m, Resource(0)), used[0]);
-    assert_eq!(rt; rows.usage(m, Resource(1)), used[1]);
-    assert_eq!(rt; rows.transient_use(m, Resource(0)), between[0]);
-    assert_eq!(rt; rows.transient_use(m, Resource(1)), between[1]);
+    let (first, second) = (Resource(0), Resource(1));
+    assert_eq!(rt; [rows.usage(m, first), rows.usage(m, second)], used);
+    assert_eq!(rt;
+        [rows.transient_use(m, first), rows.transient_use(m, second)],
+        between
+    );
     assert_eq!(rt; rows.usage_row(m), used.as_slice());
     assert_eq!(rt; rows.transient_row(m), between.as_slice());
 }
@@ -95,11 +98,10 @@ fn machine_of(a: &Assignment, p: Process) -> Machine
 
 /// The rows at the start, and while process 1 goes and comes.
 fn follow_sample(rt: &impl Abort, alloc: Global, inst: &Instance) {
-    let a0 = assignment(alloc, &[0, 3, 0]).expect(rt, "no memory");
-    assert!(rt; inst.is_assignment(&a0));
-    assert_eq!(rt; inst.resources(), 2);
-    assert_eq!(rt; inst.machines(), 4);
-    assert_eq!(rt; inst.processes(), 3);
+    assert!(rt; inst.resources() == 2);
+    assert!(rt; inst.machines() == 4);
+    assert!(rt; inst.processes() == 3);
+    let a0 = fitting(rt, alloc, inst, &[0, 3, 0]);
     assert_eq!(rt; machine_of(&a0, Process(1)).0, 3);
     let mut rows = rows_at_start(rt, alloc, inst, &a0);
     compare_machine(rt, &rows, Machine(0), [18, 210], [18, 210]);
@@ -108,10 +110,9 @@ fn follow_sample(rt: &impl Abort, alloc: Global, inst: &Instance) {
 }
 
 fn compare_at_limits(rt: &impl Abort, alloc: Global, inst: &Instance) {
-    let a0 = assignment(alloc, &[0, 1]).expect(rt, "no memory");
-    assert!(rt; inst.is_assignment(&a0));
-    assert_eq!(rt; inst.resources(), 2);
-    assert_eq!(rt; inst.machines(), 2);
+    assert!(rt; inst.resources() == 2);
+    assert!(rt; inst.machines() == 2);
+    let a0 = fitting(rt, alloc, inst, &[0, 1]);
     let rows = Rows::make(alloc, inst, &a0).expect(rt, "no memory");
     compare_machine(rt, &rows, Machine(0), [4294967295, 0], [4294967295, 0]);
     compare_machine(rt, &rows, Machine(1), [4294967295, 0], [4294967295, 0]);
