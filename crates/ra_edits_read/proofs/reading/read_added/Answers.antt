@@ -1,4 +1,4 @@
-use Rattle.std.proofs.Common.{arith}
+use Rattle.std.proofs.Common.{◌+◌, length, ap, ◌∙◌, arith}
 use Rattle.ra_assign.proofs.ToldLemmas.{at_exit, went_on, refuses_as, refuses_next}
 use Rattle.ra_edits_read.proofs.EditLaws.{TakesTwo, TakesThree, at_service, at_machine, at_requirements, at_cost, at_added}
 use Rattle.ra_edits_read.proofs.reading.read_added.Goals as goal
@@ -33,3 +33,12 @@ returns-clause-gives g c =
     let two = went_on {R = λ bytes x z. TakesTwo bytes s m x z} c.in_ok-service.ensures.gives c.in_ok-machine.ensures.gives (λ bytes x y z one two. record { middle = y; one = one; two = two }) in
     let three = went_on {R = λ bytes x u. TakesThree bytes c.resources.result s m old new x u} two c.in_ok-take_numbers.ensures.gives (λ bytes x z u h three. record { middle = z; two = h; three = three }) in
     went_on three c.in_ok-move_cost.ensures.gives (λ bytes x u v h four. at_added bytes _ _ _ x u v s m c.in_ok-move_cost.move_cost old new c.resources.ensures (omega (arith, c.services.ensures, c.in_ok-service.ensures.below)) (omega (arith, c.machines.ensures, c.in_ok-machine.ensures.below)) h four)
+
+pub returns-clause-number : goal.returns-clause-number
+returns-clause-number g c = c.in_ok-take_numbers.ensures.number ∙ ap (λ n. length c.args.requirements.now.items + n) c.resources.ensures
+
+pub returns-clause-fits : goal.returns-clause-fits
+returns-clause-fits g c = (omega (arith, c.services.ensures, c.in_ok-service.ensures.below), omega (arith, c.machines.ensures, c.in_ok-machine.ensures.below))
+
+pub take_numbers-requires-clause-room : goal.take_numbers-requires-clause-room
+take_numbers-requires-clause-room g c = rw c.resources.ensures c.requires.room
