@@ -1,6 +1,7 @@
 mod plans;
 mod walking;
 mod weighing;
+mod worlds;
 
 use ra_base::Fixed;
 use ra_model::Instance;

@@ -5,6 +5,3 @@
 mod beside;
 
 pub use beside::Beside;
-
-#[cfg(test)]
-mod tests;

@@ -1,4 +1,3 @@
 pub mod Standing
 pub mod Clauses
 pub mod SameMoves
-pub mod LotLaws

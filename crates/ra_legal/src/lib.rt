@@ -10,6 +10,3 @@ mod search;
 mod touching;
 
 pub use search::first_illegal;
-
-#[cfg(test)]
-mod tests;

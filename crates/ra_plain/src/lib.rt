@@ -8,6 +8,3 @@ mod refusals;
 
 pub use judging::judge_plainly;
 pub use planning::{Planned, plan_plainly};
-
-#[cfg(test)]
-mod tests;

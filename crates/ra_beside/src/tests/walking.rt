@@ -13,7 +13,7 @@ use std::process::Abort;
 use std::sync::ledger::{Blank, Ledger};
 
 /// The words of a proposal, which look like drawn ones.
-fn words_from(seed: &mut u64) -> [u64; 8] {
+pub(super) fn words_from(seed: &mut u64) -> [u64; 8] {
     let mut words = [0u64; 8];
     for k in 0..8 {
         *seed = seed

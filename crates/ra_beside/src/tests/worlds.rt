@@ -1,3 +1,4 @@
+//! What a world tells, after many moves, beside what the plain checker and plain loops tell of the same assignment.
 ghost use Rattle.std.specs.Prelude.{◌≡◌, ◌<◌};
 
 mod comparing;
@@ -5,10 +6,13 @@ mod costs;
 mod instances;
 mod plain;
 
-use super::*;
+use super::closing;
+use super::plans::is_done;
+use super::walking::words_from;
 use comparing::compare;
 use instances::busy;
-use ra_base::{Fixed, Machine, Parts, Resource, Service, Steps};
+use ra_base::{Machine, Parts, Resource, Service, Steps};
+use ra_compare::Beside;
 use ra_model::Instance;
 use ra_moves::Verdict;
 use ra_samples::{assignment, list, sample, seven_processes};
@@ -18,25 +22,6 @@ use std::alloc::Global;
 use std::marker::Brand;
 use std::process::Abort;
 use std::sync::ledger::{Blank, Ledger};
-
-/// The words of a proposal, which look like drawn ones.
-fn words_from(seed: &mut u64) -> [u64; 8] {
-    let mut words = [0u64; 8];
-    for k in 0..8 {
-        *seed = seed
-            .wrapping_mul(6364136223846793005)
-            .wrapping_add(1442695040888963407);
-        words[k] = *seed >> 33;
-    }
-    words
-}
-
-fn is_done(verdict: &Verdict) -> bool {
-    match verdict {
-        Verdict::Done { .. } => true,
-        Verdict::Refused { .. } => false,
-    }
-}
 
 /// The kind of move that words ask for: 0 a shift, 1 a swap, 2 a chain.
 fn kind_in(words: &[u64; 8]) -> usize
@@ -80,12 +65,6 @@ fn follow_many(rt: &impl Abort, alloc: Global, inst: &Instance, start: &[u32]) {
     assert!(rt; shifts > 100, "{shifts}");
     assert!(rt; swaps > 10, "{swaps}");
     assert!(rt; chains > 10, "{chains}");
-}
-
-/// The instance with these machines closed.
-fn closing(rt: &impl Abort, inst: Instance, flags: Fixed<bool>) -> Instance {
-    assert!(rt; flags.len() == inst.machines() as usize);
-    inst.closing(flags)
 }
 
 #[test]

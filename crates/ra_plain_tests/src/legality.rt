@@ -1,10 +1,11 @@
 mod lots;
 
-use super::*;
+use super::verdicts::{done, refused};
 use lots::{one_lot, two_lots};
 use ra_base::{Cause, Machine, Process, Resource};
 use ra_draws::Lots;
 use ra_journal::Entry;
+use ra_legal::first_illegal;
 use ra_model::Instance;
 use ra_moves::{Move, Step, Verdict};
 use ra_samples::{assignment, sample};
@@ -60,14 +61,6 @@ fn shift(process: u32, from: u32, to: u32) -> Move {
         from: Machine(from),
         to: Machine(to),
     })
-}
-
-fn done(cost: u128) -> Verdict {
-    Verdict::Done { cost }
-}
-
-fn refused(cause: Cause) -> Verdict {
-    Verdict::Refused { cause }
 }
 
 fn same(process: u32) -> Verdict {

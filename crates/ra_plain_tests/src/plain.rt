@@ -1,10 +1,11 @@
 mod plans;
 
-use super::*;
+use super::verdicts::{done, refused};
 use ra_base::{Cause, Drawing, Fixed, Machine, Process, Resource, Service};
 use ra_check::{Scratch, parts};
 use ra_model::Instance;
 use ra_moves::{Verdict, options, resolve};
+use ra_plain::judge_plainly;
 use ra_samples::{assignment, crossed_pair, list, sample, tight_pair};
 use std::alloc::Global;
 use std::process::Abort;
@@ -17,14 +18,6 @@ fn shift(p: u64, m: u64) -> [u64; 8] {
 /// The words of a swap of two processes.
 fn swap(p: u64, q: u64) -> [u64; 8] {
     [5, p, q, 0, 0, 0, 0, 0]
-}
-
-fn done(cost: u128) -> Verdict {
-    Verdict::Done { cost }
-}
-
-fn refused(cause: Cause) -> Verdict {
-    Verdict::Refused { cause }
 }
 
 /// The verdict on the first move that words name, at an assignment that is reached from a start.

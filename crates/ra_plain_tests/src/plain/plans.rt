@@ -1,10 +1,10 @@
 //! What proposals name, judge and choose.
-use super::{done, refused};
-use crate::{Planned, plan_plainly};
+use super::super::verdicts::{done, refused};
 use ra_base::{Cause, Drawing, Machine, Process, Resource, Service};
 use ra_check::{Scratch, parts};
 use ra_model::Instance;
 use ra_moves::{Move, Step, Verdict};
+use ra_plain::{Planned, plan_plainly};
 use ra_samples::{assignment, crossed_pair, list, sample, single, tight_pair};
 use std::alloc::Global;
 use std::process::Abort;

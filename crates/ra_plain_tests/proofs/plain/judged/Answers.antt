@@ -1,7 +1,7 @@
 use Rattle.std.proofs.Common.{◌≡◌, ap}
 use Rattle.ra_base.specs.declared.costs.Parts.{Parts}
 use Rattle.ra_model.specs.Costs.{parts_of}
-use Rattle.ra_plain.proofs.tests.judged.Goals as goal
+use Rattle.ra_plain_tests.proofs.plain.judged.Goals as goal
 
 pub judge_plainly-verdict-requires-clause-before : goal.judge_plainly-verdict-requires-clause-before
 unfolding parts_of

@@ -1,0 +1,10 @@
+//! Tests of the plain judge and planner and of the plain test of legality, on the sample and other small instances, by
+//! hand. There is nothing here but tests.
+#![tactic(auto)]
+
+#[cfg(test)]
+mod legality;
+#[cfg(test)]
+mod plain;
+#[cfg(test)]
+mod verdicts;
