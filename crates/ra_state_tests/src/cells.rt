@@ -102,7 +102,7 @@ fn told(mirror: &Mirror<'_>) -> Option<(u32, u32, u32)> {
     ))
 }
 
-/// What they are at the start, and after process 1 went to machine 2, to machine 1 and back to machine 3.
+/// What they are at the start, and after process 1 went to machine 2, to machine 1 and home again.
 fn shift_and_back(rt: &impl Abort, alloc: Global, inst: &Instance, start: &Assignment) {
     assert!(rt; inst.is_assignment(start));
     let mut mirror = Mirror::make(alloc, inst, start).expect(rt, "no memory");

@@ -66,8 +66,8 @@ fn a_use_above_a_capacity_is_named(rt: &impl Abort, alloc: Global, inst: &Instan
     assert_eq!(rt; found, Some(over));
 }
 
-/// Processes 0 and 1 need 22 of machine 3 while they change places. The end is the sample's start, where all uses are
-/// within the capacities.
+/// Processes 0 and 1 need 22 of machine 3 while they change places. The end is the sample's start,
+/// where all uses are within the capacities.
 fn a_transient_use_above_a_capacity_is_named(rt: &impl Abort, alloc: Global, inst: &Instance) {
     let found = broken(rt, alloc, inst, &[3, 0, 0], &[0, 3, 0]);
     let between = Cause::Transient {

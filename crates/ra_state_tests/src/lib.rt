@@ -1,5 +1,6 @@
-//! Tests of what is known of an instance and an assignment: judging, rows, counters, pins, bounds, moves, repair, edits
-//! and guards. There is nothing here but tests, so that the crates that they test are proved once, without them.
+//! Tests of what is known of an instance and an assignment: judging, rows, counters, pins, bounds,
+//! moves, repair, edits and guards. There is nothing here but tests, so that the crates that they
+//! test are proved once, without them.
 #![tactic(auto)]
 
 #[cfg(test)]

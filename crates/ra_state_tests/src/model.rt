@@ -253,7 +253,8 @@ fn compare_members(rt: &impl Abort, alloc: Global, inst: &Instance) {
     assert_eq!(rt; members.of(Service(2)).len(), 0);
 }
 
-/// Machine 2 has the location of machine 0, and no other machine's neighbourhood; machine 4 has that of machine 3.
+/// Machine 2 has the location of machine 0, and no other machine's neighbourhood; machine 4 has that
+/// of machine 3.
 fn compare_places(rt: &impl Abort, alloc: Global, inst: &Instance) {
     assert!(rt; inst.machines() == 5);
     let places = Places::make(alloc, inst).expect(rt, "no memory");

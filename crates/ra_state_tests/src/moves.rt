@@ -1,4 +1,4 @@
-//! Moves: what words ask for, their effect on an assignment, and the verdict on one that was weighed.
+//! Moves: what words ask for, their effect on an assignment, and the verdict on a weighed one.
 ghost use Rattle.std.specs.Prelude.{◌≡◌, [], ◌∷◌, IfOk};
 ghost use Rattle.ra_moves.specs.Steps.{StandsAt, Distinct, from_in};
 
