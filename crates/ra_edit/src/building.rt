@@ -29,7 +29,6 @@ pub(crate) fn build(
 }
 
 /// The lists of an instance with other processes.
-#[tactic(auto, unfolding(crate::specs::Drafts::with_processes, ra_model::specs::Numbers::process_weight_of, ra_model::specs::Numbers::service_weight_of, ra_model::specs::Numbers::machine_weight_of))]
 fn raw_of(
     alloc: Global,
     inst: &Instance,

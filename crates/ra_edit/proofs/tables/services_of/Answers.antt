@@ -1,6 +1,6 @@
 use Rattle.std.proofs.Common.{◌+◌, ◌<◌, length, ap, ◌∙◌, arith, length-append}
 use Rattle.ra_model.specs.Numbers.{service_count}
-use Rattle.ra_edit.proofs.CopyLaws.{service_more, end_next}
+use Rattle.ra_edit.proofs.CopyLaws.{service_more, service_whole, end_next}
 use Rattle.ra_edit.proofs.tables.services_of.Goals as goal
 
 pub loop-s-preserved : goal.loop-s-preserved
@@ -13,3 +13,12 @@ loop-s-preserved c =
       room = c.push.ensures.room ∙ c.loop-s.invariant.room;
       ends = omega (arith, ends, c.depends.ensures.count, c.loop-s.invariant.ends);
     }
+
+pub returns : goal.returns
+returns c = service_whole c.args.inst.now.tables c.loop-s.s _ c.loop-s.invariant.items (omega (arith, c.loop-s-test.false, c.services-s-end.ensures, c.loop-s.auto.s-end))
+
+pub push-requires : goal.push-requires
+push-requires c = omega (arith, c.loop-s.invariant.size, c.loop-s.invariant.room, c.loop-s-test.true, c.services-s-end.ensures)
+
+pub depends-requires : goal.depends-requires
+depends-requires c = omega (arith, c.loop-s-test.true, c.services-s-end.ensures)
