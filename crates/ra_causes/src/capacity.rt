@@ -39,7 +39,6 @@ impl<'a, 'b> Trial<'a, 'b> {
     }
 
     /// The first use on a machine that is above its capacity after the move.
-    #[tactic(auto, using(ra_base::proofs::Searches::searches), unfolding(ra_model::specs::Broken::row_capacity))]
     pub(crate) fn row_capacity(&self, m: Machine) -> Option<Cause>
         requires { m.0 < machine_count (tables_of self.now) }
         ensures { result ≡ row_capacity (tables_of self.now) (after_of self.now) m.0 }
@@ -54,7 +53,6 @@ impl<'a, 'b> Trial<'a, 'b> {
     }
 
     /// The first transient use on a machine that is above its capacity after the move.
-    #[tactic(auto, using(ra_base::proofs::Searches::searches), unfolding(ra_model::specs::Broken::row_transient))]
     pub(crate) fn row_transient(&self, m: Machine) -> Option<Cause>
         requires { m.0 < machine_count (tables_of self.now) }
         ensures { result ≡
