@@ -1,6 +1,3 @@
-pub mod PieceLemmas
-pub mod GatheringLemmas
-pub mod NumberTexts
 pub mod EntryTexts
 pub mod JournalTexts
 pub mod HeadLines
@@ -11,5 +8,3 @@ pub mod FrontLaws
 pub mod ComparedLaws
 pub mod LineEnds
 pub mod TryTexts
-pub mod EditedTexts
-pub mod ModelLines

@@ -12,9 +12,11 @@ use Rattle.ra_model_read.specs.declared.faults.Field.TheVariants as field
 use Rattle.ra_model_read.specs.declared.faults.ModelFault.{ModelFault}
 use Rattle.ra_model_read.specs.declared.faults.ModelFault.TheVariants as model
 use Rattle.ra_report.specs.declared.faults.Fault.{Fault}
+use Rattle.ra_report.specs.declared.faults.FaultLine.{FaultLine}
 use Rattle.ra_report.specs.declared.faults.Fault.TheVariants.{Usage, Read, Model, Closed, Assign, Edits, Infeasible, Unrepaired, Wrong, Write, Memory}
-use Rattle.ra_report.specs.Pieces.{joined}
-use Rattle.ra_report.specs.Texts.{space, line_end, number_text, cause_text}
+use Rattle.ra_text.specs.Notes.{note_text}
+use Rattle.ra_text.specs.Pieces.{joined}
+use Rattle.ra_text.specs.Texts.{space, line_end, number_text, cause_text}
 
 -- the printed name of a field of a model file
 unfoldable pub field_text : Field → List ℕ
@@ -109,6 +111,10 @@ line_of words detail = joined (words ∷ detail ∷ line_end ∷ [])
 -- a line about a file: some words, its name, and what is wrong with it
 abbrev pub about : List ℕ → List ℕ → List ℕ → List ℕ
 about words name detail = joined (words ∷ name ∷ codes ": " ∷ detail ∷ line_end ∷ [])
+
+-- what is told of a fault: its words, its name and what stands behind that, its note, and the end of the line
+abbrev pub line_said : FaultLine → List ℕ
+line_said line = joined (line.words.now ∷ line.name.now ∷ line.behind.now ∷ note_text line.note ∷ line_end ∷ [])
 
 abbrev pub read_fault_line : List ℕ → List ℕ
 read_fault_line name = joined (codes "read fault: " ∷ name ∷ line_end ∷ [])

@@ -20,7 +20,9 @@ use Rattle.ra_journal.specs.declared.journal.Journal.{Journal}
 use Rattle.ra_journal.specs.Entries.{entry_at}
 use Rattle.ra_journal.specs.States.{state}
 use Rattle.ra_journal.specs.Best.{best_of}
-use Rattle.ra_report.specs.Texts.{space, line_end, number_text, number_line, parts_text, with_one, cause_text}
+use Rattle.ra_text.specs.Texts.{space, line_end, number_text, number_line, parts_text, with_one, cause_text}
+pub use Rattle.ra_text.specs.Texts.{machine_word}
+unfoldable pub use Rattle.ra_text.specs.Texts.{machines_text, assignment_line}
 
 -- a verdict: `done` and the cost, or `refused` and the cause
 unfoldable pub verdict_text : Verdict → List ℕ
@@ -62,17 +64,6 @@ entries_text h (suc n) = entries_text h n ++ entry_line n (entry_at h n)
 unfoldable pub entry_lines : List Entry → ℕ → List (List ℕ)
 entry_lines h zero = []
 entry_lines h (suc n) = entry_lines h n ++ entry_line n (entry_at h n) ∷ []
-
--- the numbers of machines, a space before each
-abbrev pub machine_word : Machine → List ℕ
-machine_word m = space ++ number_text m.0
-
-unfoldable pub machines_text : List Machine → List ℕ
-machines_text ms = flat_map machine_word ms
-
--- the line of an assignment: the machine of each process, in order
-unfoldable pub assignment_line : List Machine → List ℕ
-assignment_line a = codes "assignment" ++ machines_text a ++ line_end
 
 -- the printed number of a drawing, and its line
 unfoldable pub drawing_number : Drawing → ℕ

@@ -1,12 +1,6 @@
-pub mod CauseTexts
-pub mod EditedTexts
 pub mod FaultTexts
 pub mod Fronts
-pub mod Gathering
 pub mod JournalTexts
-pub mod ModelLines
-pub mod Notes
-pub mod Numbers
 pub mod Pieces
 pub mod ReportLaws
 pub mod Summaries

@@ -1,14 +1,12 @@
 ghost use Rattle.std.specs.Prelude.{◌≡◌, ◌++◌, length};
-ghost use Rattle.ra_report.specs.Gathering.{Adds};
-ghost use Rattle.ra_report.specs.Texts.{space};
+ghost use Rattle.ra_text.specs.Gathering.{Adds};
+ghost use Rattle.ra_text.specs.Texts.{space};
 ghost use Rattle.ra_report.specs.JournalTexts.{verdict_text, kind_text, step_text, steps_text, entry_front, entry_line, entries_text};
 
-use crate::gathered::Gathered;
-use crate::pieces::{Piece, add_decimal, add_marked, add_pieces};
-use crate::texts::add_cause;
 use ra_io::Sink;
 use ra_journal::{Entries, Entry};
 use ra_moves::{Move, MoveKind, Step, Verdict};
+use ra_text::{Gathered, Piece, add_cause, add_decimal, add_marked, add_pieces};
 
 /// Adds a line for each entry, in order.
 pub(crate) fn add_entries<O: Sink>(text: &mut Gathered<'_, O>, entries: &Entries)

@@ -2,19 +2,16 @@ ghost use Rattle.std.specs.Prelude.{◌≡◌, ◌≤◌, length, OnOk, OnErr};
 ghost use Rattle.std.specs.Io.KnownBytes.{Appends};
 ghost use Rattle.std.specs.Option.{option_copied};
 ghost use Rattle.ra_model.specs.Broken.{first_broken};
-ghost use Rattle.ra_report.specs.Gathering.{Adds};
-ghost use Rattle.ra_report.specs.Pieces.{Breaks};
-ghost use Rattle.ra_report.specs.Notes.{note_text};
+ghost use Rattle.ra_text.specs.Gathering.{Adds};
+ghost use Rattle.ra_text.specs.Pieces.{Breaks};
+ghost use Rattle.ra_text.specs.Notes.{note_text};
 ghost use Rattle.ra_report.specs.RepairTexts.{state_text, state_line, taken_text, try_front, try_back, try_line, tries_text, repair_lines, text_of_repair};
 
-use crate::gathered::{Gathered, WriteFault};
 use crate::journal::{add_steps, kind_name};
-use crate::notes::{Note, add_note};
-use crate::pieces::{Piece, add_pieces};
-use crate::solved::add_assignment;
 use ra_base::Cause;
 use ra_io::Sink;
 use ra_repair::{Repair, Try};
+use ra_text::{Gathered, Note, Piece, WriteFault, add_assignment, add_note, add_pieces};
 
 /// Writes the output of a repair: the line `feasible`, or `broken` and the cause, the line of its assignment, and a line
 /// for each try. `broken` is the first broken constraint of its assignment.
@@ -56,7 +53,7 @@ fn add_state<O: Sink>(text: &mut Gathered<'_, O>, broken: Option<&Cause>)
 }
 
 /// Whether an assignment is feasible, or what is broken first.
-#[tactic(auto, unfolding(crate::specs::Notes::note_text, crate::specs::RepairTexts::state_text))]
+#[tactic(auto, unfolding(ra_text::specs::Notes::note_text, crate::specs::RepairTexts::state_text))]
 fn state_note(broken: Option<&Cause>) -> Note<'static>
     ensures { note_text result ≡ state_text (option_copied broken.entry) }
 {

@@ -1,16 +1,14 @@
 ghost use Rattle.std.specs.Prelude.{◌≡◌};
-ghost use Rattle.ra_report.specs.Gathering.{Adds};
-ghost use Rattle.ra_report.specs.Texts.{number_line};
-ghost use Rattle.ra_report.specs.JournalTexts.{machines_text, outcome_text, assignment_line, drawing_number, drawing_line, head_text, report_lines, bound_text};
+ghost use Rattle.ra_text.specs.Gathering.{Adds};
+ghost use Rattle.ra_text.specs.Texts.{number_line};
+ghost use Rattle.ra_report.specs.JournalTexts.{outcome_text, drawing_number, drawing_line, head_text, report_lines, bound_text};
 
-use crate::gathered::Gathered;
 use crate::journal::add_entries;
-use crate::pieces::{Piece, add_pieces};
-use crate::texts::add_parts;
-use ra_base::{Assignment, Drawing, Machine, Parts};
+use ra_base::{Assignment, Drawing, Parts};
 use ra_bounds::Bound;
 use ra_io::Sink;
 use ra_journal::Entries;
+use ra_text::{Gathered, Piece, add_assignment, add_parts, add_pieces};
 
 /// Adds the report of a run: the parts of the best assignment, the total of the bound, the place of the best
 /// assignment, the assignment itself, the drawing, and a line for each entry of the journal.
@@ -86,24 +84,6 @@ fn drawing_number(drawing: Drawing) -> u128
     match drawing {
         Drawing::One => 1,
         Drawing::Two => 2,
-    }
-}
-
-/// Adds the line of an assignment.
-pub(crate) fn add_assignment<O: Sink>(text: &mut Gathered<'_, O>, machines: &[Machine])
-    ensures { Adds O.taken O.faults text.old text.new (assignment_line machines.now) }
-{
-    add_pieces(text, &[Piece::Text("assignment")]);
-    add_machines(text, machines);
-    add_pieces(text, &[Piece::Text("\n")])
-}
-
-/// Adds the numbers of machines, with a space before each.
-pub(crate) fn add_machines<O: Sink>(text: &mut Gathered<'_, O>, machines: &[Machine])
-    ensures { Adds O.taken O.faults text.old text.new (machines_text machines.now) }
-{
-    for machine in machines {
-        add_pieces(text, &[Piece::Marked(b' ', machine.0 as u64)]);
     }
 }
 

@@ -4,20 +4,19 @@ ghost use Rattle.ra_report.specs.FaultTexts.{CanBeTold, fault_text};
 ghost use Rattle.ra_model.specs.Costs.{parts_of};
 ghost use Rattle.ra_bounds.specs.PinnedBounds.{pinned_bound_of};
 ghost use Rattle.ra_report.specs.JournalTexts.{report_lines, head_text, best_state, text_of, head_of, entry_line, accepted_line, bound_text};
-ghost use Rattle.ra_report.specs.Pieces.{Breaks};
+ghost use Rattle.ra_text.specs.Pieces.{Breaks};
 ghost use Rattle.ra_report.specs.Summaries.{summary_lines, summary_of};
-ghost use Rattle.ra_report.specs.Texts.{parts_text, cause_text};
+ghost use Rattle.ra_text.specs.Texts.{parts_text, cause_text};
 
 use crate::faults::{Fault, add_fault};
-use crate::gathered::{Gathered, WriteFault};
 use crate::journal::add_entry;
 use crate::solved::{add_bound, add_head, add_number, add_report};
 use crate::summary::add_summary;
-use crate::texts::{add_cause, add_parts};
 use ra_base::{Assignment, Cause, Drawing, Parts};
 use ra_bounds::Bound;
 use ra_io::Sink;
 use ra_journal::{Entries, Entry, Journal};
+use ra_text::{Gathered, WriteFault, add_cause, add_parts};
 
 /// Writes the six lines of the parts: `cost`, `load`, `balance`, `process`, `service`, `machine`.
 pub fn write_parts<O: Sink>(sink: &mut O, parts: &Parts) -> Result<(), WriteFault>

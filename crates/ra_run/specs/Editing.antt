@@ -13,7 +13,7 @@ use Rattle.ra_model.specs.declared.raw.Tables.{Tables}
 use Rattle.ra_model.specs.Assignments.{IsAssignment}
 use Rattle.ra_model.specs.Broken.{first_broken}
 use Rattle.ra_model.specs.Feasible.{Feasible}
-use Rattle.ra_report.specs.EditedTexts.{edited_text}
+use Rattle.ra_model_lines.specs.EditedTexts.{edited_text}
 use Rattle.ra_report.specs.FaultTexts.{IsInEdits}
 use Rattle.ra_run.specs.declared.refusals.File.TheVariants as file
 use Rattle.ra_run.specs.declared.refusals.Refusal.{Refusal}

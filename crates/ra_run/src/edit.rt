@@ -26,7 +26,7 @@ use ra_edit::Draft;
 use ra_edits_read::{Edits, EditsFault, read_edits};
 use ra_io::{Files, Sink};
 use ra_model::Instance;
-use ra_report::write_edited;
+use ra_model_lines::write_edited;
 use ra_topology::Topology;
 use std::alloc::Global;
 

@@ -1,7 +1,7 @@
 use Rattle.std.proofs.Common.{◌++◌}
-use Rattle.ra_report.specs.Texts.{line_end}
+use Rattle.ra_text.specs.Texts.{line_end}
 use Rattle.ra_report.specs.JournalTexts.{verdict_text, steps_text, entry_front, entry_line}
-use Rattle.ra_report.proofs.GatheringLemmas.{adds_more}
+use Rattle.ra_text.proofs.GatheringLemmas.{adds_more}
 use Rattle.ra_report.proofs.journal.add_entry.Goals as goal
 
 pub returns : goal.returns

@@ -1,8 +1,8 @@
 -- The words one after another, up to how `++` groups.
 use Rattle.std.proofs.Common.{[], ◌∷◌, ◌++◌, append_assoc}
-use Rattle.ra_report.specs.Texts.{number_text}
+use Rattle.ra_text.specs.Texts.{number_text}
 use Rattle.ra_report.specs.JournalTexts.{kind_text, entry_front}
-use Rattle.ra_report.proofs.GatheringLemmas.{adds_more}
+use Rattle.ra_text.proofs.GatheringLemmas.{adds_more}
 use Rattle.ra_report.proofs.journal.add_front.Goals as goal
 
 pub returns : goal.returns

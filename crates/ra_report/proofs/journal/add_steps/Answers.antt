@@ -1,6 +1,6 @@
 use Rattle.ra_moves.specs.Steps.{step_at}
 use Rattle.ra_report.specs.JournalTexts.{step_word, steps_text}
-use Rattle.ra_report.proofs.GatheringLemmas.{adds_none, adds_word}
+use Rattle.ra_text.proofs.GatheringLemmas.{adds_none, adds_word}
 use Rattle.ra_report.proofs.journal.add_steps.Goals as goal
 
 pub loop-i-init : goal.loop-i-init

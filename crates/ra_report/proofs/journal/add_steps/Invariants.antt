@@ -1,5 +1,5 @@
 use Rattle.std.proofs.Common.{take}
-use Rattle.ra_report.specs.Gathering.{Adds}
+use Rattle.ra_text.specs.Gathering.{Adds}
 use Rattle.ra_report.specs.JournalTexts.{steps_text}
 use Rattle.ra_report.proofs.journal.add_steps.Given as goal
 

@@ -1,7 +1,7 @@
 use Rattle.std.proofs.Common.{codes}
-use Rattle.ra_report.specs.Texts.{cause_text}
+use Rattle.ra_text.specs.Texts.{cause_text}
 use Rattle.ra_report.specs.JournalTexts.{verdict_text}
-use Rattle.ra_report.proofs.GatheringLemmas.{adds_more}
+use Rattle.ra_text.proofs.GatheringLemmas.{adds_more}
 use Rattle.ra_report.proofs.journal.add_verdict.Goals as goal
 
 pub returns-in-Refused : goal.returns-in-Refused

@@ -2,7 +2,7 @@ use Rattle.std.proofs.Common.{◌++◌, length}
 use Rattle.std.specs.Option.{option_copied}
 use Rattle.ra_report.specs.JournalTexts.{assignment_line}
 use Rattle.ra_report.specs.RepairTexts.{state_line, tries_text, repair_lines}
-use Rattle.ra_report.proofs.GatheringLemmas.{adds_more}
+use Rattle.ra_text.proofs.GatheringLemmas.{adds_more}
 use Rattle.ra_report.proofs.repair.add_repair.Goals as goal
 
 pub returns : goal.returns

@@ -1,7 +1,7 @@
 use Rattle.std.proofs.Common.{◌++◌}
 use Rattle.ra_report.specs.JournalTexts.{steps_text}
 use Rattle.ra_report.specs.RepairTexts.{try_front, try_back, try_line}
-use Rattle.ra_report.proofs.GatheringLemmas.{adds_more}
+use Rattle.ra_text.proofs.GatheringLemmas.{adds_more}
 use Rattle.ra_report.proofs.repair.add_try.Goals as goal
 
 pub returns : goal.returns

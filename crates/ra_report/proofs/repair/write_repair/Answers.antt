@@ -1,5 +1,5 @@
 use Rattle.std.proofs.Common.{rules}
-use Rattle.ra_report.proofs.GatheringLemmas.{put_whole, put_part}
+use Rattle.ra_text.proofs.GatheringLemmas.{put_whole, put_part}
 use Rattle.ra_report.proofs.TryTexts.{repair_told}
 use Rattle.ra_report.proofs.repair.write_repair.Goals as goal
 

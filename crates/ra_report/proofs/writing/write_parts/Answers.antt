@@ -1,5 +1,5 @@
 use Rattle.std.proofs.Common.{rules}
-use Rattle.ra_report.proofs.GatheringLemmas.{put_whole, put_part}
+use Rattle.ra_text.proofs.GatheringLemmas.{put_whole, put_part}
 use Rattle.ra_report.proofs.writing.write_parts.Goals as goal
 
 pub returns-clause-whole : goal.returns-clause-whole

@@ -1,0 +1,2 @@
+pub mod EditedTexts
+pub mod ModelLines

@@ -1,0 +1,3 @@
+pub mod PieceLemmas
+pub mod GatheringLemmas
+pub mod NumberTexts
