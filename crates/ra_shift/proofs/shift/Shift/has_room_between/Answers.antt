@@ -23,8 +23,8 @@ loop-r-preserved c =
     let i = shift.world.now.inst.now.tables in
     let P : ℕ → Type 0 = λ k. transient_at i k ≡ true → slice_index c.transient_row-between.result.now k + slice_index shift.required k ≤ capacity_of i c.args.to.0 k in
     let here : P c.loop-r.r = λ transient. (
-      let few : capacity_of i c.args.to.0 c.loop-r.r < slice_index c.transient_row-between.result.now c.loop-r.r + c.from.result → ⊥ = λ much. both_ways c.is_too_much.result c.if-is_too_much.false (c.is_too_much.ensures.1 (transient, much)) in
-      omega (arith, few, c.from.ensures)
+    let few : capacity_of i c.args.to.0 c.loop-r.r < slice_index c.transient_row-between.result.now c.loop-r.r + c.from.result → ⊥ = λ much. both_ways c.is_too_much.result c.if-is_too_much.false (c.is_too_much.ensures.1 (transient, much)) in
+    omega (arith, few, c.from.ensures)
     ) in
     below_more P c.loop-r.r c.loop-r.invariant here
 
