@@ -1,4 +1,4 @@
-use Rattle.std.proofs.Common.{◌≡◌, ◌<◌, arith, sym, ap, ◌∙◌}
+use Rattle.std.proofs.Common.{◌≡◌, arith, refl, ap, ◌∙◌}
 use Rattle.ra_base.specs.declared.ids.Process.{Process}
 use Rattle.ra_model.specs.Numbers.{machine_count}
 use Rattle.ra_moves.specs.Options.{option_count, drawn}
@@ -11,6 +11,44 @@ loop-option-init g c = c.none-best.ensures _ _ _ _
 
 pub target-to-requires-clause-named : goal.target-to-requires-clause-named
 target-to-requires-clause-named g c = shift_named _ _ _ _ c.requires.shift (rw (← c.options-count.ensures.value) c.loop-option-test.true)
+
+pub nonzero_rem-first : goal.nonzero_rem-first
+nonzero_rem-first g c =
+    let world = c.args.world.now in
+    let machines : c.machines-machines.result ≡ machine_count world.inst.now.tables = rw c.instance.ensures at c.machines-machines.ensures in
+    omega (arith, machines, world.inst.now.well_formed.some_machine)
+
+pub target-to-requires-clause-some : goal.target-to-requires-clause-some
+target-to-requires-clause-some g c =
+    let world = c.args.world.now in
+    let machines : c.machines-machines.result ≡ machine_count world.inst.now.tables = rw c.instance.ensures at c.machines-machines.ensures in
+    omega (arith, machines, world.inst.now.well_formed.some_machine)
+
+pub target-to-requires-clause-few : goal.target-to-requires-clause-few
+target-to-requires-clause-few g c =
+    let world = c.args.world.now in
+    let machines : c.machines-machines.result ≡ machine_count world.inst.now.tables = rw c.instance.ensures at c.machines-machines.ensures in
+    omega (arith, machines, world.inst.now.well_formed.few_machines)
+
+pub target-to-requires-clause-first : goal.target-to-requires-clause-first
+target-to-requires-clause-first g c = refl
+
+pub with_shift-best-requires-clause-world : goal.with_shift-best-requires-clause-world
+with_shift-best-requires-clause-world g c = c.make-shift.ensures.world
+
+pub with_shift-best-requires-clause-machine : goal.with_shift-best-requires-clause-machine
+with_shift-best-requires-clause-machine g c =
+    let world = c.args.world.now in
+    let machines : c.machines-machines.result ≡ machine_count world.inst.now.tables = rw c.instance.ensures at c.machines-machines.ensures in
+    rw machines at c.target-to.ensures.within
+
+pub returns : goal.returns
+returns g c =
+    let world = c.args.world.now in
+    let machines : c.machines-machines.result ≡ machine_count world.inst.now.tables = rw c.instance.ensures at c.machines-machines.ensures in
+    let end : c.loop-option.option ≡ c.options-count.result = omega (arith, c.loop-option-test.false, c.loop-option.auto.option-end) in
+    let all : c.loop-option.option ≡ option_count c.args.words.now (machine_count world.inst.now.tables) c.args.drawing = end ∙ c.options-count.ensures.value ∙ ap (λ m. option_count c.args.words.now m c.args.drawing) machines in
+    record { best = rw all at c.loop-option.invariant; counted = c.make-shift.ensures.counted }
 
 pub with_shift-best-requires-clause-offered : goal.with_shift-best-requires-clause-offered
 with_shift-best-requires-clause-offered g c =
