@@ -1,5 +1,5 @@
 -- The lines of a journal tell it, and a report tells the lines of its journal.
-use Rattle.std.proofs.Common.{◌≡◌, ℕ, zero, suc, ◌+◌, ◌<◌, ⊎_elim, List, [], ◌++◌, length, get_or, Option, refl, sym, ◌∙◌, ap, arith, append_assoc, length-append, subst, add-one, eq-or-lt_of_le, le_of_suc-le-suc}
+use Rattle.std.proofs.Common.{◌≡◌, ℕ, zero, suc, ◌+◌, ◌<◌, ⊎_elim, List, [], ◌++◌, length, Option, refl, sym, ◌∙◌, ap, arith, append_assoc, length-append, subst, add-one, eq-or-lt_of_le, le_of_suc-le-suc}
 use Rattle.std.proofs.lemmas.List.{append-nil, ext_get_or}
 use Rattle.ra_journal.specs.declared.entries.Entry.{Entry}
 use Rattle.ra_journal.specs.Entries.{entry_at}

@@ -1,4 +1,4 @@
-use Rattle.std.proofs.Common.{sym, arith}
+use Rattle.std.proofs.Common.{arith}
 use Rattle.ra_model_lines.specs.EditedTexts.{edits_text}
 use Rattle.ra_text.proofs.GatheringLemmas.{adds_none}
 use Rattle.ra_model_lines.proofs.EditedTexts.{adds_edit, reply_read}
