@@ -33,8 +33,8 @@ fn try_draw<V: Story>(desk: &Desk<V>, seat: &mut Place<V>, ticket: u64) -> bool
     desk.compare_exchange::<Draw>(seat, TICKET, ticket, ticket + 1) == ticket
 }
 
-/// Draws a ticket where it is served at once, and else gives the processor to others and tries again; returns it. So no
-/// turn waits for a worker that isn't running.
+/// Draws a ticket where it is served at once, and else gives the processor to others and tries again; returns it. So
+/// nobody waits behind a worker that has drawn one and doesn't run; behind one that is in its turn, all wait.
 pub(crate) fn draw<V: Story, R: Wait>(rt: &R, desk: &Desk<V>, seat: &mut Place<V>) -> u64
     requires table { (seat.old.table_id ≡ desk.now.table_id) ×
         IsSized desk.now.table_id desk.now.key }
