@@ -1,7 +1,9 @@
-//! Tests of what is printed: reports and summaries of runs, and lines of entries, of a bound and of a model. There is
-//! nothing here but tests.
+//! Tests of what is printed: reports and summaries of runs, lines of entries, of a bound and of a model, and how much a
+//! check of files in memory prints. There is nothing here but tests.
 #![tactic(auto)]
 
+#[cfg(test)]
+mod checking;
 #[cfg(test)]
 mod reports;
 #[cfg(test)]

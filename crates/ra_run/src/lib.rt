@@ -32,6 +32,3 @@ pub use status::Status;
 pub use steady::check_steady;
 pub use trial::trial_run;
 pub use verify::verify_run;
-
-#[cfg(test)]
-mod tests;
