@@ -25,6 +25,3 @@ pub use writing::{
     write_accepted, write_bound, write_cause, write_entry, write_fault, write_head, write_parts,
     write_report, write_summary,
 };
-
-#[cfg(test)]
-mod tests;
