@@ -5,10 +5,11 @@ use ra_base::{Cause, Machine, Process, Resource, Service};
 use ra_bounds::Bound;
 use ra_io::MemorySink;
 use ra_journal::Entry;
+use ra_model_lines::write_model;
 use ra_moves::{Move, Step, Verdict};
 use ra_report::{
     Fault, Front, WriteFault, is_entry_line, laws, read_front, write_accepted, write_bound,
-    write_entry, write_fault, write_model,
+    write_entry, write_fault,
 };
 use ra_samples::sample;
 use std::test::Fail;
