@@ -192,7 +192,6 @@ impl<'a> Cells<'a> {
 }
 
 /// How many of a service's labels are x.
-#[tactic(auto, using(crate::proofs::MakingLemmas::sizing, crate::proofs::HeldLemmas::held_le))]
 fn held_of(inst: &Instance, starts: &Fixed<u32>, labels: &Fixed<u32>, s: Service, x: u32) -> u32
     requires service { s.0 < service_count inst.now.tables }
     requires starts { AreStarts inst.now.tables
