@@ -137,7 +137,6 @@ impl<'a> World<'a> {
     }
 
     /// What a machine adds to the load cost.
-    #[tactic(auto, using(crate::proofs::RenewalLaws::kept_cost))]
     pub fn machine_load(&self, m: Machine) -> u128
         requires { m.0 < machine_count self.now.inst.now.tables }
         ensures { result ≡
@@ -147,7 +146,6 @@ impl<'a> World<'a> {
     }
 
     /// What a machine adds to the balance cost.
-    #[tactic(auto, using(crate::proofs::RenewalLaws::kept_cost))]
     pub fn machine_balance(&self, m: Machine) -> u128
         requires { m.0 < machine_count self.now.inst.now.tables }
         ensures { result ≡
