@@ -1,5 +1,5 @@
 -- Guards of a move, step by step.
-use Rattle.std.proofs.Common.{◌≡◌, ◌≢◌, ◌↔◌, ℕ, ◌+◌, ◌<◌, ◌≤◌, true, false, ◌||◌, List, length, get_or, sym, refl, ap, ◌∙◌, ⊎_elim, subst, arith, lt-ltb, le-ltb}
+use Rattle.std.proofs.Common.{◌≡◌, ◌≢◌, ◌↔◌, ℕ, ◌+◌, ◌<◌, ◌≤◌, true, false, ◌||◌, List, length, get_or, sym, refl, ap, ◌∙◌, ⊎_elim, subst, arith, lt-ltb, le-ltb, eqb, ne_eqb}
 use Rattle.std.proofs.lemmas.List.{get_or_read}
 use Rattle.std.proofs.Math.Bool.{or-false}
 use Rattle.std.proofs.lemmas.Bool.{cases_lt, or_left, or_right, or_cases, or_from, or_parts, both_ways}
@@ -8,7 +8,8 @@ use Rattle.ra_base.specs.declared.ids.Guard.TheVariants as guard
 use Rattle.ra_base.specs.declared.ids.Machine.{Machine}
 use Rattle.ra_base.specs.declared.ids.Service.{Service}
 use Rattle.ra_base.proofs.Counts.{count_some, count_zero}
-use Rattle.ra_base.proofs.Named.{is_named_at, is_named_not}
+use Rattle.ra_base.specs.Sums.{is_named}
+use Rattle.ra_base.proofs.Named.{is_named_at, is_named_not, is_named_more}
 use Rattle.ra_model.specs.declared.raw.Tables.{Tables}
 use Rattle.ra_model.specs.Numbers.{machine_count, process_count, service_count, service_of, dependency_count, need_of}
 use Rattle.ra_model.specs.Limits.{WellFormed}
@@ -40,6 +41,10 @@ need_read i s k needs each long within x read = sym (ap (λ (v : Service). v.0) 
 pub service_at : (i : Tables) (steps : List Step) (j : ℕ) (s : Step) (u : ℕ) → s ≡ step_at steps j → u ≡ service_of i s.process.0 → service_in i steps j ≡ u
 unfolding service_in process_in
 service_at i steps j s u is of = rw (of, is) refl
+
+-- one more name that isn't m
+pub unnamed_more : (k x : ℕ) (e : ℕ → ℕ) (m : ℕ) → is_named k e m ≡ false → e k ≡ x → x ≢ m → is_named (k + 1) e m ≡ false
+unnamed_more k x e m before is apart = is_named_more k e m ∙ or_from _ _ before (ap (λ y. eqb y m) is ∙ ne_eqb x m apart)
 
 -- the machines that a move leaves and enters
 

@@ -1,7 +1,18 @@
-use Rattle.std.proofs.Common.{◌<◌, length, arith}
-use Rattle.ra_guards.proofs.GuardLemmas.{end_from, end_to}
+use Rattle.std.proofs.Common.{◌≡◌, ◌<◌, length, arith}
+use Rattle.ra_guards.proofs.GuardLemmas.{end_none, end_more, end_all, end_from, end_to}
 use Rattle.ra_guards.proofs.apart.ends_at.Goals as goal
 use Rattle.ra_guards.proofs.apart.ends_at.Goals.{then-step-machine-via-then-step-machine, then-step-machine-via-else-step-machine+then-step-machine-2}
+
+pub loop-j-init : goal.loop-j-init
+loop-j-init c = end_none c.args.mv.now.steps c.args.machine.0
+
+pub loop-j-preserved : goal.loop-j-preserved
+loop-j-preserved c = end_more c.args.mv.now.steps c.args.machine.0 c.loop-j.j c.step-step.result c.step-step.ensures c.loop-j.invariant c.if-step-machine.false c.if-step-machine-2.false
+
+pub returns : goal.returns
+returns c =
+    let all : c.loop-j.j ≡ length c.args.mv.now.steps = omega (arith, c.loop-j-test.false, c.steps-j-end.ensures.value) in
+    end_all c.args.mv.now.steps c.args.machine.0 c.loop-j.j all c.loop-j.invariant
 
 pub returns-then-step-machine : goal.returns-then-step-machine
 returns-then-step-machine c =
