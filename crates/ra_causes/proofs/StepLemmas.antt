@@ -1,6 +1,9 @@
 -- The steps of a move, as they are read.
-use Rattle.std.proofs.Common.{◌≡◌, ℕ, ◌+◌, ◌<◌, ◌||◌, cond, eqb, List, length, sym, ap, ◌∙◌, arith}
+use Rattle.std.proofs.Common.{◌≡◌, ℕ, ◌+◌, ◌<◌, ◌||◌, cond, eqb, List, length, sym, ap, ◌∙◌, arith, ne_eqb, false, ◌≢◌}
+use Rattle.std.proofs.lemmas.Bool.{or_from}
+use Rattle.ra_base.specs.Sums.{is_named}
 use Rattle.ra_base.specs.declared.ids.Machine.{Machine}
+use Rattle.ra_base.proofs.Named.{is_named_more}
 use Rattle.ra_model.specs.declared.raw.Tables.{Tables}
 use Rattle.ra_model.specs.Limits.{WellFormed}
 use Rattle.ra_model.specs.Numbers.{machine_count, service_count, process_count, requirement_of, service_of, dependency_start, dependency_count, need_of}
@@ -79,3 +82,7 @@ transient_comes i a0 steps m r j s home amount x is home_is amount_is value = co
 pub transient_goes : (i : Tables) (a0 : List Machine) (steps : List Step) (m r j : ℕ) (s : Step) (home amount x : ℕ) → s ≡ step_at steps j → home ≡ machine_at a0 s.process.0 → amount ≡ requirement_of i (process_in steps j) r → x ≡ cond (eqb home m || eqb s.from.0 m) amount 0 → x ≡ gone (transient_share i a0 m r) steps j
 unfolding transient_share process_in
 transient_goes i a0 steps m r j s home amount x is home_is amount_is value = gone_read (transient_share i a0 m r) steps j s x is (value ∙ ap (λ h. cond (eqb h m || eqb s.from.0 m) amount 0) home_is ∙ ap (λ n. cond (eqb (machine_at a0 s.process.0) m || eqb s.from.0 m) n 0) (amount_is ∙ ap (λ (t : Step). requirement_of i t.process.0 r) (sym is)))
+
+-- one more name that isn't m
+pub unnamed_more : (k x : ℕ) (e : ℕ → ℕ) (m : ℕ) → is_named k e m ≡ false → e k ≡ x → x ≢ m → is_named (k + 1) e m ≡ false
+unnamed_more k x e m before is apart = is_named_more k e m ∙ or_from _ _ before (ap (λ y. eqb y m) is ∙ ne_eqb x m apart)

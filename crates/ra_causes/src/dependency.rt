@@ -24,7 +24,6 @@ impl<'a, 'b> Trial<'a, 'b> {
     }
 
     /// The first such dependency of a service.
-    #[tactic(auto, using(ra_base::proofs::Searches::searches), unfolding(ra_model::specs::Broken::service_dependency))]
     fn service_dependency(&self, s: Service) -> Option<Cause>
         requires { s.0 < service_count (tables_of self.now) }
         ensures { result ≡ service_dependency (tables_of self.now) (after_of self.now) s.0 }
@@ -55,7 +54,6 @@ impl<'a, 'b> Trial<'a, 'b> {
     }
 
     /// A process that has none of a service that it needs in its neighbourhood after the move.
-    #[tactic(auto, using(crate::proofs::TestLemmas::fars, crate::proofs::StepLemmas::need_there))]
     fn far_test(&self, s: Service, k: usize, need: Service, p: Process) -> Option<Cause>
         requires service { s.0 < service_count (tables_of self.now) }
         requires dependency { k < dependency_count (tables_of self.now) s.0 }

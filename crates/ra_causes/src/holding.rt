@@ -45,7 +45,6 @@ impl<'a, 'b> Trial<'a, 'b> {
     }
 
     /// Whether no process enters a machine that has another one of its service.
-    #[tactic(auto, using(crate::proofs::StepLemmas::known))]
     fn keeps_apart(&self) -> bool
         ensures { (result ≡ true) ↔
             (broken_conflict (tables_of self.now) (after_of self.now) ≡ None) }
@@ -60,7 +59,6 @@ impl<'a, 'b> Trial<'a, 'b> {
     }
 
     /// Whether each service that moves is in enough locations.
-    #[tactic(auto, using(crate::proofs::StepLemmas::known))]
     fn keeps_spread(&self) -> bool
         ensures { (result ≡ true) ↔
             (broken_spread (tables_of self.now) (after_of self.now) ≡ None) }
@@ -75,7 +73,6 @@ impl<'a, 'b> Trial<'a, 'b> {
     }
 
     /// Whether each process is near what its service needs.
-    #[tactic(auto, using(crate::proofs::StepLemmas::known))]
     fn keeps_near(&self) -> bool
         ensures { (result ≡ true) ↔
             (broken_dependency (tables_of self.now) (after_of self.now) ≡ None) }

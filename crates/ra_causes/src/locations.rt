@@ -60,7 +60,6 @@ impl<'a, 'b> Trial<'a, 'b> {
 
     /// Whether an end before this one is in a location.
     #[inline(always)]
-    #[tactic(auto, using(ra_base::proofs::Named::names))]
     fn is_label_before(&self, end: u32, label: u32) -> bool
         requires { end ≤ end_count (steps_of self.now) }
         ensures { result ≡

@@ -160,7 +160,6 @@ impl<'a, 'b> Trial<'a, 'b> {
     }
 
     /// The machine of a process after the move.
-    #[tactic(auto, using(ra_base::proofs::Named::names, ra_model::proofs::TallyLemmas::machine_at_read, crate::proofs::StepLemmas::process_read, crate::proofs::StepLemmas::known, crate::proofs::LandLemmas::landing))]
     pub(crate) fn machine_after(&self, p: Process) -> Machine
         requires { p.0 < process_count (tables_of self.now) }
         ensures machine { result.0 ≡ machine_at (after_of self.now) p.0 }

@@ -2,10 +2,22 @@
 use Rattle.std.proofs.Common.{◌≡◌, length, arith}
 use Rattle.ra_model.specs.Services.{of_service, members_at}
 use Rattle.ra_causes.specs.Marks.{has_mark, marked}
-use Rattle.ra_causes.proofs.StepLemmas.{come_read, gone_read}
+use Rattle.ra_causes.proofs.StepLemmas.{come_read, gone_read, step_process, step_to, step_from}
 use Rattle.ra_causes.specs.Trials.{tables_of, steps_of, before_of}
 use Rattle.ra_causes.proofs.FlowLemmas.{flows_none, flows_more, flowed_enough, flowed}
 use Rattle.ra_causes.proofs.trial.Trial.count_after.Goals as goal
+
+pub one_at-came-requires-clause-process : goal.one_at-came-requires-clause-process
+one_at-came-requires-clause-process c = step_process (tables_of c.args.self.now) (before_of c.args.self.now) (steps_of c.args.self.now) c.loop-j.j c.step-step.result c.args.self.now.moves c.step-step.ensures (omega (arith, c.loop-j-test.true, c.steps-j-end.ensures.value))
+
+pub one_at-came-requires-clause-machine : goal.one_at-came-requires-clause-machine
+one_at-came-requires-clause-machine c = step_to (tables_of c.args.self.now) (before_of c.args.self.now) (steps_of c.args.self.now) c.loop-j.j c.step-step.result c.args.self.now.moves c.step-step.ensures (omega (arith, c.loop-j-test.true, c.steps-j-end.ensures.value))
+
+pub one_at-went-requires-clause-process : goal.one_at-went-requires-clause-process
+one_at-went-requires-clause-process c = step_process (tables_of c.args.self.now) (before_of c.args.self.now) (steps_of c.args.self.now) c.loop-j.j c.step-step.result c.args.self.now.moves c.step-step.ensures (omega (arith, c.loop-j-test.true, c.steps-j-end.ensures.value))
+
+pub one_at-went-requires-clause-machine : goal.one_at-went-requires-clause-machine
+one_at-went-requires-clause-machine c = step_from (tables_of c.args.self.now) (before_of c.args.self.now) (steps_of c.args.self.now) c.loop-j.j c.step-step.result c.args.self.now.moves c.step-step.ensures (omega (arith, c.loop-j-test.true, c.steps-j-end.ensures.value))
 
 pub loop-j-init : goal.loop-j-init
 loop-j-init c = flows_none (of_service (tables_of c.args.self.now) c.args.s.0 (has_mark (tables_of c.args.self.now) c.args.mark c.args.x)) (steps_of c.args.self.now) 1

@@ -5,6 +5,12 @@ use Rattle.ra_causes.proofs.StepLemmas.{step_process, step_to, to_read, service_
 use Rattle.ra_causes.proofs.HoldLemmas.{conflict_start, conflict_more, conflict_all, conflict_there, told_true, told_false}
 use Rattle.ra_causes.proofs.trial.Trial.keeps_apart.Goals as goal
 
+pub service_of-requires : goal.service_of-requires
+service_of-requires c = step_process (tables_of c.args.self.now) (before_of c.args.self.now) (steps_of c.args.self.now) c.loop-j.j c.step-step.result c.args.self.now.moves c.step-step.ensures (omega (arith, c.loop-j-test.true, c.steps-j-end.ensures.value))
+
+pub conflict_test-requires : goal.conflict_test-requires
+conflict_test-requires c = record { service = service_there (tables_of c.args.self.now) c.step-step.result.process.0 c.service_of.result.0 c.args.self.now.inst.now.well_formed (step_process (tables_of c.args.self.now) (before_of c.args.self.now) (steps_of c.args.self.now) c.loop-j.j c.step-step.result c.args.self.now.moves c.step-step.ensures (omega (arith, c.loop-j-test.true, c.steps-j-end.ensures.value))) c.service_of.ensures }
+
 pub loop-j-init : goal.loop-j-init
 loop-j-init c = conflict_start (tables_of c.args.self.now) (after_of c.args.self.now) (steps_of c.args.self.now)
 

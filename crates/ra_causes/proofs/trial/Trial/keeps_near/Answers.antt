@@ -4,11 +4,26 @@ use Rattle.std.proofs.lemmas.Bool.{both_ways}
 use Rattle.ra_model.specs.Numbers.{neighbourhood_of}
 use Rattle.ra_model.specs.Broken.{broken_dependency}
 use Rattle.ra_causes.specs.Trials.{tables_of, initial_of, steps_of, before_of, after_of}
-use Rattle.ra_causes.proofs.StepLemmas.{step_process, service_there, service_read, to_read, from_read}
+use Rattle.ra_causes.proofs.StepLemmas.{step_process, service_there, service_read, to_read, from_read, step_to, step_from}
 use Rattle.ra_causes.proofs.LandLemmas.{lands_read}
 use Rattle.ra_causes.proofs.HoldLemmas.{told_true, told_false}
 use Rattle.ra_causes.proofs.NearLemmas.{keep_start, keep_next, near_all, needs_found, none_left}
 use Rattle.ra_causes.proofs.trial.Trial.keeps_near.Goals as goal
+
+pub service_of-s-requires : goal.service_of-s-requires
+service_of-s-requires c = step_process (tables_of c.args.self.now) (before_of c.args.self.now) (steps_of c.args.self.now) c.loop-j.j c.step-step.result c.args.self.now.moves c.step-step.ensures (omega (arith, c.loop-j-test.true, c.steps-j-end.ensures.value))
+
+pub finds_needs-requires-clause-service : goal.finds_needs-requires-clause-service
+finds_needs-requires-clause-service c = service_there (tables_of c.args.self.now) c.step-step.result.process.0 c.service_of-s.result.0 c.args.self.now.inst.now.well_formed (step_process (tables_of c.args.self.now) (before_of c.args.self.now) (steps_of c.args.self.now) c.loop-j.j c.step-step.result c.args.self.now.moves c.step-step.ensures (omega (arith, c.loop-j-test.true, c.steps-j-end.ensures.value))) c.service_of-s.ensures
+
+pub finds_needs-requires-clause-to : goal.finds_needs-requires-clause-to
+finds_needs-requires-clause-to c = step_to (tables_of c.args.self.now) (before_of c.args.self.now) (steps_of c.args.self.now) c.loop-j.j c.step-step.result c.args.self.now.moves c.step-step.ensures (omega (arith, c.loop-j-test.true, c.steps-j-end.ensures.value))
+
+pub leaves_none_alone-requires-clause-service : goal.leaves_none_alone-requires-clause-service
+leaves_none_alone-requires-clause-service c = service_there (tables_of c.args.self.now) c.step-step.result.process.0 c.service_of-s.result.0 c.args.self.now.inst.now.well_formed (step_process (tables_of c.args.self.now) (before_of c.args.self.now) (steps_of c.args.self.now) c.loop-j.j c.step-step.result c.args.self.now.moves c.step-step.ensures (omega (arith, c.loop-j-test.true, c.steps-j-end.ensures.value))) c.service_of-s.ensures
+
+pub leaves_none_alone-requires-clause-from : goal.leaves_none_alone-requires-clause-from
+leaves_none_alone-requires-clause-from c = step_from (tables_of c.args.self.now) (before_of c.args.self.now) (steps_of c.args.self.now) c.loop-j.j c.step-step.result c.args.self.now.moves c.step-step.ensures (omega (arith, c.loop-j-test.true, c.steps-j-end.ensures.value))
 
 pub loop-j-init : goal.loop-j-init
 loop-j-init c = keep_start (tables_of c.args.self.now) (after_of c.args.self.now) (steps_of c.args.self.now)

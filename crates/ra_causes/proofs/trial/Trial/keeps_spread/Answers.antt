@@ -10,6 +10,12 @@ use Rattle.ra_causes.proofs.StepLemmas.{service_read, step_process, service_ther
 use Rattle.ra_causes.proofs.HoldLemmas.{none_start, none_more, none_all, told_true, told_false, spread_moved}
 use Rattle.ra_causes.proofs.trial.Trial.keeps_spread.Goals as goal
 
+pub service_of-s-requires : goal.service_of-s-requires
+service_of-s-requires c = step_process (tables_of c.args.self.now) (before_of c.args.self.now) (steps_of c.args.self.now) c.loop-j.j c.step.result c.args.self.now.moves c.step.ensures (omega (arith, c.loop-j-test.true, c.steps-j-end.ensures.value))
+
+pub spread_fits-requires : goal.spread_fits-requires
+spread_fits-requires c = service_there (tables_of c.args.self.now) c.step.result.process.0 c.service_of-s.result.0 c.args.self.now.inst.now.well_formed (step_process (tables_of c.args.self.now) (before_of c.args.self.now) (steps_of c.args.self.now) c.loop-j.j c.step.result c.args.self.now.moves c.step.ensures (omega (arith, c.loop-j-test.true, c.steps-j-end.ensures.value))) c.service_of-s.ensures
+
 pub loop-j-init : goal.loop-j-init
 loop-j-init c = none_start (spread_test (tables_of c.args.self.now) (after_of c.args.self.now)) (service_in (tables_of c.args.self.now) (steps_of c.args.self.now))
 

@@ -1,11 +1,17 @@
 -- One more step.
 use Rattle.std.proofs.Common.{arith}
 use Rattle.ra_local.specs.Touched.{service_in}
-use Rattle.ra_causes.specs.Trials.{tables_of, steps_of}
+use Rattle.ra_causes.specs.Trials.{tables_of, steps_of, before_of}
 use Rattle.ra_causes.proofs.SeekLemmas.{clear_none, clear_nearer, clear_more}
-use Rattle.ra_causes.proofs.StepLemmas.{service_read}
+use Rattle.ra_causes.proofs.StepLemmas.{service_read, step_process, service_there}
 use Rattle.ra_causes.proofs.NextLemmas.{needs_none, needs_more}
 use Rattle.ra_causes.proofs.trial.Trial.next_touched.Goals as goal
+
+pub service_of-s-requires : goal.service_of-s-requires
+service_of-s-requires c = step_process (tables_of c.args.self.now) (before_of c.args.self.now) (steps_of c.args.self.now) c.loop-j.j c.step.result c.args.self.now.moves c.step.ensures (omega (arith, c.loop-j-test.true, c.steps-j-end.ensures.value))
+
+pub nearer_dependant-next-requires-clause-there : goal.nearer_dependant-next-requires-clause-there
+nearer_dependant-next-requires-clause-there c = service_there (tables_of c.args.self.now) c.step.result.process.0 c.service_of-s.result.0 c.args.self.now.inst.now.well_formed (step_process (tables_of c.args.self.now) (before_of c.args.self.now) (steps_of c.args.self.now) c.loop-j.j c.step.result c.args.self.now.moves c.step.ensures (omega (arith, c.loop-j-test.true, c.steps-j-end.ensures.value))) c.service_of-s.ensures
 
 pub loop-j-init : goal.loop-j-init
 loop-j-init c = record {
