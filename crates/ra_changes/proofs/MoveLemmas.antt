@@ -1,8 +1,9 @@
 -- What is read of the steps of a move, and sums over the processes after one more step.
-use Rattle.std.proofs.Common.{◌≡◌, ℕ, suc, ◌+◌, ◌-◌, ◌<◌, ◌≤◌, List, length, refl, sym, ap, ◌∙◌, ⊎_elim, add-one, arith}
-use Rattle.std.proofs.lemmas.Bool.{cases_lt}
-use Rattle.ra_base.specs.Sums.{total}
+use Rattle.std.proofs.Common.{◌≡◌, ◌≢◌, ℕ, suc, ◌+◌, ◌-◌, ◌<◌, ◌≤◌, false, eqb, List, length, refl, sym, ap, ◌∙◌, ⊎_elim, add-one, arith, ne_eqb}
+use Rattle.std.proofs.lemmas.Bool.{cases_lt, or_from}
+use Rattle.ra_base.specs.Sums.{total, is_named}
 use Rattle.ra_base.specs.declared.ids.Machine.{Machine}
+use Rattle.ra_base.proofs.Named.{is_named_more}
 use Rattle.ra_base.proofs.Sums.{total_suc}
 use Rattle.ra_model.specs.declared.raw.Tables.{Tables}
 use Rattle.ra_model.specs.Numbers.{machine_count, process_count, service_count, service_of}
@@ -79,3 +80,7 @@ applied_all a steps n is = ap (after_steps a steps) is
 pub after_zero : (a : List Machine) (steps : List Step) → a ≡ after_steps a steps 0
 unfolding after_steps
 after_zero a steps = refl
+
+-- one more name that isn't m
+pub unnamed_more : (k x : ℕ) (e : ℕ → ℕ) (m : ℕ) → is_named k e m ≡ false → x ≡ e k → x ≢ m → is_named (k + 1) e m ≡ false
+unnamed_more k x e m before is apart = is_named_more k e m ∙ or_from _ _ before (ap (λ y. eqb y m) (sym is) ∙ ne_eqb x m apart)
