@@ -28,7 +28,6 @@ fn nearer(low: u32, next: u32, place: u32) -> u32
 
 impl<'a, 'b> Trial<'a, 'b> {
     /// The next machine that a step leaves or enters, from a lowest one on; past the last machine where there is none.
-    #[tactic(auto, using(crate::proofs::StepLemmas::known, crate::proofs::NextLemmas::nexts))]
     pub(crate) fn next_end(&self, low: u32) -> u32
         requires { low ≤ machine_count (tables_of self.now) }
         ensures from { low ≤ result }
@@ -45,7 +44,6 @@ impl<'a, 'b> Trial<'a, 'b> {
     }
 
     /// The next service that moves.
-    #[tactic(auto, using(crate::proofs::StepLemmas::known, crate::proofs::NextLemmas::nexts))]
     pub(crate) fn next_service(&self, low: u32) -> u32
         requires { low ≤ service_count (tables_of self.now) }
         ensures from { low ≤ result }
@@ -78,7 +76,6 @@ impl<'a, 'b> Trial<'a, 'b> {
     }
 
     /// The next service that moves or depends on one that does.
-    #[tactic(auto, using(crate::proofs::StepLemmas::known, crate::proofs::NextLemmas::nexts))]
     pub(crate) fn next_touched(&self, low: u32) -> u32
         requires { low ≤ service_count (tables_of self.now) }
         ensures from { low ≤ result }

@@ -75,7 +75,6 @@ impl<'a, 'b> Trial<'a, 'b> {
 
     /// The location of an end of the steps.
     #[inline(always)]
-    #[tactic(auto, using(crate::proofs::StepLemmas::known, crate::proofs::LocationLemmas::labels), unfolding(ra_moves::specs::Values::end_count))]
     fn end_label(&self, j: u32) -> u32
         requires { j < end_count (steps_of self.now) }
         ensures { result ≡ end_location (tables_of self.now) (steps_of self.now) j }

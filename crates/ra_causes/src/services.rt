@@ -39,7 +39,6 @@ impl<'a, 'b> Trial<'a, 'b> {
 
     /// Two processes of a service on a machine after the move.
     #[inline(always)]
-    #[tactic(auto, using(crate::proofs::TestLemmas::conflicts))]
     pub(crate) fn conflict_test(&self, s: Service, m: Machine) -> Option<Cause>
         requires service { s.0 < service_count (tables_of self.now) }
         ensures { result ≡ conflict_test (tables_of self.now) (after_of self.now) s.0 m.0 }

@@ -1,10 +1,16 @@
 -- One more step.
-use Rattle.std.proofs.Common.{arith}
+use Rattle.std.proofs.Common.{arith, ◌≡◌, length}
 use Rattle.ra_moves.specs.Steps.{from_in, to_in}
 use Rattle.ra_causes.specs.Trials.{steps_of}
 use Rattle.ra_causes.proofs.SeekLemmas.{clear_none, clear_nearer, clear_more}
 use Rattle.ra_causes.proofs.StepLemmas.{from_read, to_read}
+use Rattle.ra_causes.proofs.NextLemmas.{ends_all}
 use Rattle.ra_causes.proofs.trial.Trial.next_end.Goals as goal
+
+pub returns-clause-clear : goal.returns-clause-clear
+returns-clause-clear c =
+    let all : c.loop-j.j ≡ length (steps_of c.args.self.now) = omega (arith, c.loop-j-test.false, c.steps-j-end.ensures.value) in
+    ends_all (steps_of c.args.self.now) c.loop-j.j c.args.low c.loop-j.next all c.loop-j.invariant.left c.loop-j.invariant.entered
 
 pub loop-j-init : goal.loop-j-init
 loop-j-init c = record {

@@ -1,10 +1,16 @@
 -- One more step.
-use Rattle.std.proofs.Common.{arith}
+use Rattle.std.proofs.Common.{arith, ◌≡◌, length}
 use Rattle.ra_local.specs.Touched.{service_in}
 use Rattle.ra_causes.specs.Trials.{tables_of, steps_of, before_of}
 use Rattle.ra_causes.proofs.SeekLemmas.{clear_none, clear_more}
 use Rattle.ra_causes.proofs.StepLemmas.{service_read, step_process}
+use Rattle.ra_causes.proofs.NextLemmas.{moved_all}
 use Rattle.ra_causes.proofs.trial.Trial.next_service.Goals as goal
+
+pub returns-clause-clear : goal.returns-clause-clear
+returns-clause-clear c =
+    let all : c.loop-j.j ≡ length (steps_of c.args.self.now) = omega (arith, c.loop-j-test.false, c.steps-j-end.ensures.value) in
+    moved_all (tables_of c.args.self.now) (steps_of c.args.self.now) c.loop-j.j c.args.low c.loop-j.next all c.loop-j.invariant.moved
 
 pub service_of-s-requires : goal.service_of-s-requires
 service_of-s-requires c = step_process (tables_of c.args.self.now) (before_of c.args.self.now) (steps_of c.args.self.now) c.loop-j.j c.step.result c.args.self.now.moves c.step.ensures (omega (arith, c.loop-j-test.true, c.steps-j-end.ensures.value))
