@@ -1,8 +1,50 @@
 -- The parts of the kept assignment are changed by the step.
-use Rattle.std.proofs.Common.{◌∙◌, set}
+use Rattle.std.proofs.Common.{◌∙◌, set, arith}
 use Rattle.ra_model.proofs.TallyLemmas.{fits_set}
 use Rattle.ra_world.proofs.FollowLaws.{load_sum, balance_sum, load_fits, balance_fits, process_fits, machine_fits, process_part, machine_part, all_parts, parts_small, parts_summed, loads_renewed, balances_renewed, keeps_on}
 use Rattle.ra_world.proofs.following.follow_step.Goals as goal
+
+pub shift-requires-clause-process : goal.shift-requires-clause-process
+shift-requires-clause-process g c = rw c.requires.keeps.stand.instance c.requires.process
+
+pub shift-requires-clause-to : goal.shift-requires-clause-to
+shift-requires-clause-to g c = rw c.requires.keeps.stand.instance c.requires.to
+
+pub shift-requires-clause-stands : goal.shift-requires-clause-stands
+shift-requires-clause-stands g c = record { assignment = c.args.kept.now.assignment.items; stands = c.requires.keeps.stand.rows; at = c.requires.at_from }
+
+pub change-requires-clause-process : goal.change-requires-clause-process
+change-requires-clause-process g c = rw c.requires.keeps.stand.cells.instance c.requires.process
+
+pub change-requires-clause-machine : goal.change-requires-clause-machine
+change-requires-clause-machine g c = rw c.requires.keeps.stand.cells.instance c.requires.to
+
+pub change-requires-clause-here : goal.change-requires-clause-here
+change-requires-clause-here g c = record { tables = c.args.inst.now.tables; initial = c.args.start.now.items; assignment = c.args.kept.now.assignment.items; stand = c.requires.keeps.stand.cells; here = c.requires.at_from }
+
+pub set-requires : goal.set-requires
+set-requires g c = omega (arith, c.requires.process, c.requires.keeps.stand.fits.one_each)
+
+pub renew_loads-load-requires-clause-from : goal.renew_loads-load-requires-clause-from
+renew_loads-load-requires-clause-from g c = omega (arith, c.requires.at_from, c.requires.keeps.stand.fits.in_range c.args.step.process.0 c.requires.process)
+
+pub renew_loads-load-requires-clause-instance : goal.renew_loads-load-requires-clause-instance
+renew_loads-load-requires-clause-instance g c = c.shift.ensures.tables ∙ c.requires.keeps.stand.instance
+
+pub renew_loads-load-requires-clause-one_each : goal.renew_loads-load-requires-clause-one_each
+renew_loads-load-requires-clause-one_each g c = c.requires.keeps.loads.one_each
+
+pub renew_balances-balance-requires-clause-from : goal.renew_balances-balance-requires-clause-from
+renew_balances-balance-requires-clause-from g c = omega (arith, c.requires.at_from, c.requires.keeps.stand.fits.in_range c.args.step.process.0 c.requires.process)
+
+pub renew_balances-balance-requires-clause-instance : goal.renew_balances-balance-requires-clause-instance
+renew_balances-balance-requires-clause-instance g c = c.shift.ensures.tables ∙ c.requires.keeps.stand.instance
+
+pub renew_balances-balance-requires-clause-one_each : goal.renew_balances-balance-requires-clause-one_each
+renew_balances-balance-requires-clause-one_each g c = c.requires.keeps.balances.one_each
+
+pub machine_after-machine-requires-clause-from : goal.machine_after-machine-requires-clause-from
+machine_after-machine-requires-clause-from g c = omega (arith, c.requires.at_from, c.requires.keeps.stand.fits.in_range c.args.step.process.0 c.requires.process)
 
 pub renew_loads-load-requires-clause-sum : goal.renew_loads-load-requires-clause-sum
 renew_loads-load-requires-clause-sum g c = load_sum c.args.kept.now c.args.inst.now.tables c.args.start.now.items c.requires.keeps
