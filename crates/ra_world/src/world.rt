@@ -57,19 +57,7 @@ impl<'a> World<'a> {
         ensures initial { IfOk result (λ world. world.start.now ≡ a0.now) }
         ensures assignment { IfOk result (λ world. world.kept.assignment.items ≡ a0.now.items) }
     {
-        let assignment = copy_of(alloc, a0)?;
-        let rows = Rows::make(alloc, inst, a0)?;
-        let cells = Cells::make(alloc, inst, a0)?;
-        let loads = loads_of(alloc, inst, &rows)?;
-        let balances = balances_of(alloc, inst, &rows)?;
-        let kept = Kept {
-            assignment,
-            rows,
-            cells,
-            loads,
-            balances,
-            parts: start,
-        };
+        let kept = kept_of(alloc, inst, a0, start)?;
         Ok(World {
             inst,
             topo,
@@ -175,6 +163,33 @@ impl<'a> World<'a> {
         let start = self.start;
         follow(inst, start, &mut self.kept, mv, steps);
     }
+}
+
+/// All that is kept of an initial assignment, whose cost has these parts.
+fn kept_of<'a>(
+    alloc: Global,
+    inst: &'a Instance,
+    a0: &'a Assignment,
+    parts: Parts,
+) -> Result<Kept<'a>, NoMemory>
+    requires fits { IsAssignment inst.now.tables a0.now.items }
+    requires parts { parts ≡ parts_of inst.now.tables a0.now.items a0.now.items }
+    ensures keeps { IfOk result (λ kept. Keeps kept inst.now.tables a0.now.items) }
+    ensures assignment { IfOk result (λ kept. kept.assignment.items ≡ a0.now.items) }
+{
+    let assignment = copy_of(alloc, a0)?;
+    let rows = Rows::make(alloc, inst, a0)?;
+    let cells = Cells::make(alloc, inst, a0)?;
+    let loads = loads_of(alloc, inst, &rows)?;
+    let balances = balances_of(alloc, inst, &rows)?;
+    Ok(Kept {
+        assignment,
+        rows,
+        cells,
+        loads,
+        balances,
+        parts,
+    })
 }
 
 /// A copy of an assignment.
