@@ -1,9 +1,21 @@
 -- No process has moved from the initial assignment.
-use Rattle.std.proofs.Common.{ℕ, ◌∙◌, refl, ap, sym, get_or}
-use Rattle.std.proofs.lemmas.List.{get_or-replicate}
+use Rattle.std.proofs.Common.{ℕ, ◌∙◌, refl, ap, sym, get_or, length}
+use Rattle.std.proofs.lemmas.List.{get_or-replicate, length-replicate}
 use Rattle.ra_model.specs.Numbers.{service_count}
 use Rattle.ra_cells.proofs.CellLemmas.{moved_none}
 use Rattle.ra_cells.proofs.cells.Cells.of_members.Goals as goal
+
+pub invariant_of-result : goal.invariant_of-result
+invariant_of-result c = record {
+  starts_there = c.in_ok-starts.ensures;
+  machines_sorted = c.in_ok-machines.ensures.sorted;
+  locations_sorted = c.in_ok-locations.ensures.sorted;
+  neighbourhoods_sorted = c.in_ok-neighbourhoods.ensures.sorted;
+  spreads_there = c.in_ok-spreads.ensures;
+  counts_there = ap (length {A = ℕ}) c.in_ok-greatest.ensures.counts ∙ length-replicate {A = ℕ} (service_count c.args.inst.now.tables) 0;
+  limit_there = c.in_ok-greatest.ensures.limit;
+  start_fits = c.requires.assigned;
+}
 
 pub returns : goal.returns
 returns c = record {
