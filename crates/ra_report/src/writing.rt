@@ -3,19 +3,19 @@ ghost use Rattle.std.specs.Io.KnownBytes.{Appends};
 ghost use Rattle.ra_report.specs.FaultTexts.{CanBeTold, fault_text};
 ghost use Rattle.ra_model.specs.Costs.{parts_of};
 ghost use Rattle.ra_bounds.specs.PinnedBounds.{pinned_bound_of};
-ghost use Rattle.ra_report.specs.JournalTexts.{report_lines, head_text, best_state, text_of, head_of, entry_line, accepted_line, bound_text};
+ghost use Rattle.ra_report.specs.JournalTexts.{best_state, text_of, head_of, entry_line, accepted_line, bound_text};
 ghost use Rattle.ra_text.specs.Pieces.{Breaks};
-ghost use Rattle.ra_report.specs.Summaries.{summary_lines, summary_of};
+ghost use Rattle.ra_report.specs.Summaries.{summary_of};
 ghost use Rattle.ra_text.specs.Texts.{parts_text, cause_text};
 
 use crate::faults::{Fault, add_fault};
 use crate::journal::add_entry;
 use crate::solved::{add_bound, add_head, add_number, add_report};
 use crate::summary::add_summary;
-use ra_base::{Assignment, Cause, Drawing, Parts};
+use ra_base::{Assignment, Cause, Parts};
 use ra_bounds::Bound;
 use ra_io::Sink;
-use ra_journal::{Entries, Entry, Journal};
+use ra_journal::{Entry, Journal};
 use ra_text::{Gathered, WriteFault, add_cause, add_parts};
 
 /// Writes the six lines of the parts: `cost`, `load`, `balance`, `process`, `service`, `machine`.
@@ -66,36 +66,8 @@ pub fn write_report<O: Sink>(
     ensures never_falls { O.faults sink.old ≤ O.faults sink.new }
 {
     let drawing = journal.lots().drawing();
-    write_lines(
-        sink,
-        best,
-        parts,
-        bound,
-        journal.best_at(),
-        drawing,
-        journal.entries(),
-    )
-}
-
-/// Writes the lines of a report, whatever its numbers are.
-pub(crate) fn write_lines<O: Sink>(
-    sink: &mut O,
-    best: &Assignment,
-    parts: &Parts,
-    bound: &Bound,
-    best_at: u64,
-    drawing: Drawing,
-    entries: &Entries,
-) -> Result<(), WriteFault>
-    ensures whole { OnOk result (Appends (O.taken sink.old) (O.taken sink.new)
-        (report_lines parts.now bound.now.total best_at best.now.items drawing
-        entries.now.items)) }
-    ensures part { OnErr result (Breaks (O.taken sink.old) (O.taken sink.new) (O.faults sink.old)
-        (O.faults sink.new)
-        (report_lines parts.now bound.now.total best_at best.now.items drawing
-        entries.now.items)) }
-    ensures never_falls { O.faults sink.old ≤ O.faults sink.new }
-{
+    let best_at = journal.best_at();
+    let entries = journal.entries();
     let mut text = Gathered::make(sink);
     add_report(&mut text, best, parts, bound, best_at, drawing, entries);
     text.finish()
@@ -121,26 +93,9 @@ pub fn write_head<O: Sink>(
     ensures never_falls { O.faults sink.old ≤ O.faults sink.new }
 {
     let drawing = journal.lots().drawing();
-    write_head_lines(sink, best, parts, bound.total, journal.best_at(), drawing)
-}
-
-/// Writes the ten lines before the entries of a report, whatever their numbers are.
-pub(crate) fn write_head_lines<O: Sink>(
-    sink: &mut O,
-    best: &Assignment,
-    parts: &Parts,
-    bound_total: u128,
-    best_at: u64,
-    drawing: Drawing,
-) -> Result<(), WriteFault>
-    ensures whole { OnOk result (Appends (O.taken sink.old) (O.taken sink.new)
-        (head_text parts.now bound_total best_at best.now.items drawing)) }
-    ensures part { OnErr result (Breaks (O.taken sink.old) (O.taken sink.new) (O.faults sink.old)
-        (O.faults sink.new) (head_text parts.now bound_total best_at best.now.items drawing)) }
-    ensures never_falls { O.faults sink.old ≤ O.faults sink.new }
-{
+    let best_at = journal.best_at();
     let mut text = Gathered::make(sink);
-    add_head(&mut text, best, parts, bound_total, best_at, drawing);
+    add_head(&mut text, best, parts, bound.total, best_at, drawing);
     text.finish()
 }
 
@@ -189,23 +144,8 @@ pub fn write_summary<O: Sink>(
         (O.faults sink.new) (summary_of journal.now)) }
     ensures never_falls { O.faults sink.old ≤ O.faults sink.new }
 {
-    write_counts(sink, parts, bound, journal.best_at(), journal.entries())
-}
-
-/// Writes the lines of a summary, whatever its numbers are.
-pub(crate) fn write_counts<O: Sink>(
-    sink: &mut O,
-    parts: &Parts,
-    bound: &Bound,
-    best_at: u64,
-    entries: &Entries,
-) -> Result<(), WriteFault>
-    ensures whole { OnOk result (Appends (O.taken sink.old) (O.taken sink.new)
-        (summary_lines parts.now bound.now.total best_at entries.now.items)) }
-    ensures part { OnErr result (Breaks (O.taken sink.old) (O.taken sink.new) (O.faults sink.old)
-        (O.faults sink.new) (summary_lines parts.now bound.now.total best_at entries.now.items)) }
-    ensures never_falls { O.faults sink.old ≤ O.faults sink.new }
-{
+    let best_at = journal.best_at();
+    let entries = journal.entries();
     let mut text = Gathered::make(sink);
     add_summary(&mut text, parts, bound.total, best_at, entries);
     text.finish()

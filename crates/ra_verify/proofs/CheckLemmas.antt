@@ -1,6 +1,7 @@
 -- What was read of a report, and what is answered.
-use Rattle.std.proofs.Common.{◌≡◌, ℕ, ◌+◌, inl, List, length, Option, Some, None, Result, Ok, Err, IfSome, IfOk, IfErr, OnOk, sym, ap, ◌∙◌, subst}
+use Rattle.std.proofs.Common.{◌≡◌, ℕ, ◌+◌, ◌-◌, ◌^◌, ◌<◌, ◌≤◌, ◌⊎◌, inl, inr, ⊎_elim, arith, List, length, Option, Some, None, Result, Ok, Err, IfSome, IfOk, IfErr, OnOk, sym, ap, ◌∙◌, subst}
 use Rattle.ra_base.specs.Listed.{Listed}
+use Rattle.ra_io.specs.Faults.{Rose}
 use Rattle.ra_base.specs.declared.ids.Machine.{Machine}
 use Rattle.ra_draws.specs.declared.budgets.Lots.{Lots}
 use Rattle.ra_model.specs.declared.numbers.Instance.{Instance}
@@ -75,3 +76,12 @@ no_fault r j head lines judged is =
 -- what is said of a journal's run, of a file by its name
 pub moved : (held : List ℕ → Option (List ℕ)) (called name : List ℕ) (j : Journal) (inst : Instance) (a0 : Listed Machine) (l : Lots) (P : Tables → List Machine → Lots → List ℕ → Type 0) → called ≡ name → j.inst.now ≡ inst → j.a0.now ≡ a0 → j.lots.now ≡ l → IfSome (held called) (λ bytes. P j.inst.now.tables j.a0.now.items j.lots.now bytes) → IfSome (held name) (λ bytes. P inst.tables a0.items l bytes)
 moved held called name j inst a0 l P named instance initial lots said = rw (← named, ← instance, ← initial, ← lots) said
+
+-- what holds of all bytes is said of those that are told
+pub over_all : {P : List ℕ → Type 0} (told : Option (List ℕ)) → ((bytes : List ℕ) → P bytes) → IfSome told P
+over_all None holds = tt
+over_all (Some bytes) holds = holds bytes
+
+-- a count that rose rose since before, where it never falls
+pub rose_since : {before between now : ℕ} → before ≤ between → Rose between now → Rose before now
+rose_since {before} {between} {now} up rose = ⊎_elim (λ (h : between < now). inl (omega arith)) (λ (h : now ≡ 2 ^ 64 - 1). inr h) rose

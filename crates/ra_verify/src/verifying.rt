@@ -1,9 +1,10 @@
-ghost use Rattle.std.specs.Prelude.{◌≡◌, ◌≤◌, ℕ, List, None, Some, Err, IfSome, IfOk};
+ghost use Rattle.std.specs.Prelude.{◌≡◌, ◌≤◌, ℕ, List, [], Option, None, Some, Err, IfSome, IfOk};
 ghost use Rattle.ra_bounds.specs.PinnedBounds.{pinned_bound_of};
 ghost use Rattle.ra_io.specs.Faults.{Rose};
 ghost use Rattle.ra_model.specs.Assignments.{IsAssignment};
 ghost use Rattle.ra_model.specs.Broken.{first_broken};
 ghost use Rattle.ra_model.specs.Costs.{parts_of};
+ghost use Rattle.ra_lines.specs.Reading.{Reads};
 ghost use Rattle.ra_topology.specs.Fits.{IsTopologyOf};
 ghost use Rattle.ra_verify.specs.WrongLines.{IsFirstWrong, IsReport};
 ghost use Rattle.ra_verify.specs.declared.faults.VerifyFault.TheVariants as fault;
@@ -64,18 +65,39 @@ pub fn verify<'a, F: Files>(
     let bound = bound_from(alloc, inst, a0)?;
     let mut checker = Checker::make(alloc, inst, topo, a0, start, lots)?;
     let mut world = World::make(alloc, inst, topo, a0, start)?;
-    let mut reader = LineReader::make(alloc, name)?;
-    let mut head = Fixed::make(alloc, HEAD_BYTES)?;
-    let mut line = Fixed::make(alloc, LONGEST_LINE)?;
+    let mut room = room_for(alloc, name)?;
     check(
         files,
-        &mut reader,
-        &mut head,
-        &mut line,
+        &mut room.reader,
+        &mut room.head,
+        &mut room.line,
         &mut checker,
         &mut world,
         &bound,
     )
+}
+
+/// What a report is read with: its reader, and room for its first lines and for one further line.
+#[derive(Drop)]
+struct Room {
+    reader: LineReader,
+    head: Fixed<u8>,
+    line: Fixed<u8>,
+}
+
+/// What the report `name` is read with, before its first byte.
+fn room_for(alloc: Global, name: &str) -> Result<Room, NoMemory>
+    ensures name { IfOk result (λ room. room.reader.name ≡ name.now) }
+    ensures reads { IfOk result (λ room. (told : Option (List ℕ)) → Reads told room.reader) }
+    ensures start { IfOk result (λ room. room.reader.place ≡ 0) }
+    ensures empty { IfOk result (λ room. room.head.items ≡ []) }
+    ensures head { IfOk result (λ room. room.head.room ≡ HEAD_BYTES) }
+    ensures line { IfOk result (λ room. room.line.room ≡ LONGEST_LINE) }
+{
+    let head = Fixed::make(alloc, HEAD_BYTES)?;
+    let line = Fixed::make(alloc, LONGEST_LINE)?;
+    let reader = LineReader::make(alloc, name)?;
+    Ok(Room { reader, head, line })
 }
 
 /// The bound of an instance and a start.

@@ -1,6 +1,47 @@
-use Rattle.std.proofs.Common.{Ok, ap}
+use Rattle.std.proofs.Common.{◌+◌, Ok, true, List, length, refl, ap, ◌∙◌, le_refl, le_trans, arith}
+use Rattle.std.proofs.lemmas.List.{length_push}
+use Rattle.ra_journal.specs.declared.entries.Entry.{Entry}
+use Rattle.ra_verify.specs.Checking.{entries_in}
+use Rattle.ra_verify.specs.Reading.{AreLines, AreRead}
+use Rattle.ra_verify.proofs.CheckLemmas.{same_journal}
+use Rattle.ra_verify.proofs.EntryLemmas.{told_map, read_head_only}
 use Rattle.ra_verify.proofs.CheckerLemmas.{more_smaller}
 use Rattle.ra_verify.proofs.entries.read_entries.Goals as goal
 
 pub loop-smaller : goal.loop-smaller
 loop-smaller g c = more_smaller c.loop.checker c.read_entry.new.checker (c.in_ok-read_entry.ensures.more (ap Ok c.if-branch.true)) c.in_ok-read_entry.ensures.same
+
+pub loop-init : goal.loop-init
+loop-init g c =
+    let j = c.args.checker.now.journal in
+    record {
+      reads = c.requires.reads;
+      name = refl;
+      kept = λ other. refl;
+      never_fell = λ other. le_refl _;
+      near = omega (arith, c.requires.near);
+      room = c.requires.room;
+      ready = c.requires.ready;
+      same = record { instance = refl; initial = refl; lots = refl };
+      read = told_map (g.F.Files.held c.args.files.now c.args.reader.now.name) (λ bytes. AreLines bytes c.args.reader.now.place 10) (λ bytes. AreRead j.inst.now.tables j.a0.now.items j.lots.now bytes c.args.reader.now.place j.book.entries.items) (λ bytes given. read_head_only j.inst.now.tables j.a0.now.items j.lots.now bytes c.args.reader.now.place j.book.entries.items j.kept.legal c.requires.none given) c.requires.head;
+    }
+
+pub loop-preserved : goal.loop-preserved
+loop-preserved g c =
+    let l = c.loop in
+    let e = c.in_ok-read_entry.ensures in
+    let more = e.more (ap Ok c.if-branch.true) in
+    let told = ap (g.F.Files.held l.files) l.invariant.name ∙ l.invariant.kept c.args.reader.now.name in
+    let run = same_journal l.checker c.read_entry.new.checker e.same in
+    let j = l.checker.journal in
+    record {
+      reads = e.reads;
+      name = e.name ∙ l.invariant.name;
+      kept = λ other. e.kept other ∙ l.invariant.kept other;
+      never_fell = λ other. le_trans (l.invariant.never_fell other) (e.never_fall other);
+      near = omega (arith, e.near, l.invariant.near, ap (λ (x : List Entry). length x) more.taken.entries, length_push (entries_in l.checker) more.entry);
+      room = e.room ∙ l.invariant.room;
+      ready = more.taken.ready;
+      same = record { instance = e.same.instance ∙ l.invariant.same.instance; initial = e.same.initial ∙ l.invariant.same.initial; lots = e.same.lots ∙ l.invariant.same.lots };
+      read = rw (run.instance, run.initial, run.lots) (told_map (g.F.Files.held c.args.files.now c.args.reader.now.name) _ (λ bytes. AreRead j.inst.now.tables j.a0.now.items j.lots.now bytes c.read_entry.new.reader.place (entries_in c.read_entry.new.checker)) (λ bytes said. said (ap Ok c.if-branch.true)) (rw told at e.read));
+    }
