@@ -2,14 +2,14 @@
 //! that such tests write.
 #![tactic(auto)]
 
+mod example;
 mod instances;
 mod lists;
-mod numbers;
 mod pairs;
 mod rows;
 
+pub use example::sample;
 pub use instances::{eight_machines, seven_processes, single};
 pub use lists::{Lists, NotMade, assignment, instance, list};
-pub use numbers::{Numbers, SAMPLE, sample, sample_with};
 pub use pairs::{crossed_pair, pair_at_limits, tight_pair};
 pub use rows::{balance, machine, process, resource, service};

@@ -1,6 +1,7 @@
 //! An instance of slices.
-ghost use Rattle.std.specs.Prelude.{◌≡◌, IfOk, length};
-ghost use Rattle.ra_samples.specs.Copied.{IsCopy};
+ghost use Rattle.std.specs.Prelude.{◌≡◌, IfOk, length, slice_index};
+ghost use Rattle.ra_samples.specs.declared.lists.Lists.{Lists};
+ghost use Rattle.ra_samples.specs.Copied.{AreMachines, AreProcesses, IsCopy};
 
 use ra_base::{Assignment, Fixed, Machine, NoMemory, Service};
 use ra_model::{
@@ -59,27 +60,97 @@ pub fn assignment(alloc: Global, machines: &[u32]) -> Result<Assignment, NoMemor
     Ok(list)
 }
 
-/// The lists of these slices.
-#[tactic(auto, unfolding(crate::specs::Copied::IsCopy))]
-fn copied(alloc: Global, lists: &Lists<'_>) -> Result<RawInstance, NoMemory>
-    ensures { IfOk result (λ raw. IsCopy raw lists.now) }
+/// The lists of resources and of machines.
+#[derive(Drop)]
+struct MachineLists {
+    resources: Fixed<ResourceRow>,
+    machines: Fixed<MachineRow>,
+    capacities: Fixed<u32>,
+    safeties: Fixed<u32>,
+    move_costs: Fixed<u32>,
+}
+
+/// The lists of services and of processes, and the balance objectives.
+#[derive(Drop)]
+struct ProcessLists {
+    services: Fixed<ServiceRow>,
+    dependencies: Fixed<Service>,
+    processes: Fixed<ProcessRow>,
+    requirements: Fixed<u32>,
+    balances: Fixed<BalanceRow>,
+}
+
+/// The lists of resources and of machines of these slices.
+fn machine_lists(alloc: Global, lists: &Lists<'_>) -> Result<MachineLists, NoMemory>
+    ensures { IfOk result (λ made. AreMachines made lists.now) }
 {
-    let [process_weight, service_weight, machine_weight] = lists.weights;
-    Ok(RawInstance {
+    Ok(MachineLists {
         resources: list(alloc, lists.resources)?,
         machines: list(alloc, lists.machines)?,
         capacities: list(alloc, lists.capacities)?,
         safeties: list(alloc, lists.safeties)?,
         move_costs: list(alloc, lists.move_costs)?,
+    })
+}
+
+/// The lists of services and of processes of these slices, and the balance objectives.
+fn process_lists(alloc: Global, lists: &Lists<'_>) -> Result<ProcessLists, NoMemory>
+    ensures { IfOk result (λ made. AreProcesses made lists.now) }
+{
+    Ok(ProcessLists {
         services: list(alloc, lists.services)?,
         dependencies: list(alloc, lists.dependencies)?,
         processes: list(alloc, lists.processes)?,
         requirements: list(alloc, lists.requirements)?,
         balances: list(alloc, lists.balances)?,
+    })
+}
+
+/// All lists, and the weights of processes, of services and of machines.
+fn joined(
+    machines: MachineLists,
+    processes: ProcessLists,
+    process_weight: u32,
+    service_weight: u32,
+    machine_weight: u32,
+) -> RawInstance
+    ensures { (lists : Lists) → AreMachines machines lists → AreProcesses processes lists
+        → process_weight ≡ slice_index lists.weights 0
+        → service_weight ≡ slice_index lists.weights 1
+        → machine_weight ≡ slice_index lists.weights 2
+        → IsCopy result lists }
+{
+    RawInstance {
+        resources: machines.resources,
+        machines: machines.machines,
+        capacities: machines.capacities,
+        safeties: machines.safeties,
+        move_costs: machines.move_costs,
+        services: processes.services,
+        dependencies: processes.dependencies,
+        processes: processes.processes,
+        requirements: processes.requirements,
+        balances: processes.balances,
         process_weight,
         service_weight,
         machine_weight,
-    })
+    }
+}
+
+/// The lists of these slices.
+fn copied(alloc: Global, lists: &Lists<'_>) -> Result<RawInstance, NoMemory>
+    ensures { IfOk result (λ raw. IsCopy raw lists.now) }
+{
+    let machines = machine_lists(alloc, lists)?;
+    let processes = process_lists(alloc, lists)?;
+    let [process_weight, service_weight, machine_weight] = lists.weights;
+    Ok(joined(
+        machines,
+        processes,
+        process_weight,
+        service_weight,
+        machine_weight,
+    ))
 }
 
 /// The instance of these lists, where they are one. No machine is closed.

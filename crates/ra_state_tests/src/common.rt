@@ -7,7 +7,14 @@ use ra_model::Instance;
 use ra_moves::Step;
 use ra_samples::{assignment, list};
 use std::alloc::Global;
+use std::fmt::Debug;
 use std::process::Abort;
+
+/// Demands that what was found is what is wanted. An `assert_eq!` here, and not in a function that
+/// owns lists, is no exit of that function, so its proof is short.
+pub(crate) fn same<T: Copy + Debug + PartialEq>(rt: &impl Abort, found: T, want: T) {
+    assert_eq!(rt; found, want);
+}
 
 /// The assignment to these machines, which has to fit the instance.
 pub(crate) fn fitting(

@@ -4,7 +4,7 @@ ghost use Rattle.ra_guards.specs.Guards.{AreWithin};
 
 mod newest;
 
-use crate::common::step;
+use crate::common::{same, step};
 use ra_guards::keeps_apart;
 use ra_model::Instance;
 use ra_moves::Move;
@@ -56,23 +56,24 @@ fn to_first(inst: &Instance, mv: &Move) -> Option<bool> {
 }
 
 fn moves_meet_at_machines(rt: &impl Abort, inst: &Instance) {
-    let table = [
+    let table: &[(u32, u32, u32, bool)] = &[
         (4, 2, 3, true),
         (4, 1, 3, false),
         (4, 0, 3, false),
         (4, 2, 0, false),
         (4, 2, 1, false),
     ];
-    for (process, from, to, apart) in table {
+    for row in table {
+        let (process, from, to, apart) = *row;
         let other = shift(process, from, to);
         let both = [from_first(inst, &other), to_first(inst, &other)];
-        assert_eq!(rt; both, [Some(apart); 2], "{process} from {from} to {to}");
+        same(rt, (*row, both), (*row, [Some(apart); 2]));
     }
 }
 
 /// The second service needs the first, the third itself, and the fourth the second.
 fn moves_meet_at_services(rt: &impl Abort, inst: &Instance) {
-    let table = [
+    let table: &[(u32, bool)] = &[
         (0, false),
         (1, false),
         (2, false),
@@ -80,10 +81,11 @@ fn moves_meet_at_services(rt: &impl Abort, inst: &Instance) {
         (4, true),
         (5, true),
     ];
-    for (process, apart) in table {
+    for row in table {
+        let (process, apart) = *row;
         let other = shift(process, 2, 3);
         let both = [from_first(inst, &other), to_first(inst, &other)];
-        assert_eq!(rt; both, [Some(apart); 2], "{process}");
+        same(rt, (*row, both), (*row, [Some(apart); 2]));
     }
 }
 
@@ -93,14 +95,14 @@ fn each_step_counts(rt: &impl Abort, inst: &Instance) {
     let near = Move::chain(step(3, 2, 3), step(4, 3, 4), step(5, 4, 0));
     let joined = Move::swap(step(3, 2, 3), step(2, 3, 2));
     let apart = [from_first(inst, &swap), to_first(inst, &far)];
-    assert_eq!(rt; apart, [Some(true), Some(true)]);
+    same(rt, apart, [Some(true), Some(true)]);
     let meeting = [
         from_first(inst, &near),
         to_first(inst, &near),
         from_first(inst, &joined),
         to_first(inst, &joined),
     ];
-    assert_eq!(rt; meeting, [Some(false); 4]);
+    same(rt, meeting, [Some(false); 4]);
 }
 
 #[test]

@@ -1,20 +1,14 @@
-//! Tests of what is known of an instance and an assignment: judging, rows, counters, pins, bounds,
-//! moves, repair, edits and guards. There is nothing here but tests, so that the crates that they
-//! test are proved once, without them.
+//! Tests of what is known of an instance and an assignment: judging, rows, counters, pins, moves and
+//! guards. There is nothing here but tests, so that the crates that they test are proved once,
+//! without them.
 #![tactic(auto)]
 
-#[cfg(test)]
-mod bounds;
-#[cfg(test)]
-mod causes;
 #[cfg(test)]
 mod cells;
 #[cfg(test)]
 mod check;
 #[cfg(test)]
 mod common;
-#[cfg(test)]
-mod edit;
 #[cfg(test)]
 mod guards;
 #[cfg(test)]
@@ -23,8 +17,6 @@ mod model;
 mod moves;
 #[cfg(test)]
 mod pins;
-#[cfg(test)]
-mod repair;
 #[cfg(test)]
 mod rows;
 #[cfg(test)]

@@ -1,7 +1,7 @@
 //! An instance gives back what it was made of, and lists that don't fit one another are none.
 ghost use Rattle.std.specs.Prelude.{◌≡◌, ◌<◌};
 
-use crate::common::closing;
+use crate::common::{closing, same};
 use ra_base::{Machine, Process, Resource, Service, Steps};
 use ra_model::{Instance, Members, Places};
 use ra_samples::{
@@ -84,14 +84,14 @@ fn target(inst: &Instance, b: u32) -> u32 {
 }
 
 fn rows_are_read_back(rt: &impl Abort, inst: &Instance) {
-    assert_eq!(rt; counts(inst), [2, 4, 2, 3, 1]);
-    assert_eq!(rt; weights(inst), [1, 10, 100]);
+    same(rt, counts(inst), [2, 4, 2, 3, 1]);
+    same(rt, weights(inst), [1, 10, 100]);
     let last = of_machine(inst, Machine(3), Resource(1));
-    assert_eq!(rt; last, [1, 2, 100, 80, 10, 5]);
+    same(rt, last, [1, 2, 100, 80, 10, 5]);
     let services = [of_service(inst, Service(0)), of_service(inst, Service(1))];
-    assert_eq!(rt; services, [[2, 0], [1, 1]]);
-    assert!(rt; target(inst, 0) == 20);
-    assert!(rt; is_transient(inst, Resource(0)));
+    same(rt, services, [[2, 0], [1, 1]]);
+    same(rt, target(inst, 0), 20);
+    same(rt, is_transient(inst, Resource(0)), true);
 }
 
 #[test]
@@ -100,7 +100,7 @@ fn the_sample_is_read_back(rt: HostRuntime) {
     rows_are_read_back(&rt, &inst);
     let last = of_process::<Brand>(Blank::new(1), &inst, Process(2), Resource(1));
     drop(inst);
-    assert_eq!(rt; last, [1, 1, 200]);
+    same(&rt, last, [1, 1, 200]);
 }
 
 /// Whether the third and the fourth machine are closed.
@@ -115,8 +115,7 @@ fn closed_machines_are_those_flagged(rt: HostRuntime) {
     let inst = closing(&rt, rt.alloc(), inst, &[false, false, true, false]);
     let after = are_closed(&inst);
     drop(inst);
-    assert_eq!(rt; before, [false, false]);
-    assert_eq!(rt; after, [true, false]);
+    same(&rt, [before, after], [[false, false], [true, false]]);
 }
 
 /// Lengths of lists and tables, and what is named in them.
@@ -179,7 +178,7 @@ fn refusal(alloc: Global, shape: &Shape) -> Option<NotMade> {
 
 #[test]
 fn lists_that_fit_one_another_are_an_instance(rt: HostRuntime) {
-    assert_eq!(rt; refusal(rt.alloc(), &SAMPLE), None);
+    same(&rt, refusal(rt.alloc(), &SAMPLE), None);
     let misshapen: &[Shape] = &[
         Shape {
             capacities: &[0; 7],
@@ -220,7 +219,7 @@ fn lists_that_fit_one_another_are_an_instance(rt: HostRuntime) {
         },
     ];
     for shape in misshapen {
-        assert_eq!(rt; refusal(rt.alloc(), shape), Some(NotMade::NoInstance));
+        same(&rt, refusal(rt.alloc(), shape), Some(NotMade::NoInstance));
     }
 }
 
@@ -231,10 +230,10 @@ fn takes(rt: &impl Abort, alloc: Global, inst: &Instance, machines: &[u32]) -> b
 }
 
 fn fitting_lists_are_taken(rt: &impl Abort, alloc: Global, inst: &Instance) {
-    assert!(rt; takes(rt, alloc, inst, &[0, 3, 0]));
-    assert!(rt; !takes(rt, alloc, inst, &[0, 4, 0]));
-    assert!(rt; !takes(rt, alloc, inst, &[0, 3]));
-    assert!(rt; !takes(rt, alloc, inst, &[0, 3, 0, 0]));
+    same(rt, takes(rt, alloc, inst, &[0, 3, 0]), true);
+    same(rt, takes(rt, alloc, inst, &[0, 4, 0]), false);
+    same(rt, takes(rt, alloc, inst, &[0, 3]), false);
+    same(rt, takes(rt, alloc, inst, &[0, 3, 0, 0]), false);
 }
 
 #[test]
@@ -249,8 +248,8 @@ fn compare_members(rt: &impl Abort, alloc: Global, inst: &Instance) {
     assert!(rt; inst.services() == 4);
     let members = Members::make(alloc, inst).expect(rt, "no memory");
     let first = [Process(1), Process(3), Process(5), Process(6)];
-    assert!(rt; members.of(Service(0)) == first.as_slice());
-    assert_eq!(rt; members.of(Service(2)).len(), 0);
+    same(rt, members.of(Service(0)), first.as_slice());
+    same(rt, members.of(Service(2)).len(), 0);
 }
 
 /// Machine 2 has the location of machine 0, and no other machine's neighbourhood; machine 4 has that
@@ -258,9 +257,9 @@ fn compare_members(rt: &impl Abort, alloc: Global, inst: &Instance) {
 fn compare_places(rt: &impl Abort, alloc: Global, inst: &Instance) {
     assert!(rt; inst.machines() == 5);
     let places = Places::make(alloc, inst).expect(rt, "no memory");
-    assert_eq!(rt; places.location(Machine(2)), Machine(0));
-    assert_eq!(rt; places.neighbourhood(Machine(2)), Machine(2));
-    assert_eq!(rt; places.neighbourhood(Machine(4)), Machine(3));
+    same(rt, places.location(Machine(2)), Machine(0));
+    same(rt, places.neighbourhood(Machine(2)), Machine(2));
+    same(rt, places.neighbourhood(Machine(4)), Machine(3));
 }
 
 #[test]

@@ -1,5 +1,5 @@
 //! Pinned processes and their load.
-use crate::common::{closing, fitting};
+use crate::common::{closing, fitting, same};
 use ra_base::{Machine, Process, Resource};
 use ra_model::{Instance, ResourceRow};
 use ra_pins::Pins;
@@ -51,8 +51,8 @@ fn a_pinned_process_pins_another(rt: HostRuntime) {
     let inst = closing(&rt, rt.alloc(), inst, &[true, false]);
     let closed = pins_of(&rt, rt.alloc(), &inst);
     drop(inst);
-    assert_eq!(rt; open, ([false, false], [0, 0]));
-    assert_eq!(rt; closed, ([true, true], [6, 5]));
+    same(&rt, open, ([false, false], [0, 0]));
+    same(&rt, closed, ([true, true], [6, 5]));
 }
 
 #[test]
@@ -60,5 +60,5 @@ fn transient_use_pins(rt: HostRuntime) {
     let inst = tight_pair(rt.alloc()).expect(&rt, "no instance");
     let tight = pins_of(&rt, rt.alloc(), &inst);
     drop(inst);
-    assert_eq!(rt; tight, ([true, true], [6, 6]));
+    same(&rt, tight, ([true, true], [6, 6]));
 }

@@ -4,7 +4,7 @@ ghost use Rattle.ra_model.specs.Numbers.{resource_count, machine_count, process_
 ghost use Rattle.ra_model.specs.Assignments.{IsAssignment, machine_at};
 ghost use Rattle.ra_rows.specs.Rows.{HasAt};
 
-use crate::common::fitting;
+use crate::common::{fitting, same};
 use ra_base::{Assignment, Machine, Process, Resource, Steps};
 use ra_model::Instance;
 use ra_rows::Rows;
@@ -20,13 +20,14 @@ fn compare_machine(rt: &impl Abort, rows: &Rows<'_>, m: Machine, used: [u64; 2],
     requires resources { resource_count rows.now.tables ≡ 2 }
 {
     let (first, second) = (Resource(0), Resource(1));
-    assert_eq!(rt; [rows.usage(m, first), rows.usage(m, second)], used);
-    assert_eq!(rt;
+    same(rt, [rows.usage(m, first), rows.usage(m, second)], used);
+    same(
+        rt,
         [rows.transient_use(m, first), rows.transient_use(m, second)],
-        between
+        between,
     );
-    assert_eq!(rt; rows.usage_row(m), used.as_slice());
-    assert_eq!(rt; rows.transient_row(m), between.as_slice());
+    same(rt, rows.usage_row(m), used.as_slice());
+    same(rt, rows.transient_row(m), between.as_slice());
 }
 
 /// Puts a process on another machine, with a counter that no one else has.
@@ -102,7 +103,7 @@ fn follow_sample(rt: &impl Abort, alloc: Global, inst: &Instance) {
     assert!(rt; inst.machines() == 4);
     assert!(rt; inst.processes() == 3);
     let a0 = fitting(rt, alloc, inst, &[0, 3, 0]);
-    assert_eq!(rt; machine_of(&a0, Process(1)).0, 3);
+    assert!(rt; machine_of(&a0, Process(1)).0 == 3);
     let mut rows = rows_at_start(rt, alloc, inst, &a0);
     compare_machine(rt, &rows, Machine(0), [18, 210], [18, 210]);
     go(rt, &mut rows);

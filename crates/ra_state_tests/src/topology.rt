@@ -3,6 +3,7 @@ ghost use Rattle.std.specs.Prelude.{◌≡◌, length};
 
 mod samples;
 
+use crate::common::same;
 use ra_base::{Process, Service};
 use ra_model::Instance;
 use ra_topology::Topology;
@@ -13,16 +14,18 @@ use std::process::Abort;
 fn compare_members(rt: &impl Abort, topology: &Topology)
     requires { length topology.now.members ≡ 4 }
 {
-    assert_eq!(rt;
+    same(
+        rt,
         topology.members(Service(0)),
-        [Process(1), Process(4)].as_slice()
+        [Process(1), Process(4)].as_slice(),
     );
-    assert!(rt; topology.members(Service(1)).is_empty());
-    assert_eq!(rt;
+    same(rt, topology.members(Service(1)).is_empty(), true);
+    same(
+        rt,
         topology.members(Service(2)),
-        [Process(0), Process(2)].as_slice()
+        [Process(0), Process(2)].as_slice(),
     );
-    assert_eq!(rt; topology.members(Service(3)), [Process(3)].as_slice());
+    same(rt, topology.members(Service(3)), [Process(3)].as_slice());
 }
 
 /// The first service depends on the third, on itself and on the third again, the third on the first, and the last on the
@@ -31,32 +34,35 @@ fn compare_needs(rt: &impl Abort, topology: &Topology)
     requires { length topology.now.needs ≡ 4 }
 {
     let twice = [Service(2), Service(0), Service(2)];
-    assert_eq!(rt; topology.needs(Service(0)), twice.as_slice());
-    assert!(rt; topology.needs(Service(1)).is_empty());
-    assert_eq!(rt; topology.needs(Service(2)), [Service(0)].as_slice());
-    assert_eq!(rt;
+    same(rt, topology.needs(Service(0)), twice.as_slice());
+    same(rt, topology.needs(Service(1)).is_empty(), true);
+    same(rt, topology.needs(Service(2)), [Service(0)].as_slice());
+    same(
+        rt,
         topology.needs(Service(3)),
-        [Service(2), Service(1)].as_slice()
+        [Service(2), Service(1)].as_slice(),
     );
 }
 
 fn compare_dependants(rt: &impl Abort, topology: &Topology)
     requires { length topology.now.dependants ≡ 4 }
 {
-    assert_eq!(rt;
+    same(
+        rt,
         topology.dependants(Service(0)),
-        [Service(0), Service(2)].as_slice()
+        [Service(0), Service(2)].as_slice(),
     );
-    assert_eq!(rt; topology.dependants(Service(1)), [Service(3)].as_slice());
-    assert_eq!(rt;
+    same(rt, topology.dependants(Service(1)), [Service(3)].as_slice());
+    same(
+        rt,
         topology.dependants(Service(2)),
-        [Service(0), Service(3)].as_slice()
+        [Service(0), Service(3)].as_slice(),
     );
-    assert!(rt; topology.dependants(Service(3)).is_empty());
+    same(rt, topology.dependants(Service(3)).is_empty(), true);
 }
 
 fn compare_tangle(rt: &impl Abort, alloc: Global, inst: &Instance) {
-    assert_eq!(rt; inst.services(), 4);
+    assert!(rt; inst.services() == 4);
     let topology = Topology::make(alloc, inst).expect(rt, "no memory");
     compare_members(rt, &topology);
     compare_needs(rt, &topology);

@@ -19,4 +19,4 @@ second_stands s x y z process from = record {
 }
 
 pub there_and_back-requires-clause-at_from : goal.there_and_back-requires-clause-at_from
-there_and_back-requires-clause-at_from g c = rw (c.shift-mv.ensures, c.in_ok-a.ensures) (second_stands c.step.result _ _ _ c.step.ensures.process c.step.ensures.from)
+there_and_back-requires-clause-at_from g c = rw (c.shift-mv.ensures, c.three-a.ensures) (second_stands c.step.result _ _ _ c.step.ensures.process c.step.ensures.from)
