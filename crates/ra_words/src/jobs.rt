@@ -3,7 +3,7 @@ ghost use Rattle.clap.specs.Words.{first_value, found_of};
 ghost use Rattle.ra_words.specs.Words.{texts, word_at};
 ghost use Rattle.ra_words.specs.Numbers.{is_number};
 ghost use Rattle.ra_words.specs.LotTexts.{are_lots};
-ghost use Rattle.ra_words.specs.Lines.{Line, Spells, Finds, plain_of};
+ghost use Rattle.ra_words.specs.Lines.{plain_of};
 ghost use Rattle.ra_words.specs.Jobs.{job_of, is_slack};
 ghost use Rattle.ra_words.specs.Forms.{form_of, FitsForm, found_says, found_check, found_bound, found_bound_from, found_solve, found_trial, found_verify, found_repair, found_edit};
 ghost use Rattle.ra_words.specs.Said.{said};
