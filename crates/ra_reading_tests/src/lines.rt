@@ -20,41 +20,74 @@ fn open(rt: &impl Abort, alloc: Global, fails: &[u64], bytes: &[u8]) -> (MemoryF
     (files, reader)
 }
 
+/// Demands these answers of a reader that is given room for 7 bytes, with the line after each. A line that was given is
+/// cleared.
+fn demand<F: Files>(
+    rt: &impl Abort,
+    files: &mut F,
+    reader: &mut LineReader,
+    line: &mut Fixed<u8>,
+    wants: &[(Result<Next, ReadFault>, &[u8])],
+)
+    requires reads { Reads (F.held files.old reader.old.name) reader.old }
+    requires start { reader.old.place ≡ 0 }
+{
+    assert!(rt; wants.len() < 100);
+    for want in wants {
+        assert!(rt; line.room() - line.len() > 7);
+        same(rt, reader.next(files, 7, line), want.0);
+        same(rt, line.as_slice(), want.1);
+        if want.0.is_ok() {
+            line.clear();
+        }
+    }
+}
+
+/// Demands these answers of a file that has these bytes and fails at these fetches, with a line of this room.
+fn answers(
+    rt: &impl Abort,
+    alloc: Global,
+    room: usize,
+    fails: &[u64],
+    bytes: &[u8],
+    wants: &[(Result<Next, ReadFault>, &[u8])],
+) {
+    let (mut files, mut reader) = open(rt, alloc, fails, bytes);
+    let mut line = Fixed::make(alloc, room).expect(rt, "no memory");
+    demand(rt, &mut files, &mut reader, &mut line, wants);
+}
+
+/// What is answered of a file of four lines, of which the last has no end.
+const LINES: &[(Result<Next, ReadFault>, &[u8])] = &[
+    (Ok(Next::Line), b"one\n"),
+    (Ok(Next::Line), b"\n"),
+    (Ok(Next::Line), b"seven 7\n"),
+    (Ok(Next::Last), b"last"),
+    (Ok(Next::End), b""),
+];
+
+/// What is answered of a line that is too long.
+const LONG: &[(Result<Next, ReadFault>, &[u8])] = &[(Ok(Next::Long), b"eight of")];
+
+/// What is answered of a line of which the second fetch fails.
+const FAILED: &[(Result<Next, ReadFault>, &[u8])] = &[
+    (Err(ReadFault), b"seven"),
+    (Ok(Next::Line), b"seven 7\n"),
+];
+
 #[test]
 fn lines_are_given_one_by_one(rt: HostRuntime) {
-    let (mut files, mut reader) = open(&rt, rt.alloc(), &[], b"one\n\nseven 7\nlast");
-    let mut line = Fixed::make(rt.alloc(), 8).expect(&rt, "no memory");
-    same(&rt, reader.next(&mut files, 7, &mut line), Ok(Next::Line));
-    same(&rt, line.as_slice(), b"one\n".as_slice());
-    line.clear();
-    same(&rt, reader.next(&mut files, 7, &mut line), Ok(Next::Line));
-    same(&rt, line.as_slice(), b"\n".as_slice());
-    line.clear();
-    same(&rt, reader.next(&mut files, 7, &mut line), Ok(Next::Line));
-    same(&rt, line.as_slice(), b"seven 7\n".as_slice());
-    line.clear();
-    same(&rt, reader.next(&mut files, 7, &mut line), Ok(Next::Last));
-    same(&rt, line.as_slice(), b"last".as_slice());
-    line.clear();
-    same(&rt, reader.next(&mut files, 7, &mut line), Ok(Next::End));
+    answers(&rt, rt.alloc(), 8, &[], b"one\n\nseven 7\nlast", LINES);
 }
 
 #[test]
 fn a_long_line_is_found(rt: HostRuntime) {
-    let (mut files, mut reader) = open(&rt, rt.alloc(), &[], b"eight of them\n");
-    let mut line = Fixed::make(rt.alloc(), 8).expect(&rt, "no memory");
-    same(&rt, reader.next(&mut files, 7, &mut line), Ok(Next::Long));
-    same(&rt, line.as_slice(), b"eight of".as_slice());
+    answers(&rt, rt.alloc(), 8, &[], b"eight of them\n", LONG);
 }
 
 #[test]
 fn a_failed_fetch_loses_no_byte(rt: HostRuntime) {
-    let (mut files, mut reader) = open(&rt, rt.alloc(), &[1], b"seven 7\n");
-    let mut line = Fixed::make(rt.alloc(), 16).expect(&rt, "no memory");
-    same(&rt, reader.next(&mut files, 7, &mut line), Err(ReadFault));
-    same(&rt, line.as_slice(), b"seven".as_slice());
-    same(&rt, reader.next(&mut files, 7, &mut line), Ok(Next::Line));
-    same(&rt, line.as_slice(), b"seven 7\n".as_slice());
+    answers(&rt, rt.alloc(), 16, &[1], b"seven 7\n", FAILED);
 }
 
 #[test]

@@ -142,7 +142,47 @@ fn a_number_may_be_cut_by_the_buffer(rt: HostRuntime) {
     cut_by_the_buffer(&rt, rt.alloc(), 65_536);
 }
 
-/// What `next_values` answers of a text with a fault behind its numbers, however it is fetched.
+/// Demands of a reader, for each row, what `next_values` answers for so many, and the values that the list has then.
+fn demand_values<F: Files>(
+    rt: &impl Abort,
+    files: &mut F,
+    tokens: &mut Tokens,
+    values: &mut Fixed<u32>,
+    wants: &[(usize, Result<usize, TokenFault>, &[u32])],
+)
+    requires reads { Reads (F.held files.old tokens.old.name) tokens.old }
+    ensures reads { Reads (F.held files.new tokens.new.name) tokens.new }
+{
+    for want in wants {
+        assert!(rt; values.room() - values.len() >= want.0);
+        same(rt, tokens.next_values(files, want.0, values), want.1);
+        same(rt, values.as_slice(), want.2);
+    }
+}
+
+/// The first numbers of a text with a fault behind its numbers.
+const FIRST: &[(usize, Result<usize, TokenFault>, &[u32])] = &[(
+    3,
+    Ok(3),
+    &[5, 7, 40, 123_456_789],
+)];
+
+/// Those behind the next one, up to the fault.
+const LATER: &[(usize, Result<usize, TokenFault>, &[u32])] = &[
+    (0, Ok(0), &[5, 7, 40, 123_456_789]),
+    (
+        8,
+        Err(TokenFault::BadByte { at: 52, byte: b'x' }),
+        &[5, 7, 40, 123_456_789, 99_999_999, 4_294_967_295, 1],
+    ),
+    (
+        5,
+        Err(TokenFault::BadByte { at: 52, byte: b'x' }),
+        &[5, 7, 40, 123_456_789, 99_999_999, 4_294_967_295, 1],
+    ),
+];
+
+/// What `next_values` answers of that text, however it is fetched.
 fn values_until_a_fault(rt: &impl Abort, alloc: Global, each: usize)
     requires some { 0 < each }
 {
@@ -150,15 +190,9 @@ fn values_until_a_fault(rt: &impl Abort, alloc: Global, each: usize)
     let (mut files, mut tokens) = open(rt, alloc, each, &[], text);
     let mut values = Fixed::make(alloc, 20).expect(rt, "no memory");
     values.push(5);
-    same(rt, tokens.next_values(&mut files, 3, &mut values), Ok(3));
-    same(rt, values.as_slice(), &[5, 7, 40, 123_456_789]);
+    demand_values(rt, &mut files, &mut tokens, &mut values, FIRST);
     same(rt, tokens.next(&mut files), token(0, 17));
-    same(rt, tokens.next_values(&mut files, 0, &mut values), Ok(0));
-    let fault = Err(TokenFault::BadByte { at: 52, byte: b'x' });
-    same(rt, tokens.next_values(&mut files, 8, &mut values), fault);
-    let all = &[5, 7, 40, 123_456_789, 99_999_999, 4_294_967_295, 1];
-    same(rt, values.as_slice(), all);
-    same(rt, tokens.next_values(&mut files, 5, &mut values), fault);
+    demand_values(rt, &mut files, &mut tokens, &mut values, LATER);
 }
 
 #[test]
@@ -168,13 +202,15 @@ fn values_come_up_to_a_fault(rt: HostRuntime) {
     values_until_a_fault(&rt, rt.alloc(), 100);
 }
 
+/// The numbers of a file whose second fetch fails, up to its end.
+const LAST: &[(usize, Result<usize, TokenFault>, &[u32])] = &[
+    (4, Err(TokenFault::ReadFault), &[1, 2]),
+    (2, Ok(1), &[1, 2, 3]),
+];
+
 #[test]
 fn values_end_where_the_file_ends(rt: HostRuntime) {
     let (mut files, mut tokens) = open(&rt, rt.alloc(), 100, &[1], b"1 2 3");
     let mut values = Fixed::make(rt.alloc(), 6).expect(&rt, "no memory");
-    let failed = Err(TokenFault::ReadFault);
-    same(&rt, tokens.next_values(&mut files, 4, &mut values), failed);
-    same(&rt, values.as_slice(), &[1, 2]);
-    same(&rt, tokens.next_values(&mut files, 2, &mut values), Ok(1));
-    same(&rt, values.as_slice(), &[1, 2, 3]);
+    demand_values(&rt, &mut files, &mut tokens, &mut values, LAST);
 }

@@ -12,11 +12,11 @@ const JOBS: &[(&[&str], &str)] = &[
         &["check", "a b", "i-", ":", "--closed", "1"],
         "check a b i- : closed 1",
     ),
-    (&["bound", "check"], "bound check initial none closed none"),
-    (&["bound", "m", "i"], "bound m initial i closed none"),
+    (&["bound", "check"], "bound check closed none"),
+    (&["bound", "m", "i"], "bound from m i closed none"),
     (
         &["bound", "m", "i", "--closed", "c"],
-        "bound m initial i closed c",
+        "bound from m i closed c",
     ),
     (&["trial", "0"], "trial 0"),
     (
@@ -61,11 +61,11 @@ const JOBS: &[(&[&str], &str)] = &[
         &[
             "verify", "m", "i", "r", "--slack", "7", "--closed", "c", "--draws", "1", "9:3",
         ],
-        "verify r solve m i closed c slack 7 drawing One lots 1 budget 3 seed 9",
+        "verify r m i closed c slack 7 drawing One lots 1 budget 3 seed 9",
     ),
     (
         &["repair", "m", "i", "--closed", "c", "9:1000000"],
-        "repair solve m i closed c slack 0 drawing Two lots 1 budget 1000000 seed 9",
+        "repair m i closed c slack 0 drawing Two lots 1 budget 1000000 seed 9",
     ),
     (
         &["edit", "m", "i", "n", "e", "--closed", "c"],
@@ -100,23 +100,33 @@ fn words_of_each_form_are_jobs(rt: HostRuntime) {
     }
 }
 
-/// Words with a blank between them.
-fn joined(alloc: Global, words: &[&str]) -> Result<String, AllocError> {
-    let mut text = String::new(alloc);
-    for word in words {
-        if !text.is_empty() {
-            text.push(' ')?;
-        }
-        text.push_str(word)?;
+/// A form, the names of its files, and the one that is closed.
+fn told(
+    alloc: Global,
+    form: &str,
+    names: &[&Name],
+    closed: &Option<Name>,
+) -> Result<String, AllocError> {
+    let mut text = String::from_str(alloc, form)?;
+    for name in names {
+        text.push(' ')?;
+        text.push_str(name.as_str())?;
     }
+    text.push_str(" closed ")?;
+    text.push_str(name_of(closed))?;
     Ok(text)
 }
 
-/// Words, with the lots of a run behind them.
-fn joined_with(alloc: Global, words: &[&str], lots: &Lots) -> Result<String, AllocError> {
-    let front = joined(alloc, words)?;
-    let told = tell_lots(alloc, lots)?;
-    joined(alloc, &[front.as_str(), told.as_str()])
+/// The same, with the lots of a run behind it.
+fn told_with(
+    alloc: Global,
+    form: &str,
+    names: &[&Name],
+    closed: &Option<Name>,
+    lots: &Lots,
+) -> Result<String, AllocError> {
+    let front = told(alloc, form, names, closed)?;
+    tell_lots(alloc, front.as_str(), lots)
 }
 
 /// What a job is, in words of this file.
@@ -127,48 +137,18 @@ fn tell(alloc: Global, job: &Job) -> Result<String, AllocError> {
             initial,
             changed,
             closed,
-        } => joined(
-            alloc,
-            &[
-                "check",
-                model.as_str(),
-                initial.as_str(),
-                changed.as_str(),
-                "closed",
-                name_of(closed),
-            ],
-        ),
+        } => told(alloc, "check", &[model, initial, changed], closed),
         Job::Bound {
             model,
             initial,
             closed,
-        } => joined(
-            alloc,
-            &[
-                "bound",
-                model.as_str(),
-                "initial",
-                name_of(initial),
-                "closed",
-                name_of(closed),
-            ],
-        ),
+        } => tell_bound(alloc, model, initial, closed),
         Job::Solve {
             model,
             initial,
             closed,
             lots,
-        } => joined_with(
-            alloc,
-            &[
-                "solve",
-                model.as_str(),
-                initial.as_str(),
-                "closed",
-                name_of(closed),
-            ],
-            lots,
-        ),
+        } => told_with(alloc, "solve", &[model, initial], closed, lots),
         Job::Trial { number } => format!(in alloc; "trial {}", number),
         Job::Verify {
             model,
@@ -176,62 +156,41 @@ fn tell(alloc: Global, job: &Job) -> Result<String, AllocError> {
             report,
             closed,
             lots,
-        } => joined_with(
-            alloc,
-            &[
-                "verify",
-                report.as_str(),
-                "solve",
-                model.as_str(),
-                initial.as_str(),
-                "closed",
-                name_of(closed),
-            ],
-            lots,
-        ),
+        } => told_with(alloc, "verify", &[report, model, initial], closed, lots),
         Job::Repair {
             model,
             initial,
             closed,
             lots,
-        } => joined_with(
-            alloc,
-            &[
-                "repair",
-                "solve",
-                model.as_str(),
-                initial.as_str(),
-                "closed",
-                name_of(closed),
-            ],
-            lots,
-        ),
+        } => told_with(alloc, "repair", &[model, initial], closed, lots),
         Job::Edit {
             model,
             initial,
             current,
             edits,
             closed,
-        } => joined(
-            alloc,
-            &[
-                "edit",
-                model.as_str(),
-                initial.as_str(),
-                current.as_str(),
-                edits.as_str(),
-                "closed",
-                name_of(closed),
-            ],
-        ),
+        } => told(alloc, "edit", &[model, initial, current, edits], closed),
     }
 }
 
-/// The lots of a run, of which the last is told.
-fn tell_lots(alloc: Global, lots: &Lots) -> Result<String, AllocError> {
+fn tell_bound(
+    alloc: Global,
+    model: &Name,
+    initial: &Option<Name>,
+    closed: &Option<Name>,
+) -> Result<String, AllocError> {
+    match initial {
+        Some(initial) => told(alloc, "bound from", &[model, initial], closed),
+        None => told(alloc, "bound", &[model], closed),
+    }
+}
+
+/// The lots of a run behind a text. The last of them is told.
+fn tell_lots(alloc: Global, front: &str, lots: &Lots) -> Result<String, AllocError> {
     let last = tell_lot(alloc, lots.lot(lots.len() - 1))?;
     format!(in alloc;
-        "slack {} drawing {:?} lots {} {}",
+        "{} slack {} drawing {:?} lots {} {}",
+        front,
         lots.slack(),
         lots.drawing(),
         lots.len(),

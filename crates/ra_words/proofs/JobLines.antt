@@ -11,13 +11,13 @@ use Rattle.std.proofs.lemmas.List.{drop_all, get_or_past}
 use Rattle.std.proofs.lemmas.Slice.Eq.{bytes_eq-Decides}
 use Rattle.std.proofs.lemmas.Str.Parse.{tells_all_ascii_digits}
 use Rattle.clap.proofs.WalkLemmas.{both}
-use Rattle.clap.specs.Words.{first_value}
 use Rattle.clap.specs.declared.parser.matches.Found.{Found}
 use Rattle.ra_base.specs.declared.causes.Drawing.TheVariants.{Two}
 use Rattle.ra_words.specs.Words.{behind, has_option, is_name, value_at, word_at}
 use Rattle.ra_words.specs.Numbers.{has_digits, is_number, worth}
 use Rattle.ra_words.specs.LotTexts.{are_lots, first_place, is_lot, is_seed_lot, is_written, is_written_lot, lot_says, seed_text}
 use Rattle.ra_words.specs.Lines.{Finds, Line, Spells, option_words, plain_of, words_of}
+use Rattle.ra_words.specs.Forms.{RunFound, found_check, found_bound, found_bound_from, found_solve, found_trial, found_verify, found_repair, found_edit}
 use Rattle.ra_words.proofs.LotLaws.{lots_told}
 use Rattle.ra_words.specs.Jobs.{Bounds, Checks, Solves, Trials, Verifies, Repairs, Edits, bound_says, bound_from_says, check_says, closed_place, closed_text, draws_place, draws_text, drawing_says, ends_closed, ends_in_lots, is_bound, is_bound_from, is_check, is_closed, is_drawing, is_slack, is_solve, lot_words, lots_place, slack_says, slack_text, solve_says, is_trial, trial_says, is_verify, verify_says, is_repair, repair_says, lot_place, is_edit, edit_says}
 
@@ -208,7 +208,7 @@ pub check_is_line : (words : List (List ℕ)) → is_check words ≡ true → (l
 check_is_line words is = (closing_line 3 words, check_spelled words is)
 
 pub check_found : (words : List (List ℕ)) (found : Found) → is_check words ≡ true → ((line : Line) → Spells line words → Finds line found)
-    → Checks (word_at (plain_of found) 0) (word_at (plain_of found) 1) (word_at (plain_of found) 2) (first_value found (codes "closed")) ≡ check_says words
+    → found_check found ≡ check_says words
 unfolding check_says word_at
 check_found words found check finds =
     let f = finds (closing_line 3 words) (check_spelled words check) in
@@ -232,7 +232,7 @@ pub bound_from_is_line : (words : List (List ℕ)) → is_bound_from words ≡ t
 bound_from_is_line words is = (closing_line 2 words, bound_from_spelled words is)
 
 pub bound_from_found : (words : List (List ℕ)) (found : Found) → is_bound_from words ≡ true → ((line : Line) → Spells line words → Finds line found)
-    → Bounds (word_at (plain_of found) 0) (Some (word_at (plain_of found) 1)) (first_value found (codes "closed")) ≡ bound_from_says words
+    → found_bound_from found ≡ bound_from_says words
 unfolding bound_from_says word_at
 bound_from_found words found bound finds =
     let f = finds (closing_line 2 words) (bound_from_spelled words bound) in
@@ -264,7 +264,7 @@ pub edit_is_line : (words : List (List ℕ)) → is_edit words ≡ true → (lin
 edit_is_line words is = (closing_line 4 words, edit_spelled words is)
 
 pub edit_found : (words : List (List ℕ)) (found : Found) → is_edit words ≡ true → ((line : Line) → Spells line words → Finds line found)
-    → Edits (word_at (plain_of found) 0) (word_at (plain_of found) 1) (word_at (plain_of found) 2) (word_at (plain_of found) 3) (first_value found (codes "closed")) ≡ edit_says words
+    → found_edit found ≡ edit_says words
 unfolding edit_says word_at
 edit_found words found edit finds =
     let f = finds (closing_line 4 words) (edit_spelled words edit) in
@@ -298,7 +298,7 @@ pub bound_is_line : (words : List (List ℕ)) → is_bound words ≡ true → (l
 bound_is_line words is = (pair_line words, bound_spelled words is)
 
 pub bound_found : (words : List (List ℕ)) (found : Found) → is_bound words ≡ true → ((line : Line) → Spells line words → Finds line found)
-    → Bounds (word_at (plain_of found) 0) None None ≡ bound_says words
+    → found_bound found ≡ bound_says words
 unfolding bound_says word_at
 bound_found words found bound finds =
     let f = finds (pair_line words) (bound_spelled words bound) in
@@ -326,7 +326,7 @@ trial_plain words found trial finds =
     ap (λ ws. is_number (word_at ws 0)) f.plain ∙ trial_number words trial
 
 pub trial_found : (words : List (List ℕ)) (found : Found) → is_trial words ≡ true → ((line : Line) → Spells line words → Finds line found)
-    → Trials (worth (word_at (plain_of found) 0)) ≡ trial_says words
+    → found_trial found ≡ trial_says words
 unfolding trial_says word_at
 trial_found words found trial finds =
     let f = finds (pair_line words) (trial_spelled words trial) in
@@ -380,6 +380,16 @@ running_spelled n words names within ends =
       behind = lots_named (lot_words words (suc n)) (lots_told (lot_words words (suc n)) is.lots);
     }
 
+-- what is found of a run behind so many files: its slack and its lots
+run_fits : (n : ℕ) (words : List (List ℕ)) (found : Found) → ends_in_lots words (suc n) ≡ true → Finds (running_line n words) found
+    → drop n (words_from 1 words n ++ lot_words words (suc n)) ≡ lot_words words (suc n) → RunFound found n
+run_fits n words found ends f behind =
+    let is = lots_parts words (suc n) ends in
+    record {
+      slack = ap is_slack f.slack ∙ is.slack;
+      lots = ap (λ ws. are_lots (drop n ws)) f.plain ∙ ap are_lots behind ∙ is.lots;
+    }
+
 record IsSolve (words : List (List ℕ)) : Type 0 where
   model : is_name (word_at words 1) ≡ true
   initial : is_name (word_at words 2) ≡ true
@@ -397,23 +407,15 @@ solve_spelled words solve =
 pub solve_is_line : (words : List (List ℕ)) → is_solve words ≡ true → (line : Line) × Spells line words
 solve_is_line words is = (running_line 2 words, solve_spelled words is)
 
--- what is found of a run of the solver
-pub record IsSolveFound (words : List (List ℕ)) (found : Found) : Type 0 where
-  pub slack : is_slack (first_value found (codes "slack")) ≡ true
-  pub lots : are_lots (drop 2 (plain_of found)) ≡ true
-  pub says : Solves (word_at (plain_of found) 0) (word_at (plain_of found) 1) (first_value found (codes "closed")) (slack_says (first_value found (codes "slack")))
-      (drawing_says (first_value found (codes "draws"))) (map lot_says (drop 2 (plain_of found))) ≡ solve_says words
+pub solve_fits : (words : List (List ℕ)) (found : Found) → is_solve words ≡ true → ((line : Line) → Spells line words → Finds line found) → RunFound found 2
+solve_fits words found solve finds = run_fits 2 words found (solve_parts words solve).ends (finds (running_line 2 words) (solve_spelled words solve)) refl
 
-pub solve_found : (words : List (List ℕ)) (found : Found) → is_solve words ≡ true → ((line : Line) → Spells line words → Finds line found) → IsSolveFound words found
+pub solve_found : (words : List (List ℕ)) (found : Found) → is_solve words ≡ true → ((line : Line) → Spells line words → Finds line found)
+    → found_solve found ≡ solve_says words
 unfolding solve_says word_at
 solve_found words found solve finds =
-    let is = lots_parts words 3 (solve_parts words solve).ends in
     let f = finds (running_line 2 words) (solve_spelled words solve) in
-    record {
-      slack = ap is_slack f.slack ∙ is.slack;
-      lots = ap (λ ws. are_lots (drop 2 ws)) f.plain ∙ is.lots;
-      says = λ i. Solves (word_at (f.plain i) 0) (word_at (f.plain i) 1) (f.closed i) (slack_says (f.slack i)) (drawing_says (f.draws i)) (map lot_says (drop 2 (f.plain i)));
-    }
+    λ i. Solves (word_at (f.plain i) 0) (word_at (f.plain i) 1) (f.closed i) (slack_says (f.slack i)) (drawing_says (f.draws i)) (map lot_says (drop 2 (f.plain i)))
 
 record IsVerify (words : List (List ℕ)) : Type 0 where
   model : is_name (word_at words 1) ≡ true
@@ -433,23 +435,15 @@ verify_spelled words verify =
 pub verify_is_line : (words : List (List ℕ)) → is_verify words ≡ true → (line : Line) × Spells line words
 verify_is_line words is = (running_line 3 words, verify_spelled words is)
 
--- what is found of the checking of a report
-pub record IsVerifyFound (words : List (List ℕ)) (found : Found) : Type 0 where
-  pub slack : is_slack (first_value found (codes "slack")) ≡ true
-  pub lots : are_lots (drop 3 (plain_of found)) ≡ true
-  pub says : Verifies (word_at (plain_of found) 0) (word_at (plain_of found) 1) (word_at (plain_of found) 2) (first_value found (codes "closed")) (slack_says (first_value found (codes "slack")))
-      (drawing_says (first_value found (codes "draws"))) (map lot_says (drop 3 (plain_of found))) ≡ verify_says words
+pub verify_fits : (words : List (List ℕ)) (found : Found) → is_verify words ≡ true → ((line : Line) → Spells line words → Finds line found) → RunFound found 3
+verify_fits words found verify finds = run_fits 3 words found (verify_parts words verify).ends (finds (running_line 3 words) (verify_spelled words verify)) refl
 
-pub verify_found : (words : List (List ℕ)) (found : Found) → is_verify words ≡ true → ((line : Line) → Spells line words → Finds line found) → IsVerifyFound words found
+pub verify_found : (words : List (List ℕ)) (found : Found) → is_verify words ≡ true → ((line : Line) → Spells line words → Finds line found)
+    → found_verify found ≡ verify_says words
 unfolding verify_says word_at
 verify_found words found verify finds =
-    let is = lots_parts words 4 (verify_parts words verify).ends in
     let f = finds (running_line 3 words) (verify_spelled words verify) in
-    record {
-      slack = ap is_slack f.slack ∙ is.slack;
-      lots = ap (λ ws. are_lots (drop 3 ws)) f.plain ∙ is.lots;
-      says = λ i. Verifies (word_at (f.plain i) 0) (word_at (f.plain i) 1) (word_at (f.plain i) 2) (f.closed i) (slack_says (f.slack i)) (drawing_says (f.draws i)) (map lot_says (drop 3 (f.plain i)));
-    }
+    λ i. Verifies (word_at (f.plain i) 0) (word_at (f.plain i) 1) (word_at (f.plain i) 2) (f.closed i) (slack_says (f.slack i)) (drawing_says (f.draws i)) (map lot_says (drop 3 (f.plain i)))
 
 -- ---- repair
 
@@ -496,7 +490,7 @@ pub repair_lots : (words : List (List ℕ)) (found : Found) → is_repair words 
 repair_lots words found repair finds = ap (λ ws. are_lots (drop 2 ws)) (finds (repair_line words) (repair_spelled words repair)).plain ∙ (repair_parts words repair).lots
 
 pub repair_found : (words : List (List ℕ)) (found : Found) → is_repair words ≡ true → ((line : Line) → Spells line words → Finds line found)
-    → Repairs (word_at (plain_of found) 0) (word_at (plain_of found) 1) (first_value found (codes "closed")) 0 Two (map lot_says (drop 2 (plain_of found))) ≡ repair_says words
+    → found_repair found ≡ repair_says words
 unfolding repair_says word_at
 repair_found words found repair finds =
     let f = finds (repair_line words) (repair_spelled words repair) in

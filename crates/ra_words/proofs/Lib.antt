@@ -6,4 +6,5 @@ pub mod RowLaws
 pub mod LineWalk
 pub mod LineLaws
 pub mod JobLines
+pub mod FormLaws
 pub mod OneLot

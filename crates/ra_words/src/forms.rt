@@ -1,15 +1,55 @@
 ghost use Rattle.std.specs.Prelude.{◌≡◌, ◌+◌, ◌≤◌, codes, drop};
 ghost use Rattle.std.specs.Str.{bytes_eq};
 ghost use Rattle.ra_words.specs.Words.{texts, value_at};
+ghost use Rattle.ra_words.specs.Forms.{form_of};
 ghost use Rattle.ra_words.specs.Jobs.{is_check, is_bound, is_bound_from, is_solve, is_trial, is_verify, is_repair, lot_place, is_edit, is_closed, is_slack, is_drawing, ends_closed, ends_in_lots, closed_place, draws_place, lots_place};
 
 use crate::lots::are_lots;
 use crate::numbers::is_number;
 use crate::words::{behind, has_option, names_file, text_at};
 
+/// The forms that the words of a job have.
+#[derive(Clone, Copy)]
+pub(crate) enum Form {
+    Check,
+    Bound,
+    BoundFrom,
+    Solve,
+    Trial,
+    Verify,
+    Repair,
+    Edit,
+}
+
+/// The form of the words. `None` where they are no job.
+#[tactic(auto, unfolding(crate::specs::Forms::form_of))]
+pub(crate) fn form_of(words: &[String]) -> Option<Form>
+    ensures { result ≡ form_of (texts words.now) }
+{
+    if is_check(words) {
+        Some(Form::Check)
+    } else if is_bound(words) {
+        Some(Form::Bound)
+    } else if is_bound_from(words) {
+        Some(Form::BoundFrom)
+    } else if is_solve(words) {
+        Some(Form::Solve)
+    } else if is_trial(words) {
+        Some(Form::Trial)
+    } else if is_verify(words) {
+        Some(Form::Verify)
+    } else if is_repair(words) {
+        Some(Form::Repair)
+    } else if is_edit(words) {
+        Some(Form::Edit)
+    } else {
+        None
+    }
+}
+
 /// Whether the words are a check.
 #[tactic(auto, unfolding(crate::specs::Jobs::is_check))]
-pub(crate) fn is_check(words: &[String]) -> bool
+fn is_check(words: &[String]) -> bool
     ensures { result ≡ is_check (texts words.now) }
 {
     text_at(words, 0) == "check"
@@ -21,7 +61,7 @@ pub(crate) fn is_check(words: &[String]) -> bool
 
 /// Whether the words ask for a bound.
 #[tactic(auto, unfolding(crate::specs::Jobs::is_bound))]
-pub(crate) fn is_bound(words: &[String]) -> bool
+fn is_bound(words: &[String]) -> bool
     ensures { result ≡ is_bound (texts words.now) }
 {
     words.len() == 2 && text_at(words, 0) == "bound" && names_file(text_at(words, 1))
@@ -29,7 +69,7 @@ pub(crate) fn is_bound(words: &[String]) -> bool
 
 /// Whether the words ask for a bound from a start.
 #[tactic(auto, unfolding(crate::specs::Jobs::is_bound_from))]
-pub(crate) fn is_bound_from(words: &[String]) -> bool
+fn is_bound_from(words: &[String]) -> bool
     ensures { result ≡ is_bound_from (texts words.now) }
 {
     text_at(words, 0) == "bound"
@@ -40,7 +80,7 @@ pub(crate) fn is_bound_from(words: &[String]) -> bool
 
 /// Whether the words are a run of a solver.
 #[tactic(auto, unfolding(crate::specs::Jobs::is_solve))]
-pub(crate) fn is_solve(words: &[String]) -> bool
+fn is_solve(words: &[String]) -> bool
     ensures { result ≡ is_solve (texts words.now) }
 {
     text_at(words, 0) == "solve"
@@ -51,7 +91,7 @@ pub(crate) fn is_solve(words: &[String]) -> bool
 
 /// Whether the words ask for a trial.
 #[tactic(auto, unfolding(crate::specs::Jobs::is_trial))]
-pub(crate) fn is_trial(words: &[String]) -> bool
+fn is_trial(words: &[String]) -> bool
     ensures { result ≡ is_trial (texts words.now) }
 {
     words.len() == 2 && text_at(words, 0) == "trial" && is_number(text_at(words, 1).as_bytes())
@@ -59,7 +99,7 @@ pub(crate) fn is_trial(words: &[String]) -> bool
 
 /// Whether the words ask for a report to be checked.
 #[tactic(auto, unfolding(crate::specs::Jobs::is_verify))]
-pub(crate) fn is_verify(words: &[String]) -> bool
+fn is_verify(words: &[String]) -> bool
     ensures { result ≡ is_verify (texts words.now) }
 {
     text_at(words, 0) == "verify"
@@ -71,7 +111,7 @@ pub(crate) fn is_verify(words: &[String]) -> bool
 
 /// Whether the words ask for a repair.
 #[tactic(auto, unfolding(crate::specs::Jobs::is_repair))]
-pub(crate) fn is_repair(words: &[String]) -> bool
+fn is_repair(words: &[String]) -> bool
     ensures { result ≡ is_repair (texts words.now) }
 {
     text_at(words, 0) == "repair"
@@ -93,7 +133,7 @@ fn lot_place(words: &[String]) -> usize
 
 /// Whether the words ask for edits.
 #[tactic(auto, unfolding(crate::specs::Jobs::is_edit))]
-pub(crate) fn is_edit(words: &[String]) -> bool
+fn is_edit(words: &[String]) -> bool
     ensures { result ≡ is_edit (texts words.now) }
 {
     text_at(words, 0) == "edit"

@@ -1,13 +1,17 @@
-ghost use Rattle.std.specs.Prelude.{◌≡◌, true, None, Some, Err, IfOk, ◌↔◌};
-ghost use Rattle.ra_words.specs.Words.{texts};
-ghost use Rattle.ra_words.specs.Jobs.{job_of, is_check, check_says, is_bound, bound_says, is_bound_from, bound_from_says, is_solve, solve_says, is_trial, trial_says, is_verify, verify_says, is_repair, repair_says, is_edit, edit_says};
+ghost use Rattle.std.specs.Prelude.{◌≡◌, true, codes, drop, None, Some, Err, IfOk, ◌↔◌};
+ghost use Rattle.clap.specs.Words.{first_value, found_of};
+ghost use Rattle.ra_words.specs.Words.{texts, word_at};
+ghost use Rattle.ra_words.specs.Numbers.{is_number};
+ghost use Rattle.ra_words.specs.LotTexts.{are_lots};
+ghost use Rattle.ra_words.specs.Lines.{plain_of};
+ghost use Rattle.ra_words.specs.Jobs.{job_of, is_slack};
+ghost use Rattle.ra_words.specs.Forms.{form_of, FitsForm, found_says, found_check, found_bound, found_bound_from, found_solve, found_trial, found_verify, found_repair, found_edit};
 ghost use Rattle.ra_words.specs.Said.{said};
 
-use crate::forms::{
-    is_bound, is_bound_from, is_check, is_edit, is_repair, is_solve, is_trial, is_verify,
-};
+use crate::forms::{Form, form_of};
 use crate::line::{closed_name, lots, plain_at, plain_name, run_lots, take_line};
 use crate::numbers::number;
+use clap::ArgMatches;
 use ra_base::{Drawing, Name, NoMemory};
 use ra_draws::Lots;
 use std::alloc::Global;
@@ -91,156 +95,129 @@ impl From<NoMemory> for WordsFault {
 }
 
 /// The job of the command words, which leave out the program's name. The words are judged before any memory is taken.
-#[tactic(auto, unfolding(crate::specs::Jobs::job_of))]
 pub fn read_words(alloc: Global, words: &[String]) -> Result<Job, WordsFault>
     ensures ok { IfOk result (λ job. job_of (texts words.now) ≡ Some (said job)) }
     ensures usage { (result ≡ Err WordsFault.Usage) ↔ (job_of (texts words.now) ≡ None) }
 {
-    if is_check(words) {
-        return Ok(check_job(alloc, words)?);
-    }
-    if is_bound(words) {
-        return Ok(bound_job(alloc, words)?);
-    }
-    if is_bound_from(words) {
-        return Ok(bound_from_job(alloc, words)?);
-    }
-    if is_solve(words) {
-        return Ok(solve_job(alloc, words)?);
-    }
-    if is_trial(words) {
-        return Ok(trial_job(alloc, words)?);
-    }
-    if is_verify(words) {
-        return Ok(verify_job(alloc, words)?);
-    }
-    if is_repair(words) {
-        return Ok(repair_job(alloc, words)?);
-    }
-    if is_edit(words) {
-        return Ok(edit_job(alloc, words)?);
+    if let Some(form) = form_of(words) {
+        return Ok(read_job(alloc, words, form)?);
     }
     Err(WordsFault::Usage)
 }
 
-#[tactic(auto, using(crate::proofs::JobLines::check_is_line, crate::proofs::JobLines::check_found))]
-fn check_job(alloc: Global, words: &[String]) -> Result<Job, NoMemory>
-    requires { is_check (texts words.now) ≡ true }
-    ensures { IfOk result (λ job. said job ≡ check_says (texts words.now)) }
+/// The job of words that have a form.
+fn read_job(alloc: Global, words: &[String], form: Form) -> Result<Job, NoMemory>
+    requires { form_of (texts words.now) ≡ Some form }
+    ensures { IfOk result (λ job. job_of (texts words.now) ≡ Some (said job)) }
 {
     let taken = take_line(alloc, words)?;
+    found_job(alloc, &taken, form)
+}
+
+/// The job of a form that the words say which were taken apart.
+fn found_job(alloc: Global, taken: &ArgMatches<'_>, form: Form) -> Result<Job, NoMemory>
+    requires { FitsForm form (found_of taken.now) }
+    ensures { IfOk result (λ job. said job ≡ found_says form (found_of taken.now)) }
+{
+    match form {
+        Form::Check => check_job(alloc, taken),
+        Form::Bound => bound_job(alloc, taken),
+        Form::BoundFrom => bound_from_job(alloc, taken),
+        Form::Solve => solve_job(alloc, taken),
+        Form::Trial => Ok(trial_job(taken)),
+        Form::Verify => verify_job(alloc, taken),
+        Form::Repair => repair_job(alloc, taken),
+        Form::Edit => edit_job(alloc, taken),
+    }
+}
+
+fn check_job(alloc: Global, taken: &ArgMatches<'_>) -> Result<Job, NoMemory>
+    ensures { IfOk result (λ job. said job ≡ found_check (found_of taken.now)) }
+{
     Ok(Job::Check {
-        model: plain_name(alloc, &taken, 0)?,
-        initial: plain_name(alloc, &taken, 1)?,
-        changed: plain_name(alloc, &taken, 2)?,
-        closed: closed_name(alloc, &taken)?,
+        model: plain_name(alloc, taken, 0)?,
+        initial: plain_name(alloc, taken, 1)?,
+        changed: plain_name(alloc, taken, 2)?,
+        closed: closed_name(alloc, taken)?,
     })
 }
 
-#[tactic(auto, using(crate::proofs::JobLines::bound_is_line, crate::proofs::JobLines::bound_found))]
-fn bound_job(alloc: Global, words: &[String]) -> Result<Job, NoMemory>
-    requires { is_bound (texts words.now) ≡ true }
-    ensures { IfOk result (λ job. said job ≡ bound_says (texts words.now)) }
+fn bound_job(alloc: Global, taken: &ArgMatches<'_>) -> Result<Job, NoMemory>
+    ensures { IfOk result (λ job. said job ≡ found_bound (found_of taken.now)) }
 {
-    let taken = take_line(alloc, words)?;
     Ok(Job::Bound {
-        model: plain_name(alloc, &taken, 0)?,
+        model: plain_name(alloc, taken, 0)?,
         initial: None,
         closed: None,
     })
 }
 
-#[tactic(auto, using(crate::proofs::JobLines::bound_from_is_line, crate::proofs::JobLines::bound_from_found))]
-fn bound_from_job(alloc: Global, words: &[String]) -> Result<Job, NoMemory>
-    requires { is_bound_from (texts words.now) ≡ true }
-    ensures { IfOk result (λ job. said job ≡ bound_from_says (texts words.now)) }
+fn bound_from_job(alloc: Global, taken: &ArgMatches<'_>) -> Result<Job, NoMemory>
+    ensures { IfOk result (λ job. said job ≡ found_bound_from (found_of taken.now)) }
 {
-    let taken = take_line(alloc, words)?;
     Ok(Job::Bound {
-        model: plain_name(alloc, &taken, 0)?,
-        initial: Some(plain_name(alloc, &taken, 1)?),
-        closed: closed_name(alloc, &taken)?,
+        model: plain_name(alloc, taken, 0)?,
+        initial: Some(plain_name(alloc, taken, 1)?),
+        closed: closed_name(alloc, taken)?,
     })
 }
 
-#[tactic(auto, using(crate::proofs::JobLines::solve_is_line, crate::proofs::JobLines::solve_found))]
-fn solve_job(alloc: Global, words: &[String]) -> Result<Job, NoMemory>
-    requires { is_solve (texts words.now) ≡ true }
-    ensures { IfOk result (λ job. said job ≡ solve_says (texts words.now)) }
+fn solve_job(alloc: Global, taken: &ArgMatches<'_>) -> Result<Job, NoMemory>
+    requires slack { is_slack (first_value (found_of taken.now) (codes "slack")) ≡ true }
+    requires lots { are_lots (drop 2 (plain_of (found_of taken.now))) ≡ true }
+    ensures { IfOk result (λ job. said job ≡ found_solve (found_of taken.now)) }
 {
-    let taken = take_line(alloc, words)?;
-    let model = plain_name(alloc, &taken, 0)?;
-    let initial = plain_name(alloc, &taken, 1)?;
-    let closed = closed_name(alloc, &taken)?;
-    let lots = run_lots(alloc, &taken, 2)?;
     Ok(Job::Solve {
-        model,
-        initial,
-        closed,
-        lots,
+        model: plain_name(alloc, taken, 0)?,
+        initial: plain_name(alloc, taken, 1)?,
+        closed: closed_name(alloc, taken)?,
+        lots: run_lots(alloc, taken, 2)?,
     })
 }
 
-#[tactic(auto, using(crate::proofs::JobLines::trial_is_line, crate::proofs::JobLines::trial_plain, crate::proofs::JobLines::trial_found))]
-fn trial_job(alloc: Global, words: &[String]) -> Result<Job, NoMemory>
-    requires { is_trial (texts words.now) ≡ true }
-    ensures { IfOk result (λ job. said job ≡ trial_says (texts words.now)) }
+fn trial_job(taken: &ArgMatches<'_>) -> Job
+    requires { is_number (word_at (plain_of (found_of taken.now)) 0) ≡ true }
+    ensures { said result ≡ found_trial (found_of taken.now) }
 {
-    let taken = take_line(alloc, words)?;
-    Ok(Job::Trial {
-        number: number(plain_at(&taken, 0).as_bytes()),
-    })
+    Job::Trial {
+        number: number(plain_at(taken, 0).as_bytes()),
+    }
 }
 
-#[tactic(auto, using(crate::proofs::JobLines::verify_is_line, crate::proofs::JobLines::verify_found))]
-fn verify_job(alloc: Global, words: &[String]) -> Result<Job, NoMemory>
-    requires { is_verify (texts words.now) ≡ true }
-    ensures { IfOk result (λ job. said job ≡ verify_says (texts words.now)) }
+fn verify_job(alloc: Global, taken: &ArgMatches<'_>) -> Result<Job, NoMemory>
+    requires slack { is_slack (first_value (found_of taken.now) (codes "slack")) ≡ true }
+    requires lots { are_lots (drop 3 (plain_of (found_of taken.now))) ≡ true }
+    ensures { IfOk result (λ job. said job ≡ found_verify (found_of taken.now)) }
 {
-    let taken = take_line(alloc, words)?;
-    let model = plain_name(alloc, &taken, 0)?;
-    let initial = plain_name(alloc, &taken, 1)?;
-    let report = plain_name(alloc, &taken, 2)?;
-    let closed = closed_name(alloc, &taken)?;
-    let lots = run_lots(alloc, &taken, 3)?;
     Ok(Job::Verify {
-        model,
-        initial,
-        report,
-        closed,
-        lots,
+        model: plain_name(alloc, taken, 0)?,
+        initial: plain_name(alloc, taken, 1)?,
+        report: plain_name(alloc, taken, 2)?,
+        closed: closed_name(alloc, taken)?,
+        lots: run_lots(alloc, taken, 3)?,
     })
 }
 
-#[tactic(auto, using(crate::proofs::JobLines::repair_is_line, crate::proofs::JobLines::repair_lots))]
-fn repair_job(alloc: Global, words: &[String]) -> Result<Job, NoMemory>
-    requires { is_repair (texts words.now) ≡ true }
-    ensures { IfOk result (λ job. said job ≡ repair_says (texts words.now)) }
+fn repair_job(alloc: Global, taken: &ArgMatches<'_>) -> Result<Job, NoMemory>
+    requires { are_lots (drop 2 (plain_of (found_of taken.now))) ≡ true }
+    ensures { IfOk result (λ job. said job ≡ found_repair (found_of taken.now)) }
 {
-    let taken = take_line(alloc, words)?;
-    let model = plain_name(alloc, &taken, 0)?;
-    let initial = plain_name(alloc, &taken, 1)?;
-    let closed = closed_name(alloc, &taken)?;
-    let lots = lots(alloc, &taken, 2)?;
     Ok(Job::Repair {
-        model,
-        initial,
-        closed,
-        lots: Lots::of(0, Drawing::Two, lots),
+        model: plain_name(alloc, taken, 0)?,
+        initial: plain_name(alloc, taken, 1)?,
+        closed: closed_name(alloc, taken)?,
+        lots: Lots::of(0, Drawing::Two, lots(alloc, taken, 2)?),
     })
 }
 
-#[tactic(auto, using(crate::proofs::JobLines::edit_is_line, crate::proofs::JobLines::edit_found))]
-fn edit_job(alloc: Global, words: &[String]) -> Result<Job, NoMemory>
-    requires { is_edit (texts words.now) ≡ true }
-    ensures { IfOk result (λ job. said job ≡ edit_says (texts words.now)) }
+fn edit_job(alloc: Global, taken: &ArgMatches<'_>) -> Result<Job, NoMemory>
+    ensures { IfOk result (λ job. said job ≡ found_edit (found_of taken.now)) }
 {
-    let taken = take_line(alloc, words)?;
     Ok(Job::Edit {
-        model: plain_name(alloc, &taken, 0)?,
-        initial: plain_name(alloc, &taken, 1)?,
-        current: plain_name(alloc, &taken, 2)?,
-        edits: plain_name(alloc, &taken, 3)?,
-        closed: closed_name(alloc, &taken)?,
+        model: plain_name(alloc, taken, 0)?,
+        initial: plain_name(alloc, taken, 1)?,
+        current: plain_name(alloc, taken, 2)?,
+        edits: plain_name(alloc, taken, 3)?,
+        closed: closed_name(alloc, taken)?,
     })
 }

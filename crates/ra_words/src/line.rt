@@ -1,8 +1,8 @@
 ghost use Rattle.std.specs.Prelude.{◌≡◌, true, codes, IfOk, drop, map};
-ghost use Rattle.clap.specs.Words.{app_of, first_value, found_of};
+ghost use Rattle.clap.specs.Words.{app_of, first_value, found_of, with_rule};
 ghost use Rattle.ra_words.specs.Words.{texts, word_at};
 ghost use Rattle.ra_draws.specs.Lots.{IsLots};
-ghost use Rattle.ra_words.specs.Lines.{Line, Spells, Finds, line_app, plain_of};
+ghost use Rattle.ra_words.specs.Lines.{Line, Spells, Finds, line_app, option_rule, plain_of};
 ghost use Rattle.ra_words.specs.LotTexts.{are_lots, lot_says};
 ghost use Rattle.ra_words.specs.Jobs.{is_slack, slack_says, drawing_says};
 ghost use Rattle.ra_words.specs.Said.{said_lot};
@@ -16,17 +16,25 @@ use ra_base::{Drawing, Name, NoMemory};
 use ra_draws::{Lot, Lots};
 use std::alloc::{AllocError, Global};
 
+/// A command with one more option, which has a value.
+fn with_option<'a>(
+    alloc: Global,
+    command: Command<'a>,
+    name: &'a str,
+) -> Result<Command<'a>, AllocError>
+    ensures { IfOk result (λ more. app_of more ≡ with_rule (app_of command.entry) (option_rule name.entry.now)) }
+{
+    command.arg(Arg::new(alloc, name).long(name))
+}
+
 /// The one command that takes the words of every job apart.
 fn line_command<'a>(alloc: Global) -> Result<Command<'a>, AllocError>
     ensures { IfOk result (λ command. app_of command ≡ line_app) }
 {
-    // Each option is made where it is handed over, so that no exit has another one to end.
-    let command = Command::new(alloc, "reassign")
-        .arg(Arg::new(alloc, "slack").long("slack"))?
-        .arg(Arg::new(alloc, "closed").long("closed"))?
-        .arg(Arg::new(alloc, "draws").long("draws"))?
-        .arg(Arg::new(alloc, "plain").action(ArgAction::Append))?;
-    Ok(command)
+    let command = with_option(alloc, Command::new(alloc, "reassign"), "slack")?;
+    let command = with_option(alloc, command, "closed")?;
+    let command = with_option(alloc, command, "draws")?;
+    command.arg(Arg::new(alloc, "plain").action(ArgAction::Append))
 }
 
 /// The words of a line taken apart. They are judged before, so only memory can be refused.

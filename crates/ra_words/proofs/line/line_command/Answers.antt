@@ -1,17 +1,15 @@
-use Rattle.std.proofs.Common.{◌≡◌, ◌∙◌, ap₂, rules, codes}
-use Rattle.clap.specs.Words.{app_of, rule_of, with_rule}
-use Rattle.ra_words.specs.Lines.{option_rule, plain_rule, line_app}
+use Rattle.std.proofs.Common.{◌≡◌, ◌∙◌, ap, ap₂, rules, codes}
+use Rattle.std.proofs.lemmas.Result.{IfOk-weaker}
+use Rattle.clap.specs.Words.{rule_of, with_rule}
+use Rattle.ra_words.specs.Lines.{option_rule, plain_rule}
 use Rattle.ra_words.proofs.line.line_command.Goals as goal
 
 pub returns : goal.returns
 returns c =
-    let slack : rule_of c.long.result ≡ option_rule (codes "slack") = search rules in
-    let closed : rule_of c.long-2.result ≡ option_rule (codes "closed") = search rules in
-    let draws : rule_of c.long-3.result ≡ option_rule (codes "draws") = search rules in
     let plain : rule_of c.action.result ≡ plain_rule = search rules in
-    let is : app_of c.in_ok-command.command ≡ line_app =
-    c.in_ok-command.ensures.shape (search rules)
-    ∙ ap₂ with_rule (c.in_ok-arg-3.ensures.shape (search rules)
-    ∙ ap₂ with_rule (c.in_ok-arg-2.ensures.shape (search rules)
-    ∙ ap₂ with_rule (c.in_ok-arg.ensures.shape (search rules) ∙ ap₂ with_rule c.new.ensures.app slack) closed) draws) plain in
-    is
+    let options =
+    c.in_ok-command-3.ensures
+    ∙ ap (λ app. with_rule app (option_rule (codes "draws"))) (c.in_ok-command-2.ensures
+    ∙ ap (λ app. with_rule app (option_rule (codes "closed"))) (c.in_ok-command.ensures
+    ∙ ap (λ app. with_rule app (option_rule (codes "slack"))) c.new.ensures.app)) in
+    IfOk-weaker c.arg.result _ _ (λ command adds. adds.shape (search rules) ∙ ap₂ with_rule options plain) c.arg.ensures
