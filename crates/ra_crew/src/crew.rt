@@ -26,23 +26,13 @@ use std::thread::Threads;
 
 /// The workers of a run before they begin, one for each lot, with the journal that they share. No memory is taken once it
 /// is made.
+#[derive(Drop)]
 pub struct Crew<'a> {
     shared: Shared<'a>,
     workers: Vec<Worker<'a>>,
     passes: Vec<WorkerPass<'a>>,
     pub ghost ready: { AreReady shared workers.items },
     pub ghost room: { (passes.items ≡ []) × (length workers.items ≤ vec_capacity passes) },
-}
-
-/// Lets all parts go in one call, so that the end of an owner is short to prove.
-impl Drop for Crew<'_> {
-    fn drop(self) {
-        let Crew {
-            shared: _,
-            workers: _,
-            passes: _,
-        } = self;
-    }
 }
 
 impl<'a> Crew<'a> {
@@ -113,7 +103,7 @@ fn make_workers<'a>(
     let mut workers = Vec::with_capacity(alloc, passes.len())?;
     for pass in passes {
         let worker = make_worker(alloc, inst, topo, a0, start, lots, pass)?;
-        workers.push(worker)?;
+        workers.push_reserved(worker);
     }
     Ok(workers)
 }
@@ -138,8 +128,7 @@ fn make_worker<'a>(
         IsFresh inst.now.tables a0.now.items lots.now worker) }
 {
     let replica = Replica::make(alloc, inst, topo, a0, start, lots, pass.number())?;
-    let worker = Worker::make(alloc, replica, pass)?;
-    Ok(worker)
+    Worker::make(alloc, replica, pass)
 }
 
 /// Runs all workers, each in a thread of its own.

@@ -1,14 +1,14 @@
 mod lots;
 
+use super::starts::{demand, start_of};
 use super::verdicts::{done, refused};
 use lots::{one_lot, two_lots};
 use ra_base::{Cause, Machine, Process, Resource};
 use ra_draws::Lots;
 use ra_journal::Entry;
 use ra_legal::first_illegal;
-use ra_model::Instance;
 use ra_moves::{Move, Step, Verdict};
-use ra_samples::{assignment, sample};
+use ra_samples::sample;
 use std::alloc::Global;
 use std::process::Abort;
 
@@ -17,42 +17,39 @@ const THREE: [u64; 24] = [
     0, 1, 2, 1, 0, 3, 0, 0, 0, 1, 3, 3, 3, 3, 0, 0, 0, 1, 2, 2, 2, 2, 0, 0,
 ];
 
-/// What is told of a journal on an instance, from the start `0 3 0`.
-fn told_on(
-    rt: &impl Abort,
-    alloc: Global,
-    inst: &Instance,
-    lots: &Lots,
-    entries: &[Entry],
-) -> Option<usize> {
-    let a0 = assignment(alloc, &[0, 3, 0]).expect(rt, "no memory");
-    assert!(rt; inst.is_assignment(&a0));
-    first_illegal(alloc, inst, &a0, lots, entries).expect(rt, "no memory")
-}
+/// A proposal to shift process 1 to one of the machines 2, 1, 0 and 3.
+const AWAY: [u64; 8] = [0, 1, 2, 1, 0, 3, 0, 0];
 
-/// What is told of a journal on the sample instance, whose start costs 4200.
-fn told(rt: &impl Abort, alloc: Global, lots: &Lots, entries: &[Entry]) -> Option<usize> {
+/// This is told of a journal on the sample instance, from the start `0 3 0`, which costs 4200.
+fn tells(rt: &impl Abort, alloc: Global, lots: &Lots, entries: &[Entry], want: Option<usize>) {
     let inst = sample(alloc).expect(rt, "no instance");
-    let found = told_on(rt, alloc, &inst, lots, entries);
-    drop(inst);
-    found
+    let a0 = start_of(rt, alloc, &inst, &[0, 3, 0]);
+    let found = first_illegal(alloc, &inst, &a0, lots, entries).expect(rt, "no memory");
+    demand(rt, found == want);
 }
 
-/// What is told of a journal of the one worker with three proposals.
-fn told_of_three(rt: &impl Abort, alloc: Global, slack: u64, entries: &[Entry]) -> Option<usize> {
-    let lots = one_lot(rt, alloc, slack, &THREE).expect(rt, "no memory");
-    told(rt, alloc, &lots, entries)
-}
-
-/// What is told of a journal of two workers, of which the first shifts process 1 to one of 2, 1, 0 and 3.
-fn told_of_two(
+/// This is told of a journal of the one worker with three proposals.
+fn tells_of_three(
     rt: &impl Abort,
     alloc: Global,
-    second: &[u64; 8],
+    slack: u64,
     entries: &[Entry],
-) -> Option<usize> {
-    let lots = two_lots(rt, alloc, &[0, 1, 2, 1, 0, 3, 0, 0], second).expect(rt, "no memory");
-    told(rt, alloc, &lots, entries)
+    want: Option<usize>,
+) {
+    let lots = one_lot(rt, alloc, slack, &THREE).expect(rt, "no memory");
+    tells(rt, alloc, &lots, entries, want);
+}
+
+/// This is told of a journal of two workers with one proposal each.
+fn tells_of_two(
+    rt: &impl Abort,
+    alloc: Global,
+    words: &[[u64; 8]; 2],
+    entries: &[Entry],
+    want: Option<usize>,
+) {
+    let lots = two_lots(rt, alloc, &words[0], &words[1]).expect(rt, "no memory");
+    tells(rt, alloc, &lots, entries, want);
 }
 
 fn shift(process: u32, from: u32, to: u32) -> Move {
@@ -127,108 +124,78 @@ fn not_back() -> Entry {
 #[test]
 fn legal_journals(rt: HostRuntime) {
     let alloc = rt.alloc();
-    assert_eq!(rt; told_of_three(&rt, alloc, 2070, &[]), None);
+    tells_of_three(&rt, alloc, 2070, &[], None);
     let again = own(2, 2, shift(1, 3, 2), done(3510));
-    assert_eq!(rt;
-        told_of_three(&rt, alloc, 2070, &[start(), back(), again]),
-        None
-    );
+    tells_of_three(&rt, alloc, 2070, &[start(), back(), again], None);
     let stays = own(2, 2, shift(1, 2, 2), same(1));
-    assert_eq!(rt;
-        told_of_three(&rt, alloc, 2069, &[start(), not_back(), stays]),
-        None
-    );
+    tells_of_three(&rt, alloc, 2069, &[start(), not_back(), stays], None);
 }
 
 #[test]
 fn numbers_of_proposals(rt: HostRuntime) {
     let alloc = rt.alloc();
     let skips = own(2, 1, shift(1, 2, 2), same(1));
-    assert_eq!(rt; told_of_three(&rt, alloc, 2070, &[start(), skips]), Some(1));
-    assert_eq!(rt; told_of_three(&rt, alloc, 2070, &[back()]), Some(0));
+    tells_of_three(&rt, alloc, 2070, &[start(), skips], Some(1));
+    tells_of_three(&rt, alloc, 2070, &[back()], Some(0));
     let nobody = other(0, shift(1, 3, 2), done(3510));
-    assert_eq!(rt; told_of_three(&rt, alloc, 2070, &[nobody]), Some(0));
+    tells_of_three(&rt, alloc, 2070, &[nobody], Some(0));
     let fourth = own(3, 3, shift(1, 2, 2), same(1));
     let again = own(2, 2, shift(1, 3, 2), done(3510));
-    assert_eq!(rt;
-        told_of_three(&rt, alloc, 2070, &[start(), back(), again, fourth]),
-        Some(3)
-    );
+    tells_of_three(&rt, alloc, 2070, &[start(), back(), again, fourth], Some(3));
 }
 
 #[test]
 fn places_of_planning(rt: HostRuntime) {
     let alloc = rt.alloc();
     let later = own(1, 2, shift(1, 2, 3), done(4200));
-    assert_eq!(rt; told_of_three(&rt, alloc, 2070, &[start(), later]), Some(1));
+    tells_of_three(&rt, alloc, 2070, &[start(), later], Some(1));
     let earlier = own(1, 0, shift(1, 3, 3), same(1));
-    assert_eq!(rt;
-        told_of_three(&rt, alloc, 2070, &[start(), earlier]),
-        Some(1)
-    );
+    tells_of_three(&rt, alloc, 2070, &[start(), earlier], Some(1));
     // The entry before it was refused, so nothing else is wrong.
     let unseen = own(2, 1, shift(1, 2, 2), same(1));
-    assert_eq!(rt;
-        told_of_three(&rt, alloc, 2069, &[start(), not_back(), unseen]),
-        Some(2)
-    );
+    tells_of_three(&rt, alloc, 2069, &[start(), not_back(), unseen], Some(2));
 }
 
 #[test]
 fn other_moves_and_verdicts(rt: HostRuntime) {
     let alloc = rt.alloc();
     let stays = own(0, 0, shift(1, 3, 3), same(1));
-    assert_eq!(rt; told_of_three(&rt, alloc, 2070, &[stays]), Some(0));
+    tells_of_three(&rt, alloc, 2070, &[stays], Some(0));
     let dearer = own(0, 0, shift(1, 3, 2), done(3511));
-    assert_eq!(rt; told_of_three(&rt, alloc, 2070, &[dearer]), Some(0));
-    assert_eq!(rt;
-        told_of_three(&rt, alloc, 2070, &[start(), not_back()]),
-        Some(1)
-    );
+    tells_of_three(&rt, alloc, 2070, &[dearer], Some(0));
+    tells_of_three(&rt, alloc, 2070, &[start(), not_back()], Some(1));
 }
 
 // Process 1 stands on machine 2 when process 2 comes there.
 #[test]
 fn a_machine_that_was_touched(rt: HostRuntime) {
     let alloc = rt.alloc();
-    let second = [0, 2, 2, 2, 2, 2, 0, 0];
+    let words = [AWAY, [0, 2, 2, 2, 2, 2, 0, 0]];
     let unseen = other(0, shift(2, 0, 2), capacity(2, 0, 16, 15));
-    assert_eq!(rt;
-        told_of_two(&rt, alloc, &second, &[start(), unseen]),
-        Some(1)
-    );
+    tells_of_two(&rt, alloc, &words, &[start(), unseen], Some(1));
     let seen = other(1, shift(2, 0, 2), capacity(2, 0, 16, 15));
-    assert_eq!(rt; told_of_two(&rt, alloc, &second, &[start(), seen]), None);
+    tells_of_two(&rt, alloc, &words, &[start(), seen], None);
     // At the start the second resource is too small.
     let old = other(1, shift(2, 0, 2), capacity(2, 1, 200, 100));
-    assert_eq!(rt; told_of_two(&rt, alloc, &second, &[start(), old]), Some(1));
+    tells_of_two(&rt, alloc, &words, &[start(), old], Some(1));
 }
 
 // Process 2 goes from 0 to 1, and depends on the service of process 1, which went from 3 to 2.
 #[test]
 fn a_service_that_was_touched(rt: HostRuntime) {
     let alloc = rt.alloc();
-    let second = [0, 2, 1, 1, 1, 1, 0, 0];
+    let words = [AWAY, [0, 2, 1, 1, 1, 1, 0, 0]];
     let unseen = other(0, shift(2, 0, 1), done(2411));
-    assert_eq!(rt;
-        told_of_two(&rt, alloc, &second, &[start(), unseen]),
-        Some(1)
-    );
+    tells_of_two(&rt, alloc, &words, &[start(), unseen], Some(1));
     let seen = other(1, shift(2, 0, 1), done(2411));
-    assert_eq!(rt; told_of_two(&rt, alloc, &second, &[start(), seen]), None);
+    tells_of_two(&rt, alloc, &words, &[start(), seen], None);
 }
 
 #[test]
 fn a_refused_move_touches_nothing(rt: HostRuntime) {
     let alloc = rt.alloc();
-    let lots = two_lots(
-        &rt,
-        alloc,
-        &[0, 1, 3, 3, 3, 3, 0, 0],
-        &[0, 2, 1, 1, 1, 1, 0, 0],
-    )
-    .expect(&rt, "no memory");
+    let words = [[0, 1, 3, 3, 3, 3, 0, 0], [0, 2, 1, 1, 1, 1, 0, 0]];
     let stays = own(0, 0, shift(1, 3, 3), same(1));
     let unseen = other(0, shift(2, 0, 1), done(3111));
-    assert_eq!(rt; told(&rt, alloc, &lots, &[stays, unseen]), None);
+    tells_of_two(&rt, alloc, &words, &[stays, unseen], None);
 }

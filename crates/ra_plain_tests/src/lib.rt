@@ -7,4 +7,6 @@ mod legality;
 #[cfg(test)]
 mod plain;
 #[cfg(test)]
+mod starts;
+#[cfg(test)]
 mod verdicts;

@@ -1,12 +1,13 @@
 mod plans;
 
+use super::starts::{demand, same_machines, start_of};
 use super::verdicts::{done, refused};
 use ra_base::{Cause, Drawing, Fixed, Machine, Process, Resource, Service};
 use ra_check::{Scratch, parts};
 use ra_model::Instance;
 use ra_moves::{Verdict, options, resolve};
 use ra_plain::judge_plainly;
-use ra_samples::{assignment, crossed_pair, list, sample, tight_pair};
+use ra_samples::{crossed_pair, list, sample, tight_pair};
 use std::alloc::Global;
 use std::process::Abort;
 
@@ -30,17 +31,15 @@ fn judged(
     words: &[u64; 8],
     allowed: u64,
 ) -> Verdict {
-    let a0 = assignment(alloc, start).expect(rt, "no memory");
-    let mut a = assignment(alloc, now).expect(rt, "no memory");
-    assert!(rt; inst.is_assignment(&a0));
-    assert!(rt; inst.is_assignment(&a));
+    let a0 = start_of(rt, alloc, inst, start);
+    let mut a = start_of(rt, alloc, inst, now);
+    let same = start_of(rt, alloc, inst, now);
     let mut scratch = Scratch::make(alloc, inst).expect(rt, "no memory");
     let before = parts(inst, &a0, &a, &mut scratch).total;
     let _some = options(words, inst.machines(), Drawing::One);
     let mv = resolve(&a, words, inst.machines(), Drawing::One, 0);
     let verdict = judge_plainly(inst, &a0, &mut a, &mut scratch, before, &mv, allowed);
-    let same = assignment(alloc, now).expect(rt, "no memory");
-    assert_eq!(rt; a.as_slice(), same.as_slice());
+    same_machines(rt, &a, &same);
     verdict
 }
 
@@ -51,8 +50,10 @@ fn judged_at_start(rt: &impl Abort, alloc: Global, inst: &Instance, words: &[u64
 
 /// Load 1500, balance 1700, process 100, service 10, machine 200.
 fn a_move_is_done(rt: &impl Abort, alloc: Global, inst: &Instance) {
-    let verdict = judged_at_start(rt, alloc, inst, &shift(1, 2));
-    assert_eq!(rt; verdict, done(3510));
+    demand(
+        rt,
+        judged_at_start(rt, alloc, inst, &shift(1, 2)) == done(3510),
+    );
 }
 
 /// Process 0 is named by the first two steps, and stays where it is, or by both of a swap; process 1 is named by the
@@ -67,7 +68,10 @@ fn a_process_is_named_again(rt: &impl Abort, alloc: Global, inst: &Instance) {
         let cause = Cause::Repeat {
             process: Process(process),
         };
-        assert_eq!(rt; judged_at_start(rt, alloc, inst, &words), refused(cause));
+        demand(
+            rt,
+            judged_at_start(rt, alloc, inst, &words) == refused(cause),
+        );
     }
 }
 
@@ -78,7 +82,10 @@ fn a_process_stays(rt: &impl Abort, alloc: Global, inst: &Instance) {
         let cause = Cause::Same {
             process: Process(process),
         };
-        assert_eq!(rt; judged_at_start(rt, alloc, inst, &words), refused(cause));
+        demand(
+            rt,
+            judged_at_start(rt, alloc, inst, &words) == refused(cause),
+        );
     }
 }
 
@@ -112,7 +119,10 @@ fn a_move_breaks_a_constraint(rt: &impl Abort, alloc: Global, inst: &Instance) {
         (shift(0, 2), dependency),
     ];
     for (words, cause) in rows {
-        assert_eq!(rt; judged_at_start(rt, alloc, inst, &words), refused(cause));
+        demand(
+            rt,
+            judged_at_start(rt, alloc, inst, &words) == refused(cause),
+        );
     }
 }
 
@@ -134,7 +144,7 @@ fn the_cost_may_rise_by_what_is_allowed(rt: &impl Abort, alloc: Global, inst: &I
             &shift(1, 3),
             allowed,
         );
-        assert_eq!(rt; found, verdict);
+        demand(rt, found == verdict);
     }
 }
 
@@ -160,8 +170,10 @@ fn nothing_moves_there(rt: &impl Abort, alloc: Global, inst: &Instance) {
         process: Process(1),
         machine: Machine(2),
     };
-    let verdict = judged_at_start(rt, alloc, inst, &shift(1, 2));
-    assert_eq!(rt; verdict, refused(cause));
+    demand(
+        rt,
+        judged_at_start(rt, alloc, inst, &shift(1, 2)) == refused(cause),
+    );
 }
 
 #[test]
@@ -184,7 +196,7 @@ fn a_swap_is_done(rt: HostRuntime) {
     let inst = crossed_pair(rt.alloc()).expect(&rt, "no instance");
     let verdict = swapped(&rt, rt.alloc(), &inst);
     drop(inst);
-    assert_eq!(rt; verdict, done(5));
+    demand(&rt, verdict == done(5));
 }
 
 /// Two processes of 6 need 12 of the 10 of machine 0 while they change places.
@@ -199,5 +211,5 @@ fn a_move_breaks_a_capacity_on_the_way(rt: HostRuntime) {
     let inst = tight_pair(rt.alloc()).expect(&rt, "no instance");
     let verdict = swapped(&rt, rt.alloc(), &inst);
     drop(inst);
-    assert_eq!(rt; verdict, refused(cause));
+    demand(&rt, verdict == refused(cause));
 }

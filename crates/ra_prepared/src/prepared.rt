@@ -58,9 +58,9 @@ impl<'a> Prepared<'a> {
         ensures initial { IfOk result (λ prepared. prepared.a0.now ≡ a0.now) }
         ensures lots { IfOk result (λ prepared. prepared.lots.now ≡ lots.now) }
     {
-        let crew = Crew::make(alloc, inst, topo, a0, start, lots)?;
         let best = copy_of(alloc, a0)?;
         let scratch = Scratch::make(alloc, inst)?;
+        let crew = Crew::make(alloc, inst, topo, a0, start, lots)?;
         Ok(Prepared {
             inst,
             a0,

@@ -51,7 +51,8 @@ fn verdict_on(world: &World<'_>, planned: &Plan, allowed: u64) -> Verdict
     verdict(world, &planned.weighed, allowed)
 }
 
-/// Compares the two plans of a proposal: the moves, and the verdicts on them. Whether they are done.
+/// Compares the two plans of a proposal: the moves, and the verdicts on them. Whether they are done, where they are the
+/// same.
 pub(super) fn compare<L: Ledger>(
     rt: &impl Abort,
     alloc: Global,
@@ -60,19 +61,29 @@ pub(super) fn compare<L: Ledger>(
     drawing: Drawing,
     allowed: u64,
     steps: &mut Steps<L>,
-) -> bool {
+) -> Option<bool> {
     let plain = planned_plainly(rt, alloc, world, words, drawing, allowed);
     let planned = plan(world, words, drawing, allowed, 0, 0, steps);
-    assert_eq!(rt; planned.mv, plain.mv);
     let verdict = verdict_on(world, &planned, allowed);
-    assert_eq!(rt; verdict, plain.verdict);
-    is_done(&verdict)
+    if planned.mv == plain.mv && verdict == plain.verdict {
+        Some(is_done(&verdict))
+    } else {
+        None
+    }
 }
 
 /// Whether a move is done.
 pub(super) fn is_done(verdict: &Verdict) -> bool {
     match verdict {
         Verdict::Done { .. } => true,
+        Verdict::Refused { .. } => false,
+    }
+}
+
+/// Whether a move is done, and the cost is then this.
+pub(super) fn is_done_at(verdict: &Verdict, want: u128) -> bool {
+    match verdict {
+        Verdict::Done { cost } => *cost == want,
         Verdict::Refused { .. } => false,
     }
 }

@@ -1,16 +1,10 @@
-//! Walks from a start, with a comparison of plans at each step.
-ghost use Rattle.std.specs.Prelude.{◌≡◌, ◌<◌};
-
+//! A walk from a start, with a comparison of plans at each step.
 use super::plans::{compare, is_done};
 use ra_base::{Drawing, Steps};
 use ra_compare::Beside;
-use ra_model::Instance;
-use ra_samples::assignment;
-use ra_topology::Topology;
 use std::alloc::Global;
-use std::marker::Brand;
 use std::process::Abort;
-use std::sync::ledger::{Blank, Ledger};
+use std::sync::ledger::Ledger;
 
 /// The words of a proposal, which look like drawn ones.
 pub(super) fn words_from(seed: &mut u64) -> [u64; 8] {
@@ -34,59 +28,31 @@ fn allowance_from(seed: u64) -> u64 {
     }
 }
 
-/// How many plans were done with the one drawing and with the other, and how many moves were followed.
-#[derive(Clone, Copy)]
-struct Walked {
-    ones: u32,
-    twos: u32,
-    followed: u32,
-}
-
 /// Makes three hundred proposals, compares their plans with both drawings, and follows the moves that they ask for where
-/// these are done.
-fn walk<L: Ledger>(rt: &impl Abort, alloc: Global, beside: &mut Beside<'_>, blank: Blank) -> Walked
-    requires name { blank.name ≡ L.name }
-    requires parts { blank.parts ≡ L.parts }
-    requires some { 0 < blank.parts }
-{
-    let mut steps = Steps::<L>::make(blank);
+/// these are done. Whether all plans are the same, at least so many with each drawing are done, and so many moves followed.
+pub(super) fn plans_agree<L: Ledger>(
+    rt: &impl Abort,
+    alloc: Global,
+    beside: &mut Beside<'_>,
+    least: u32,
+    steps: &mut Steps<L>,
+) -> bool {
     let mut seed = 1u64;
     let (mut ones, mut twos, mut followed) = (0u32, 0u32, 0u32);
     for _ in 0..300 {
         let words = words_from(&mut seed);
         let allowed = allowance_from(seed);
         let world = beside.world();
-        if compare(rt, alloc, world, &words, Drawing::One, allowed, &mut steps) {
-            ones = ones.saturating_add(1);
-        }
-        if compare(rt, alloc, world, &words, Drawing::Two, allowed, &mut steps) {
-            twos = twos.saturating_add(1);
-        }
-        if is_done(&beside.propose(&words, &mut steps)) {
-            followed = followed.saturating_add(1);
-        }
+        let Some(one) = compare(rt, alloc, world, &words, Drawing::One, allowed, steps) else {
+            return false;
+        };
+        let Some(two) = compare(rt, alloc, world, &words, Drawing::Two, allowed, steps) else {
+            return false;
+        };
+        let follows = is_done(&beside.propose(&words, steps));
+        ones = ones.saturating_add(u32::from(one));
+        twos = twos.saturating_add(u32::from(two));
+        followed = followed.saturating_add(u32::from(follows));
     }
-    Walked {
-        ones,
-        twos,
-        followed,
-    }
-}
-
-/// Walks on an instance from a start; at least so many plans with each drawing are done, and so many moves followed.
-pub(super) fn walk_on(rt: &impl Abort, alloc: Global, inst: &Instance, start: &[u32], least: u32) {
-    let a0 = assignment(alloc, start).expect(rt, "no memory");
-    assert!(rt; inst.is_assignment(&a0));
-    let topo = Topology::make(alloc, inst).expect(rt, "no memory");
-    let made = Beside::make(alloc, inst, &topo, &a0).expect(rt, "no memory");
-    let mut beside = made.expect(rt, "no feasible start");
-    let walked = walk::<Brand>(rt, alloc, &mut beside, Blank::new(1));
-    are_enough(rt, &walked, least);
-}
-
-/// Demands at least so many of each.
-fn are_enough(rt: &impl Abort, walked: &Walked, least: u32) {
-    assert!(rt; walked.ones >= least);
-    assert!(rt; walked.twos >= least);
-    assert!(rt; walked.followed >= least);
+    ones >= least && twos >= least && followed >= least
 }

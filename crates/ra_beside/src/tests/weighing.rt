@@ -1,19 +1,13 @@
 //! A weighing at a world that has taken in a move.
-ghost use Rattle.std.specs.Prelude.{◌≡◌, ◌<◌};
 ghost use Rattle.ra_local.specs.Moving.{IsOffered};
 
+use super::plans::is_done_at;
 use ra_base::{Drawing, MovedCount, Service, Steps};
 use ra_compare::Beside;
-use ra_model::Instance;
-use ra_moves::{Move, Verdict, Weighed, options, resolve};
-use ra_samples::{assignment, sample};
-use ra_topology::Topology;
+use ra_moves::{Move, Weighed, options, resolve};
 use ra_weigh::{verdict, weigh};
 use ra_world::World;
-use std::alloc::Global;
-use std::marker::Brand;
-use std::process::Abort;
-use std::sync::ledger::{Blank, Ledger};
+use std::sync::ledger::Ledger;
 
 /// The words of a shift of a process to a machine.
 fn shift_to(p: u64, m: u64) -> [u64; 8] {
@@ -31,21 +25,19 @@ fn offered(world: &World<'_>, words: &[u64; 8]) -> Move
     mv
 }
 
-/// Process 1 of the sample goes to machine 2, and then process 2 is weighed on its way to machine 1, and to machine 0,
-/// where it is.
-fn weigh_sample<L: Ledger>(rt: &impl Abort, beside: &mut Beside<'_>, blank: Blank)
-    requires name { blank.name ≡ L.name }
-    requires parts { blank.parts ≡ L.parts }
-    requires some { 0 < blank.parts }
-{
-    let mut steps = Steps::<L>::make(blank);
-    let done = beside.propose(&shift_to(1, 2), &mut steps);
-    assert_eq!(rt; done, Verdict::Done { cost: 3510 });
+/// Process 1 of the sample goes to machine 2, and then process 2 is weighed on its way to machine 1. Whether this is told
+/// of it.
+pub(super) fn weighs_shift<L: Ledger>(beside: &mut Beside<'_>, steps: &mut Steps<L>) -> bool {
+    if !is_done_at(&beside.propose(&shift_to(1, 2), steps), 3510) {
+        return false;
+    }
     let world = beside.world();
     let away = offered(world, &shift_to(2, 1));
-    let weighed = weigh(world, &away, &mut steps);
-    assert_eq!(rt; weighed, expected());
-    assert_eq!(rt; verdict(world, &weighed, 0), Verdict::Done { cost: 2411 });
+    let weighed = weigh(world, &away, steps);
+    if weighed != expected() {
+        return false;
+    }
+    is_done_at(&verdict(world, &weighed, 0), 2411)
 }
 
 /// Nothing is broken, the local change is -1099, and service 1 has one process that moves.
@@ -61,20 +53,4 @@ fn expected() -> Weighed {
         second: None,
         third: None,
     }
-}
-
-fn follow_sample(rt: &impl Abort, alloc: Global, inst: &Instance) {
-    let a0 = assignment(alloc, &[0, 3, 0]).expect(rt, "no memory");
-    assert!(rt; inst.is_assignment(&a0));
-    let topo = Topology::make(alloc, inst).expect(rt, "no memory");
-    let made = Beside::make(alloc, inst, &topo, &a0).expect(rt, "no memory");
-    let mut beside = made.expect(rt, "no feasible start");
-    weigh_sample::<Brand>(rt, &mut beside, Blank::new(1));
-}
-
-#[test]
-fn a_shift_of_the_sample_is_weighed_and_settled(rt: HostRuntime) {
-    let inst = sample(rt.alloc()).expect(&rt, "no instance");
-    follow_sample(&rt, rt.alloc(), &inst);
-    drop(inst);
 }

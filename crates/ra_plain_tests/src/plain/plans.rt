@@ -1,11 +1,12 @@
 //! What proposals name, judge and choose.
+use super::super::starts::{demand, same_machines, start_of};
 use super::super::verdicts::{done, refused};
 use ra_base::{Cause, Drawing, Machine, Process, Resource, Service};
 use ra_check::{Scratch, parts};
 use ra_model::Instance;
 use ra_moves::{Move, Step, Verdict};
 use ra_plain::{Planned, plan_plainly};
-use ra_samples::{assignment, crossed_pair, list, sample, single, tight_pair};
+use ra_samples::{crossed_pair, list, sample, single, tight_pair};
 use std::alloc::Global;
 use std::process::Abort;
 
@@ -34,11 +35,9 @@ fn planned(
     now: &[u32],
     asked: &Proposal,
 ) -> Planned {
-    let a0 = assignment(alloc, start).expect(rt, "no memory");
-    let a = assignment(alloc, now).expect(rt, "no memory");
+    let a0 = start_of(rt, alloc, inst, start);
+    let a = start_of(rt, alloc, inst, now);
     let mut other = list(alloc, a.as_slice()).expect(rt, "no memory");
-    assert!(rt; inst.is_assignment(&a0));
-    assert!(rt; inst.is_assignment(&a));
     let mut scratch = Scratch::make(alloc, inst).expect(rt, "no memory");
     let before = parts(inst, &a0, &a, &mut scratch).total;
     let planned = plan_plainly(
@@ -52,7 +51,7 @@ fn planned(
         asked.drawing,
         asked.allowed,
     );
-    assert_eq!(rt; other.as_slice(), a.as_slice());
+    same_machines(rt, &other, &a);
     planned
 }
 
@@ -87,7 +86,7 @@ fn the_only_option_that_is_done_is_planned(rt: &impl Abort, alloc: Global, inst:
     ];
     for asked in proposals {
         let found = planned_at_start(rt, alloc, inst, &asked);
-        assert_eq!(rt; found, shift(1, 3, 2, done(3510)));
+        demand(rt, found == shift(1, 3, 2, done(3510)));
     }
 }
 
@@ -106,7 +105,7 @@ fn option_0_is_planned_where_none_is_done(rt: &impl Abort, alloc: Global, inst: 
     ];
     for (words, want) in rows {
         let asked = ask(words, Drawing::One, 0);
-        assert_eq!(rt; planned_at_start(rt, alloc, inst, &asked), want);
+        demand(rt, planned_at_start(rt, alloc, inst, &asked) == want);
     }
 }
 
@@ -117,7 +116,7 @@ fn a_chain_is_planned(rt: &impl Abort, alloc: Global, inst: &Instance) {
         process: Process(0),
     });
     let found = planned_at_start(rt, alloc, inst, &asked);
-    assert_eq!(rt; found, Planned { mv, verdict });
+    demand(rt, found == Planned { mv, verdict });
 }
 
 #[test]
@@ -151,7 +150,7 @@ fn the_first_option_of_least_cost_is_planned(rt: &impl Abort, alloc: Global, ins
     ];
     for (now, asked, want) in table {
         let found = planned(rt, alloc, inst, &[0], &[now], &asked);
-        assert_eq!(rt; found, want);
+        demand(rt, found == want);
     }
 }
 
@@ -167,7 +166,7 @@ fn a_swap_is_planned(rt: &impl Abort, alloc: Global, inst: &Instance, verdict: V
     let asked = ask([5, 0, 1, 1, 1, 1, 0, 0], Drawing::Two, 0);
     let mv = Move::swap(step(0, 0, 1), step(1, 1, 0));
     let found = planned(rt, alloc, inst, &[0, 1], &[0, 1], &asked);
-    assert_eq!(rt; found, Planned { mv, verdict });
+    demand(rt, found == Planned { mv, verdict });
 }
 
 #[test]

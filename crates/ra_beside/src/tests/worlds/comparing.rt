@@ -4,85 +4,114 @@ use super::plain::{between, in_location, in_neighbourhood, locations, moved, on_
 use ra_base::{Machine, Resource, Service, Steps};
 use ra_compare::Beside;
 use ra_world::World;
-use std::process::Abort;
 use std::sync::ledger::Ledger;
 
-/// Compares the use and the transient use of a machine.
-fn compare_machine<L: Ledger>(rt: &impl Abort, world: &World<'_>, m: u32, steps: &mut Steps<L>) {
+/// Whether the use and the transient use of a machine are the sums.
+fn machine_agrees<L: Ledger>(world: &World<'_>, m: u32, steps: &mut Steps<L>) -> bool {
     let (inst, start, now) = (world.instance(), world.initial(), world.assignment());
-    assert!(rt; m < inst.machines());
+    if m >= inst.machines() {
+        return false;
+    }
     let rows = world.rows();
     for r in 0..inst.resources() {
-        let (machine, resource) = (Machine(m), Resource(r));
-        let sum = used(inst, now, m, r, steps);
-        assert_eq!(rt; rows.usage(machine, resource), sum);
+        if rows.usage(Machine(m), Resource(r)) != used(inst, now, m, r, steps) {
+            return false;
+        }
         let sum = between(inst, start, now, m, r, steps);
-        assert_eq!(rt; rows.transient_use(machine, resource), sum);
+        if rows.transient_use(Machine(m), Resource(r)) != sum {
+            return false;
+        }
     }
+    true
 }
 
-/// Compares the use and the transient use of all machines.
-fn compare_machines<L: Ledger>(rt: &impl Abort, world: &World<'_>, steps: &mut Steps<L>) {
+/// Whether the uses of all machines are the sums.
+fn machines_agree<L: Ledger>(world: &World<'_>, steps: &mut Steps<L>) -> bool {
     for m in 0..world.instance().machines() {
-        compare_machine(rt, world, m, steps);
+        if !machine_agrees(world, m, steps) {
+            return false;
+        }
     }
+    true
 }
 
-/// Compares how many processes of a service are on each machine, and in its location and neighbourhood.
-fn compare_places(rt: &impl Abort, world: &World<'_>, s: u32) {
+/// Whether as many processes of a service are on each machine, and in its location and neighbourhood, as are counted.
+fn places_agree(world: &World<'_>, s: u32) -> bool {
     let (inst, now, cells) = (world.instance(), world.assignment(), world.cells());
-    assert!(rt; s < inst.services());
-    let service = Service(s);
-    for m in 0..inst.machines() {
-        let machine = Machine(m);
-        let (hood, place) = (inst.neighbourhood(machine), inst.location(machine));
-        let count = on_machine(inst, now, s, m);
-        assert_eq!(rt; cells.on_machine(service, machine), count);
-        let count = in_location(inst, now, s, place);
-        assert_eq!(rt; cells.in_location(service, place), count);
-        let count = in_neighbourhood(inst, now, s, hood);
-        assert_eq!(rt; cells.in_neighbourhood(service, hood), count);
+    if s >= inst.services() {
+        return false;
     }
+    for m in 0..inst.machines() {
+        if cells.on_machine(Service(s), Machine(m)) != on_machine(inst, now, s, m) {
+            return false;
+        }
+        let place = inst.location(Machine(m));
+        if cells.in_location(Service(s), place) != in_location(inst, now, s, place) {
+            return false;
+        }
+        let hood = inst.neighbourhood(Machine(m));
+        if cells.in_neighbourhood(Service(s), hood) != in_neighbourhood(inst, now, s, hood) {
+            return false;
+        }
+    }
+    true
 }
 
-/// Compares in how many locations a service is, and how many of its processes are moved.
-fn compare_service(rt: &impl Abort, world: &World<'_>, s: u32) {
+/// Whether a service is in as many locations, and as many of its processes are moved, as are counted.
+fn service_agrees(world: &World<'_>, s: u32) -> bool {
     let (inst, start, now) = (world.instance(), world.initial(), world.assignment());
-    assert!(rt; s < inst.services());
-    let (cells, service) = (world.cells(), Service(s));
-    assert_eq!(rt; cells.locations(service), locations(inst, now, s));
-    assert_eq!(rt; cells.moved(service), moved(inst, start, now, s));
+    if s >= inst.services() {
+        return false;
+    }
+    let cells = world.cells();
+    if cells.locations(Service(s)) != locations(inst, now, s) {
+        return false;
+    }
+    cells.moved(Service(s)) == moved(inst, start, now, s)
 }
 
-/// Compares the counts of all services, and the greatest moved count.
-fn compare_services(rt: &impl Abort, world: &World<'_>) {
+/// Whether the counts of all services, and the greatest moved count, are what is counted.
+fn services_agree(world: &World<'_>) -> bool {
     let (inst, start, now) = (world.instance(), world.initial(), world.assignment());
     let mut most = 0u32;
     for s in 0..inst.services() {
-        compare_places(rt, world, s);
-        compare_service(rt, world, s);
+        if !places_agree(world, s) {
+            return false;
+        }
+        if !service_agrees(world, s) {
+            return false;
+        }
         most = most.max(moved(inst, start, now, s));
     }
-    assert_eq!(rt; world.cells().greatest().greatest(), most);
+    world.cells().greatest().greatest() == most
 }
 
-/// Compares what each machine costs.
-fn compare_costs<L: Ledger>(rt: &impl Abort, world: &World<'_>, steps: &mut Steps<L>) {
+/// Whether each machine costs what its uses cost.
+fn costs_agree<L: Ledger>(world: &World<'_>, steps: &mut Steps<L>) -> bool {
     let (inst, now) = (world.instance(), world.assignment());
     for m in 0..inst.machines() {
-        let load = load_of(inst, now, m, steps);
-        assert_eq!(rt; world.machine_load(Machine(m)), load, "{m}");
-        let balance = balance_of(inst, now, m, steps);
-        assert_eq!(rt; world.machine_balance(Machine(m)), balance, "{m}");
+        if world.machine_load(Machine(m)) != load_of(inst, now, m, steps) {
+            return false;
+        }
+        if world.machine_balance(Machine(m)) != balance_of(inst, now, m, steps) {
+            return false;
+        }
     }
+    true
 }
 
-/// Compares all that a world tells with a check from scratch.
-pub(super) fn compare<L: Ledger>(rt: &impl Abort, beside: &mut Beside<'_>, steps: &mut Steps<L>) {
+/// Whether all that a world tells is what a check from scratch does.
+pub(super) fn agrees<L: Ledger>(beside: &mut Beside<'_>, steps: &mut Steps<L>) -> bool {
     let parts = beside.checked_parts();
     let world = beside.world();
-    assert_eq!(rt; world.parts(), parts);
-    compare_machines(rt, world, steps);
-    compare_services(rt, world);
-    compare_costs(rt, world, steps);
+    if world.parts() != parts {
+        return false;
+    }
+    if !machines_agree(world, steps) {
+        return false;
+    }
+    if !services_agree(world) {
+        return false;
+    }
+    costs_agree(world, steps)
 }
