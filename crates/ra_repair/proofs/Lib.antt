@@ -8,4 +8,3 @@ pub mod KeepLemmas
 pub mod OptionLemmas
 pub mod SumLemmas
 pub mod RunLemmas
-pub mod TestLemmas
