@@ -7,7 +7,6 @@ pub mod InPiece
 pub mod Told
 pub mod Scanning
 pub mod Exits
-pub mod Fetched
 pub mod ToldByte
 pub mod ValueLaws
 pub mod Written
