@@ -6,6 +6,7 @@ pub mod Steps
 pub mod InPiece
 pub mod Told
 pub mod Scanning
+pub mod Exits
 pub mod ToldByte
 pub mod ValueLaws
 pub mod Written
