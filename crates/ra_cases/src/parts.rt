@@ -47,9 +47,17 @@ pub(crate) fn words_of(alloc: Global, case: &Case<'_>) -> Result<Vec<String>, Tr
     let Some((rest, _)) = part(case.lines, "words") else {
         return Err(Trouble::Unclear);
     };
+    let pieces = filled(alloc, rest, case.row)?;
+    let words = strings(alloc, pieces.as_slice());
+    drop(pieces);
+    words
+}
+
+/// The texts of pieces.
+fn strings(alloc: Global, pieces: &[Token<'_>]) -> Result<Vec<String>, Trouble> {
     let mut words = Vec::new(alloc);
-    for token in filled(alloc, rest, case.row)? {
-        words.push(String::from_str(alloc, token.text)?)?;
+    for piece in pieces {
+        words.push(String::from_str(alloc, piece.text)?)?;
     }
     Ok(words)
 }
@@ -75,8 +83,15 @@ fn numbers(alloc: Global, case: &Case<'_>, word: &str) -> Result<Fixed<u64>, Tro
         None => "",
     };
     let pieces = filled(alloc, rest, case.row)?;
+    let numbers = values(alloc, pieces.as_slice());
+    drop(pieces);
+    numbers
+}
+
+/// The numbers that pieces are.
+fn values(alloc: Global, pieces: &[Token<'_>]) -> Result<Fixed<u64>, Trouble> {
     let mut numbers = Fixed::make(alloc, pieces.len())?;
-    for piece in pieces.as_slice() {
+    for piece in pieces {
         let Ok(value) = piece.text.parse::<u64>() else {
             return Err(Trouble::Unclear);
         };

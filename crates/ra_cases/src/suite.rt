@@ -62,17 +62,40 @@ pub fn try_all<R: Threads + Wait + Sync, O: Sink>(
     text: &str,
     sink: &mut O,
 ) -> Result<Tally, Trouble> {
+    let lines = lines_of(alloc, text)?;
+    let mut texts = Vec::new(alloc);
+    let mut tally = Tally::none();
+    let tried = try_lines(rt, alloc, lines.as_slice(), &mut texts, &mut tally, sink);
+    drop(texts);
+    drop(lines);
+    tried?;
+    put_count(alloc, &tally, sink)?;
+    Ok(tally)
+}
+
+/// The lines of a text but for those that begin with `#`.
+fn lines_of<'t>(alloc: Global, text: &'t str) -> Result<Vec<&'t str>, Trouble> {
     let mut lines = Vec::new(alloc);
     for line in text.lines() {
         if !line.starts_with('#') {
             lines.push(line)?;
         }
     }
-    let mut texts = Vec::new(alloc);
-    let mut tally = Tally::none();
-    for paragraph in lines.as_slice().split(|line| line.is_empty()) {
+    Ok(lines)
+}
+
+/// Tries the cases of lines, whose paragraphs stand between empty ones.
+fn try_lines<'t, R: Threads + Wait + Sync, O: Sink>(
+    rt: &R,
+    alloc: Global,
+    lines: &[&'t str],
+    texts: &mut Vec<Text<'t>>,
+    tally: &mut Tally,
+    sink: &mut O,
+) -> Result<(), Trouble> {
+    for paragraph in lines.split(|line| line.is_empty()) {
         if let [head, below @ ..] = paragraph {
-            match try_paragraph(rt, alloc, head, below, &mut texts, &mut tally, sink) {
+            match try_paragraph(rt, alloc, head, below, texts, tally, sink) {
                 Err(Trouble::Unclear) => {
                     tally.add(false);
                     put_line(sink, head, ": NOT UNDERSTOOD")?;
@@ -81,9 +104,14 @@ pub fn try_all<R: Threads + Wait + Sync, O: Sink>(
             }
         }
     }
+    Ok(())
+}
+
+/// Puts how many cases there were.
+fn put_count<O: Sink>(alloc: Global, tally: &Tally, sink: &mut O) -> Result<(), Trouble> {
     let count = format!(in alloc; "{} cases, {} failed", tally.tried, tally.failed)?;
     put_line(sink, count.as_str(), "")?;
-    Ok(tally)
+    Ok(())
 }
 
 /// Keeps a shared text, or tries a case, whose head and lines these are.
@@ -97,10 +125,7 @@ fn try_paragraph<'t, R: Threads + Wait + Sync, O: Sink>(
     sink: &mut O,
 ) -> Result<(), Trouble> {
     if let Some(rest) = behind(head, "text") {
-        let (name, pieces) = rest.split_once(' ').unwrap_or((rest, ""));
-        let bytes = text_of(alloc, texts.as_slice(), pieces, below, &[])?;
-        texts.push(Text { name, bytes })?;
-        return Ok(());
+        return keep_text(alloc, rest, below, texts);
     }
     let Some(name) = behind(head, "case") else {
         return Err(Trouble::Unclear);
@@ -109,6 +134,19 @@ fn try_paragraph<'t, R: Threads + Wait + Sync, O: Sink>(
         return Err(Trouble::Unclear);
     }
     try_rows(rt, alloc, name, below, texts.as_slice(), tally, sink)
+}
+
+/// Keeps a shared text: its name and its text stand in this rest of a line and below it.
+fn keep_text<'t>(
+    alloc: Global,
+    rest: &'t str,
+    below: &[&'t str],
+    texts: &mut Vec<Text<'t>>,
+) -> Result<(), Trouble> {
+    let (name, pieces) = rest.split_once(' ').unwrap_or((rest, ""));
+    let bytes = text_of(alloc, texts.as_slice(), pieces, below, &[])?;
+    texts.push(Text { name, bytes })?;
+    Ok(())
 }
 
 /// Whether each line begins with a word of cases, or with four spaces.
@@ -136,23 +174,68 @@ fn try_rows<R: Threads + Wait + Sync, O: Sink>(
         tally.add(try_case(rt, alloc, &case, name, sink)?);
         return Ok(());
     };
-    let Some((first, last)) = rest.split_once(" to ") else {
-        for line in below {
-            let Some(row) = line.strip_prefix("    ") else {
-                break;
-            };
-            try_row(rt, alloc, name, lines, texts, row, tally, sink)?;
+    match rest.split_once(" to ") {
+        Some((first, last)) => {
+            try_numbers(rt, alloc, name, lines, texts, first, last, tally, sink)
         }
-        return Ok(());
-    };
+        None => try_listed(rt, alloc, name, lines, texts, below, tally, sink),
+    }
+}
+
+/// Tries a case once for each row of the lines below `rows`.
+fn try_listed<R: Threads + Wait + Sync, O: Sink>(
+    rt: &R,
+    alloc: Global,
+    name: &str,
+    lines: &[&str],
+    texts: &[Text<'_>],
+    below: &[&str],
+    tally: &mut Tally,
+    sink: &mut O,
+) -> Result<(), Trouble> {
+    for line in below {
+        let Some(row) = line.strip_prefix("    ") else {
+            break;
+        };
+        try_row(rt, alloc, name, lines, texts, row, tally, sink)?;
+    }
+    Ok(())
+}
+
+/// Tries a case once for each number from the first to the last.
+fn try_numbers<R: Threads + Wait + Sync, O: Sink>(
+    rt: &R,
+    alloc: Global,
+    name: &str,
+    lines: &[&str],
+    texts: &[Text<'_>],
+    first: &str,
+    last: &str,
+    tally: &mut Tally,
+    sink: &mut O,
+) -> Result<(), Trouble> {
     let (Ok(first), Ok(last)) = (first.parse::<u32>(), last.parse::<u32>()) else {
         return Err(Trouble::Unclear);
     };
     for number in first..=last {
-        let row = format!(in alloc; "{number}")?;
-        try_row(rt, alloc, name, lines, texts, row.as_str(), tally, sink)?;
+        try_number(rt, alloc, name, lines, texts, number, tally, sink)?;
     }
     Ok(())
+}
+
+/// Tries a case with a number as its row.
+fn try_number<R: Threads + Wait + Sync, O: Sink>(
+    rt: &R,
+    alloc: Global,
+    name: &str,
+    lines: &[&str],
+    texts: &[Text<'_>],
+    number: u32,
+    tally: &mut Tally,
+    sink: &mut O,
+) -> Result<(), Trouble> {
+    let row = format!(in alloc; "{number}")?;
+    try_row(rt, alloc, name, lines, texts, row.as_str(), tally, sink)
 }
 
 /// Tries a case with one of its rows.

@@ -61,33 +61,51 @@ fn push_piece(
     ensures some { IfOk result (λ n. 0 < n) }
     ensures bound { IfOk result (λ n. n ≤ length pieces.now) }
 {
-    match pieces {
-        [] => Err(Trouble::Unclear),
-        [first, ..] if first.quoted => {
-            bytes.extend_from_slice(first.text.as_bytes())?;
-            Ok(1)
-        }
-        [first, number, ..] if first.text == "byte" => {
-            push_byte(number.text, bytes)?;
-            Ok(2)
-        }
-        [first, number, ..] if first.text == "blanks" => {
-            push_blanks(number.text, bytes)?;
-            Ok(2)
-        }
-        [first, number, name, ..] if first.text == "front" => {
-            push_front(shared_text(texts, name.text)?, number.text, bytes)?;
-            Ok(3)
-        }
-        [first, old, new, name, ..] if first.text == "swap" => {
-            push_swapped(shared_text(texts, name.text)?, old.text, new.text, bytes)?;
-            Ok(4)
-        }
-        [first, ..] => {
-            bytes.extend_from_slice(shared_text(texts, first.text)?)?;
-            Ok(1)
-        }
+    let [first, ..] = pieces else {
+        return Err(Trouble::Unclear);
+    };
+    let takes = if first.quoted { 1 } else { takes(first.text) };
+    let count = if takes <= pieces.len() { takes } else { 1 };
+    push_text(texts, &pieces[..count], bytes)?;
+    Ok(count)
+}
+
+/// How many pieces a text is that begins with this word: with those that it takes where it makes a text, and else one, the
+/// name of a shared text.
+fn takes(word: &str) -> usize
+    ensures { 0 < result }
+{
+    match word {
+        "byte" | "blanks" => 2,
+        "front" => 3,
+        "swap" => 4,
+        _ => 1,
     }
+}
+
+/// Adds the text of the pieces that it is.
+fn push_text(texts: &[Text<'_>], pieces: &[Token<'_>], bytes: &mut Vec<u8>) -> Result<(), Trouble> {
+    match pieces {
+        [first] => push_one(texts, first, bytes),
+        [first, number] if first.text == "byte" => push_byte(number.text, bytes),
+        [_, number] => push_blanks(number.text, bytes),
+        [_, number, name] => push_front(shared_text(texts, name.text)?, number.text, bytes),
+        [_, old, new, name] => {
+            push_swapped(shared_text(texts, name.text)?, old.text, new.text, bytes)
+        }
+        _ => Err(Trouble::Unclear),
+    }
+}
+
+/// Adds a text in quotes, or the shared text of a name.
+fn push_one(texts: &[Text<'_>], piece: &Token<'_>, bytes: &mut Vec<u8>) -> Result<(), Trouble> {
+    let text = if piece.quoted {
+        piece.text.as_bytes()
+    } else {
+        shared_text(texts, piece.text)?
+    };
+    bytes.extend_from_slice(text)?;
+    Ok(())
 }
 
 /// Adds the byte of this number.

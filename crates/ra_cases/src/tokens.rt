@@ -42,15 +42,54 @@ pub(crate) fn filled<'t>(
     line: &'t str,
     row: &[Token<'t>],
 ) -> Result<Vec<Token<'t>>, AllocError> {
+    let pieces = tokens(alloc, line)?;
+    let all = fill(alloc, pieces.as_slice(), row);
+    drop(pieces);
+    all
+}
+
+/// The same of the line's pieces.
+fn fill<'t>(
+    alloc: Global,
+    pieces: &[Token<'t>],
+    row: &[Token<'t>],
+) -> Result<Vec<Token<'t>>, AllocError> {
     let mut all = Vec::new(alloc);
-    for token in tokens(alloc, line)? {
-        match (token.quoted, token.text) {
-            (false, "*") => all.extend_from_slice(row)?,
-            (false, "$1") => all.extend_from_slice(row.get(..1).unwrap_or(&[]))?,
-            (false, "$2") => all.extend_from_slice(row.get(1..2).unwrap_or(&[]))?,
-            (false, "$3") => all.extend_from_slice(row.get(2..3).unwrap_or(&[]))?,
-            _ => all.push(token)?,
+    for piece in pieces {
+        match place(piece) {
+            Some(there) => push_row(row, there, &mut all)?,
+            None => all.push(*piece)?,
         }
     }
     Ok(all)
+}
+
+/// The place of the pieces of a row for which a piece of a line stands, where it stands for some: 0 for all of them, else that
+/// of one, counted from 1.
+fn place(piece: &Token<'_>) -> Option<usize> {
+    if piece.quoted {
+        return None;
+    }
+    match piece.text {
+        "*" => Some(0),
+        "$1" => Some(1),
+        "$2" => Some(2),
+        "$3" => Some(3),
+        _ => None,
+    }
+}
+
+/// Adds the pieces of a row at a place, and none where the row is shorter.
+fn push_row<'t>(
+    row: &[Token<'t>],
+    place: usize,
+    all: &mut Vec<Token<'t>>,
+) -> Result<(), AllocError> {
+    if place == 0 {
+        return all.extend_from_slice(row);
+    }
+    if let Some(piece) = row.get(place - 1) {
+        all.push(*piece)?;
+    }
+    Ok(())
 }

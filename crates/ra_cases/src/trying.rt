@@ -162,7 +162,24 @@ pub(crate) fn try_case<R: Threads + Wait + Sync, O: Sink>(
         out: out.as_slice(),
         err: err.as_slice(),
     };
-    let same = ends_so(rt, alloc, case, &wanted, sink)?;
+    tell_case(rt, alloc, case, name, &wanted, sink)
+}
+
+/// The same, where this is how it has to end.
+fn tell_case<R: Threads + Wait + Sync, O: Sink>(
+    rt: &R,
+    alloc: Global,
+    case: &Case<'_>,
+    name: &str,
+    wanted: &Ending<'_>,
+    sink: &mut O,
+) -> Result<bool, Trouble>
+    ensures ok { result ≡ Ok true
+        → Appends (O.taken sink.old) (O.taken sink.new) (verdict_text name.now true) }
+    ensures failed { result ≡ Ok false
+        → TellsFailure (O.taken sink.old) (O.taken sink.new) name.now }
+{
+    let same = ends_so(rt, alloc, case, wanted, sink)?;
     put_verdict(sink, name, same)?;
     Ok(same)
 }

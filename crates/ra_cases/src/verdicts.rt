@@ -45,18 +45,43 @@ fn difference(
 ) -> Result<Vec<u8>, AllocError> {
     let (has, wants) = (came.status, wanted.status);
     let head = format!(in alloc; "  status {wants} wanted, {has} came, {each} bytes at once\n")?;
+    let text = beside(alloc, head.as_str(), came, wanted);
+    drop(head);
+    text
+}
+
+/// The same behind this head.
+fn beside(
+    alloc: Global,
+    head: &str,
+    came: &Ending<'_>,
+    wanted: &Ending<'_>,
+) -> Result<Vec<u8>, AllocError> {
     let mut text = Vec::new(alloc);
-    text.extend_from_slice(head.as_bytes())?;
-    text.extend_from_slice(b"  output wanted:\n")?;
-    text.extend_from_slice(wanted.out)?;
-    text.extend_from_slice(b"\n  output came:\n")?;
-    text.extend_from_slice(came.out)?;
-    text.extend_from_slice(b"\n  error line wanted:\n")?;
-    text.extend_from_slice(wanted.err)?;
-    text.extend_from_slice(b"\n  error line came:\n")?;
-    text.extend_from_slice(came.err)?;
-    text.push(b'\n')?;
+    push_ends(head, came, wanted, &mut text)?;
     Ok(text)
+}
+
+/// Adds the head, and what had to come beside what came.
+fn push_ends(
+    head: &str,
+    came: &Ending<'_>,
+    wanted: &Ending<'_>,
+    text: &mut Vec<u8>,
+) -> Result<(), AllocError> {
+    text.extend_from_slice(head.as_bytes())?;
+    push_end("  output wanted:\n", wanted.out, text)?;
+    push_end("  output came:\n", came.out, text)?;
+    push_end("  error line wanted:\n", wanted.err, text)?;
+    push_end("  error line came:\n", came.err, text)
+}
+
+/// Adds bytes below their title.
+fn push_end(title: &str, bytes: &[u8], text: &mut Vec<u8>) -> Result<(), AllocError> {
+    text.extend_from_slice(title.as_bytes())?;
+    text.extend_from_slice(bytes)?;
+    text.push(b'\n')?;
+    Ok(())
 }
 
 /// Puts a line in two pieces.

@@ -1,22 +1,20 @@
 -- Instances that are the same but for the rooms of their lists run alike: no definition looks at a room.
-use Rattle.std.proofs.Common.{◌≡◌, ℕ, zero, suc, Bool, List, [], ◌∷◌, ◌++◌, Option, Some, None, refl, sym, ◌∙◌, ap, inl, inr}
+use Rattle.std.proofs.Common.{◌≡◌, ℕ, zero, Bool, List, [], ◌∷◌, ◌++◌, Option, Some, None, refl, sym, ◌∙◌, ap, inl, inr}
 use Rattle.ra_base.specs.Listed.{Listed}
 use Rattle.ra_base.specs.declared.causes.Drawing.{Drawing}
 use Rattle.ra_base.specs.declared.ids.Guard.{Guard}
 use Rattle.ra_base.specs.declared.ids.Guard.TheVariants as guard
 use Rattle.ra_base.specs.declared.ids.Machine.{Machine}
-use Rattle.ra_bounds.specs.Bounds.{required, safety, capacity, overload, load_bound, spare, lack, balance_bound, bound_of}
+use Rattle.ra_bounds.specs.Bounds.{required, safety, capacity, overload, spare, lack, balance_bound}
 use Rattle.ra_bounds.specs.PinnedBounds.{pinned_excess, pinned_overload, pinned_load_bound, pinned_bound_of}
 use Rattle.ra_draws.specs.declared.budgets.Lots.{Lots}
 use Rattle.ra_draws.specs.declared.sources.Lot.{Lot}
-use Rattle.ra_draws.specs.Lots.{budget_of, words_of, allowance_of}
 use Rattle.ra_guards.specs.Guards.{writes, reads, is_guard}
 use Rattle.ra_guards.specs.Versions.{touches, stamp, version, Untouched}
 use Rattle.ra_journal.specs.declared.entries.Entry.{Entry}
 use Rattle.ra_journal.specs.Best.{best_place, best_of}
-use Rattle.ra_journal.specs.Entries.{entry_at, budget, words, allowed}
+use Rattle.ra_journal.specs.Entries.{entry_at, words, allowed}
 use Rattle.ra_journal.specs.Legal.{Legal, IsLegalAt}
-use Rattle.ra_journal.specs.Solo.{solo_entry, solo_entries, solo}
 use Rattle.ra_journal.specs.States.{state, cost_at}
 use Rattle.ra_local.specs.Touched.{service_in, moves_service, reads_service}
 use Rattle.ra_model.specs.declared.raw.RawInstance.{RawInstance}
@@ -27,7 +25,6 @@ use Rattle.ra_model.specs.Numbers.{resource_row, machine_row, service_row, proce
 use Rattle.ra_model.specs.Relations.{depends, are_joined}
 use Rattle.ra_model.specs.Services.{is_of, of_service, members_at, on_machine, in_neighbourhood, in_location, locations_of, moved_of}
 use Rattle.ra_model.specs.Usage.{use_share, use_of, transient_share, transient_of}
-use Rattle.ra_model_read.specs.Lists.{lists_of}
 use Rattle.ra_moves.specs.declared.steps.Step.{Step}
 use Rattle.ra_moves.specs.Judging.{broken_by, judge}
 use Rattle.ra_moves.specs.Options.{option_cost, plan_place, plan_of}
@@ -35,19 +32,17 @@ use Rattle.ra_pins.specs.Pinned.{flagged_share, flagged_use, lacks, lacks_betwee
 use Rattle.ra_repair.specs.Penalty.{use_above, row_above, capacity_penalty, transient_above, row_transient_above, transient_penalty, crowd_on, service_crowd, conflict_penalty, spread_lack, spread_penalty, far_share, pair_far, service_far, dependency_penalty, closed_share, closed_penalty, penalty}
 use Rattle.ra_repair.specs.Runs.{try_count, try_option, penalty_by, option_penalty, least_after, chosen, try_with, try_at, next_try, repaired_by, repair_run}
 use Rattle.ra_report.specs.JournalTexts.{report_text}
-use Rattle.ra_report.specs.Summaries.{summary_text}
 use Rattle.ra_verify.specs.WrongLines.{AreRight, AreAllRight, IsWrongEntry, IsCutOff, IsWrongHead, IsFirstWrong, IsReport}
-use Rattle.ra_run.specs.Laws.{flags_of, AreAlike, AreAlikeLots, RunAlike, AlikeRunAlike}
-use Rattle.ra_run.proofs.RowLemmas.{raw_of, bare_raw, raw_same}
-use Rattle.ra_run.proofs.BareLemmas.{bare, bare_closed, broken_bare}
+use Rattle.ra_run.proofs.RowLemmas.{raw_of, bare_raw}
+use Rattle.ra_run.proofs.BareLemmas.{bare, bare_closed}
 
 -- a list of names: a lemma that unfolds it unfolds the numbers of an instance, its constraints and its costs
-opened : ℕ
+unfoldable pub opened : ℕ
 unfolding raw_of bare_raw bare_closed resource_row machine_row service_row process_row balance_row resource_count machine_count service_count process_count balance_count transient_at load_weight_of neighbourhood_of location_of capacity_of safety_of way_cost_of spread_of dependency_end dependency_start dependency_count need_at need_of service_of requirement_of process_cost_of first_of second_of target_of balance_weight_of process_weight_of service_weight_of machine_weight_of flag_in closed_at use_share use_of transient_share transient_of is_of of_service members_at on_machine in_neighbourhood in_location locations_of moved_of capacity_test row_capacity broken_capacity transient_test row_transient broken_transient conflict_test service_conflict broken_conflict spread_test broken_spread near_of far_test dependency_test pair_dependency service_dependency broken_dependency closed_test broken_closed first_broken excess_on load_part load_cost available shortfall balance_part balance_cost process_share process_cost service_cost way_share machine_cost objective parts_of
 opened = zero
 
 -- an instance of the lists of a model file, and of the flags of a closed list
-abbrev whole : RawInstance → Option (Listed Bool) → Tables
+abbrev pub whole : RawInstance → Option (Listed Bool) → Tables
 whole raw closed = record { raw = raw; closed = closed }
 
 -- no room is looked at
@@ -55,10 +50,6 @@ whole raw closed = record { raw = raw; closed = closed }
 parts_bare : (raw : RawInstance) (closed : Option (Listed Bool)) (a0 a : List Machine) → parts_of (bare (whole raw closed)) a0 a ≡ parts_of (whole raw closed) a0 a
 unfolding opened
 parts_bare raw closed a0 a = refl
-
-bound_bare : (raw : RawInstance) (closed : Option (Listed Bool)) → bound_of (bare (whole raw closed)) ≡ bound_of (whole raw closed)
-unfolding opened required safety capacity overload load_bound spare lack balance_bound bound_of
-bound_bare raw closed = refl
 
 pinned_bound_bare : (raw : RawInstance) (closed : Option (Listed Bool)) (a0 : List Machine) → pinned_bound_of (bare (whole raw closed)) a0 ≡ pinned_bound_of (whole raw closed) a0
 unfolding opened required safety capacity overload spare lack balance_bound pinned_excess pinned_overload pinned_load_bound pinned_bound_of flagged_share flagged_use lacks lacks_between holds taken blocked is_open stuck round rounds is_pinned pinned_load
@@ -89,67 +80,28 @@ best_bare : (raw : RawInstance) (closed : Option (Listed Bool)) (a0 : List Machi
 unfolding opened cost_at best_place best_of
 best_bare raw closed a0 h = refl
 
-solo_bare : (raw : RawInstance) (closed : Option (Listed Bool)) (a0 : List Machine) (l : Lots) → solo (bare (whole raw closed)) a0 l ≡ solo (whole raw closed) a0 l
-unfolding opened judge broken_by option_cost plan_place plan_of solo_entry solo_entries solo
-solo_bare raw None a0 l = refl
-solo_bare raw (Some flags) a0 l = refl
-
 repair_bare : (raw : RawInstance) (closed : Option (Listed Bool)) (a0 : List Machine) (lot : Lot) → repair_run (bare (whole raw closed)) a0 lot ≡ repair_run (whole raw closed) a0 lot
 unfolding opened use_above row_above capacity_penalty transient_above row_transient_above transient_penalty crowd_on service_crowd conflict_penalty spread_lack spread_penalty far_share pair_far service_far dependency_penalty closed_share closed_penalty penalty try_count try_option penalty_by option_penalty least_after chosen try_with try_at next_try repaired_by repair_run
 repair_bare raw None a0 lot = refl
 repair_bare raw (Some flags) a0 lot = refl
 
--- what a worker alone looks at of its lots
-
-entry_from : Tables → List Machine → ℕ → Drawing → List Lot → List Entry → ℕ → Entry
-entry_from i a0 slack drawing lots h k =
-    let a = state a0 h k in
-    let mv = plan_of i a0 a (words_of lots 0 k) drawing (allowance_of slack lots 0 k) in
-    record { worker = 0; k = k; q = k; mv = mv; verdict = judge i a0 a mv.steps (allowance_of slack lots 0 k) }
-
-entries_from : Tables → List Machine → ℕ → Drawing → List Lot → ℕ → List Entry
-entries_from i a0 slack drawing lots zero = []
-entries_from i a0 slack drawing lots (suc n) = entries_from i a0 slack drawing lots n ++ entry_from i a0 slack drawing lots (entries_from i a0 slack drawing lots n) n ∷ []
-
-solo_from : Tables → List Machine → ℕ → Drawing → List Lot → List Entry
-solo_from i a0 slack drawing lots = entries_from i a0 slack drawing lots (budget_of lots 0)
-
-solo_is : (i : Tables) (a0 : List Machine) (l : Lots) → solo i a0 l ≡ solo_from i a0 l.slack l.drawing l.lots.items
-unfolding solo solo_entries solo_entry words allowed budget solo_from entries_from entry_from
-solo_is i a0 l = refl
-
-lots_alike : (i : Tables) (a0 : List Machine) (l k : Lots) → AreAlikeLots l k → solo i a0 l ≡ solo i a0 k
-lots_alike i a0 l k same = solo_is i a0 l ∙ rw (same.slack, same.drawing, same.lots) refl ∙ sym (solo_is i a0 k)
-
--- instances that are alike are one, but for their rooms
-
-flags_alike : (c d : Option (Listed Bool)) → flags_of c ≡ flags_of d → bare_closed c ≡ bare_closed d
-unfolding flags_of bare_closed
-flags_alike None None e = refl
-flags_alike None (Some g) e = absurd (cc)
-flags_alike (Some f) None e = absurd (cc)
-flags_alike (Some f) (Some g) e = let same : f.items ≡ g.items = cc in rw same refl
-
-bare_alike : (i j : Tables) → AreAlike i j → bare i ≡ bare j
-bare_alike i j same = rw (raw_same i.raw j.raw same.lists, flags_alike i.closed j.closed same.flags) refl
-
-along : {X : Type 0} (f : Tables → X) → ((raw : RawInstance) (closed : Option (Listed Bool)) → f (bare (whole raw closed)) ≡ f (whole raw closed)) → (i j : Tables) → bare i ≡ bare j → f i ≡ f j
+pub along : {X : Type 0} (f : Tables → X) → ((raw : RawInstance) (closed : Option (Listed Bool)) → f (bare (whole raw closed)) ≡ f (whole raw closed)) → (i j : Tables) → bare i ≡ bare j → f i ≡ f j
 along f unchanged i j same = sym (unchanged i.raw i.closed) ∙ ap f same ∙ unchanged j.raw j.closed
 
 module _ (i j : Tables) (same : bare i ≡ bare j) where
-  parts_same : (a0 a : List Machine) → parts_of i a0 a ≡ parts_of j a0 a
+  pub parts_same : (a0 a : List Machine) → parts_of i a0 a ≡ parts_of j a0 a
   parts_same a0 a = along (λ (t : Tables). parts_of t a0 a) (λ raw closed. parts_bare raw closed a0 a) i j same
 
-  pinned_same : (a0 : List Machine) → pinned_bound_of i a0 ≡ pinned_bound_of j a0
+  pub pinned_same : (a0 : List Machine) → pinned_bound_of i a0 ≡ pinned_bound_of j a0
   pinned_same a0 = along (λ (t : Tables). pinned_bound_of t a0) (λ raw closed. pinned_bound_bare raw closed a0) i j same
 
-  planned_same : (a0 a : List Machine) (x : List ℕ) (drawing : Drawing) (allowed : ℕ) → plan_of i a0 a x drawing allowed ≡ plan_of j a0 a x drawing allowed
+  pub planned_same : (a0 a : List Machine) (x : List ℕ) (drawing : Drawing) (allowed : ℕ) → plan_of i a0 a x drawing allowed ≡ plan_of j a0 a x drawing allowed
   planned_same a0 a x drawing allowed = along (λ (t : Tables). plan_of t a0 a x drawing allowed) (λ raw closed. plan_bare raw closed a0 a x drawing allowed) i j same
 
-  judged_same : (a0 a : List Machine) (steps : List Step) (allowed : ℕ) → judge i a0 a steps allowed ≡ judge j a0 a steps allowed
+  pub judged_same : (a0 a : List Machine) (steps : List Step) (allowed : ℕ) → judge i a0 a steps allowed ≡ judge j a0 a steps allowed
   judged_same a0 a steps allowed = along (λ (t : Tables). judge t a0 a steps allowed) (λ raw closed. judge_bare raw closed a0 a steps allowed) i j same
 
-  best_same : (a0 : List Machine) (h : List Entry) → best_of i a0 h ≡ best_of j a0 h
+  pub best_same : (a0 : List Machine) (h : List Entry) → best_of i a0 h ≡ best_of j a0 h
   best_same a0 h = along (λ (t : Tables). best_of t a0 h) (λ raw closed. best_bare raw closed a0 h) i j same
 
   guards_same : (steps : List Step) (g : Guard) → is_guard j steps g ≡ is_guard i steps g
@@ -170,16 +122,12 @@ module _ (i j : Tables) (same : bare i ≡ bare j) where
     judged = is.judged ∙ judged_same a0 (state a0 h n) e.mv.steps (allowed l e.worker e.k);
   }
 
-  legal_same : (a0 : List Machine) (l : Lots) (h : List Entry) → Legal i a0 l h → Legal j a0 l h
+  pub legal_same : (a0 : List Machine) (l : Lots) (h : List Entry) → Legal i a0 l h → Legal j a0 l h
   legal_same a0 l h is = record { each = λ n within. legal_at_same a0 l h n (entry_at h n) (is.each n within) }
 
-  report_same : (a0 : List Machine) (l : Lots) (h : List Entry) → report_text i a0 l h ≡ report_text j a0 l h
+  pub report_same : (a0 : List Machine) (l : Lots) (h : List Entry) → report_text i a0 l h ≡ report_text j a0 l h
   unfolding report_text
   report_same a0 l h = rw (best_same a0 h, parts_same a0 (state a0 h (best_of j a0 h)), pinned_same a0) refl
-
-  summary_same : (a0 : List Machine) (h : List Entry) → summary_text i a0 h ≡ summary_text j a0 h
-  unfolding summary_text
-  summary_same a0 h = rw (best_same a0 h, parts_same a0 (state a0 h (best_of j a0 h)), pinned_same a0) refl
 
 -- a report's lines are judged the same
 
@@ -215,7 +163,7 @@ module _ (i j : Tables) (same : bare i ≡ bare j) where
     number = is.number;
   }
 
-  first_wrong_same : (a0 : List Machine) (l : Lots) (bytes : List ℕ) (line : Option ℕ) → IsFirstWrong i a0 l bytes line → IsFirstWrong j a0 l bytes line
+  pub first_wrong_same : (a0 : List Machine) (l : Lots) (bytes : List ℕ) (line : Option ℕ) → IsFirstWrong i a0 l bytes line → IsFirstWrong j a0 l bytes line
   first_wrong_same a0 l bytes None is = record {
     short = is.short;
     journal = is.journal;
@@ -228,7 +176,7 @@ module _ (i j : Tables) (same : bare i ≡ bare j) where
   first_wrong_same a0 l bytes (Some n) (inr (inr (inl cut_off))) = inr (inr (inl (cut_off_same a0 l bytes n cut_off)))
   first_wrong_same a0 l bytes (Some n) (inr (inr (inr head))) = inr (inr (inr (head_same a0 l bytes n head)))
 
-  is_report_same : (a0 : List Machine) (l : Lots) (bytes : List ℕ) (n : ℕ) → IsReport i a0 l bytes n → IsReport j a0 l bytes n
+  pub is_report_same : (a0 : List Machine) (l : Lots) (bytes : List ℕ) (n : ℕ) → IsReport i a0 l bytes n → IsReport j a0 l bytes n
   is_report_same a0 l bytes n is = record {
     journal = is.journal;
     legal = legal_same i j same a0 l is.journal is.legal;
@@ -237,40 +185,6 @@ module _ (i j : Tables) (same : bare i ≡ bare j) where
     number = is.number;
   }
 
--- instances that are one but for their rooms run alike
-pub run_same : (i j : Tables) → bare i ≡ bare j → RunAlike i j
-run_same i j same = record {
-  parts = parts_same i j same;
-  broken = λ a0 a. along (λ (t : Tables). first_broken t a0 a) (λ raw closed. broken_bare (whole raw closed) a0 a) i j same;
-  bound = along bound_of bound_bare i j same;
-  pinned_bound = pinned_same i j same;
-  planned = planned_same i j same;
-  judged = judged_same i j same;
-  legal = legal_same i j same;
-  report = report_same i j same;
-  is_report = is_report_same i j same;
-  first_wrong = first_wrong_same i j same;
-  alone = λ a0 l k lots. along (λ (t : Tables). solo t a0 l) (λ raw closed. solo_bare raw closed a0 l) i j same ∙ lots_alike j a0 l k lots;
-  summary = summary_same i j same;
-  repaired = λ a0 lot. along (λ (t : Tables). repair_run t a0 lot) (λ raw closed. repair_bare raw closed a0 lot) i j same;
-}
-
-pub alike_run_alike : AlikeRunAlike
-alike_run_alike i j same = run_same i j (bare_alike i j same)
-
--- and they are alike
-
-numbers_bare : (raw : RawInstance) (closed : Option (Listed Bool)) → lists_of (bare (whole raw closed)).raw ≡ lists_of (whole raw closed).raw
-unfolding raw_of bare_raw
-numbers_bare raw closed = refl
-
-flags_bare : (raw : RawInstance) (closed : Option (Listed Bool)) → flags_of (bare (whole raw closed)).closed ≡ flags_of (whole raw closed).closed
-unfolding flags_of bare_closed
-flags_bare raw None = refl
-flags_bare raw (Some flags) = refl
-
-pub alike_from_bare : (i j : Tables) → bare i ≡ bare j → AreAlike i j
-alike_from_bare i j same = record {
-  lists = along (λ (t : Tables). lists_of t.raw) numbers_bare i j same;
-  flags = along (λ (t : Tables). flags_of t.closed) flags_bare i j same;
-}
+-- and a repair tries the same
+pub repaired_same : (i j : Tables) → bare i ≡ bare j → (a0 : List Machine) (lot : Lot) → repair_run i a0 lot ≡ repair_run j a0 lot
+repaired_same i j same a0 lot = along (λ (t : Tables). repair_run t a0 lot) (λ raw closed. repair_bare raw closed a0 lot) i j same

@@ -2,7 +2,6 @@ pub mod RowLemmas
 pub mod BareLemmas
 pub mod MeaningLemmas
 pub mod AlikeLemmas
-pub mod LawLemmas
 pub mod StageLemmas
 pub mod SolveLemmas
 pub mod EndLemmas

@@ -50,7 +50,7 @@ closed_same bytes i j same = sym (closed_list_bare bytes i) ∙ ap (closed_refus
 assign_same : (bytes : List ℕ) (i j : Tables) → bare i ≡ bare j → assign_refusal bytes i ≡ assign_refusal bytes j
 assign_same bytes i j same = sym (assign_bare bytes i) ∙ ap (assign_refusal bytes) same ∙ assign_bare bytes j
 
-broken_same : (i j : Tables) (a0 a : List Machine) → bare i ≡ bare j → first_broken i a0 a ≡ first_broken j a0 a
+pub broken_same : (i j : Tables) (a0 a : List Machine) → bare i ≡ bare j → first_broken i a0 a ≡ first_broken j a0 a
 broken_same i j a0 a same = sym (broken_bare i a0 a) ∙ ap (λ (t : Tables). first_broken t a0 a) same ∙ broken_bare j a0 a
 
 -- the model

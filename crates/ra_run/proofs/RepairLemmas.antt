@@ -37,8 +37,8 @@ use Rattle.ra_run.specs.Statuses.{status_of}
 use Rattle.ra_run.proofs.CompleteLemmas.{is_done, complete_own, OwnRefused}
 use Rattle.ra_run.proofs.ComesLemmas.{Listed, known_model, told_of}
 use Rattle.ra_run.proofs.EndLemmas.{ends_refused}
-use Rattle.ra_run.proofs.AlikeLemmas.{run_same}
-use Rattle.ra_run.proofs.MeaningLemmas.{no_model, no_closed, no_initial, instances_same, lists_same}
+use Rattle.ra_run.proofs.AlikeLemmas.{repaired_same}
+use Rattle.ra_run.proofs.MeaningLemmas.{broken_same, no_model, no_closed, no_initial, instances_same, lists_same}
 
 -- the tries
 
@@ -153,8 +153,7 @@ unfolding name_of
 broken_left held model closed initial before now l left broken way i a0 accepts known is leaves =
     let same = instances_same held model closed (known.0 tt).0 (told_of held closed _ known.1) is.tables i is.accepts.instance accepts.instance in
     let start : is.a0 ≡ a0 = lists_same held (Some initial) (told_of held (Some initial) _ known.2) refl is.tables i is.a0 a0 is.accepts.initial accepts.initial in
-    let alike = run_same is.tables i same in
-    sym is.run.is ∙ alike.broken is.a0 (repair_run is.tables is.a0 is.lot).assignment ∙ rw (alike.repaired is.a0 is.lot, start) (leaves is.lot is.one)
+    sym is.run.is ∙ broken_same is.tables i is.a0 (repair_run is.tables is.a0 is.lot).assignment same ∙ rw (repaired_same is.tables i same is.a0 is.lot, start) (leaves is.lot is.one)
 
 own_case : (held : Held) (names : Names) (l : Lots) (prints breaks : List ℕ → Type 0) (status : Status) (refusal : Refusal) → status ≡ status_of refusal → RepairOwn held names l prints breaks refusal → ((cause : Cause) × Tried held names l (Some cause) prints × (status ≡ Unrepaired)) ⊎ ((status ≡ WriteFault) ⊎ (status ≡ NoMemory))
 unfolding status_of

@@ -32,7 +32,7 @@ use Rattle.ra_run.specs.Statuses.{status_of}
 use Rattle.ra_run.specs.Verifying.{CountSays, IsCounted, IsRead, IsRightAt, IsRightReport, IsSolved, IsWrongAt, IsWrongReport, ReportWrong, VerdictComes, Verified, VerifyOwn, refused_by}
 use Rattle.ra_run.proofs.ComesLemmas.{Listed, Went, infeasible_of, known_model, passed_went, told_of}
 use Rattle.ra_run.proofs.CompleteLemmas.{OwnRefused, is_done}
-use Rattle.ra_run.proofs.AlikeLemmas.{run_same}
+use Rattle.ra_run.proofs.AlikeLemmas.{first_wrong_same, is_report_same}
 use Rattle.ra_run.proofs.BareLemmas.{bare}
 use Rattle.ra_run.proofs.MeaningLemmas.{Told, no_model, no_closed, no_initial, no_initial_break, instances_same, lists_same}
 use Rattle.ra_run.proofs.SolveLemmas.{solved}
@@ -212,11 +212,11 @@ module _ (held : Held) (model : List ℕ) (closed : Option (List ℕ)) (initial 
 
   all_wrong : (l : Lots) (line : ℕ) → IsWrongReport held these i a0 l line → AllWrong held these l line
   all_wrong l line wrong j b0 other = some_then (held (name_of these file.Report)) (λ bytes. IsFirstWrong i a0 l bytes (Some line)) (λ bytes. IsFirstWrong j b0 l bytes (Some line))
-      (λ bytes is. subst (λ (a : List Machine). IsFirstWrong j a l bytes (Some line)) (start_same j b0 other) ((run_same i j (instance_same j b0 other)).first_wrong a0 l bytes (Some line) is)) wrong
+      (λ bytes is. subst (λ (a : List Machine). IsFirstWrong j a l bytes (Some line)) (start_same j b0 other) (first_wrong_same i j (instance_same j b0 other) a0 l bytes (Some line) is)) wrong
 
   all_right : (l : Lots) → IsRightReport held these i a0 l → AllRight held these l
   all_right l right j b0 other = some_then (held (name_of these file.Report)) (λ bytes. (n : ℕ) × IsReport i a0 l bytes n) (λ bytes. (n : ℕ) × IsReport j b0 l bytes n)
-      (λ bytes is. (is.0, subst (λ (a : List Machine). IsReport j a l bytes is.0) (start_same j b0 other) ((run_same i j (instance_same j b0 other)).is_report a0 l bytes is.0 is.1))) right
+      (λ bytes is. (is.0, subst (λ (a : List Machine). IsReport j a l bytes is.0) (start_same j b0 other) (is_report_same i j (instance_same j b0 other) a0 l bytes is.0 is.1))) right
 
 -- no report is read whole whose line is wrong
 read_not : (held : Held) (names : Names) (l : Lots) (line n : ℕ) → IsSome (held (name_of names file.Report)) → AllWrong held names l line → IsRead held names l n → ⊥

@@ -3,7 +3,6 @@ pub mod Commands
 pub mod Complete
 pub mod Ends
 pub mod Files
-pub mod Laws
 pub mod Lines
 pub mod Outputs
 pub mod Refusals

@@ -46,7 +46,7 @@ abbrev pub LeavesBroken : Tables → List Machine → Lots → Option Cause → 
 LeavesBroken i a0 l broken = (lot : Lot) → l.lots.items ≡ lot ∷ [] → first_broken i a0 (repair_run i a0 lot).assignment ≡ broken
 
 -- of a job with such lots: where each of its own statuses comes. No list has to be feasible. Any instance that the files
--- mean will do: by `laws`' `told_files_mean_one` and `alike_run_alike` the run is the same from each
+-- mean will do: by `told_files_mean_one` and `alike_run_alike` of `ra_laws` the run is the same from each
 pub record RepairComes (held : Held) (names : Names) (are : Lots → Type 0) (before now : Faults) (status : Status) : Type 0 where
   pub never_infeasible : status ≢ Infeasible
   pub unrepaired : status ≡ Unrepaired → (l : Lots) × are l × ((cause : Cause) × Tried held names l (Some cause) (λ text. Unit {0}))

@@ -18,10 +18,14 @@ use Rattle.ra_run.specs.declared.trial.TrialFault.TheVariants.{Write, Memory}
 use Rattle.ra_run.specs.Files.{Held, Names}
 use Rattle.ra_run.specs.Lines.{refusal_line}
 
--- the files `model` and `start` hold the two texts of a number
-pub record HoldsTrial (number : ℕ) (held : Held) : Type 0 where
-  pub model : held (codes "model") ≡ Some (model_text number)
-  pub start : held (codes "start") ≡ Some start_text
+-- the files `model` and `start` hold these two texts
+pub record HoldsTexts (held : Held) (of_model of_start : List ℕ) : Type 0 where
+  pub model : held (codes "model") ≡ Some of_model
+  pub start : held (codes "start") ≡ Some of_start
+
+-- so it is with the two texts of a number
+abbrev pub HoldsTrial : ℕ → Held → Type 0
+HoldsTrial number held = HoldsTexts held (model_text number) start_text
 
 -- these are the instance of a number and its start
 pub record IsTrialStart (number : ℕ) (i : Tables) (a0 : List Machine) : Type 0 where
@@ -40,7 +44,7 @@ abbrev pub IsSummarized : Tables → List Machine → Lots → (List ℕ → Typ
 IsSummarized i a0 l way = way (summary_text i a0 (solo i a0 l))
 
 -- `trial`: so did that of the trial of a number, from its instance, its start and its lot. Which instance and which lots
--- of the number these are is no matter: they differ in rooms alone, and the text rests on the number (`laws`'
+-- of the number these are is no matter: they differ in rooms alone, and the text rests on the number (`ra_laws`,
 -- `trials_have_one_text`)
 pub record TrialPrinted (number : ℕ) (way : List ℕ → Type 0) : Type 0 where
   pub tables : Tables

@@ -67,8 +67,8 @@ abbrev pub IsRightReport : Held → Names → Tables → List Machine → Lots �
 IsRightReport held names i a0 l = IfSome (held (name_of names file.Report)) (λ bytes. (n : ℕ) × IsReport i a0 l bytes n)
 
 -- of a job with such lots: the status tells a wrong report, and over known files that pass a wrong report is told, and one
--- that is right is accepted. Any instance that the other files mean will do: by `laws`' `told_files_mean_one` and
--- `alike_run_alike` a report is wrong for one of them exactly where it is for each
+-- that is right is accepted. Any instance that the other files mean will do: by `told_files_mean_one` and
+-- `alike_run_alike` of `ra_laws` a report is wrong for one of them exactly where it is for each
 pub record VerdictComes (held : Held) (names : Names) (are : Lots → Type 0) (before now : Faults) (status : Status) : Type 0 where
   pub wrong : status ≡ Wrong → (l : Lots) × are l × ((line : ℕ) × ReportWrong held names l line)
   pub is_wrong : (i : Tables) (a0 : List Machine) → Passes held names i a0 a0 → KnownTo held names before now file.Report → (line : ℕ) → ((l : Lots) → are l → IsWrongReport held names i a0 l line) → (status ≡ Wrong) ⊎ (status ≡ NoMemory)

@@ -80,7 +80,11 @@ pub fn run<R: Threads + Wait + Sync, F: Files, O: Sink, E: Sink, G: Gate>(
     ensures err_never_falls { E.faults err.old ≤ E.faults err.new }
 {
     match read_words(alloc, words) {
-        Ok(job) => do_job(rt, alloc, &job, files, out, err, gate),
+        Ok(job) => {
+            let status = do_job(rt, alloc, &job, files, out, err, gate);
+            drop(job);
+            status
+        }
         Err(WordsFault::Usage) => refuse_words(err),
         Err(WordsFault::NoMemory) => refuse_memory(err),
     }

@@ -8,7 +8,6 @@ mod check;
 mod edit;
 mod job;
 mod judging;
-pub mod laws;
 mod lists;
 mod reading;
 mod refusals;

@@ -7,7 +7,7 @@ use ra_edits_read::EditsFault;
 use ra_model_read::ModelFault;
 
 /// A file of a job.
-#[derive(Clone, Copy, Debug, PartialEq, Eq)]
+#[derive(Clone, Copy)]
 pub enum File {
     Model,
     Closed,
@@ -18,7 +18,7 @@ pub enum File {
 }
 
 /// Why a job was not done, in the order in which it is found.
-#[derive(Clone, Copy, Debug, PartialEq, Eq)]
+#[derive(Clone, Copy)]
 pub enum Refusal {
     /// Reading a file failed.
     Read(File),

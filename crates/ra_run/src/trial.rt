@@ -13,7 +13,7 @@ ghost use Rattle.ra_report.specs.Pieces.{Breaks, Puts};
 ghost use Rattle.ra_report.specs.Summaries.{summary_of};
 ghost use Rattle.ra_run.specs.Files.{Names};
 ghost use Rattle.ra_run.specs.Lines.{refusal_line};
-ghost use Rattle.ra_run.specs.Trials.{HoldsTrial, IsTrialStart, IsTrialLots, IsSummarized, TrialPrinted, TrialSays, TrialEnds};
+ghost use Rattle.ra_run.specs.Trials.{HoldsTexts, HoldsTrial, IsTrialStart, IsTrialLots, IsSummarized, TrialPrinted, TrialSays, TrialEnds};
 
 use crate::bound::bound_from;
 use crate::refusals::Refusal;
@@ -29,7 +29,7 @@ use ra_model::Instance;
 use ra_prepared::{Prepared, Solved as Run};
 use ra_report::{Fault, WriteFault, write_summary};
 use ra_topology::Topology;
-use ra_trial::trial_text;
+use ra_trial::{TrialText, trial_text};
 use std::alloc::Global;
 use std::marker::Sync;
 use std::sync::Wait;
@@ -151,6 +151,16 @@ fn trial_files(alloc: Global, number: u64) -> Result<SteadyFiles, NoMemory>
     ensures { IfOk result (λ files. HoldsTrial number (⟦<SteadyFiles as Files>⟧.held files)) }
 {
     let text = trial_text(alloc, number)?;
+    let files = hold(alloc, &text);
+    drop(text);
+    files
+}
+
+/// Two texts as files.
+fn hold(alloc: Global, text: &TrialText) -> Result<SteadyFiles, NoMemory>
+    ensures { IfOk result (λ files.
+        HoldsTexts (⟦<SteadyFiles as Files>⟧.held files) text.now.model.items text.now.start.items) }
+{
     let mut files = SteadyFiles::make(alloc)?;
     files.add(alloc, "model", text.model.as_slice())?;
     files.add(alloc, "start", text.start.as_slice())?;

@@ -1,5 +1,7 @@
-//! Laws of what jobs compute: each function does nothing, and its contract is a proved law.
-ghost use Rattle.ra_run.specs.Laws.{AlikeRunAlike, ToldFilesMeanOne, TrialsHaveOneText, TrialsPrintOneText};
+//! Laws of what jobs compute: each function does nothing, and its contract is a proved law. No program stands on them.
+#![tactic(auto)]
+
+ghost use Rattle.ra_laws.specs.Laws.{AlikeRunAlike, ToldFilesMeanOne, TrialsHaveOneText, TrialsPrintOneText};
 
 /// Jobs compute the same from instances with the same numbers, whatever rooms their lists have.
 pub fn alike_run_alike()
