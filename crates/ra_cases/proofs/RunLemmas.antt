@@ -3,13 +3,14 @@ use Rattle.std.proofs.Common.{◌≡◌, ◌↔◌, ℕ, List, [], ◌++◌, Opt
 use Rattle.std.specs.Io.KnownBytes.{Appends}
 use Rattle.ra_words.specs.Jobs.{JobSays, Checks, Bounds, Solves, Trials, Verifies, Repairs, Edits, job_of}
 use Rattle.ra_draws.specs.declared.budgets.Lots.{Lots}
-use Rattle.ra_run.specs.declared.status.Status.{Status}
-use Rattle.ra_run.specs.declared.status.Status.TheVariants.{Done, Usage}
+use Rattle.ra_jobs.specs.declared.status.Status.{Status}
+use Rattle.ra_jobs.specs.declared.status.Status.TheVariants.{Done, Usage}
 use Rattle.ra_run.specs.Commands.{OfJob, OutputOf, OwnOf}
-use Rattle.ra_run.specs.Ends.{Ends}
-use Rattle.ra_run.specs.Files.{Held, Faults, Names}
-use Rattle.ra_run.specs.Outputs.{Printed, BoundPrinted, Solved}
-use Rattle.ra_run.specs.Statuses.{number_of}
+use Rattle.ra_jobs.specs.Ends.{Ends}
+use Rattle.ra_jobs.specs.Files.{Held, Faults, Names}
+use Rattle.ra_jobs.specs.Outputs.{Printed, BoundPrinted}
+use Rattle.ra_run.specs.Outputs.{Solved}
+use Rattle.ra_jobs.specs.Statuses.{number_of}
 use Rattle.ra_run.specs.Trials.{TrialPrinted, TrialEnds}
 use Rattle.ra_cases.specs.declared.endings.Ending.{Ending}
 use Rattle.ra_cases.specs.Endings.{Same}

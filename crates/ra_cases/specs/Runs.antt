@@ -2,7 +2,7 @@
 use Rattle.std.specs.Prelude.{◌≡◌, ◌↔◌, ℕ, List, None, IfSome}
 use Rattle.ra_words.specs.Jobs.{job_of}
 use Rattle.ra_run.specs.Commands.{OutputOf}
-use Rattle.ra_run.specs.Files.{Held}
+use Rattle.ra_jobs.specs.Files.{Held}
 use Rattle.ra_cases.specs.declared.endings.Ending.{Ending}
 
 -- the status is 2 exactly where the words are no job, and a run with status 0 has put just the text that its files mean

@@ -19,10 +19,11 @@ use Rattle.ra_moves.specs.Judging.{broken_by, judge}
 use Rattle.ra_moves.specs.Options.{option_cost, plan_place, plan_of}
 use Rattle.ra_report.specs.Summaries.{summary_text}
 use Rattle.ra_laws.specs.Laws.{flags_of, AreAlike, AreAlikeLots, RunAlike, AlikeRunAlike}
-use Rattle.ra_run.proofs.RowLemmas.{raw_of, bare_raw, raw_same}
-use Rattle.ra_run.proofs.BareLemmas.{bare, bare_closed}
-use Rattle.ra_run.proofs.MeaningLemmas.{broken_same}
-use Rattle.ra_run.proofs.AlikeLemmas.{opened, whole, along, parts_same, pinned_same, planned_same, judged_same, best_same, legal_same, report_same, first_wrong_same, is_report_same, repaired_same}
+use Rattle.ra_jobs.proofs.RowLemmas.{raw_of, bare_raw, raw_same}
+use Rattle.ra_jobs.proofs.BareLemmas.{bare, bare_closed}
+use Rattle.ra_jobs.proofs.MeaningLemmas.{broken_same}
+use Rattle.ra_jobs.proofs.AlikeLemmas.{opened, whole, along, repaired_same}
+use Rattle.ra_run.proofs.AlikeLemmas.{parts_same, pinned_same, planned_same, judged_same, best_same, legal_same, report_same, first_wrong_same, is_report_same}
 
 -- no room is looked at
 

@@ -24,8 +24,8 @@ use Rattle.ra_report.specs.Summaries.{summary_text}
 use Rattle.ra_trial.specs.Instances.{IsTrial, start_list}
 use Rattle.ra_trial.specs.Numbers.{trial_word}
 use Rattle.ra_verify.specs.WrongLines.{IsFirstWrong, IsReport}
-use Rattle.ra_run.specs.declared.refusals.File.{File}
-use Rattle.ra_run.specs.Files.{Held, Names, name_of, IsNamed, Accepts}
+use Rattle.ra_jobs.specs.declared.refusals.File.{File}
+use Rattle.ra_jobs.specs.Files.{Held, Names, name_of, IsNamed, Accepts}
 use Rattle.ra_run.specs.Trials.{IsTrialLots, TrialPrinted}
 
 -- the flags of a closed list, where there is one

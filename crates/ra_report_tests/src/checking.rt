@@ -2,7 +2,7 @@
 use super::texts::SAMPLE;
 use ra_base::Name;
 use ra_io::{CountSink, SteadyFiles};
-use ra_run::{Status, check_steady};
+use ra_jobs::{Status, check_steady};
 use std::test::Fail;
 
 /// All other calls are tested by the conformance suite, `cases`.

@@ -1,5 +1,5 @@
 -- Instances that are the same but for the rooms of their lists run alike: no definition looks at a room.
-use Rattle.std.proofs.Common.{◌≡◌, ℕ, zero, Bool, List, [], ◌∷◌, ◌++◌, Option, Some, None, refl, sym, ◌∙◌, ap, inl, inr}
+use Rattle.std.proofs.Common.{◌≡◌, ℕ, Bool, List, [], ◌∷◌, ◌++◌, Option, Some, None, refl, sym, ◌∙◌, inl, inr}
 use Rattle.ra_base.specs.Listed.{Listed}
 use Rattle.ra_base.specs.declared.causes.Drawing.{Drawing}
 use Rattle.ra_base.specs.declared.ids.Guard.{Guard}
@@ -8,7 +8,6 @@ use Rattle.ra_base.specs.declared.ids.Machine.{Machine}
 use Rattle.ra_bounds.specs.Bounds.{required, safety, capacity, overload, spare, lack, balance_bound}
 use Rattle.ra_bounds.specs.PinnedBounds.{pinned_excess, pinned_overload, pinned_load_bound, pinned_bound_of}
 use Rattle.ra_draws.specs.declared.budgets.Lots.{Lots}
-use Rattle.ra_draws.specs.declared.sources.Lot.{Lot}
 use Rattle.ra_guards.specs.Guards.{writes, reads, is_guard}
 use Rattle.ra_guards.specs.Versions.{touches, stamp, version, Untouched}
 use Rattle.ra_journal.specs.declared.entries.Entry.{Entry}
@@ -19,31 +18,16 @@ use Rattle.ra_journal.specs.States.{state, cost_at}
 use Rattle.ra_local.specs.Touched.{service_in, moves_service, reads_service}
 use Rattle.ra_model.specs.declared.raw.RawInstance.{RawInstance}
 use Rattle.ra_model.specs.declared.raw.Tables.{Tables}
-use Rattle.ra_model.specs.Broken.{capacity_test, row_capacity, broken_capacity, transient_test, row_transient, broken_transient, conflict_test, service_conflict, broken_conflict, spread_test, broken_spread, near_of, far_test, dependency_test, pair_dependency, service_dependency, broken_dependency, closed_test, broken_closed, first_broken}
-use Rattle.ra_model.specs.Costs.{excess_on, load_part, load_cost, available, shortfall, balance_part, balance_cost, process_share, process_cost, service_cost, way_share, machine_cost, objective, parts_of}
-use Rattle.ra_model.specs.Numbers.{resource_row, machine_row, service_row, process_row, balance_row, resource_count, machine_count, service_count, process_count, balance_count, transient_at, load_weight_of, neighbourhood_of, location_of, capacity_of, safety_of, way_cost_of, spread_of, dependency_end, dependency_start, dependency_count, need_at, need_of, service_of, requirement_of, process_cost_of, first_of, second_of, target_of, balance_weight_of, process_weight_of, service_weight_of, machine_weight_of, flag_in, closed_at}
+use Rattle.ra_model.specs.Costs.{parts_of}
 use Rattle.ra_model.specs.Relations.{depends, are_joined}
-use Rattle.ra_model.specs.Services.{is_of, of_service, members_at, on_machine, in_neighbourhood, in_location, locations_of, moved_of}
-use Rattle.ra_model.specs.Usage.{use_share, use_of, transient_share, transient_of}
 use Rattle.ra_moves.specs.declared.steps.Step.{Step}
 use Rattle.ra_moves.specs.Judging.{broken_by, judge}
 use Rattle.ra_moves.specs.Options.{option_cost, plan_place, plan_of}
 use Rattle.ra_pins.specs.Pinned.{flagged_share, flagged_use, lacks, lacks_between, holds, taken, blocked, is_open, stuck, round, rounds, is_pinned, pinned_load}
-use Rattle.ra_repair.specs.Penalty.{use_above, row_above, capacity_penalty, transient_above, row_transient_above, transient_penalty, crowd_on, service_crowd, conflict_penalty, spread_lack, spread_penalty, far_share, pair_far, service_far, dependency_penalty, closed_share, closed_penalty, penalty}
-use Rattle.ra_repair.specs.Runs.{try_count, try_option, penalty_by, option_penalty, least_after, chosen, try_with, try_at, next_try, repaired_by, repair_run}
 use Rattle.ra_report.specs.JournalTexts.{report_text}
 use Rattle.ra_verify.specs.WrongLines.{AreRight, AreAllRight, IsWrongEntry, IsCutOff, IsWrongHead, IsFirstWrong, IsReport}
-use Rattle.ra_run.proofs.RowLemmas.{raw_of, bare_raw}
-use Rattle.ra_run.proofs.BareLemmas.{bare, bare_closed}
-
--- a list of names: a lemma that unfolds it unfolds the numbers of an instance, its constraints and its costs
-unfoldable pub opened : ℕ
-unfolding raw_of bare_raw bare_closed resource_row machine_row service_row process_row balance_row resource_count machine_count service_count process_count balance_count transient_at load_weight_of neighbourhood_of location_of capacity_of safety_of way_cost_of spread_of dependency_end dependency_start dependency_count need_at need_of service_of requirement_of process_cost_of first_of second_of target_of balance_weight_of process_weight_of service_weight_of machine_weight_of flag_in closed_at use_share use_of transient_share transient_of is_of of_service members_at on_machine in_neighbourhood in_location locations_of moved_of capacity_test row_capacity broken_capacity transient_test row_transient broken_transient conflict_test service_conflict broken_conflict spread_test broken_spread near_of far_test dependency_test pair_dependency service_dependency broken_dependency closed_test broken_closed first_broken excess_on load_part load_cost available shortfall balance_part balance_cost process_share process_cost service_cost way_share machine_cost objective parts_of
-opened = zero
-
--- an instance of the lists of a model file, and of the flags of a closed list
-abbrev pub whole : RawInstance → Option (Listed Bool) → Tables
-whole raw closed = record { raw = raw; closed = closed }
+use Rattle.ra_jobs.proofs.BareLemmas.{bare}
+use Rattle.ra_jobs.proofs.AlikeLemmas.{opened, whole, along}
 
 -- no room is looked at
 
@@ -79,14 +63,6 @@ version_bare raw closed made n (guard.Service s) = refl
 best_bare : (raw : RawInstance) (closed : Option (Listed Bool)) (a0 : List Machine) (h : List Entry) → best_of (bare (whole raw closed)) a0 h ≡ best_of (whole raw closed) a0 h
 unfolding opened cost_at best_place best_of
 best_bare raw closed a0 h = refl
-
-repair_bare : (raw : RawInstance) (closed : Option (Listed Bool)) (a0 : List Machine) (lot : Lot) → repair_run (bare (whole raw closed)) a0 lot ≡ repair_run (whole raw closed) a0 lot
-unfolding opened use_above row_above capacity_penalty transient_above row_transient_above transient_penalty crowd_on service_crowd conflict_penalty spread_lack spread_penalty far_share pair_far service_far dependency_penalty closed_share closed_penalty penalty try_count try_option penalty_by option_penalty least_after chosen try_with try_at next_try repaired_by repair_run
-repair_bare raw None a0 lot = refl
-repair_bare raw (Some flags) a0 lot = refl
-
-pub along : {X : Type 0} (f : Tables → X) → ((raw : RawInstance) (closed : Option (Listed Bool)) → f (bare (whole raw closed)) ≡ f (whole raw closed)) → (i j : Tables) → bare i ≡ bare j → f i ≡ f j
-along f unchanged i j same = sym (unchanged i.raw i.closed) ∙ ap f same ∙ unchanged j.raw j.closed
 
 module _ (i j : Tables) (same : bare i ≡ bare j) where
   pub parts_same : (a0 a : List Machine) → parts_of i a0 a ≡ parts_of j a0 a
@@ -184,7 +160,3 @@ module _ (i j : Tables) (same : bare i ≡ bare j) where
     text = is.text ∙ report_same i j same a0 l is.journal;
     number = is.number;
   }
-
--- and a repair tries the same
-pub repaired_same : (i j : Tables) → bare i ≡ bare j → (a0 : List Machine) (lot : Lot) → repair_run i a0 lot ≡ repair_run j a0 lot
-repaired_same i j same a0 lot = along (λ (t : Tables). repair_run t a0 lot) (λ raw closed. repair_bare raw closed a0 lot) i j same

@@ -1,14 +1,5 @@
-pub mod RowLemmas
-pub mod BareLemmas
-pub mod MeaningLemmas
 pub mod AlikeLemmas
-pub mod StageLemmas
 pub mod SolveLemmas
-pub mod EndLemmas
-pub mod CompleteLemmas
-pub mod ComesLemmas
 pub mod TrialLemmas
 pub mod VerifyLemmas
-pub mod EditLemmas
 pub mod RunLemmas
-pub mod RepairLemmas

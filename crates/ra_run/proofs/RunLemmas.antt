@@ -1,24 +1,26 @@
 -- What is said of one command, as said of the job of the words.
 use Rattle.std.proofs.Common.{◌≡◌, ◌≢◌, ℕ, List, Option, Some, None, IfSome, ◌⊎◌, inl, inr, sym, ◌∙◌}
 use Rattle.ra_words.specs.Jobs.{JobSays, Checks, Bounds, Solves, Trials, Verifies, Repairs, Edits}
-use Rattle.ra_run.specs.declared.refusals.Refusal.{Refusal}
-use Rattle.ra_run.specs.declared.refusals.Refusal.TheVariants.{Memory}
-use Rattle.ra_run.specs.declared.status.Status.{Status}
-use Rattle.ra_run.specs.declared.status.Status.TheVariants.{Done, Infeasible, NoMemory}
-use Rattle.ra_run.specs.Comes.{Comes, InfeasibleComes}
+use Rattle.ra_jobs.specs.declared.refusals.Refusal.{Refusal}
+use Rattle.ra_jobs.specs.declared.refusals.Refusal.TheVariants.{Memory}
+use Rattle.ra_jobs.specs.declared.status.Status.{Status}
+use Rattle.ra_jobs.specs.declared.status.Status.TheVariants.{Done, Infeasible, NoMemory}
+use Rattle.ra_jobs.specs.Comes.{Comes, InfeasibleComes}
+use Rattle.ra_jobs.specs.Complete.{NoFault}
+use Rattle.ra_jobs.specs.Ends.{Ends}
+use Rattle.ra_jobs.specs.Files.{Held, Faults, Names, check_names, solve_names, bound_names, verify_names, edit_names}
+use Rattle.ra_jobs.specs.Lines.{refusal_line}
+use Rattle.ra_jobs.specs.Outputs.{Printed, BoundPrinted}
+use Rattle.ra_jobs.proofs.ComesLemmas.{Went, comes, printed_went, bound_listed, judges_listed, writes_listed}
+use Rattle.ra_jobs.proofs.EditLemmas.{edit_not, edited_listed, own_listed as edits_listed}
+use Rattle.ra_jobs.proofs.EndLemmas.{ends_memory}
+use Rattle.ra_jobs.proofs.RepairLemmas.{own_listed as repair_listed, repair_not, tried_listed}
+use Rattle.ra_jobs.proofs.StageLemmas.{says_more}
 use Rattle.ra_run.specs.Commands.{Answers, OfJob, OutputOf, OwnComes, OwnOf, ValidFor}
-use Rattle.ra_run.specs.Complete.{NoFault}
-use Rattle.ra_run.specs.Ends.{Ends}
-use Rattle.ra_run.specs.Files.{Held, Faults, Names, check_names, solve_names, bound_names, verify_names, edit_names}
-use Rattle.ra_run.specs.Lines.{refusal_line}
-use Rattle.ra_run.specs.Outputs.{Printed, BoundPrinted, Solved}
+use Rattle.ra_run.specs.Outputs.{Solved}
 use Rattle.ra_run.specs.Trials.{TrialEnds}
 use Rattle.ra_run.specs.Verifying.{Verified}
-use Rattle.ra_run.proofs.ComesLemmas.{Went, comes, printed_went, bound_listed, solved_went, judges_listed, writes_listed}
-use Rattle.ra_run.proofs.EditLemmas.{edit_not, edited_listed, own_listed as edits_listed}
-use Rattle.ra_run.proofs.EndLemmas.{ends_memory}
-use Rattle.ra_run.proofs.RepairLemmas.{own_listed as repair_listed, repair_not, tried_listed}
-use Rattle.ra_run.proofs.StageLemmas.{says_more}
+use Rattle.ra_run.proofs.SolveLemmas.{solved_went}
 use Rattle.ra_run.proofs.TrialLemmas.{trial_memory}
 use Rattle.ra_run.proofs.VerifyLemmas.{own_listed, verdict_not, verified_went}
 

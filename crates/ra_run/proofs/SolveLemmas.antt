@@ -1,5 +1,5 @@
 -- What is printed of a run meets the headline.
-use Rattle.std.proofs.Common.{◌≡◌, ℕ, suc, List, length, Option, Some, IsSome, Result, Ok, Err, OnOk, IfOk, IfErr, refl, sym, ap₂, ◌∙◌, arith}
+use Rattle.std.proofs.Common.{◌≡◌, ℕ, suc, List, length, Option, Some, IsSome, refl, sym, ap₂, ◌∙◌, arith}
 use Rattle.ra_base.specs.Searches.{least_place}
 use Rattle.ra_base.specs.declared.ids.Machine.{Machine}
 use Rattle.ra_base.proofs.Least.{least_means, least_there}
@@ -20,20 +20,14 @@ use Rattle.ra_report.proofs.HeadLines.{report_tells_its_journal}
 use Rattle.ra_report.proofs.JournalTexts.{one_journal_of_bytes}
 use Rattle.ra_prepared.specs.declared.solved.Solved.{Solved as Run}
 use Rattle.ra_prepared.specs.Runs.{IsRun}
-use Rattle.ra_run.specs.declared.refusals.Refusal.{Refusal}
-use Rattle.ra_run.specs.declared.refusals.Refusal.TheVariants.{Read, Model, Closed, Initial, Changed, InitialBroken, ChangedBroken, Write, Memory}
-use Rattle.ra_run.specs.Files.{Held, Faults, Names, InstanceIs, solve_names}
-use Rattle.ra_run.specs.Refusals.{Says, Judges}
+use Rattle.ra_jobs.specs.declared.refusals.Refusal.{Refusal}
+use Rattle.ra_jobs.specs.declared.refusals.Refusal.TheVariants.{InitialBroken, Write, Memory}
+use Rattle.ra_jobs.specs.Files.{Held, Faults, Names, solve_names}
+use Rattle.ra_jobs.specs.Refusals.{Says, Judges}
+use Rattle.ra_jobs.specs.Stages.{IsStart, StartSays}
+use Rattle.ra_jobs.proofs.ComesLemmas.{Went}
 use Rattle.ra_run.specs.Outputs.{IsFirstLeast, Solved}
-use Rattle.ra_run.specs.Solving.{IsStart, IsReported, RunSays}
-use Rattle.ra_run.specs.Stages.{IsList, StartSays}
-
--- the instance and the initial list were read
-pub starts : (held later : Held) (model : List ℕ) (closed : Option (List ℕ)) (initial : List ℕ) (i : Tables) (a0 : List Machine) → ((other : List ℕ) → later other ≡ held other) → InstanceIs held model closed i → IsList later initial i a0 → IsStart held (solve_names model closed initial) i a0
-starts held later model closed initial i a0 same instance list = record {
-  accepts = record { instance = instance; initial = rw (sym (same initial)) list.0; changed = tt };
-  fits = list.1;
-}
+use Rattle.ra_run.specs.Solving.{IsReported, RunSays}
 
 -- the report of a run is that of its journal
 pub run_told : (i : Tables) (a0 : List Machine) (l : Lots) (run : Run) (way : List ℕ → Type 0) → IsRun i a0 l run → Feasible i a0 a0 → way (text_of run.journal) → IsReported i a0 l way
@@ -108,15 +102,6 @@ says_early i a0 written (InitialBroken cause) says = says
 says_early i a0 written Memory says = tt
 says_early i a0 written refusal says = absurd says
 
--- what follows from what is known of a result holds of it too
-pub on_ok_then : {X : Type 0} → (result : Result X Refusal) (known follows : Type 0) → (known → follows) → OnOk result known → OnOk result follows
-on_ok_then (Ok x) known follows then is = then is
-on_ok_then (Err e) known follows then is = tt
-
-pub if_err_then : {X : Type 0} → (result : Result X Refusal) (known follows : Refusal → Type 0) → ((refusal : Refusal) → known refusal → follows refusal) → IfErr result known → IfErr result follows
-if_err_then (Ok x) known follows then is = tt
-if_err_then (Err e) known follows then is = then e is
-
-pub if_ok_then : {X : Type 0} → (result : Result X Refusal) (known follows : X → Type 0) → ((x : X) → known x → follows x) → IfOk result known → IfOk result follows
-if_ok_then (Ok x) known follows then is = then x is
-if_ok_then (Err e) known follows then is = tt
+-- what was printed of a run, whole or in part, is of files that were accepted, and of a list that is feasible
+pub solved_went : (held : Held) (model : List ℕ) (closed : Option (List ℕ)) (initial : List ℕ) (l : Lots) (way : List ℕ → Type 0) → Solved held (solve_names model closed initial) l way → Went held (solve_names model closed initial)
+solved_went held model closed initial l way p = record { listed = record { tables = p.tables; a0 = p.a0; a = p.a0; accepts = p.accepts }; initial = λ named. p.start; changed = λ named. absurd (cc) }

@@ -25,19 +25,19 @@ use Rattle.ra_trial.proofs.TextMeans.{text_accepted_whole, text_is_trial}
 use Rattle.ra_trial.proofs.StartText.{start_text_is_start}
 use Rattle.ra_trial.proofs.StartFeasible.{start_fits, start_feasible}
 use Rattle.ra_trial.proofs.TrialNumbers.{has_numbers}
-use Rattle.ra_run.specs.declared.refusals.Refusal.{Refusal}
-use Rattle.ra_run.specs.declared.refusals.Refusal.TheVariants.{Write, Memory}
-use Rattle.ra_run.specs.Complete.{AreAccepted}
-use Rattle.ra_run.specs.Refusals.{Says, Nothing}
-use Rattle.ra_run.specs.Statuses.{status_of}
-use Rattle.ra_run.proofs.CompleteLemmas.{never_rose, own_left}
-use Rattle.ra_run.specs.declared.status.Status.{Status}
-use Rattle.ra_run.specs.declared.status.Status.TheVariants.{Done, WriteFault, NoMemory}
+use Rattle.ra_jobs.specs.declared.refusals.Refusal.{Refusal}
+use Rattle.ra_jobs.specs.declared.refusals.Refusal.TheVariants.{Write, Memory}
+use Rattle.ra_jobs.specs.Complete.{AreAccepted}
+use Rattle.ra_jobs.specs.Refusals.{Says, Nothing}
+use Rattle.ra_jobs.specs.Statuses.{status_of}
+use Rattle.ra_jobs.specs.declared.status.Status.{Status}
+use Rattle.ra_jobs.specs.declared.status.Status.TheVariants.{Done, WriteFault, NoMemory}
+use Rattle.ra_jobs.specs.Files.{Held, Faults, Names, InstanceIs, ListIs, solve_names}
+use Rattle.ra_jobs.specs.Lines.{refusal_line}
+use Rattle.ra_jobs.specs.Stages.{IsStart}
+use Rattle.ra_jobs.proofs.CompleteLemmas.{never_rose, own_left}
 use Rattle.ra_run.specs.declared.trial.TrialFault.{TrialFault}
 use Rattle.ra_run.specs.declared.trial.TrialFault.TheVariants as fault
-use Rattle.ra_run.specs.Files.{Held, Faults, Names, InstanceIs, ListIs, solve_names}
-use Rattle.ra_run.specs.Lines.{refusal_line}
-use Rattle.ra_run.specs.Solving.{IsStart}
 use Rattle.ra_run.specs.Trials.{HoldsTrial, IsTrialStart, IsTrialLots, IsSummarized, TrialPrinted, TrialSays, TrialEnds}
 
 -- what is told is so of what is told

@@ -16,27 +16,27 @@ use Rattle.ra_verify.specs.declared.faults.VerifyFault.{VerifyFault}
 use Rattle.ra_verify.specs.declared.faults.VerifyFault.TheVariants as fault
 use Rattle.ra_verify.proofs.AnswerLemmas.{one_first_wrong}
 use Rattle.ra_verify.proofs.LimitLemmas.{report_has_none_wrong}
-use Rattle.ra_run.specs.declared.refusals.File.TheVariants as file
-use Rattle.ra_run.specs.declared.refusals.Refusal.{Refusal}
-use Rattle.ra_run.specs.declared.refusals.Refusal.TheVariants.{Read, Model, Closed, Initial, Changed, InitialBroken, ChangedBroken, Wrong as WrongLine, Write, Memory}
-use Rattle.ra_run.specs.declared.status.Status.{Status}
-use Rattle.ra_run.specs.declared.status.Status.TheVariants.{Done, Infeasible, Wrong, WriteFault, NoMemory}
-use Rattle.ra_run.specs.Comes.{KnownTo, InfeasibleComes}
-use Rattle.ra_run.specs.Complete.{AreValid}
-use Rattle.ra_run.specs.Ends.{Ends}
-use Rattle.ra_run.specs.Files.{Held, Faults, Names, name_of, Passes, solve_names, verify_names}
+use Rattle.ra_jobs.specs.declared.refusals.File.TheVariants as file
+use Rattle.ra_jobs.specs.declared.refusals.Refusal.{Refusal}
+use Rattle.ra_jobs.specs.declared.refusals.Refusal.TheVariants.{Read, Model, Closed, Initial, Changed, InitialBroken, ChangedBroken, Wrong as WrongLine, Write, Memory}
+use Rattle.ra_jobs.specs.declared.status.Status.{Status}
+use Rattle.ra_jobs.specs.declared.status.Status.TheVariants.{Done, Infeasible, Wrong, WriteFault, NoMemory}
+use Rattle.ra_jobs.specs.Comes.{KnownTo, InfeasibleComes}
+use Rattle.ra_jobs.specs.Complete.{AreValid}
+use Rattle.ra_jobs.specs.Ends.{Ends}
+use Rattle.ra_jobs.specs.Files.{Held, Faults, Names, name_of, Passes, solve_names, verify_names}
+use Rattle.ra_jobs.specs.Refusals.{Says, Nothing, InitialBreaks, ChangedBreaks, CanTell}
+use Rattle.ra_jobs.specs.Stages.{IsStart}
+use Rattle.ra_jobs.specs.Statuses.{status_of}
+use Rattle.ra_jobs.proofs.ComesLemmas.{Listed, Went, infeasible_of, known_model, passed_went, told_of}
+use Rattle.ra_jobs.proofs.CompleteLemmas.{OwnRefused, is_done}
+use Rattle.ra_jobs.proofs.BareLemmas.{bare}
+use Rattle.ra_jobs.proofs.MeaningLemmas.{Told, no_model, no_closed, no_initial, no_initial_break, instances_same, lists_same}
+use Rattle.ra_jobs.proofs.StageLemmas.{can_tell, rose_later, says_more}
 use Rattle.ra_run.specs.Outputs.{Solved}
-use Rattle.ra_run.specs.Refusals.{Says, Nothing, InitialBreaks, ChangedBreaks, CanTell}
-use Rattle.ra_run.specs.Solving.{IsStart}
-use Rattle.ra_run.specs.Statuses.{status_of}
 use Rattle.ra_run.specs.Verifying.{CountSays, IsCounted, IsRead, IsRightAt, IsRightReport, IsSolved, IsWrongAt, IsWrongReport, ReportWrong, VerdictComes, Verified, VerifyOwn, refused_by}
-use Rattle.ra_run.proofs.ComesLemmas.{Listed, Went, infeasible_of, known_model, passed_went, told_of}
-use Rattle.ra_run.proofs.CompleteLemmas.{OwnRefused, is_done}
 use Rattle.ra_run.proofs.AlikeLemmas.{first_wrong_same, is_report_same}
-use Rattle.ra_run.proofs.BareLemmas.{bare}
-use Rattle.ra_run.proofs.MeaningLemmas.{Told, no_model, no_closed, no_initial, no_initial_break, instances_same, lists_same}
 use Rattle.ra_run.proofs.SolveLemmas.{solved}
-use Rattle.ra_run.proofs.StageLemmas.{can_tell, rose_later, says_more}
 
 -- ---- the stages
 

@@ -5,16 +5,17 @@ use Rattle.ra_draws.specs.declared.budgets.Lots.{Lots}
 use Rattle.ra_words.specs.Jobs.{JobSays, Checks, Bounds, Solves, Trials, Verifies, Repairs, Edits}
 use Rattle.ra_words.specs.LotTexts.{LotSays}
 use Rattle.ra_words.specs.Said.{said_lot}
-use Rattle.ra_run.specs.declared.refusals.Refusal.{Refusal}
-use Rattle.ra_run.specs.declared.status.Status.{Status}
-use Rattle.ra_run.specs.declared.status.Status.TheVariants.{Done, Infeasible, NoMemory, Unrepaired, Wrong}
-use Rattle.ra_run.specs.Comes.{InfeasibleComes}
-use Rattle.ra_run.specs.Complete.{AreAccepted, AreValid}
-use Rattle.ra_run.specs.Files.{Held, Faults, Names, check_names, solve_names, bound_names, verify_names, edit_names}
-use Rattle.ra_run.specs.Outputs.{Printed, BoundPrinted, Solved}
-use Rattle.ra_run.specs.Refusals.{Judges, OnlyWrites, Nothing}
-use Rattle.ra_run.specs.Editing.{AreEditable, EditComes, EditOwn, Edited}
-use Rattle.ra_run.specs.Repairing.{RepairComes, RepairOwn, Tried}
+use Rattle.ra_jobs.specs.declared.refusals.Refusal.{Refusal}
+use Rattle.ra_jobs.specs.declared.status.Status.{Status}
+use Rattle.ra_jobs.specs.declared.status.Status.TheVariants.{Done, Infeasible, NoMemory, Unrepaired, Wrong}
+use Rattle.ra_jobs.specs.Comes.{InfeasibleComes}
+use Rattle.ra_jobs.specs.Complete.{AreAccepted, AreValid}
+use Rattle.ra_jobs.specs.Files.{Held, Faults, Names, check_names, solve_names, bound_names, verify_names, edit_names}
+use Rattle.ra_jobs.specs.Outputs.{Printed, BoundPrinted}
+use Rattle.ra_jobs.specs.Refusals.{Judges, OnlyWrites, Nothing}
+use Rattle.ra_jobs.specs.Editing.{AreEditable, EditComes, EditOwn, Edited}
+use Rattle.ra_jobs.specs.Repairing.{RepairComes, RepairOwn, Tried}
+use Rattle.ra_run.specs.Outputs.{Solved}
 use Rattle.ra_run.specs.Trials.{TrialPrinted}
 use Rattle.ra_run.specs.Verifying.{VerdictComes, Verified, VerifyOwn}
 

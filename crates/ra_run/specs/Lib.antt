@@ -1,15 +1,5 @@
-pub mod Comes
 pub mod Commands
-pub mod Complete
-pub mod Ends
-pub mod Files
-pub mod Lines
 pub mod Outputs
-pub mod Refusals
-pub mod Editing
-pub mod Repairing
 pub mod Solving
-pub mod Stages
-pub mod Statuses
 pub mod Trials
 pub mod Verifying

@@ -3,20 +3,13 @@ use Rattle.std.specs.Prelude.{◌≡◌, ℕ, List, Some}
 use Rattle.ra_base.specs.declared.ids.Machine.{Machine}
 use Rattle.ra_draws.specs.declared.budgets.Lots.{Lots}
 use Rattle.ra_model.specs.declared.raw.Tables.{Tables}
-use Rattle.ra_model.specs.Assignments.{IsAssignment}
 use Rattle.ra_model.specs.Feasible.{Feasible}
 use Rattle.ra_model.specs.Broken.{first_broken}
 use Rattle.ra_journal.specs.declared.entries.Entry.{Entry}
 use Rattle.ra_journal.specs.Legal.{Legal, Whole}
 use Rattle.ra_report.specs.JournalTexts.{report_text}
-use Rattle.ra_run.specs.declared.refusals.Refusal.{Refusal}
-use Rattle.ra_run.specs.declared.refusals.Refusal.TheVariants.{InitialBroken, Write, Memory}
-use Rattle.ra_run.specs.Files.{Held, Names, Accepts}
-
--- all files were accepted, and the initial list fits the instance
-pub record IsStart (held : Held) (names : Names) (i : Tables) (a0 : List Machine) : Type 0 where
-  pub accepts : Accepts held names i a0 a0
-  pub fits : IsAssignment i a0
+use Rattle.ra_jobs.specs.declared.refusals.Refusal.{Refusal}
+use Rattle.ra_jobs.specs.declared.refusals.Refusal.TheVariants.{InitialBroken, Write, Memory}
 
 -- the initial list is feasible, and the report of a legal whole journal from it went this way
 pub record IsReported (i : Tables) (a0 : List Machine) (l : Lots) (way : List ℕ → Type 0) : Type 0 where

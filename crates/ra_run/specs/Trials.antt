@@ -10,13 +10,13 @@ use Rattle.ra_report.specs.Summaries.{summary_text}
 use Rattle.ra_trial.specs.Instances.{IsTrial, start_list}
 use Rattle.ra_trial.specs.Numbers.{trial_word}
 use Rattle.ra_trial.specs.Trials.{model_text, start_text}
-use Rattle.ra_run.specs.declared.refusals.Refusal.TheVariants as refusal
-use Rattle.ra_run.specs.declared.status.Status.{Status}
-use Rattle.ra_run.specs.declared.status.Status.TheVariants.{Done, WriteFault, NoMemory}
+use Rattle.ra_jobs.specs.declared.refusals.Refusal.TheVariants as refusal
+use Rattle.ra_jobs.specs.declared.status.Status.{Status}
+use Rattle.ra_jobs.specs.declared.status.Status.TheVariants.{Done, WriteFault, NoMemory}
+use Rattle.ra_jobs.specs.Files.{Held, Names}
+use Rattle.ra_jobs.specs.Lines.{refusal_line}
 use Rattle.ra_run.specs.declared.trial.TrialFault.{TrialFault}
 use Rattle.ra_run.specs.declared.trial.TrialFault.TheVariants.{Write, Memory}
-use Rattle.ra_run.specs.Files.{Held, Names}
-use Rattle.ra_run.specs.Lines.{refusal_line}
 
 -- the files `model` and `start` hold these two texts
 pub record HoldsTexts (held : Held) (of_model of_start : List ℕ) : Type 0 where

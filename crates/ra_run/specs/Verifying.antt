@@ -10,15 +10,15 @@ use Rattle.ra_report.specs.JournalTexts.{accepted_line}
 use Rattle.ra_verify.specs.WrongLines.{IsFirstWrong, IsReport}
 use Rattle.ra_verify.specs.declared.faults.VerifyFault.{VerifyFault}
 use Rattle.ra_verify.specs.declared.faults.VerifyFault.TheVariants as fault
-use Rattle.ra_run.specs.declared.refusals.File.TheVariants as file
-use Rattle.ra_run.specs.declared.refusals.Refusal.{Refusal}
-use Rattle.ra_run.specs.declared.refusals.Refusal.TheVariants.{Read, InitialBroken, Wrong as WrongLine, Write, Memory}
-use Rattle.ra_run.specs.declared.status.Status.{Status}
-use Rattle.ra_run.specs.declared.status.Status.TheVariants.{Done, Wrong, WriteFault, NoMemory}
-use Rattle.ra_run.specs.Comes.{KnownTo}
-use Rattle.ra_run.specs.Files.{Held, Faults, Names, name_of, Passes}
+use Rattle.ra_jobs.specs.declared.refusals.File.TheVariants as file
+use Rattle.ra_jobs.specs.declared.refusals.Refusal.{Refusal}
+use Rattle.ra_jobs.specs.declared.refusals.Refusal.TheVariants.{Read, InitialBroken, Wrong as WrongLine, Write, Memory}
+use Rattle.ra_jobs.specs.declared.status.Status.{Status}
+use Rattle.ra_jobs.specs.declared.status.Status.TheVariants.{Done, Wrong, WriteFault, NoMemory}
+use Rattle.ra_jobs.specs.Comes.{KnownTo}
+use Rattle.ra_jobs.specs.Files.{Held, Faults, Names, name_of, Passes}
+use Rattle.ra_jobs.specs.Refusals.{InitialBreaks}
 use Rattle.ra_run.specs.Outputs.{Solved}
-use Rattle.ra_run.specs.Refusals.{InitialBreaks}
 
 -- the bytes are a report of `solve`, the headline, whose journal has so many entries; none of its lines is wrong
 pub record IsSolved (held : Held) (names : Names) (l : Lots) (entries : ℕ) (bytes : List ℕ) : Type 0 where

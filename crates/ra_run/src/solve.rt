@@ -1,4 +1,4 @@
-ghost use Rattle.std.specs.Prelude.{◌≡◌, ◌≢◌, ◌⊎◌, ℕ, ◌≤◌, List, None, OnOk, OnErr, IfOk, IfErr};
+ghost use Rattle.std.specs.Prelude.{◌≡◌, ◌≢◌, ◌⊎◌, ℕ, ◌≤◌, List, None, OnOk, OnErr, IfErr};
 ghost use Rattle.std.specs.Io.KnownBytes.{Appends};
 ghost use Rattle.std.specs.Option.{option_copied};
 ghost use Rattle.ra_io.specs.Faults.{Rose};
@@ -10,26 +10,20 @@ ghost use Rattle.ra_model.specs.Feasible.{Feasible};
 ghost use Rattle.ra_topology.specs.Fits.{IsTopologyOf};
 ghost use Rattle.ra_report.specs.JournalTexts.{best_state, text_of};
 ghost use Rattle.ra_report.specs.Pieces.{Breaks, Puts};
-ghost use Rattle.ra_run.specs.Comes.{Comes, InfeasibleComes};
-ghost use Rattle.ra_run.specs.Complete.{AreValid, NoFault};
-ghost use Rattle.ra_run.specs.Ends.{Ends};
-ghost use Rattle.ra_run.specs.Files.{solve_names};
+ghost use Rattle.ra_jobs.specs.Comes.{Comes, InfeasibleComes};
+ghost use Rattle.ra_jobs.specs.Complete.{AreValid, NoFault};
+ghost use Rattle.ra_jobs.specs.Ends.{Ends};
+ghost use Rattle.ra_jobs.specs.Files.{solve_names};
+ghost use Rattle.ra_jobs.specs.Refusals.{Says, Judges};
 ghost use Rattle.ra_run.specs.Outputs.{Solved};
-ghost use Rattle.ra_run.specs.Refusals.{Says, Judges, Nothing};
-ghost use Rattle.ra_run.specs.Solving.{IsStart, IsReported, RunSays};
+ghost use Rattle.ra_run.specs.Solving.{IsReported, RunSays};
 
-use crate::bound::bound_from;
-use crate::judging::judge_start;
-use crate::lists::{Which, read_list};
-use crate::reading::read_instance;
-use crate::refusals::{JobFiles, Refusal};
-use crate::refusing::finish;
-use crate::status::Status;
 use ra_base::{Assignment, Name, Parts};
 use ra_bounds::Bound;
 use ra_check::parts;
 use ra_draws::Lots;
 use ra_io::{Files, Gate, Sink};
+use ra_jobs::{JobFiles, Refusal, Status, bound_from, finish, judge_start, read_start};
 use ra_model::Instance;
 use ra_prepared::{Prepared, Solved as Run};
 use ra_report::{WriteFault, write_report};
@@ -127,35 +121,6 @@ fn solve<R: Threads + Wait + Sync, F: Files, O: Sink, G: Gate>(
     let ended = run_from(rt, alloc, &start.inst, &start.initial, lots, out, gate);
     drop(start);
     ended
-}
-
-/// An instance, and the assignment from which a run starts.
-#[derive(Drop)]
-pub(crate) struct Start {
-    pub(crate) inst: Instance,
-    pub(crate) initial: Assignment,
-}
-
-/// The instance and the initial list, where all files are accepted.
-pub(crate) fn read_start<F: Files>(
-    alloc: Global,
-    model: &Name,
-    initial: &Name,
-    closed: Option<&Name>,
-    files: &mut F,
-) -> Result<Start, Refusal>
-    ensures read { IfOk result (λ s. IsStart (F.held files.old)
-        (solve_names model.now
-        (option_copied closed.entry) initial.now) s.inst.tables s.initial.items) }
-    ensures refused { IfErr result (Says (F.held files.old)
-        (solve_names model.now (option_copied closed.entry) initial.now) (F.faults files.old)
-        (F.faults files.new) Nothing) }
-    ensures kept { (other : List ℕ) → F.held files.new other ≡ F.held files.old other }
-    ensures never_fall { (other : List ℕ) → F.faults files.old other ≤ F.faults files.new other }
-{
-    let inst = read_instance(alloc, files, model, closed)?;
-    let initial = read_list(alloc, files, Which::Initial, initial, &inst)?;
-    Ok(Start { inst, initial })
 }
 
 /// The run and its report, where the initial list is feasible.

@@ -11,20 +11,16 @@ ghost use Rattle.ra_topology.specs.Fits.{IsTopologyOf};
 ghost use Rattle.ra_report.specs.JournalTexts.{best_state};
 ghost use Rattle.ra_report.specs.Pieces.{Breaks, Puts};
 ghost use Rattle.ra_report.specs.Summaries.{summary_of};
-ghost use Rattle.ra_run.specs.Files.{Names};
-ghost use Rattle.ra_run.specs.Lines.{refusal_line};
+ghost use Rattle.ra_jobs.specs.Files.{Names};
+ghost use Rattle.ra_jobs.specs.Lines.{refusal_line};
 ghost use Rattle.ra_run.specs.Trials.{HoldsTexts, HoldsTrial, IsTrialStart, IsTrialLots, IsSummarized, TrialPrinted, TrialSays, TrialEnds};
 
-use crate::bound::bound_from;
-use crate::refusals::Refusal;
-use crate::refusing::{put_line, refuse_memory};
-use crate::solve::{Start, read_start};
-use crate::status::Status;
 use ra_base::{Assignment, Drawing, Name, NoMemory, Parts};
 use ra_bounds::Bound;
 use ra_check::{Scratch, parts};
 use ra_draws::{Lot, Lots, Source};
 use ra_io::{Files, Gate, Sink, SteadyFiles};
+use ra_jobs::{Refusal, Start, Status, bound_from, put_line, read_start, refuse_memory};
 use ra_model::Instance;
 use ra_prepared::{Prepared, Solved as Run};
 use ra_report::{Fault, WriteFault, write_summary};
@@ -85,7 +81,7 @@ pub fn trial_run<R: Threads + Wait + Sync, O: Sink, E: Sink, G: Gate>(
 }
 
 /// Puts the line of an output that could not be written.
-#[tactic(auto, unfolding(ra_report::specs::FaultTexts::fault_text, crate::specs::Lines::fault_of, crate::specs::Lines::refusal_line))]
+#[tactic(auto, unfolding(ra_report::specs::FaultTexts::fault_text, ra_jobs::specs::Lines::fault_of, ra_jobs::specs::Lines::refusal_line))]
 fn refuse_write<E: Sink>(err: &mut E) -> Status
     ensures status { result ≡ Status.WriteFault }
     ensures line { (names : Names) → Puts (E.taken err.old) (E.taken err.new) (E.faults err.old)

@@ -5,7 +5,8 @@
 #![tactic(auto)]
 
 use ra_io::{DiskFiles, ErrSink, NoGate, OutSink};
-use ra_run::{refuse_unread, run};
+use ra_jobs::refuse_unread;
+use ra_run::run;
 use std::io;
 use std::process::ExitCode;
 use std::rt::Env;

@@ -5,15 +5,15 @@ use Rattle.ra_report.specs.Pieces.{Breaks, Puts}
 use Rattle.ra_words.specs.declared.jobs.Job.TheVariants.{Repair, Solve, Verify}
 use Rattle.ra_draws.specs.declared.budgets.Lots.{Lots}
 use Rattle.ra_words.specs.Said.{said, said_lot}
-use Rattle.ra_run.specs.Files.{solve_names, verify_names}
+use Rattle.ra_jobs.specs.Files.{solve_names, verify_names}
+use Rattle.ra_jobs.specs.Refusals.{Judges}
+use Rattle.ra_jobs.specs.Repairing.{RepairOwn, Tried}
+use Rattle.ra_jobs.proofs.RepairLemmas.{repair_more}
+use Rattle.ra_jobs.proofs.StageLemmas.{judges_more}
 use Rattle.ra_run.specs.Outputs.{Solved}
-use Rattle.ra_run.specs.Refusals.{Judges}
-use Rattle.ra_run.specs.Repairing.{RepairOwn, Tried}
 use Rattle.ra_run.specs.Verifying.{Verified, VerifyOwn}
 use Rattle.ra_run.specs.Commands.{OutputOf, OwnOf}
 use Rattle.ra_run.proofs.RunLemmas.{ends_more}
-use Rattle.ra_run.proofs.RepairLemmas.{repair_more}
-use Rattle.ra_run.proofs.StageLemmas.{judges_more}
 use Rattle.ra_run.proofs.VerifyLemmas.{verdict_more}
 use Rattle.ra_run.proofs.job.do_job.Goals as goal
 

@@ -4,11 +4,12 @@ use Rattle.std.proofs.Common.{refl}
 use Rattle.std.specs.Io.KnownBytes.{Appends}
 use Rattle.ra_assign.proofs.ToldLemmas.{at_exit}
 use Rattle.ra_report.specs.Pieces.{Breaks}
-use Rattle.ra_run.specs.Files.{solve_names}
+use Rattle.ra_jobs.specs.Files.{solve_names}
+use Rattle.ra_jobs.specs.Refusals.{Judges}
+use Rattle.ra_jobs.proofs.ResultLemmas.{on_ok_then, if_err_then}
+use Rattle.ra_jobs.proofs.StageLemmas.{says_anywhere}
 use Rattle.ra_run.specs.Outputs.{Solved}
-use Rattle.ra_run.specs.Refusals.{Judges}
-use Rattle.ra_run.proofs.SolveLemmas.{solved, says_run, on_ok_then, if_err_then}
-use Rattle.ra_run.proofs.StageLemmas.{says_anywhere}
+use Rattle.ra_run.proofs.SolveLemmas.{solved, says_run}
 use Rattle.ra_run.proofs.solve.solve.Goals as goal
 
 pub returns-clause-printed : goal.returns-clause-printed

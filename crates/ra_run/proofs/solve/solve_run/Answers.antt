@@ -1,16 +1,17 @@
 -- The end of the job, and what follows from it.
 use Rattle.std.proofs.Common.{◌≡◌}
 use Rattle.std.specs.Option.{option_copied}
-use Rattle.ra_run.specs.Files.{solve_names}
+use Rattle.ra_jobs.specs.Files.{solve_names}
+use Rattle.ra_jobs.specs.Refusals.{Judges}
+use Rattle.ra_jobs.proofs.EndLemmas.{ends_so, ends_otherwise}
+use Rattle.ra_jobs.proofs.CompleteLemmas.{complete, judges_none}
+use Rattle.ra_jobs.proofs.ComesLemmas.{comes, infeasible_comes, judges_listed}
+use Rattle.ra_jobs.proofs.ResultLemmas.{if_err_then}
+use Rattle.ra_jobs.proofs.StageLemmas.{can_tell_judged}
 use Rattle.ra_run.specs.Outputs.{Solved}
-use Rattle.ra_run.specs.Refusals.{Judges}
-use Rattle.ra_report.specs.Pieces.{Breaks}
-use Rattle.ra_run.proofs.EndLemmas.{ends_so, ends_otherwise}
-use Rattle.ra_run.proofs.CompleteLemmas.{complete, judges_none}
-use Rattle.ra_run.proofs.ComesLemmas.{comes, infeasible_comes, judges_listed, solved_went}
-use Rattle.ra_run.proofs.SolveLemmas.{if_err_then}
-use Rattle.ra_run.proofs.StageLemmas.{can_tell_judged}
+use Rattle.ra_run.proofs.SolveLemmas.{solved_went}
 use Rattle.ra_run.proofs.solve.solve_run.Goals as goal
+use Rattle.ra_report.specs.Pieces.{Breaks}
 
 pub finish-requires : goal.finish-requires
 finish-requires g c = if_err_then c.solve-ended.result _ _ (can_tell_judged _ _ _ _ _) c.solve-ended.ensures.refused

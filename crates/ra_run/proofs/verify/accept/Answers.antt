@@ -2,7 +2,7 @@ use Rattle.std.specs.Io.KnownBytes.{Appends}
 use Rattle.std.specs.Option.{option_copied}
 use Rattle.ra_assign.proofs.ToldLemmas.{at_exit}
 use Rattle.ra_report.specs.Pieces.{Breaks}
-use Rattle.ra_run.specs.Files.{verify_names}
+use Rattle.ra_jobs.specs.Files.{verify_names}
 use Rattle.ra_run.specs.Verifying.{Verified}
 use Rattle.ra_run.proofs.VerifyLemmas.{says_unwritten_verdict}
 use Rattle.ra_run.proofs.verify.accept.Goals as goal

@@ -3,15 +3,15 @@ use Rattle.std.proofs.Common.{◌≡◌, refl}
 use Rattle.std.specs.Io.KnownBytes.{Appends}
 use Rattle.std.specs.Option.{option_copied}
 use Rattle.ra_draws.specs.declared.budgets.Lots.{Lots}
-use Rattle.ra_run.specs.Files.{verify_names}
+use Rattle.ra_jobs.specs.Files.{verify_names}
+use Rattle.ra_jobs.proofs.EndLemmas.{ends_so, ends_otherwise}
+use Rattle.ra_jobs.proofs.CompleteLemmas.{complete_own}
+use Rattle.ra_jobs.proofs.ComesLemmas.{comes}
+use Rattle.ra_jobs.proofs.ResultLemmas.{if_err_then}
 use Rattle.ra_run.specs.Verifying.{Verified, VerifyOwn}
-use Rattle.ra_report.specs.Pieces.{Breaks}
-use Rattle.ra_run.proofs.EndLemmas.{ends_so, ends_otherwise}
-use Rattle.ra_run.proofs.CompleteLemmas.{complete_own}
-use Rattle.ra_run.proofs.ComesLemmas.{comes}
-use Rattle.ra_run.proofs.SolveLemmas.{if_err_then}
 use Rattle.ra_run.proofs.VerifyLemmas.{can_tell_verdict, own_listed, verified_went, verify_complete, verify_infeasible, verify_verdict}
 use Rattle.ra_run.proofs.verify.verify_run.Goals as goal
+use Rattle.ra_report.specs.Pieces.{Breaks}
 
 pub finish-requires : goal.finish-requires
 finish-requires g c = if_err_then c.accept-ended.result _ _ (can_tell_verdict _ _ _ _ _ _) c.accept-ended.ensures.refused

@@ -1,0 +1,11 @@
+pub mod RowLemmas
+pub mod BareLemmas
+pub mod MeaningLemmas
+pub mod AlikeLemmas
+pub mod StageLemmas
+pub mod ResultLemmas
+pub mod EndLemmas
+pub mod CompleteLemmas
+pub mod ComesLemmas
+pub mod EditLemmas
+pub mod RepairLemmas

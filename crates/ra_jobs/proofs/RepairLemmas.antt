@@ -1,0 +1,225 @@
+-- What is printed of the tries of a repair, and where its statuses come.
+use Rattle.std.specs.Prelude.{unwrap_or}
+use Rattle.std.proofs.Common.{◌≡◌, ◌≢◌, ◌⊎◌, ℕ, Bool, true, false, List, [], ◌∷◌, length, Option, Some, None, IsSome, Result, Ok, Err, OnOk, IfErr, inl, inr, ⊎_elim, refl, sym, ap, ◌∙◌, subst, arith}
+use Rattle.ra_base.specs.declared.causes.Cause.{Cause}
+use Rattle.ra_base.specs.declared.ids.Machine.{Machine}
+use Rattle.ra_io.specs.Faults.{Rose}
+use Rattle.ra_draws.specs.declared.budgets.Lots.{Lots}
+use Rattle.ra_draws.specs.declared.sources.Lot.{Lot}
+use Rattle.ra_draws.specs.Lots.{lot_at, IsLots}
+use Rattle.ra_model.specs.declared.raw.Tables.{Tables}
+use Rattle.ra_model.specs.Limits.{WellFormed}
+use Rattle.ra_model.specs.Assignments.{IsAssignment}
+use Rattle.ra_model.specs.Broken.{first_broken}
+use Rattle.ra_model.specs.Feasible.{Feasible}
+use Rattle.ra_model.proofs.BrokenLemmas.{unbroken_from_feasible}
+use Rattle.ra_repair.specs.declared.repair.Repair.{Repair}
+use Rattle.ra_repair.specs.Penalty.{penalty}
+use Rattle.ra_repair.specs.Repairs.{IsRepaired}
+use Rattle.ra_repair.specs.Runs.{Repaired, repair_run}
+use Rattle.ra_repair.proofs.ZeroLemmas as zero
+use Rattle.ra_repair.proofs.RunLemmas as run
+use Rattle.ra_report.specs.RepairTexts.{text_of_repair, repair_lines}
+use Rattle.ra_jobs.specs.declared.refusals.File.TheVariants as file
+use Rattle.ra_jobs.specs.declared.refusals.Refusal.{Refusal}
+use Rattle.ra_jobs.specs.declared.refusals.Refusal.TheVariants.{Read, Model, Closed, Initial, Changed, InitialBroken, ChangedBroken, Unrepaired as Left, Write, Memory}
+use Rattle.ra_jobs.specs.declared.status.Status.{Status}
+use Rattle.ra_jobs.specs.declared.status.Status.TheVariants.{Done, Infeasible, Unrepaired, WriteFault, NoMemory}
+use Rattle.ra_jobs.specs.Comes.{KnownTo}
+use Rattle.ra_jobs.specs.Complete.{AreAccepted, NoFault}
+use Rattle.ra_jobs.specs.Ends.{Ends, puts_first}
+use Rattle.ra_jobs.specs.Files.{Held, Faults, Names, name_of, Accepts, solve_names}
+use Rattle.ra_jobs.specs.Lines.{refusal_line}
+use Rattle.ra_jobs.specs.Refusals.{Says, CanTell}
+use Rattle.ra_jobs.specs.Repairing.{IsTried, Tried, RepairOwn, LeavesBroken, RepairComes, TrySays}
+use Rattle.ra_jobs.specs.Stages.{IsStart}
+use Rattle.ra_jobs.specs.Statuses.{status_of}
+use Rattle.ra_jobs.proofs.CompleteLemmas.{is_done, complete_own, OwnRefused}
+use Rattle.ra_jobs.proofs.ComesLemmas.{Listed, known_model, told_of}
+use Rattle.ra_jobs.proofs.EndLemmas.{ends_refused}
+use Rattle.ra_jobs.proofs.AlikeLemmas.{repaired_same}
+use Rattle.ra_jobs.proofs.MeaningLemmas.{broken_same, no_model, no_closed, no_initial, instances_same, lists_same}
+
+-- the tries
+
+-- a list that breaks a constraint has a penalty
+some_penalty : (i : Tables) (a0 a : List Machine) (broken : Option Cause) → WellFormed i → IsAssignment i a → first_broken i a0 a ≡ broken → broken ≢ None → penalty i a0 a ≢ 0
+some_penalty i a0 a broken limits fits is other zeros = other (sym is ∙ unbroken_from_feasible i a0 a ((zero.zero_is_feasible i a0 a limits fits).0 zeros))
+
+pub tried : (i : Tables) (a0 : List Machine) (lot : Lot) (r : Repair) (broken : Option Cause) (way : List ℕ → Type 0) → WellFormed i → IsRepaired r → r.inst.now.tables ≡ i → r.start.now.items ≡ a0 → r.lot.now ≡ lot → IsAssignment i r.kept.assignment.items → broken ≡ first_broken i a0 r.kept.assignment.items → (broken ≡ None → Feasible i a0 r.kept.assignment.items) → way (text_of_repair r) → IsTried i a0 lot broken way
+unfolding text_of_repair
+tried i a0 lot r broken way limits repaired instance initial of_lot fits is feasible text =
+    let run_is : (record { assignment = r.kept.assignment.items; tries = r.tries.items }) ≡ repair_run i a0 lot = rw (instance, initial, of_lot) at repaired.run in
+    let last : r.kept.assignment.items ≡ (repair_run i a0 lot).assignment = ap (λ (x : Repaired). x.assignment) run_is in
+    let all : r.tries.items ≡ (repair_run i a0 lot).tries = ap (λ (x : Repaired). x.tries) run_is in
+    let first : first_broken i a0 (repair_run i a0 lot).assignment ≡ broken = ap (first_broken i a0) (sym last) ∙ sym is in
+    record {
+      is = first;
+      feasible = λ none. subst (Feasible i a0) last (feasible none);
+      tried = λ some. run.uses_its_budget i a0 lot (some_penalty i a0 (repair_run i a0 lot).assignment broken limits (subst (IsAssignment i) last fits) first some);
+      text = rw (instance, initial, sym is, last, all) at text;
+    }
+
+-- one lot of a run
+
+single : (lots : List Lot) (lot : Lot) → length lots ≡ 1 → lot ≡ lot_at lots 0 → lots ≡ lot ∷ []
+unfolding lot_at
+single [] lot one is = absurd (omega arith)
+single (only ∷ []) lot one is = rw is refl
+single (first ∷ second ∷ rest) lot one is = absurd (omega arith)
+
+pub one_lot : (l : Lots) (lot : Lot) → length l.lots.items ≡ 1 → lot ≡ lot_at l.lots.items 0 → l.lots.items ≡ lot ∷ []
+one_lot l lot one is = single l.lots.items lot one is
+
+pub lot_alone : (l : Lots) (lot : Lot) → length l.lots.items ≡ 1 → lot ≡ lot_at l.lots.items 0 → IsLots (lot ∷ [])
+lot_alone l lot one is = subst IsLots (one_lot l lot one is) l.fitting
+
+-- what is said of the files
+
+pub tried_all : (held : Held) (names : Names) (l : Lots) (i : Tables) (a0 : List Machine) (lot : Lot) (broken : Option Cause) (way : List ℕ → Type 0) → IsStart held names i a0 → l.lots.items ≡ lot ∷ [] → IsTried i a0 lot broken way → Tried held names l broken way
+tried_all held names l i a0 lot broken way start one is = record { tables = i; a0 = a0; accepts = start.accepts; lot = lot; one = one; run = is }
+
+pub says_try : (held : Held) (names : Names) (l : Lots) (i : Tables) (a0 : List Machine) (lot : Lot) (before now : Faults) (prints breaks : List ℕ → Type 0) → IsStart held names i a0 → l.lots.items ≡ lot ∷ [] → (refusal : Refusal) → TrySays i a0 lot prints breaks refusal → Says held names before now (RepairOwn held names l prints breaks) refusal
+says_try held names l i a0 lot before now prints breaks start one (Left cause) says = tried_all held names l i a0 lot (Some cause) prints start one says
+says_try held names l i a0 lot before now prints breaks start one Write says = (says.0, tried_all held names l i a0 lot says.0 breaks start one says.1)
+says_try held names l i a0 lot before now prints breaks start one Memory says = tt
+says_try held names l i a0 lot before now prints breaks start one refusal says = absurd says
+
+pub tried_listed : (held : Held) (names : Names) (l : Lots) (broken : Option Cause) (way : List ℕ → Type 0) → Tried held names l broken way → Listed held names
+tried_listed held names l broken way is = record { tables = is.tables; a0 = is.a0; a = is.a0; accepts = is.accepts }
+
+pub own_listed : (held : Held) (names : Names) (l : Lots) (prints breaks : List ℕ → Type 0) (r : Refusal) → RepairOwn held names l prints breaks r → Listed held names
+own_listed held names l prints breaks (Left cause) says = tried_listed held names l (Some cause) prints says
+own_listed held names l prints breaks Write says = tried_listed held names l says.0 breaks says.1
+own_listed held names l prints breaks refusal says = absurd says
+
+pub own_tells : (held : Held) (names : Names) (l : Lots) (prints breaks : List ℕ → Type 0) → IsSome names.initial → (r : Refusal) → RepairOwn held names l prints breaks r → CanTell names r
+own_tells held names l prints breaks named (Left cause) says = named
+own_tells held names l prints breaks named Write says = tt
+own_tells held names l prints breaks named refusal says = absurd says
+
+-- how the job ends
+
+pub ends_put : (held : Held) (names : Names) (before now : Faults) (printed : Type 0) (own : Refusal → Type 0) (tells : List ℕ → Type 0) (out_same err_same : Type 0) (ended : Result (Unit {0}) Refusal) (status : Status) → OnOk ended printed → IfErr ended (Says held names before now own) → IfErr ended (λ refusal. puts_first refusal ≡ false → out_same) → (ended ≡ Ok tt → status ≡ Done) → (ended ≡ Ok tt → err_same) → IfErr ended (λ refusal. status ≡ status_of refusal) → IfErr ended (λ refusal. tells (refusal_line names refusal)) → Ends held names before now printed own tells out_same err_same status
+ends_put held names before now printed own tells out_same err_same (Ok tt) status output says untouched done quiet is line = record { printed = λ _. output; quiet = λ _. quiet refl; refused = λ other. absurd (other (done refl)) }
+ends_put held names before now printed own tells out_same err_same (Err refusal) status output says untouched done quiet is line = ends_refused held names before now printed own tells out_same err_same refusal status says is line untouched
+
+-- its own refusals, and their statuses
+own_status : (held : Held) (names : Names) (l : Lots) (prints breaks : List ℕ → Type 0) (r : Refusal) → RepairOwn held names l prints breaks r → (status_of r ≡ Unrepaired) ⊎ (status_of r ≡ WriteFault)
+unfolding status_of
+own_status held names l prints breaks (Left cause) says = inl refl
+own_status held names l prints breaks Write says = inr refl
+own_status held names l prints breaks refusal says = absurd says
+
+own_whole : (held : Held) (names : Names) (l : Lots) (prints breaks : List ℕ → Type 0) → ((text : List ℕ) → breaks text → ⊥) → (r : Refusal) → RepairOwn held names l prints breaks r → status_of r ≡ Unrepaired
+unfolding status_of
+own_whole held names l prints breaks whole (Left cause) says = refl
+own_whole held names l prints breaks whole Write says = absurd (whole _ says.1.run.text)
+own_whole held names l prints breaks whole refusal says = absurd says
+
+pub complete_repair : {held : Held} {names : Names} {before now : Faults} {l : Lots} {prints breaks : List ℕ → Type 0} {printed : Type 0} {tells : List ℕ → Type 0} {out_same err_same : Type 0} {status : Status} → Ends held names before now printed (RepairOwn held names l prints breaks) tells out_same err_same status → AreAccepted held names → NoFault names before now → ((text : List ℕ) → breaks text → ⊥) → (status ≡ Done) ⊎ ((status ≡ Unrepaired) ⊎ (status ≡ NoMemory))
+complete_repair {held} {names} {before} {now} {l} {prints} {breaks} {printed} {tells} {out_same} {err_same} {status} ends valid sound whole = ⊎_elim
+    (λ (done : status ≡ Done). inl done)
+    (λ (other : (status ≡ NoMemory) ⊎ OwnRefused (RepairOwn held names l prints breaks) status). inr (⊎_elim
+    (λ (memory : status ≡ NoMemory). inr memory)
+    (λ (refused : OwnRefused (RepairOwn held names l prints breaks) status). inl (refused.is ∙ own_whole held names l prints breaks whole refused.refusal refused.says))
+    other))
+    (complete_own ends valid sound)
+
+-- over known files that are accepted, a refusal is one of the job's own, or of memory
+own_known : (held : Held) (model : List ℕ) (closed : Option (List ℕ)) (initial : List ℕ) (before now : Faults) (own : Refusal → Type 0) → KnownTo held (solve_names model closed initial) before now file.Initial → (i : Tables) (a0 : List Machine) → Accepts held (solve_names model closed initial) i a0 a0 → (refusal : Refusal) → Says held (solve_names model closed initial) before now own refusal → own refusal ⊎ (status_of refusal ≡ NoMemory)
+unfolding status_of name_of
+own_known held model closed initial before now own known i a0 accepts (Read file.Model) says = absurd ((known.0 tt).1 says.rose)
+own_known held model closed initial before now own known i a0 accepts (Read file.Closed) says = absurd ((known.1 says.named).1 says.rose)
+own_known held model closed initial before now own known i a0 accepts (Read file.Initial) says = absurd ((known.2 says.named).1 says.rose)
+own_known held model closed initial before now own known i a0 accepts (Read file.Changed) says = absurd (let none = says.named in cc)
+own_known held model closed initial before now own known i a0 accepts (Read file.Report) says = absurd (let none = says.named in cc)
+own_known held model closed initial before now own known i a0 accepts (Read file.Edits) says = absurd (let none = says.named in cc)
+own_known held model closed initial before now own known i a0 accepts (Model fault) says = absurd (no_model held model (known.0 tt).0 fault says accepts.instance.model accepts.instance.read)
+own_known held model closed initial before now own known i a0 accepts (Closed fault) says = absurd (no_closed held model closed (known.0 tt).0 (told_of held closed _ known.1) fault says i accepts.instance)
+own_known held model closed initial before now own known i a0 accepts (Initial fault) says = absurd (no_initial held (solve_names model closed initial) (known.0 tt).0 (told_of held closed _ known.1) (told_of held (Some initial) _ known.2) fault says i a0 accepts.instance accepts.initial)
+own_known held model closed initial before now own known i a0 accepts (Changed fault) says = absurd (let none = says.named in cc)
+own_known held model closed initial before now own known i a0 accepts Memory says = inr refl
+own_known held model closed initial before now own known i a0 accepts refusal says = inl says
+
+-- with the causes of its own statuses
+
+said : (held : Held) (names : Names) (l : Lots) (broken : Option Cause) (way : List ℕ → Type 0) → Tried held names l broken way → Tried held names l broken (λ text. Unit {0})
+said held names l broken way is = record { tables = is.tables; a0 = is.a0; accepts = is.accepts; lot = is.lot; one = is.one; run = record { is = is.run.is; feasible = is.run.feasible; tried = is.run.tried; text = tt } }
+
+-- what a run leaves broken is what a run from each instance that the files mean leaves
+broken_left : (held : Held) (model : List ℕ) (closed : Option (List ℕ)) (initial : List ℕ) (before now : Faults) (l : Lots) (left broken : Option Cause) (way : List ℕ → Type 0) (i : Tables) (a0 : List Machine) → Accepts held (solve_names model closed initial) i a0 a0 → KnownTo held (solve_names model closed initial) before now file.Initial → Tried held (solve_names model closed initial) l broken way → LeavesBroken i a0 l left → broken ≡ left
+unfolding name_of
+broken_left held model closed initial before now l left broken way i a0 accepts known is leaves =
+    let same = instances_same held model closed (known.0 tt).0 (told_of held closed _ known.1) is.tables i is.accepts.instance accepts.instance in
+    let start : is.a0 ≡ a0 = lists_same held (Some initial) (told_of held (Some initial) _ known.2) refl is.tables i is.a0 a0 is.accepts.initial accepts.initial in
+    sym is.run.is ∙ broken_same is.tables i is.a0 (repair_run is.tables is.a0 is.lot).assignment same ∙ rw (repaired_same is.tables i same is.a0 is.lot, start) (leaves is.lot is.one)
+
+own_case : (held : Held) (names : Names) (l : Lots) (prints breaks : List ℕ → Type 0) (status : Status) (refusal : Refusal) → status ≡ status_of refusal → RepairOwn held names l prints breaks refusal → ((cause : Cause) × Tried held names l (Some cause) prints × (status ≡ Unrepaired)) ⊎ ((status ≡ WriteFault) ⊎ (status ≡ NoMemory))
+unfolding status_of
+own_case held names l prints breaks status (Left cause) is says = inl (cause, says, is)
+own_case held names l prints breaks status Write is says = inr (inl is)
+own_case held names l prints breaks status refusal is says = absurd says
+
+own_infeasible : (held : Held) (names : Names) (before now : Faults) (l : Lots) (prints breaks : List ℕ → Type 0) (refusal : Refusal) → Says held names before now (RepairOwn held names l prints breaks) refusal → status_of refusal ≢ Infeasible
+unfolding status_of
+own_infeasible held names before now l prints breaks (InitialBroken cause) says e = says
+own_infeasible held names before now l prints breaks (ChangedBroken cause) says e = says
+own_infeasible held names before now l prints breaks refusal says e = absurd (let both : status_of refusal ≡ Infeasible = e in cc)
+
+own_unrepaired : (held : Held) (names : Names) (before now : Faults) (l : Lots) (prints breaks : List ℕ → Type 0) (refusal : Refusal) → Says held names before now (RepairOwn held names l prints breaks) refusal → status_of refusal ≡ Unrepaired → (cause : Cause) × Tried held names l (Some cause) (λ text. Unit {0})
+unfolding status_of
+own_unrepaired held names before now l prints breaks (Left cause) says e = (cause, said held names l (Some cause) prints says)
+own_unrepaired held names before now l prints breaks refusal says e = absurd (let both : status_of refusal ≡ Unrepaired = e in cc)
+
+-- a refusal of the job's own over known files: the last list broke a constraint, or a put failed
+own_ends : (held : Held) (names : Names) (l : Lots) (prints breaks : List ℕ → Type 0) (status : Status) (refusal : Refusal) → status ≡ status_of refusal → RepairOwn held names l prints breaks refusal ⊎ (status_of refusal ≡ NoMemory) → ((cause : Cause) × Tried held names l (Some cause) prints × (status ≡ Unrepaired)) ⊎ ((status ≡ WriteFault) ⊎ (status ≡ NoMemory))
+own_ends held names l prints breaks status refusal is says = ⊎_elim
+    (λ (own : RepairOwn held names l prints breaks refusal). own_case held names l prints breaks status refusal is own)
+    (λ (memory : status_of refusal ≡ NoMemory). inr (inr (is ∙ memory)))
+    says
+
+pub repair_comes : {held : Held} {model : List ℕ} {closed : Option (List ℕ)} {initial : List ℕ} {before now : Faults} {l : Lots} {prints breaks : List ℕ → Type 0} {tells : List ℕ → Type 0} {out_same err_same : Type 0} {status : Status} → Ends held (solve_names model closed initial) before now (Tried held (solve_names model closed initial) l None prints) (RepairOwn held (solve_names model closed initial) l prints breaks) tells out_same err_same status → RepairComes held (solve_names model closed initial) (λ k. k ≡ l) before now status
+repair_comes {held} {model} {closed} {initial} {before} {now} {l} {prints} {breaks} {tells} {out_same} {err_same} {status} ends =
+    let names = solve_names model closed initial in
+    let own = RepairOwn held names l prints breaks in
+    record {
+      never_infeasible = λ e. let refused = ends.refused (λ (done : status ≡ Done). let both : Done ≡ Infeasible = sym done ∙ e in cc) in own_infeasible held names before now l prints breaks refused.refusal refused.says (sym refused.is ∙ e);
+      unrepaired = λ e. let refused = ends.refused (λ (done : status ≡ Done). let both : Done ≡ Unrepaired = sym done ∙ e in cc) in (l, refl, own_unrepaired held names before now l prints breaks refused.refusal refused.says (sym refused.is ∙ e));
+      stays = λ i a0 accepts known cause leaves. ⊎_elim
+          (λ (done : status ≡ Done). absurd (let both = broken_left held model closed initial before now l (Some cause) None prints i a0 accepts known (ends.printed done) (leaves l refl) in cc))
+          (λ (other : status ≢ Done).
+          let refused = ends.refused other in
+          ⊎_elim
+          (λ (left : (c : Cause) × Tried held names l (Some c) prints × (status ≡ Unrepaired)). inl left.2)
+          (λ (rest : (status ≡ WriteFault) ⊎ (status ≡ NoMemory)). inr rest)
+          (own_ends held names l prints breaks status refused.refusal refused.is (own_known held model closed initial before now own known i a0 accepts refused.refusal refused.says)))
+          (is_done status);
+      is_repaired = λ i a0 accepts known leaves. ⊎_elim
+          (λ (done : status ≡ Done). inl done)
+          (λ (other : status ≢ Done).
+          let refused = ends.refused other in
+          ⊎_elim
+          (λ (left : (c : Cause) × Tried held names l (Some c) prints × (status ≡ Unrepaired)). absurd (let both = broken_left held model closed initial before now l None (Some left.0) prints i a0 accepts known left.1 (leaves l refl) in cc))
+          (λ (rest : (status ≡ WriteFault) ⊎ (status ≡ NoMemory)). inr rest)
+          (own_ends held names l prints breaks status refused.refusal refused.is (own_known held model closed initial before now own known i a0 accepts refused.refusal refused.says)))
+          (is_done status);
+    }
+
+-- for other words of the lots
+pub repair_more : (held : Held) (names : Names) (are more : Lots → Type 0) (before now : Faults) (status : Status) → ((l : Lots) → are l → more l) → RepairComes held names are before now status → RepairComes held names more before now status
+repair_more held names are more before now status step v = record {
+  never_infeasible = v.never_infeasible;
+  unrepaired = λ told. let w = v.unrepaired told in (w.0, step w.0 w.1, w.2);
+  stays = λ i a0 accepts known cause broken. v.stays i a0 accepts known cause (λ l is. broken l (step l is));
+  is_repaired = λ i a0 accepts known broken. v.is_repaired i a0 accepts known (λ l is. broken l (step l is));
+}
+
+-- where memory was refused before the words were read
+pub repair_not : (held : Held) (names : Names) (are : Lots → Type 0) (before now : Faults) (status : Status) → status ≡ NoMemory → RepairComes held names are before now status
+repair_not held names are before now status is = record {
+  never_infeasible = λ e. let both : NoMemory ≡ Infeasible = sym is ∙ e in cc;
+  unrepaired = λ told. absurd (let both : NoMemory ≡ Unrepaired = sym is ∙ told in cc);
+  stays = λ i a0 accepts known cause broken. inr (inr is);
+  is_repaired = λ i a0 accepts known broken. inr (inr is);
+}

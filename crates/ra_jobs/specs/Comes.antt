@@ -1,0 +1,66 @@
+-- Where each status comes. The causes are those that the refusals of `Says` name.
+use Rattle.std.specs.Prelude.{◌≡◌, ◌≢◌, ◌⊎◌, IsSome}
+use Rattle.ra_base.specs.declared.causes.Cause.{Cause}
+use Rattle.ra_io.specs.Faults.{Rose}
+use Rattle.ra_model_read.specs.declared.faults.ModelFault.{ModelFault}
+use Rattle.ra_assign.specs.declared.faults.AssignFault.{AssignFault}
+use Rattle.ra_assign.specs.declared.faults.ClosedFault.{ClosedFault}
+use Rattle.ra_jobs.specs.declared.refusals.File.{File}
+use Rattle.ra_jobs.specs.declared.refusals.File.TheVariants as file
+use Rattle.ra_jobs.specs.declared.refusals.Refusal.{Refusal}
+use Rattle.ra_jobs.specs.declared.refusals.Refusal.TheVariants.{Write}
+use Rattle.ra_jobs.specs.declared.status.Status.{Status}
+use Rattle.ra_jobs.specs.declared.status.Status.TheVariants.{Done, ReadFault, BadModel, BadAssignment, Infeasible, WriteFault, NoMemory, BadClosed, Unrepaired}
+use Rattle.ra_jobs.specs.Files.{Held, Faults, Names, name_of, IsNamed}
+use Rattle.ra_jobs.specs.Refusals.{ReadFailed, ModelRefused, ClosedRefused, InitialRefused, ChangedRefused, InitialBreaks, ChangedBreaks}
+
+-- where a job has this file, its bytes are told, and no fault of it was counted
+abbrev pub IsKnown : Held → Names → Faults → Faults → File → Type 0
+IsKnown held names before now f = IsNamed names f → IsSome (held (name_of names f)) × (Rose (before (name_of names f)) (now (name_of names f)) → ⊥)
+
+-- so it is with all files that are read up to this one
+abbrev pub KnownTo : Held → Names → Faults → Faults → File → Type 0
+KnownTo held names before now file.Model = IsKnown held names before now file.Model
+KnownTo held names before now file.Closed = IsKnown held names before now file.Model × IsKnown held names before now file.Closed
+KnownTo held names before now file.Initial = IsKnown held names before now file.Model × IsKnown held names before now file.Closed × IsKnown held names before now file.Initial
+KnownTo held names before now file.Changed = IsKnown held names before now file.Model × IsKnown held names before now file.Closed × IsKnown held names before now file.Initial × IsKnown held names before now file.Changed
+KnownTo held names before now file.Edits = IsKnown held names before now file.Model × IsKnown held names before now file.Closed × IsKnown held names before now file.Initial × IsKnown held names before now file.Changed × IsKnown held names before now file.Edits
+KnownTo held names before now file.Report = IsKnown held names before now file.Model × IsKnown held names before now file.Closed × IsKnown held names before now file.Initial × IsKnown held names before now file.Report
+
+-- a status comes only where its cause stands; and where that stands, over files that are known, no other status comes
+-- but that of refused memory
+pub record Exactly (status this : Status) (known cause : Type 0) : Type 0 where
+  pub only : status ≡ this → cause
+  pub always : known → cause → (status ≡ this) ⊎ (status ≡ NoMemory)
+
+-- the model file is refused
+abbrev pub BadModelComes : Held → Names → Faults → Faults → Status → Type 0
+BadModelComes held names before now status = Exactly status BadModel (KnownTo held names before now file.Model)
+    ((fault : ModelFault) × ModelRefused held names.model fault)
+
+-- the model file is accepted, and the closed list is refused
+abbrev pub BadClosedComes : Held → Names → Faults → Faults → Status → Type 0
+BadClosedComes held names before now status = Exactly status BadClosed (KnownTo held names before now file.Closed)
+    ((fault : ClosedFault) × ClosedRefused held names.model names.closed fault)
+
+-- the instance was read, and the initial list is refused; or that was read too, and the new list is refused
+pub record BadAssignmentComes (held : Held) (names : Names) (before now : Faults) (status : Status) : Type 0 where
+  pub only : status ≡ BadAssignment → (fault : AssignFault) × (InitialRefused held names fault ⊎ ChangedRefused held names fault)
+  pub initial : KnownTo held names before now file.Initial → ((fault : AssignFault) × InitialRefused held names fault) → (status ≡ BadAssignment) ⊎ (status ≡ NoMemory)
+  pub changed : KnownTo held names before now file.Changed → ((fault : AssignFault) × ChangedRefused held names fault) → (status ≡ BadAssignment) ⊎ (status ≡ NoMemory)
+
+-- each status of a refused job that any job may have, and where it comes. The status of refused memory is free, but nothing
+-- was written then
+pub record Comes (held : Held) (names : Names) (before now : Faults) (own : Refusal → Type 0) (out_same : Type 0) (status : Status) : Type 0 where
+  pub read_fault : status ≡ ReadFault → (f : File) × ReadFailed held names before now f
+  pub bad_model : BadModelComes held names before now status
+  pub bad_closed : BadClosedComes held names before now status
+  pub bad_assignment : BadAssignmentComes held names before now status
+  pub write_fault : status ≡ WriteFault → own Write
+  pub untouched : status ≢ Done → status ≢ WriteFault → status ≢ Unrepaired → out_same
+
+-- of a job whose lists have to be feasible: all files before the report are accepted, and the initial list breaks a
+-- constraint; or that is feasible, and the new list breaks one
+abbrev pub InfeasibleComes : Held → Names → Faults → Faults → Status → Type 0
+InfeasibleComes held names before now status = Exactly status Infeasible (KnownTo held names before now file.Edits)
+    ((cause : Cause) × (InitialBreaks held names cause ⊎ ChangedBreaks held names cause))

@@ -1,0 +1,11 @@
+pub mod Comes
+pub mod Complete
+pub mod Ends
+pub mod Files
+pub mod Lines
+pub mod Outputs
+pub mod Refusals
+pub mod Editing
+pub mod Repairing
+pub mod Stages
+pub mod Statuses

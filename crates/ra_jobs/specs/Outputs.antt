@@ -1,0 +1,37 @@
+-- What `check` and `bound` have printed where they are done. A way says where a text went: to the output, whole or in part.
+use Rattle.std.specs.Prelude.{◌≡◌, ℕ, List, Option, Some, None}
+use Rattle.ra_base.specs.declared.ids.Machine.{Machine}
+use Rattle.ra_model.specs.declared.raw.Tables.{Tables}
+use Rattle.ra_model.specs.Assignments.{IsAssignment}
+use Rattle.ra_model.specs.Costs.{parts_of}
+use Rattle.ra_bounds.specs.declared.costs.Bound.{Bound}
+use Rattle.ra_bounds.specs.Bounds.{bound_of}
+use Rattle.ra_bounds.specs.PinnedBounds.{pinned_bound_of}
+use Rattle.ra_report.specs.JournalTexts.{bound_text}
+use Rattle.ra_report.specs.Texts.{parts_text}
+use Rattle.ra_jobs.specs.Files.{Held, Names, InstanceIs, ListIs, Passes}
+
+-- `check`: all files passed, and the six lines of the parts of the new list went this way
+pub record Printed (held : Held) (names : Names) (way : List ℕ → Type 0) : Type 0 where
+  pub tables : Tables
+  pub a0 : List Machine
+  pub a : List Machine
+  pub passes : Passes held names tables a0 a
+  pub text : way (parts_text (parts_of tables a0 a))
+
+-- the bound of an instance; where an initial list is named, that of both, which counts the load of the pinned processes
+abbrev pub BoundIs : Held → Option (List ℕ) → Tables → Bound → Type 0
+BoundIs held None i bound = bound ≡ bound_of i
+BoundIs held (Some name) i bound = (a0 : List Machine) × ListIs held name i a0 × IsAssignment i a0 × (bound ≡ pinned_bound_of i a0)
+
+-- the files of `bound` mean an instance and an initial list, where one is named, and this is their bound
+pub record BoundRead (held : Held) (names : Names) (bound : Bound) : Type 0 where
+  pub tables : Tables
+  pub instance : InstanceIs held names.model names.closed tables
+  pub is : BoundIs held names.initial tables bound
+
+-- `bound`: the three lines of it went this way
+pub record BoundPrinted (held : Held) (names : Names) (way : List ℕ → Type 0) : Type 0 where
+  pub bound : Bound
+  pub read : BoundRead held names bound
+  pub text : way (bound_text bound)

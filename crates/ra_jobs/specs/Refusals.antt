@@ -1,0 +1,133 @@
+-- Why a job is refused: what each refusal says of the files.
+use Rattle.std.specs.Prelude.{◌≡◌, ℕ, List, Option, Some, IsSome, IfSome}
+use Rattle.ra_base.specs.declared.causes.Cause.{Cause}
+use Rattle.ra_base.specs.declared.ids.Machine.{Machine}
+use Rattle.ra_io.specs.Faults.{Rose}
+use Rattle.ra_model.specs.declared.raw.Tables.{Tables}
+use Rattle.ra_model.specs.Broken.{first_broken}
+use Rattle.ra_model.specs.Feasible.{Feasible}
+use Rattle.ra_model_read.specs.declared.faults.ModelFault.{ModelFault}
+use Rattle.ra_model_read.specs.ModelText.{model_refusal}
+use Rattle.ra_assign.specs.declared.faults.AssignFault.{AssignFault}
+use Rattle.ra_assign.specs.declared.faults.ClosedFault.{ClosedFault}
+use Rattle.ra_assign.specs.Lists.{assign_refusal}
+use Rattle.ra_assign.specs.ClosedLists.{closed_refusal}
+use Rattle.ra_report.specs.FaultTexts.{IsInModel, IsInClosed, IsInList, IsInEdits}
+use Rattle.ra_jobs.specs.declared.refusals.File.{File}
+use Rattle.ra_jobs.specs.declared.refusals.File.TheVariants as file
+use Rattle.ra_jobs.specs.declared.refusals.Refusal.{Refusal}
+use Rattle.ra_jobs.specs.declared.refusals.Refusal.TheVariants.{Read, Model, Closed, Initial, Changed, Edits, InitialBroken, ChangedBroken, Unrepaired, Write, Memory}
+use Rattle.ra_jobs.specs.Files.{Held, Faults, Names, name_of, IsNamed, ModelIs, InstanceIs, NamedListIs, Accepts, Passes}
+
+-- what was done before a file of the job is read: the model, then the closed list, then the initial list, then the new or
+-- current one, then the edits; a report is read once the initial list is known to be feasible
+abbrev pub ReadBefore : Held → Names → File → Type 0
+ReadBefore held names file.Model = Unit {0}
+ReadBefore held names file.Closed = (i : Tables) × ModelIs held names.model i
+ReadBefore held names file.Initial = (i : Tables) × InstanceIs held names.model names.closed i
+ReadBefore held names file.Changed = (i : Tables) × (a0 : List Machine) × InstanceIs held names.model names.closed i × NamedListIs held names.initial i a0
+ReadBefore held names file.Report = (i : Tables) × (a0 : List Machine) × Passes held names i a0 a0
+ReadBefore held names file.Edits = (i : Tables) × (a0 : List Machine) × (a : List Machine) × Accepts held names i a0 a
+
+-- all before it was read, reading a file of the job failed, and its count of faults rose
+pub record ReadFailed (held : Held) (names : Names) (before now : Faults) (f : File) : Type 0 where
+  pub earlier : ReadBefore held names f
+  pub named : IsNamed names f
+  pub rose : Rose (before (name_of names f)) (now (name_of names f))
+
+-- the model file is refused as this
+pub record ModelRefused (held : Held) (name : List ℕ) (fault : ModelFault) : Type 0 where
+  pub in_file : IsInModel fault
+  pub refused : IfSome (held name) (λ bytes. model_refusal bytes ≡ Some fault)
+
+-- a list is refused as this
+pub record ListRefused (held : Held) (name : List ℕ) (i : Tables) (fault : AssignFault) : Type 0 where
+  pub in_file : IsInList fault
+  pub refused : IfSome (held name) (λ bytes. assign_refusal bytes i ≡ Some fault)
+
+-- the closed list is refused as this, for the instance of the model file
+pub record ClosedRefused (held : Held) (model_name : List ℕ) (closed_name : Option (List ℕ)) (fault : ClosedFault) : Type 0 where
+  pub model : Tables
+  pub read : ModelIs held model_name model
+  pub name : List ℕ
+  pub named : closed_name ≡ Some name
+  pub in_file : IsInClosed fault
+  pub refused : IfSome (held name) (λ bytes. closed_refusal bytes model ≡ Some fault)
+
+-- the initial list is refused as this, where the instance was read
+pub record InitialRefused (held : Held) (names : Names) (fault : AssignFault) : Type 0 where
+  pub tables : Tables
+  pub instance : InstanceIs held names.model names.closed tables
+  pub name : List ℕ
+  pub named : names.initial ≡ Some name
+  pub refused : ListRefused held name tables fault
+
+-- the new list is refused as this, where the initial list was read
+pub record ChangedRefused (held : Held) (names : Names) (fault : AssignFault) : Type 0 where
+  pub tables : Tables
+  pub a0 : List Machine
+  pub instance : InstanceIs held names.model names.closed tables
+  pub initial : NamedListIs held names.initial tables a0
+  pub name : List ℕ
+  pub named : names.changed ≡ Some name
+  pub refused : ListRefused held name tables fault
+
+-- the initial list breaks a constraint first, where all files were accepted
+pub record InitialBreaks (held : Held) (names : Names) (cause : Cause) : Type 0 where
+  pub tables : Tables
+  pub a0 : List Machine
+  pub a : List Machine
+  pub named : IsSome names.initial
+  pub accepts : Accepts held names tables a0 a
+  pub broken : first_broken tables a0 a0 ≡ Some cause
+
+-- the initial list is feasible, and the new list breaks a constraint first
+pub record ChangedBreaks (held : Held) (names : Names) (cause : Cause) : Type 0 where
+  pub tables : Tables
+  pub a0 : List Machine
+  pub a : List Machine
+  pub start_named : IsSome names.initial
+  pub named : IsSome names.changed
+  pub accepts : Accepts held names tables a0 a
+  pub initial : Feasible tables a0 a0
+  pub broken : first_broken tables a0 a ≡ Some cause
+
+-- what each refusal says of the files of a job, whose counts of faults went from before to now. What is the job's own stands
+-- in `own`: what it says of its refusals beyond those of the model, of the closed list, of the lists and of memory
+abbrev pub Says : Held → Names → Faults → Faults → (Refusal → Type 0) → Refusal → Type 0
+Says held names before now own (Read f) = ReadFailed held names before now f
+Says held names before now own (Model fault) = ModelRefused held names.model fault
+Says held names before now own (Closed fault) = ClosedRefused held names.model names.closed fault
+Says held names before now own (Initial fault) = InitialRefused held names fault
+Says held names before now own (Changed fault) = ChangedRefused held names fault
+Says held names before now own Memory = Unit {0}
+Says held names before now own refusal = own refusal
+
+-- the own refusals of a job whose lists have to be feasible, and which says `written` where writing its output failed
+abbrev pub Judges : Held → Names → Type 0 → Refusal → Type 0
+Judges held names written (InitialBroken cause) = InitialBreaks held names cause
+Judges held names written (ChangedBroken cause) = ChangedBreaks held names cause
+Judges held names written Write = written
+Judges held names written refusal = ⊥
+
+-- those of a job that asks no list to be feasible
+abbrev pub OnlyWrites : Type 0 → Refusal → Type 0
+OnlyWrites written Write = written
+OnlyWrites written refusal = ⊥
+
+-- those of what is done before any list is judged: there is none
+abbrev pub Nothing : Refusal → Type 0
+Nothing refusal = ⊥
+
+-- a refusal can be told: it is of a file that is named, and what a reader refused stands in the file
+abbrev pub CanTell : Names → Refusal → Type 0
+CanTell names (Read f) = IsNamed names f
+CanTell names (Model fault) = IsInModel fault
+CanTell names (Closed fault) = IsSome names.closed × IsInClosed fault
+CanTell names (Initial fault) = IsSome names.initial × IsInList fault
+CanTell names (Changed fault) = IsSome names.changed × IsInList fault
+CanTell names (Edits fault) = IsSome names.edits × IsInEdits fault
+CanTell names (InitialBroken cause) = IsSome names.initial
+CanTell names (ChangedBroken cause) = IsSome names.changed
+CanTell names (Unrepaired cause) = IsSome names.initial
+CanTell names refusal = Unit {0}

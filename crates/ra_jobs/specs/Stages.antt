@@ -1,0 +1,153 @@
+-- What each stage of a job says where it refuses.
+use Rattle.std.specs.Prelude.{◌≡◌, ℕ, List, Option, Some, None, IfSome}
+use Rattle.ra_base.specs.declared.costs.Parts.{Parts}
+use Rattle.ra_base.specs.declared.ids.Machine.{Machine}
+use Rattle.ra_io.specs.Faults.{Rose}
+use Rattle.ra_model.specs.declared.raw.Tables.{Tables}
+use Rattle.ra_model.specs.Assignments.{IsAssignment}
+use Rattle.ra_model.specs.Broken.{first_broken}
+use Rattle.ra_model.specs.Costs.{parts_of}
+use Rattle.ra_model.specs.Feasible.{Feasible}
+use Rattle.ra_model_read.specs.declared.faults.ModelFault.{ModelFault}
+use Rattle.ra_model_read.specs.declared.faults.ModelFault.TheVariants as reader
+use Rattle.ra_assign.specs.declared.faults.AssignFault.{AssignFault}
+use Rattle.ra_assign.specs.declared.faults.AssignFault.TheVariants as assigner
+use Rattle.ra_assign.specs.declared.faults.ClosedFault.{ClosedFault}
+use Rattle.ra_assign.specs.declared.faults.ClosedFault.TheVariants as closer
+use Rattle.ra_assign.specs.ClosedLists.{closed_refusal}
+use Rattle.ra_report.specs.FaultTexts.{IsInClosed}
+use Rattle.ra_jobs.specs.declared.lists.Which.{Which}
+use Rattle.ra_jobs.specs.declared.lists.Which.TheVariants as which
+use Rattle.ra_jobs.specs.declared.refusals.File.{File}
+use Rattle.ra_jobs.specs.declared.refusals.File.TheVariants as file
+use Rattle.ra_jobs.specs.declared.refusals.Refusal.{Refusal}
+use Rattle.ra_jobs.specs.declared.refusals.Refusal.TheVariants.{Read, Model, Closed, Initial, Changed, InitialBroken, ChangedBroken, Memory}
+use Rattle.ra_jobs.specs.Files.{Held, Faults, Names, ModelIs, CloseIs, ListIs, Accepts, Passes}
+use Rattle.ra_jobs.specs.Refusals.{ModelRefused, ListRefused, ClosedRefused}
+
+-- the instance with the machines of a told closed list closed
+abbrev pub IsClosing : Held → List ℕ → Tables → Tables → Type 0
+IsClosing held name model i = CloseIs held (Some name) model i
+
+-- a file means this assignment, which fits the instance
+abbrev pub IsList : Held → List ℕ → Tables → List Machine → Type 0
+IsList held name i a = ListIs held name i a × IsAssignment i a
+
+-- a refusal of the model reader, as one of a job
+abbrev pub model_as : ModelFault → Refusal
+model_as reader.ReadFault = Read file.Model
+model_as reader.NoMemory = Memory
+model_as fault = Model fault
+
+abbrev pub ModelSays : Held → List ℕ → Faults → Faults → Refusal → Type 0
+ModelSays held name before now (Read file.Model) = Rose (before name) (now name)
+ModelSays held name before now (Model fault) = ModelRefused held name fault
+ModelSays held name before now Memory = Unit {0}
+ModelSays held name before now refusal = ⊥
+
+-- a refusal of the reader of closed lists, as one of a job
+abbrev pub closed_as : ClosedFault → Refusal
+closed_as closer.ReadFault = Read file.Closed
+closed_as closer.NoMemory = Memory
+closed_as fault = Closed fault
+
+abbrev pub ClosedSays : Held → List ℕ → Tables → Faults → Faults → Refusal → Type 0
+ClosedSays held name i before now (Read file.Closed) = Rose (before name) (now name)
+ClosedSays held name i before now (Closed fault) = IsInClosed fault × IfSome (held name) (λ bytes. closed_refusal bytes i ≡ Some fault)
+ClosedSays held name i before now Memory = Unit {0}
+ClosedSays held name i before now refusal = ⊥
+
+-- the model was read, and reading the closed list failed
+pub record ClosedFailed (held : Held) (model : List ℕ) (closed : Option (List ℕ)) (before now : Faults) : Type 0 where
+  pub tables : Tables
+  pub read : ModelIs held model tables
+  pub name : List ℕ
+  pub named : closed ≡ Some name
+  pub rose : Rose (before name) (now name)
+
+-- the model file and the closed list
+abbrev pub SourceSays : Held → List ℕ → Option (List ℕ) → Faults → Faults → Refusal → Type 0
+SourceSays held model closed before now (Read file.Model) = Rose (before model) (now model)
+SourceSays held model closed before now (Read file.Closed) = ClosedFailed held model closed before now
+SourceSays held model closed before now (Model fault) = ModelRefused held model fault
+SourceSays held model closed before now (Closed fault) = ClosedRefused held model closed fault
+SourceSays held model closed before now Memory = Unit {0}
+SourceSays held model closed before now refusal = ⊥
+
+abbrev pub InitialSays : Held → List ℕ → Tables → Faults → Faults → Refusal → Type 0
+InitialSays held name i before now (Read file.Initial) = Rose (before name) (now name)
+InitialSays held name i before now (Initial fault) = ListRefused held name i fault
+InitialSays held name i before now Memory = Unit {0}
+InitialSays held name i before now refusal = ⊥
+
+-- where there is one
+abbrev pub NamedSays : Held → Option (List ℕ) → Tables → Faults → Faults → Refusal → Type 0
+NamedSays held None i before now refusal = ⊥
+NamedSays held (Some name) i before now refusal = InitialSays held name i before now refusal
+
+abbrev pub ChangedSays : Held → List ℕ → Tables → Faults → Faults → Refusal → Type 0
+ChangedSays held name i before now (Read file.Changed) = Rose (before name) (now name)
+ChangedSays held name i before now (Changed fault) = ListRefused held name i fault
+ChangedSays held name i before now Memory = Unit {0}
+ChangedSays held name i before now refusal = ⊥
+
+-- the file of a list, and a refusal of the reader of lists, as one of a job
+abbrev pub file_as : Which → File
+file_as which.Initial = file.Initial
+file_as which.Changed = file.Changed
+
+abbrev pub list_as : Which → AssignFault → Refusal
+list_as w assigner.ReadFault = Read (file_as w)
+list_as w assigner.NoMemory = Memory
+list_as which.Initial fault = Initial fault
+list_as which.Changed fault = Changed fault
+
+abbrev pub ListSays : Which → Held → List ℕ → Tables → Faults → Faults → Refusal → Type 0
+ListSays which.Initial held name i before now refusal = InitialSays held name i before now refusal
+ListSays which.Changed held name i before now refusal = ChangedSays held name i before now refusal
+
+abbrev pub JudgeSays : Tables → List Machine → List Machine → Refusal → Type 0
+JudgeSays i a0 a (InitialBroken cause) = first_broken i a0 a0 ≡ Some cause
+JudgeSays i a0 a (ChangedBroken cause) = Feasible i a0 a0 × (first_broken i a0 a ≡ Some cause)
+JudgeSays i a0 a Memory = Unit {0}
+JudgeSays i a0 a refusal = ⊥
+
+-- the initial list alone
+abbrev pub StartSays : Tables → List Machine → Refusal → Type 0
+StartSays i a0 (InitialBroken cause) = first_broken i a0 a0 ≡ Some cause
+StartSays i a0 Memory = Unit {0}
+StartSays i a0 refusal = ⊥
+
+-- all files were accepted, and the initial list fits the instance
+pub record IsStart (held : Held) (names : Names) (i : Tables) (a0 : List Machine) : Type 0 where
+  pub accepts : Accepts held names i a0 a0
+  pub fits : IsAssignment i a0
+
+-- the two lists were read
+pub record ReadsLists (held : Held) (first second : List ℕ) (i : Tables) (a0 a : List Machine) : Type 0 where
+  pub initial : ListIs held first i a0
+  pub initial_fits : IsAssignment i a0
+  pub changed : ListIs held second i a
+  pub changed_fits : IsAssignment i a
+
+abbrev pub ListsSay : Held → List ℕ → List ℕ → Tables → Faults → Faults → Refusal → Type 0
+ListsSay held first second i before now (Read file.Initial) = Rose (before first) (now first)
+ListsSay held first second i before now (Read file.Changed) = (a0 : List Machine) × ListIs held first i a0 × Rose (before second) (now second)
+ListsSay held first second i before now (Initial fault) = ListRefused held first i fault
+ListsSay held first second i before now (Changed fault) = (a0 : List Machine) × ListIs held first i a0 × ListRefused held second i fault
+ListsSay held first second i before now Memory = Unit {0}
+ListsSay held first second i before now refusal = ⊥
+
+-- all files passed, and these are the parts of the new list
+pub record Passed (held : Held) (names : Names) (parts : Parts) : Type 0 where
+  pub tables : Tables
+  pub a0 : List Machine
+  pub a : List Machine
+  pub passes : Passes held names tables a0 a
+  pub are : parts ≡ parts_of tables a0 a
+
+-- both lists are feasible, and these are the parts of the new one
+pub record Judged (i : Tables) (a0 a : List Machine) (parts : Parts) : Type 0 where
+  pub initial : Feasible i a0 a0
+  pub changed : Feasible i a0 a
+  pub are : parts ≡ parts_of i a0 a

@@ -1,0 +1,183 @@
+ghost use Rattle.std.specs.Prelude.{◌≡◌, ◌≢◌, ◌⊎◌, ℕ, ◌≤◌, List, Some, OnOk, IfOk, IfErr};
+ghost use Rattle.std.specs.Option.{option_copied};
+ghost use Rattle.std.specs.Io.KnownBytes.{Appends};
+ghost use Rattle.ra_bounds.specs.PinnedBounds.{pinned_bound_of};
+ghost use Rattle.ra_io.specs.Faults.{Rose};
+ghost use Rattle.ra_model.specs.Assignments.{IsAssignment};
+ghost use Rattle.ra_report.specs.Pieces.{Breaks, Puts};
+ghost use Rattle.ra_jobs.specs.Comes.{Comes};
+ghost use Rattle.ra_jobs.specs.Complete.{AreAccepted, NoFault};
+ghost use Rattle.ra_jobs.specs.Ends.{Ends};
+ghost use Rattle.ra_jobs.specs.Files.{bound_names};
+ghost use Rattle.ra_jobs.specs.Outputs.{BoundIs, BoundRead, BoundPrinted};
+ghost use Rattle.ra_jobs.specs.Refusals.{Says, Nothing, OnlyWrites};
+ghost use Rattle.ra_jobs.specs.Stages.{InitialSays, NamedSays};
+
+use crate::lists::{Which, read_list};
+use crate::reading::read_instance;
+use crate::refusals::{JobFiles, Refusal};
+use crate::refusing::finish;
+use crate::status::Status;
+use ra_base::{Assignment, Name, NoMemory};
+use ra_bounds::{Bound, bound, pinned_bound};
+use ra_io::{Files, Sink};
+use ra_model::Instance;
+use ra_pins::Pins;
+use ra_report::write_bound;
+use std::alloc::Global;
+
+/// Prints the lower bound of a model, or with an initial list that of both, which counts the load of the
+/// processes that are pinned, or puts one line that says why not. The initial list needn't be
+/// feasible. It returns, and waits for nobody.
+pub fn bound_run<'n, F: Files, O: Sink, E: Sink>(
+    alloc: Global,
+    model: &'n Name,
+    initial: Option<&'n Name>,
+    closed: Option<&'n Name>,
+    files: &mut F,
+    out: &mut O,
+    err: &mut E,
+) -> Status
+    ensures ends { let names = bound_names model.now
+        (option_copied closed.entry) (option_copied initial.entry) in
+        Ends (F.held files.old) names (F.faults files.old) (F.faults files.new)
+        (BoundPrinted (F.held files.old) names (Appends (O.taken out.old) (O.taken out.new)))
+        (OnlyWrites (BoundPrinted (F.held files.old) names
+        (Breaks (O.taken out.old) (O.taken out.new) (O.faults out.old) (O.faults out.new))))
+        (Puts (E.taken err.old) (E.taken err.new) (E.faults err.old) (E.faults err.new))
+        (out.new ≡ out.old) (err.new ≡ err.old) result }
+    ensures not_usage { result ≢ Status.Usage }
+
+    // Each status but `Done` comes where its cause stands, and only there.
+    ensures comes { let names = bound_names model.now
+        (option_copied closed.entry) (option_copied initial.entry) in
+        Comes (F.held files.old) names (F.faults files.old) (F.faults files.new)
+        (OnlyWrites (BoundPrinted (F.held files.old) names
+        (Breaks (O.taken out.old) (O.taken out.new) (O.faults out.old) (O.faults out.new))))
+        (out.new ≡ out.old) result }
+    ensures never_infeasible { result ≢ Status.Infeasible }
+
+    // Over accepted files, and where no fault of them or of the output was counted, the bound is printed.
+    ensures complete { let names = bound_names model.now
+        (option_copied closed.entry) (option_copied initial.entry) in
+        AreAccepted (F.held files.old) names → NoFault names (F.faults files.old) (F.faults files.new)
+        → (Rose (O.faults out.old) (O.faults out.new) → ⊥)
+        → (result ≡ Status.Done) ⊎ (result ≡ Status.NoMemory) }
+    ensures kept { (other : List ℕ) → F.held files.new other ≡ F.held files.old other }
+    ensures never_fall { (other : List ℕ) → F.faults files.old other ≤ F.faults files.new other }
+    ensures out_never_falls { O.faults out.old ≤ O.faults out.new }
+    ensures err_never_falls { E.faults err.old ≤ E.faults err.new }
+{
+    let names = JobFiles {
+        model,
+        closed,
+        initial,
+        changed: None,
+        report: None,
+        edits: None,
+    };
+    let ended = print_bound(alloc, model, initial, closed, files, out);
+    finish(err, &names, ended)
+}
+
+/// The same but for the line of its refusal.
+fn print_bound<F: Files, O: Sink>(
+    alloc: Global,
+    model: &Name,
+    initial: Option<&Name>,
+    closed: Option<&Name>,
+    files: &mut F,
+    out: &mut O,
+) -> Result<(), Refusal>
+    ensures printed { OnOk result (BoundPrinted (F.held files.old) (bound_names model.now
+        (option_copied closed.entry) (option_copied initial.entry))
+        (Appends (O.taken out.old) (O.taken out.new))) }
+    ensures refused { IfErr result (Says (F.held files.old) (bound_names model.now
+        (option_copied closed.entry) (option_copied initial.entry))
+        (F.faults files.old) (F.faults files.new)
+        (OnlyWrites (BoundPrinted (F.held files.old) (bound_names model.now
+        (option_copied closed.entry) (option_copied initial.entry))
+        (Breaks (O.taken out.old) (O.taken out.new) (O.faults out.old) (O.faults out.new))))) }
+    ensures untouched { IfErr result (λ refusal. refusal ≢ Refusal.Write → out.new ≡ out.old) }
+    ensures kept { (other : List ℕ) → F.held files.new other ≡ F.held files.old other }
+    ensures never_fall { (other : List ℕ) → F.faults files.old other ≤ F.faults files.new other }
+    ensures out_never_falls { O.faults out.old ≤ O.faults out.new }
+{
+    let bound = read_bound(alloc, model, initial, closed, files)?;
+    match write_bound(out, &bound) {
+        Ok(()) => Ok(()),
+        Err(_) => Err(Refusal::Write),
+    }
+}
+
+/// The bound of the files.
+fn read_bound<F: Files>(
+    alloc: Global,
+    model: &Name,
+    initial: Option<&Name>,
+    closed: Option<&Name>,
+    files: &mut F,
+) -> Result<Bound, Refusal>
+    ensures read { IfOk result (BoundRead (F.held files.old) (bound_names model.now
+        (option_copied closed.entry) (option_copied initial.entry))) }
+    ensures refused { IfErr result (Says (F.held files.old) (bound_names model.now
+        (option_copied closed.entry) (option_copied initial.entry))
+        (F.faults files.old) (F.faults files.new) Nothing) }
+    ensures kept { (other : List ℕ) → F.held files.new other ≡ F.held files.old other }
+    ensures never_fall { (other : List ℕ) → F.faults files.old other ≤ F.faults files.new other }
+{
+    let inst = read_instance(alloc, files, model, closed)?;
+    let ended = bound_over(alloc, files, initial, &inst);
+    drop(inst);
+    ended
+}
+
+/// The bound of an instance, or of an instance and the initial list, where one is named.
+fn bound_over<F: Files>(
+    alloc: Global,
+    files: &mut F,
+    initial: Option<&Name>,
+    inst: &Instance,
+) -> Result<Bound, Refusal>
+    ensures read { IfOk result (BoundIs (F.held files.old)
+        (option_copied initial.entry) inst.now.tables) }
+    ensures refused { IfErr result (NamedSays (F.held files.old)
+        (option_copied initial.entry) inst.now.tables (F.faults files.old) (F.faults files.new)) }
+    ensures kept { (other : List ℕ) → F.held files.new other ≡ F.held files.old other }
+    ensures never_fall { (other : List ℕ) → F.faults files.old other ≤ F.faults files.new other }
+{
+    match initial {
+        None => Ok(bound(inst)),
+        Some(name) => bound_with(alloc, files, name, inst),
+    }
+}
+
+/// The bound of an instance and the initial list.
+fn bound_with<F: Files>(
+    alloc: Global,
+    files: &mut F,
+    initial: &Name,
+    inst: &Instance,
+) -> Result<Bound, Refusal>
+    ensures read { IfOk result (BoundIs (F.held files.old) (Some initial.now) inst.now.tables) }
+    ensures refused { IfErr result (InitialSays (F.held files.old) initial.now inst.now.tables
+        (F.faults files.old) (F.faults files.new)) }
+    ensures kept { (other : List ℕ) → F.held files.new other ≡ F.held files.old other }
+    ensures never_fall { (other : List ℕ) → F.faults files.old other ≤ F.faults files.new other }
+{
+    let a0 = read_list(alloc, files, Which::Initial, initial, inst)?;
+    match bound_from(alloc, inst, &a0) {
+        Ok(bound) => Ok(bound),
+        Err(NoMemory) => Err(Refusal::Memory),
+    }
+}
+
+/// The bound of an instance and a start, which counts the load of the pinned processes. The pins are made for it, and let
+/// go again.
+pub fn bound_from(alloc: Global, inst: &Instance, initial: &Assignment) -> Result<Bound, NoMemory>
+    requires fits { IsAssignment inst.now.tables initial.now.items }
+    ensures { IfOk result (λ b. b ≡ pinned_bound_of inst.now.tables initial.now.items) }
+{
+    let pins = Pins::make(alloc, inst, initial)?;
+    Ok(pinned_bound(inst, &pins))
+}

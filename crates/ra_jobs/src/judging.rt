@@ -1,0 +1,50 @@
+ghost use Rattle.std.specs.Prelude.{◌≡◌, None, IfOk, IfErr};
+ghost use Rattle.ra_model.specs.Assignments.{IsAssignment};
+ghost use Rattle.ra_check.specs.Made.{IsMadeFor};
+ghost use Rattle.ra_model.specs.Broken.{first_broken};
+ghost use Rattle.ra_model.specs.Feasible.{Feasible};
+ghost use Rattle.ra_jobs.specs.Stages.{Judged, JudgeSays, StartSays};
+
+use crate::refusals::Refusal;
+use ra_base::{Assignment, Parts};
+use ra_check::{Scratch, first_broken, parts};
+use ra_model::Instance;
+use std::alloc::Global;
+
+/// The parts of the cost of the new list, where both lists are feasible.
+pub(crate) fn judge(
+    alloc: Global,
+    inst: &Instance,
+    initial: &Assignment,
+    changed: &Assignment,
+) -> Result<Parts, Refusal>
+    requires initial { IsAssignment inst.now.tables initial.now.items }
+    requires changed { IsAssignment inst.now.tables changed.now.items }
+    ensures passes { IfOk result (Judged inst.now.tables initial.now.items changed.now.items) }
+    ensures refused { IfErr result (JudgeSays inst.now.tables initial.now.items changed.now.items) }
+{
+    let mut scratch = judge_start(alloc, inst, initial)?;
+    match first_broken(inst, initial, changed, &mut scratch) {
+        Some(cause) => Err(Refusal::ChangedBroken(cause)),
+        None => Ok(parts(inst, initial, changed, &mut scratch)),
+    }
+}
+
+/// Tables to check with, where the initial list is feasible.
+pub fn judge_start(alloc: Global, inst: &Instance, initial: &Assignment) -> Result<Scratch, Refusal>
+    requires { IsAssignment inst.now.tables initial.now.items }
+    ensures feasible { IfOk result (λ _.
+        Feasible inst.now.tables initial.now.items initial.now.items) }
+    ensures unbroken { IfOk result (λ _.
+        first_broken inst.now.tables initial.now.items initial.now.items ≡ None) }
+    ensures made { IfOk result (λ scratch. IsMadeFor scratch inst.now.tables) }
+    ensures refused { IfErr result (StartSays inst.now.tables initial.now.items) }
+{
+    let Ok(mut scratch) = Scratch::make(alloc, inst) else {
+        return Err(Refusal::Memory);
+    };
+    match first_broken(inst, initial, initial, &mut scratch) {
+        Some(cause) => Err(Refusal::InitialBroken(cause)),
+        None => Ok(scratch),
+    }
+}

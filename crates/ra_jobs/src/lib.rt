@@ -1,0 +1,28 @@
+//! The jobs that need no solver: `check_run`, `bound_run`, `edit_run` and `repair_run`, over files and sinks that are handed
+//! in; and what every job stands on: its files and what they mean, its refusals, and how it ends. It stands beside the
+//! crates of a run of workers; `ra_run` stands on both.
+#![tactic(auto)]
+
+mod bound;
+mod check;
+mod edit;
+mod judging;
+mod lists;
+mod reading;
+mod refusals;
+mod refusing;
+mod repair;
+mod start;
+mod status;
+mod steady;
+
+pub use bound::{bound_from, bound_run};
+pub use check::check_run;
+pub use edit::edit_run;
+pub use judging::judge_start;
+pub use refusals::{File, JobFiles, Refusal};
+pub use refusing::{finish, put_line, refuse_memory, refuse_unread, refuse_words};
+pub use repair::repair_run;
+pub use start::{Start, read_start};
+pub use status::Status;
+pub use steady::check_steady;

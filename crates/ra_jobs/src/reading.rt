@@ -1,0 +1,92 @@
+ghost use Rattle.std.specs.Prelude.{◌≡◌, ℕ, ◌≤◌, List, IfSome, IfOk, IfErr};
+ghost use Rattle.std.specs.Option.{option_copied};
+ghost use Rattle.ra_jobs.specs.Files.{ModelIs, InstanceIs};
+ghost use Rattle.ra_jobs.specs.Stages.{model_as, closed_as, ModelSays, ClosedSays, SourceSays, IsClosing};
+
+use crate::refusals::{File, Refusal};
+use ra_assign::{ClosedFault, read_closed};
+use ra_base::Name;
+use ra_io::Files;
+use ra_model::Instance;
+use ra_model_read::{ModelFault, read_model};
+use std::alloc::Global;
+
+/// The instance of the model file, with the machines of the closed list closed, where one is named.
+pub(crate) fn read_instance<F: Files>(
+    alloc: Global,
+    files: &mut F,
+    model: &Name,
+    closed: Option<&Name>,
+) -> Result<Instance, Refusal>
+    ensures read { IfOk result (λ inst. InstanceIs (F.held files.old) model.now
+        (option_copied closed.entry) inst.tables) }
+    ensures refused { IfErr result (SourceSays (F.held files.old) model.now
+        (option_copied closed.entry) (F.faults files.old) (F.faults files.new)) }
+    ensures kept { (other : List ℕ) → F.held files.new other ≡ F.held files.old other }
+    ensures never_fall { (other : List ℕ) → F.faults files.old other ≤ F.faults files.new other }
+{
+    let inst = read_open(alloc, files, model)?;
+    match closed {
+        None => Ok(inst),
+        Some(closed) => close(alloc, files, closed, inst),
+    }
+}
+
+/// The instance of the model file, in which no machine is closed.
+pub(crate) fn read_open<F: Files>(
+    alloc: Global,
+    files: &mut F,
+    model: &Name,
+) -> Result<Instance, Refusal>
+    ensures read { IfOk result (λ inst. ModelIs (F.held files.old) model.now inst.tables) }
+    ensures refused { IfErr result (ModelSays (F.held files.old) model.now (F.faults files.old)
+        (F.faults files.new)) }
+    ensures kept { (other : List ℕ) → F.held files.new other ≡ F.held files.old other }
+    ensures never_fall { (other : List ℕ) → F.faults files.old other ≤ F.faults files.new other }
+{
+    match read_model(alloc, files, model.as_str()) {
+        Ok(inst) => Ok(inst),
+        Err(fault) => Err(model_refused(fault)),
+    }
+}
+
+/// A refusal of the model reader, as one of a job.
+fn model_refused(fault: ModelFault) -> Refusal
+    ensures { result ≡ model_as fault }
+{
+    match fault {
+        ModelFault::ReadFault => Refusal::Read(File::Model),
+        ModelFault::NoMemory => Refusal::Memory,
+        fault => Refusal::Model(fault),
+    }
+}
+
+/// The same instance with the machines of a closed list closed.
+pub(crate) fn close<F: Files>(
+    alloc: Global,
+    files: &mut F,
+    closed: &Name,
+    inst: Instance,
+) -> Result<Instance, Refusal>
+    ensures read { IfOk result (λ i. IsClosing (F.held files.old) closed.now inst.tables i.tables) }
+    ensures refused { IfErr result (ClosedSays (F.held files.old) closed.now inst.tables
+        (F.faults files.old) (F.faults files.new)) }
+    ensures kept { (other : List ℕ) → F.held files.new other ≡ F.held files.old other }
+    ensures never_fall { (other : List ℕ) → F.faults files.old other ≤ F.faults files.new other }
+{
+    match read_closed(alloc, files, closed.as_str(), &inst) {
+        Ok(flags) => Ok(inst.closing(flags)),
+        Err(fault) => Err(closed_refused(fault)),
+    }
+}
+
+/// A refusal of the reader of closed lists, as one of a job.
+fn closed_refused(fault: ClosedFault) -> Refusal
+    ensures { result ≡ closed_as fault }
+{
+    match fault {
+        ClosedFault::ReadFault => Refusal::Read(File::Closed),
+        ClosedFault::NoMemory => Refusal::Memory,
+        fault => Refusal::Closed(fault),
+    }
+}

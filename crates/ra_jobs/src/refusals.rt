@@ -1,0 +1,80 @@
+ghost use Rattle.std.specs.Prelude.{◌≡◌};
+ghost use Rattle.ra_jobs.specs.Files.{name_of, names_of, IsNamed};
+
+use ra_assign::{AssignFault, ClosedFault};
+use ra_base::{Cause, Name};
+use ra_edits_read::EditsFault;
+use ra_model_read::ModelFault;
+
+/// A file of a job.
+#[derive(Clone, Copy)]
+pub enum File {
+    Model,
+    Closed,
+    Initial,
+    Changed,
+    Report,
+    Edits,
+}
+
+/// Why a job was not done, in the order in which it is found.
+#[derive(Clone, Copy)]
+pub enum Refusal {
+    /// Reading a file failed.
+    Read(File),
+    /// The model file is no model.
+    Model(ModelFault),
+    /// The closed list is none for the model.
+    Closed(ClosedFault),
+    /// The initial list is no assignment for the model.
+    Initial(AssignFault),
+    /// The new list is no assignment for the model.
+    Changed(AssignFault),
+    /// The edits file has none for the model.
+    Edits(EditsFault),
+    /// The initial list breaks a constraint.
+    InitialBroken(Cause),
+    /// The new list breaks a constraint.
+    ChangedBroken(Cause),
+    /// This line of the report is wrong first.
+    Wrong(u64),
+    /// The last list of a repair breaks a constraint.
+    Unrepaired(Cause),
+    /// Writing the output failed.
+    Write,
+    /// Memory was refused.
+    Memory,
+}
+
+/// The names of a job's files, lent from it. Those that it doesn't have are not there.
+#[derive(Clone, Copy)]
+pub struct JobFiles<'n> {
+    pub model: &'n Name,
+    pub closed: Option<&'n Name>,
+    pub initial: Option<&'n Name>,
+    pub changed: Option<&'n Name>,
+    pub report: Option<&'n Name>,
+    pub edits: Option<&'n Name>,
+}
+
+impl<'n> JobFiles<'n> {
+    /// The name of a file that the job has.
+    #[tactic(auto, unfolding(crate::specs::Files::name_of))]
+    pub(crate) fn name(&self, file: File) -> &'n Name
+        requires { IsNamed (names_of self.now) file }
+        ensures { result.now ≡ name_of (names_of self.now) file }
+    {
+        let named = match file {
+            File::Model => Some(self.model),
+            File::Closed => self.closed,
+            File::Initial => self.initial,
+            File::Changed => self.changed,
+            File::Report => self.report,
+            File::Edits => self.edits,
+        };
+        match named {
+            Some(name) => name,
+            None => unreachable!(),
+        }
+    }
+}

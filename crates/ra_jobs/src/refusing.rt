@@ -1,0 +1,170 @@
+ghost use Rattle.std.specs.Prelude.{◌≡◌, ◌≢◌, ◌↔◌, ◌≤◌, ◌⊎◌, [], ◌∷◌, Ok, IfErr};
+ghost use Rattle.std.specs.IoError.{error_kind};
+ghost use Rattle.ra_report.specs.FaultTexts.{CanBeTold, fault_text, usage_line};
+ghost use Rattle.ra_report.specs.Pieces.{Puts, joined};
+ghost use Rattle.ra_report.specs.Texts.{line_end};
+ghost use Rattle.ra_jobs.specs.Files.{Names, names_of};
+ghost use Rattle.ra_jobs.specs.Lines.{fault_of, refusal_line};
+ghost use Rattle.ra_jobs.specs.Refusals.{CanTell};
+ghost use Rattle.ra_jobs.specs.Statuses.{status_of};
+ghost use Rattle.ra_jobs.specs.declared.refusals.Refusal.TheVariants.{Memory};
+
+use crate::refusals::{File, JobFiles, Refusal};
+use crate::status::Status;
+use ra_io::Sink;
+use ra_report::{Fault, write_fault};
+use std::io;
+use std::io::ErrorKind;
+
+/// How a job ends: it is done, or its refusal is told, with its status, which a failing put doesn't
+/// change.
+pub fn finish<E: Sink>(err: &mut E, names: &JobFiles<'_>, ended: Result<(), Refusal>) -> Status
+    requires { IfErr ended (CanTell (names_of names.now)) }
+    ensures done { ended ≡ Ok tt → result ≡ Status.Done }
+    ensures quiet { ended ≡ Ok tt → err.new ≡ err.old }
+    ensures status { IfErr ended (λ refusal. result ≡ status_of refusal) }
+    ensures line { IfErr ended (λ refusal. Puts (E.taken err.old) (E.taken err.new)
+        (E.faults err.old) (E.faults err.new) (refusal_line (names_of names.now) refusal)) }
+    ensures never_falls { E.faults err.old ≤ E.faults err.new }
+{
+    match ended {
+        Ok(()) => Status::Done,
+        Err(refusal) => {
+            tell(err, names, refusal);
+            status(refusal)
+        }
+    }
+}
+
+/// The status of a refusal.
+#[tactic(auto, unfolding(crate::specs::Statuses::status_of))]
+fn status(refusal: Refusal) -> Status
+    ensures { result ≡ status_of refusal }
+{
+    match refusal {
+        Refusal::Read(_) => Status::ReadFault,
+        Refusal::Model(_) => Status::BadModel,
+        Refusal::Closed(_) => Status::BadClosed,
+        Refusal::Initial(_) => Status::BadAssignment,
+        Refusal::Changed(_) => Status::BadAssignment,
+        Refusal::Edits(_) => Status::BadEdits,
+        Refusal::InitialBroken(_) => Status::Infeasible,
+        Refusal::ChangedBroken(_) => Status::Infeasible,
+        Refusal::Wrong(_) => Status::Wrong,
+        Refusal::Unrepaired(_) => Status::Unrepaired,
+        Refusal::Write => Status::WriteFault,
+        Refusal::Memory => Status::NoMemory,
+    }
+}
+
+/// Puts the line of a refusal.
+#[tactic(auto, unfolding(crate::specs::Lines::refusal_line))]
+fn tell<E: Sink>(err: &mut E, names: &JobFiles<'_>, refusal: Refusal)
+    requires { CanTell (names_of names.now) refusal }
+    ensures line { Puts (E.taken err.old) (E.taken err.new) (E.faults err.old) (E.faults err.new)
+        (refusal_line (names_of names.now) refusal) }
+    ensures never_falls { E.faults err.old ≤ E.faults err.new }
+{
+    put_line(err, &fault(names, refusal))
+}
+
+/// The fault of a refusal.
+#[tactic(auto, unfolding(crate::specs::Lines::fault_of, ra_report::specs::FaultTexts::fault_text))]
+fn fault<'n>(names: &JobFiles<'n>, refusal: Refusal) -> Fault<'n>
+    requires { CanTell (names_of names.now) refusal }
+    ensures text { fault_text result ≡ fault_text (fault_of (names_of names.now) refusal) }
+    ensures told { CanBeTold result }
+{
+    match refusal {
+        Refusal::Read(file) => Fault::Read {
+            name: names.name(file),
+        },
+        Refusal::Model(fault) => Fault::Model { fault },
+        Refusal::Closed(fault) => Fault::Closed {
+            name: names.name(File::Closed),
+            fault,
+        },
+        Refusal::Initial(fault) => Fault::Assign {
+            name: names.name(File::Initial),
+            fault,
+        },
+        Refusal::Changed(fault) => Fault::Assign {
+            name: names.name(File::Changed),
+            fault,
+        },
+        Refusal::Edits(fault) => Fault::Edits {
+            name: names.name(File::Edits),
+            fault,
+        },
+        Refusal::InitialBroken(cause) => Fault::Infeasible {
+            name: names.name(File::Initial),
+            cause,
+        },
+        Refusal::ChangedBroken(cause) => Fault::Infeasible {
+            name: names.name(File::Changed),
+            cause,
+        },
+        Refusal::Wrong(line) => Fault::Wrong { line },
+        Refusal::Unrepaired(cause) => Fault::Unrepaired {
+            name: names.name(File::Initial),
+            cause,
+        },
+        Refusal::Write => Fault::Write,
+        Refusal::Memory => Fault::Memory,
+    }
+}
+
+/// Puts the line of a fault, or a front of it where a put fails.
+pub fn put_line<E: Sink>(err: &mut E, fault: &Fault<'_>)
+    requires { CanBeTold fault.now }
+    ensures line { Puts (E.taken err.old) (E.taken err.new) (E.faults err.old) (E.faults err.new)
+        (fault_text fault.now) }
+    ensures never_falls { E.faults err.old ≤ E.faults err.new }
+{
+    match write_fault(err, fault) {
+        Ok(()) => {}
+        Err(_) => {}
+    }
+}
+
+/// Puts the usage line.
+#[tactic(auto, unfolding(ra_report::specs::FaultTexts::fault_text))]
+pub fn refuse_words<E: Sink>(err: &mut E) -> Status
+    ensures status { result ≡ Status.Usage }
+    ensures line { Puts (E.taken err.old) (E.taken err.new) (E.faults err.old) (E.faults err.new)
+        (joined (usage_line ∷ line_end ∷ [])) }
+    ensures never_falls { E.faults err.old ≤ E.faults err.new }
+{
+    put_line(err, &Fault::Usage);
+    Status::Usage
+}
+
+/// Puts the line of refused memory.
+#[tactic(auto, unfolding(ra_report::specs::FaultTexts::fault_text, crate::specs::Lines::fault_of, crate::specs::Lines::refusal_line))]
+pub fn refuse_memory<E: Sink>(err: &mut E) -> Status
+    ensures status { result ≡ Status.NoMemory }
+    ensures line { (names : Names) → Puts (E.taken err.old) (E.taken err.new) (E.faults err.old)
+        (E.faults err.new) (refusal_line names Memory) }
+    ensures never_falls { E.faults err.old ≤ E.faults err.new }
+{
+    put_line(err, &Fault::Memory);
+    Status::NoMemory
+}
+
+/// Refuses a command line that was not read: for want of memory, or since a word is no text.
+pub fn refuse_unread<E: Sink>(err: &mut E, error: &io::Error) -> Status
+    ensures status { (result ≡ Status.NoMemory) ⊎ (result ≡ Status.Usage) }
+    ensures memory { (result ≡ Status.NoMemory) ↔ (error_kind error.now ≡ ErrorKind.OutOfMemory) }
+    ensures memory_line { result ≡ Status.NoMemory → (names : Names) → Puts (E.taken err.old)
+        (E.taken err.new) (E.faults err.old) (E.faults err.new)
+        (refusal_line names Refusal.Memory) }
+    ensures usage_line { result ≡ Status.Usage → Puts (E.taken err.old) (E.taken err.new)
+        (E.faults err.old) (E.faults err.new) (joined (usage_line ∷ line_end ∷ [])) }
+    ensures never_falls { E.faults err.old ≤ E.faults err.new }
+{
+    if error.kind() == ErrorKind::OutOfMemory {
+        refuse_memory(err)
+    } else {
+        refuse_words(err)
+    }
+}

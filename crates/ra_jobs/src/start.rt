@@ -1,0 +1,42 @@
+ghost use Rattle.std.specs.Prelude.{◌≡◌, ℕ, ◌≤◌, List, IfOk, IfErr};
+ghost use Rattle.std.specs.Option.{option_copied};
+ghost use Rattle.ra_jobs.specs.Files.{solve_names};
+ghost use Rattle.ra_jobs.specs.Refusals.{Says, Nothing};
+ghost use Rattle.ra_jobs.specs.Stages.{IsStart};
+
+use crate::lists::{Which, read_list};
+use crate::reading::read_instance;
+use crate::refusals::Refusal;
+use ra_base::{Assignment, Name};
+use ra_io::Files;
+use ra_model::Instance;
+use std::alloc::Global;
+
+/// An instance, and the assignment from which a run starts.
+#[derive(Drop)]
+pub struct Start {
+    pub inst: Instance,
+    pub initial: Assignment,
+}
+
+/// The instance and the initial list, where all files are accepted.
+pub fn read_start<F: Files>(
+    alloc: Global,
+    model: &Name,
+    initial: &Name,
+    closed: Option<&Name>,
+    files: &mut F,
+) -> Result<Start, Refusal>
+    ensures read { IfOk result (λ s. IsStart (F.held files.old)
+        (solve_names model.now
+        (option_copied closed.entry) initial.now) s.inst.tables s.initial.items) }
+    ensures refused { IfErr result (Says (F.held files.old)
+        (solve_names model.now (option_copied closed.entry) initial.now) (F.faults files.old)
+        (F.faults files.new) Nothing) }
+    ensures kept { (other : List ℕ) → F.held files.new other ≡ F.held files.old other }
+    ensures never_fall { (other : List ℕ) → F.faults files.old other ≤ F.faults files.new other }
+{
+    let inst = read_instance(alloc, files, model, closed)?;
+    let initial = read_list(alloc, files, Which::Initial, initial, &inst)?;
+    Ok(Start { inst, initial })
+}
