@@ -17,7 +17,7 @@ use ra_draws::Lots;
 use std::alloc::Global;
 
 /// What the command words ask for.
-#[derive(Debug, Drop)]
+#[derive(Drop)]
 pub enum Job {
     /// Check the list `changed` against the list `initial` of a model, with the machines of the
     /// list `closed` closed.
@@ -114,7 +114,7 @@ fn read_job(alloc: Global, words: &[String], form: Form) -> Result<Job, NoMemory
     found_job(alloc, &taken, form)
 }
 
-/// The job of a form that the words say which were taken apart.
+/// The job of this form, of words that were taken apart.
 fn found_job(alloc: Global, taken: &ArgMatches<'_>, form: Form) -> Result<Job, NoMemory>
     requires { FitsForm form (found_of taken.now) }
     ensures { IfOk result (λ job. said job ≡ found_says form (found_of taken.now)) }
@@ -131,14 +131,41 @@ fn found_job(alloc: Global, taken: &ArgMatches<'_>, form: Form) -> Result<Job, N
     }
 }
 
+/// The names that stand first in most forms: a model's, its list `initial`'s, and that of the list of machines to close.
+#[derive(Drop)]
+struct Names {
+    model: Name,
+    initial: Name,
+    closed: Option<Name>,
+}
+
+/// These names. A job is made of them at once, so whatever else it needs is made before.
+fn take_names(alloc: Global, taken: &ArgMatches<'_>) -> Result<Names, NoMemory>
+    ensures model { IfOk result (λ names. names.model ≡ word_at (plain_of (found_of taken.now)) 0) }
+    ensures initial { IfOk result (λ names. names.initial ≡ word_at (plain_of (found_of taken.now)) 1) }
+    ensures closed { IfOk result (λ names. names.closed ≡ first_value (found_of taken.now) (codes "closed")) }
+{
+    Ok(Names {
+        model: plain_name(alloc, taken, 0)?,
+        initial: plain_name(alloc, taken, 1)?,
+        closed: closed_name(alloc, taken)?,
+    })
+}
+
 fn check_job(alloc: Global, taken: &ArgMatches<'_>) -> Result<Job, NoMemory>
     ensures { IfOk result (λ job. said job ≡ found_check (found_of taken.now)) }
 {
+    let changed = plain_name(alloc, taken, 2)?;
+    let Names {
+        model,
+        initial,
+        closed,
+    } = take_names(alloc, taken)?;
     Ok(Job::Check {
-        model: plain_name(alloc, taken, 0)?,
-        initial: plain_name(alloc, taken, 1)?,
-        changed: plain_name(alloc, taken, 2)?,
-        closed: closed_name(alloc, taken)?,
+        model,
+        initial,
+        changed,
+        closed,
     })
 }
 
@@ -155,10 +182,15 @@ fn bound_job(alloc: Global, taken: &ArgMatches<'_>) -> Result<Job, NoMemory>
 fn bound_from_job(alloc: Global, taken: &ArgMatches<'_>) -> Result<Job, NoMemory>
     ensures { IfOk result (λ job. said job ≡ found_bound_from (found_of taken.now)) }
 {
+    let Names {
+        model,
+        initial,
+        closed,
+    } = take_names(alloc, taken)?;
     Ok(Job::Bound {
-        model: plain_name(alloc, taken, 0)?,
-        initial: Some(plain_name(alloc, taken, 1)?),
-        closed: closed_name(alloc, taken)?,
+        model,
+        initial: Some(initial),
+        closed,
     })
 }
 
@@ -167,11 +199,17 @@ fn solve_job(alloc: Global, taken: &ArgMatches<'_>) -> Result<Job, NoMemory>
     requires lots { are_lots (drop 2 (plain_of (found_of taken.now))) ≡ true }
     ensures { IfOk result (λ job. said job ≡ found_solve (found_of taken.now)) }
 {
+    let lots = run_lots(alloc, taken, 2)?;
+    let Names {
+        model,
+        initial,
+        closed,
+    } = take_names(alloc, taken)?;
     Ok(Job::Solve {
-        model: plain_name(alloc, taken, 0)?,
-        initial: plain_name(alloc, taken, 1)?,
-        closed: closed_name(alloc, taken)?,
-        lots: run_lots(alloc, taken, 2)?,
+        model,
+        initial,
+        closed,
+        lots,
     })
 }
 
@@ -189,12 +227,19 @@ fn verify_job(alloc: Global, taken: &ArgMatches<'_>) -> Result<Job, NoMemory>
     requires lots { are_lots (drop 3 (plain_of (found_of taken.now))) ≡ true }
     ensures { IfOk result (λ job. said job ≡ found_verify (found_of taken.now)) }
 {
+    let report = plain_name(alloc, taken, 2)?;
+    let lots = run_lots(alloc, taken, 3)?;
+    let Names {
+        model,
+        initial,
+        closed,
+    } = take_names(alloc, taken)?;
     Ok(Job::Verify {
-        model: plain_name(alloc, taken, 0)?,
-        initial: plain_name(alloc, taken, 1)?,
-        report: plain_name(alloc, taken, 2)?,
-        closed: closed_name(alloc, taken)?,
-        lots: run_lots(alloc, taken, 3)?,
+        model,
+        initial,
+        report,
+        closed,
+        lots,
     })
 }
 
@@ -202,22 +247,35 @@ fn repair_job(alloc: Global, taken: &ArgMatches<'_>) -> Result<Job, NoMemory>
     requires { are_lots (drop 2 (plain_of (found_of taken.now))) ≡ true }
     ensures { IfOk result (λ job. said job ≡ found_repair (found_of taken.now)) }
 {
+    let lots = Lots::of(0, Drawing::Two, lots(alloc, taken, 2)?);
+    let Names {
+        model,
+        initial,
+        closed,
+    } = take_names(alloc, taken)?;
     Ok(Job::Repair {
-        model: plain_name(alloc, taken, 0)?,
-        initial: plain_name(alloc, taken, 1)?,
-        closed: closed_name(alloc, taken)?,
-        lots: Lots::of(0, Drawing::Two, lots(alloc, taken, 2)?),
+        model,
+        initial,
+        closed,
+        lots,
     })
 }
 
 fn edit_job(alloc: Global, taken: &ArgMatches<'_>) -> Result<Job, NoMemory>
     ensures { IfOk result (λ job. said job ≡ found_edit (found_of taken.now)) }
 {
+    let current = plain_name(alloc, taken, 2)?;
+    let edits = plain_name(alloc, taken, 3)?;
+    let Names {
+        model,
+        initial,
+        closed,
+    } = take_names(alloc, taken)?;
     Ok(Job::Edit {
-        model: plain_name(alloc, taken, 0)?,
-        initial: plain_name(alloc, taken, 1)?,
-        current: plain_name(alloc, taken, 2)?,
-        edits: plain_name(alloc, taken, 3)?,
-        closed: closed_name(alloc, taken)?,
+        model,
+        initial,
+        current,
+        edits,
+        closed,
     })
 }
