@@ -1,5 +1,5 @@
 -- A repair that words say has one lot.
-use Rattle.std.proofs.Common.{◌≡◌, ◌∙◌, ◌+◌, ◌-◌, ℕ, Bool, true, false, if◌then◌else◌, List, Option, Some, None, length, drop, map, subst, refl, arith}
+use Rattle.std.proofs.Common.{◌≡◌, ◌∙◌, ◌+◌, ℕ, Bool, true, false, if◌then◌else◌, List, Option, Some, None, length, drop, map, subst, refl, arith}
 use Rattle.std.proofs.lemmas.Grind.{common_steps}
 use Rattle.std.proofs.lemmas.List.{length-drop, length-map}
 use Rattle.ra_words.specs.LotTexts.{lot_says}

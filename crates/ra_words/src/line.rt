@@ -2,7 +2,7 @@ ghost use Rattle.std.specs.Prelude.{◌≡◌, true, codes, IfOk, drop, map};
 ghost use Rattle.clap.specs.Words.{app_of, first_value, found_of, with_rule};
 ghost use Rattle.ra_words.specs.Words.{texts, word_at};
 ghost use Rattle.ra_draws.specs.Lots.{IsLots};
-ghost use Rattle.ra_words.specs.Lines.{Line, Spells, Finds, line_app, option_rule, plain_of};
+ghost use Rattle.ra_words.specs.Lines.{Line, Spells, Finds, line_app, option_app, option_rule, plain_of};
 ghost use Rattle.ra_words.specs.LotTexts.{are_lots, lot_says};
 ghost use Rattle.ra_words.specs.Jobs.{is_slack, slack_says, drawing_says};
 ghost use Rattle.ra_words.specs.Said.{said_lot};
@@ -27,13 +27,20 @@ fn with_option<'a>(
     command.arg(Arg::new(alloc, name).long(name))
 }
 
+/// A command with the options of every job.
+fn option_command<'a>(alloc: Global) -> Result<Command<'a>, AllocError>
+    ensures { IfOk result (λ command. app_of command ≡ option_app) }
+{
+    let command = with_option(alloc, Command::new(alloc, "reassign"), "slack")?;
+    let command = with_option(alloc, command, "closed")?;
+    with_option(alloc, command, "draws")
+}
+
 /// The one command that takes the words of every job apart.
 fn line_command<'a>(alloc: Global) -> Result<Command<'a>, AllocError>
     ensures { IfOk result (λ command. app_of command ≡ line_app) }
 {
-    let command = with_option(alloc, Command::new(alloc, "reassign"), "slack")?;
-    let command = with_option(alloc, command, "closed")?;
-    let command = with_option(alloc, command, "draws")?;
+    let command = option_command(alloc)?;
     command.arg(Arg::new(alloc, "plain").action(ArgAction::Append))
 }
 
