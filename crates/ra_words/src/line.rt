@@ -1,5 +1,6 @@
 ghost use Rattle.std.specs.Prelude.{◌≡◌, true, codes, IfOk, drop, map};
-ghost use Rattle.clap.specs.Words.{app_of, first_value, found_of, with_rule};
+ghost use Rattle.clap.specs.Words.{app_of, first_value, found_of, kind_of, with_rule};
+ghost use Rattle.clap.specs.declared.error.kind.ErrorKind.TheVariants.{OutOfMemory};
 ghost use Rattle.ra_words.specs.Words.{texts, word_at};
 ghost use Rattle.ra_draws.specs.Lots.{IsLots};
 ghost use Rattle.ra_words.specs.Lines.{Line, Spells, Finds, line_app, option_app, option_rule, plain_of};
@@ -10,8 +11,7 @@ ghost use Rattle.ra_words.specs.Said.{said_lot};
 use crate::lots::read_lots;
 use crate::numbers::number;
 use crate::words::str_at;
-use clap::error::ErrorKind;
-use clap::{Arg, ArgAction, ArgMatches, Command};
+use clap::{Arg, ArgAction, ArgMatches, Command, Error};
 use ra_base::{Drawing, Name, NoMemory};
 use ra_draws::{Lot, Lots};
 use std::alloc::{AllocError, Global};
@@ -53,11 +53,16 @@ pub(crate) fn take_line<'a>(alloc: Global, words: &'a [String]) -> Result<ArgMat
     let command = line_command(alloc)?;
     match command.try_get_matches_from(words) {
         Ok(taken) => Ok(taken),
-        Err(error) => {
-            prove!(matches!(&error.kind(), ErrorKind::OutOfMemory));
-            Err(NoMemory)
-        }
+        Err(error) => Err(no_memory(error)),
     }
+}
+
+/// The fault of a parse that lacked memory.
+fn no_memory(error: Error) -> NoMemory
+    requires { kind_of error ≡ OutOfMemory }
+{
+    drop(error);
+    NoMemory
 }
 
 /// The plain word at a place, and the empty text behind the last.
