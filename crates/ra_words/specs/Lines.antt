@@ -44,15 +44,11 @@ option_rule name = record (new_rule name) { long = Some name }
 abbrev pub plain_rule : Rule
 plain_rule = record (new_rule (codes "plain")) { action = Some Append }
 
--- a command with three options
-abbrev pub option_app : App
-option_app =
-    with_rule (with_rule (with_rule (new_app (codes "reassign"))
-    (option_rule (codes "slack"))) (option_rule (codes "closed"))) (option_rule (codes "draws"))
-
 -- the one command of all jobs: three options and plain words
 abbrev pub line_app : App
-line_app = with_rule option_app plain_rule
+line_app =
+    with_rule (with_rule (with_rule (with_rule (new_app (codes "reassign"))
+    (option_rule (codes "slack"))) (option_rule (codes "closed"))) (option_rule (codes "draws"))) plain_rule
 
 -- the plain words that were found
 abbrev pub plain_of : Found → List (List ℕ)

@@ -1,9 +1,9 @@
-ghost use Rattle.std.specs.Prelude.{◌≡◌, true, codes, IfOk, drop, map};
-ghost use Rattle.clap.specs.Words.{app_of, first_value, found_of, kind_of, with_rule};
+ghost use Rattle.std.specs.Prelude.{◌≡◌, true, false, codes, IfOk, drop, map};
+ghost use Rattle.clap.specs.Words.{app_of, first_value, found_of, kind_of, rule_of};
 ghost use Rattle.clap.specs.declared.error.kind.ErrorKind.TheVariants.{OutOfMemory};
 ghost use Rattle.ra_words.specs.Words.{texts, word_at};
 ghost use Rattle.ra_draws.specs.Lots.{IsLots};
-ghost use Rattle.ra_words.specs.Lines.{Line, Spells, Finds, line_app, option_app, option_rule, plain_of};
+ghost use Rattle.ra_words.specs.Lines.{Line, Spells, Finds, line_app, option_rule, plain_of};
 ghost use Rattle.ra_words.specs.LotTexts.{are_lots, lot_says};
 ghost use Rattle.ra_words.specs.Jobs.{is_slack, slack_says, drawing_says};
 ghost use Rattle.ra_words.specs.Said.{said_lot};
@@ -16,32 +16,24 @@ use ra_base::{Drawing, Name, NoMemory};
 use ra_draws::{Lot, Lots};
 use std::alloc::{AllocError, Global};
 
-/// A command with one more option, which has a value.
-fn with_option<'a>(
-    alloc: Global,
-    command: Command<'a>,
-    name: &'a str,
-) -> Result<Command<'a>, AllocError>
-    ensures { IfOk result (λ more. app_of more ≡ with_rule (app_of command.entry) (option_rule name.entry.now)) }
+/// An option that has a value.
+fn option<'a>(alloc: Global, name: &'a str) -> Arg<'a>
+    ensures rule { rule_of result ≡ option_rule name.entry.now }
+    ensures local { result.global ≡ false }
 {
-    command.arg(Arg::new(alloc, name).long(name))
-}
-
-/// A command with the options of every job.
-fn option_command<'a>(alloc: Global) -> Result<Command<'a>, AllocError>
-    ensures { IfOk result (λ command. app_of command ≡ option_app) }
-{
-    let command = with_option(alloc, Command::new(alloc, "reassign"), "slack")?;
-    let command = with_option(alloc, command, "closed")?;
-    with_option(alloc, command, "draws")
+    Arg::new(alloc, name).long(name)
 }
 
 /// The one command that takes the words of every job apart.
 fn line_command<'a>(alloc: Global) -> Result<Command<'a>, AllocError>
     ensures { IfOk result (λ command. app_of command ≡ line_app) }
 {
-    let command = option_command(alloc)?;
-    command.arg(Arg::new(alloc, "plain").action(ArgAction::Append))
+    let mut rules = Vec::with_capacity(alloc, 4)?;
+    rules.push_reserved(option(alloc, "slack"));
+    rules.push_reserved(option(alloc, "closed"));
+    rules.push_reserved(option(alloc, "draws"));
+    rules.push_reserved(Arg::new(alloc, "plain").action(ArgAction::Append));
+    Command::new(alloc, "reassign").args(rules)
 }
 
 /// The words of a line taken apart. They are judged before, so only memory can be refused.
