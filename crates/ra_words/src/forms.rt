@@ -165,7 +165,7 @@ fn ends_in_lots(words: &[String], place: usize) -> bool
         && are_lots(words, lots_place(words, place))
 }
 
-/// Where `--closed` may stand, where `--slack` may stand at a place.
+/// Where `--closed` may stand: at a place, or behind `--slack` and its value where these stand there.
 #[tactic(auto, unfolding(crate::specs::Jobs::closed_place))]
 fn closed_place(words: &[String], place: usize) -> usize
     requires { place ≤ 8 }
@@ -175,7 +175,7 @@ fn closed_place(words: &[String], place: usize) -> usize
     behind(words, place, "--slack")
 }
 
-/// Where `--draws` may stand then.
+/// Where `--draws` may stand, behind these two.
 #[tactic(auto, unfolding(crate::specs::Jobs::draws_place))]
 fn draws_place(words: &[String], place: usize) -> usize
     requires { place ≤ 8 }
@@ -185,7 +185,7 @@ fn draws_place(words: &[String], place: usize) -> usize
     behind(words, closed_place(words, place), "--closed")
 }
 
-/// Where the lots begin then.
+/// Where the lots begin, behind all three options.
 #[tactic(auto, unfolding(crate::specs::Jobs::lots_place))]
 fn lots_place(words: &[String], place: usize) -> usize
     requires { place ≤ 8 }
@@ -195,7 +195,7 @@ fn lots_place(words: &[String], place: usize) -> usize
     behind(words, draws_place(words, place), "--draws")
 }
 
-/// Whether the value of `--closed` at a place, where it stands there, is a file name.
+/// Whether a file name stands behind `--closed`, where that option stands at a place.
 #[tactic(auto, unfolding(crate::specs::Words::value_at))]
 fn fits_closed(words: &[String], place: usize) -> bool
     requires { place ≤ 16 }
@@ -204,7 +204,7 @@ fn fits_closed(words: &[String], place: usize) -> bool
     !has_option(words, place, "--closed") || names_file(text_at(words, place + 1))
 }
 
-/// Whether the value of `--slack` at a place, where it stands there, is a number.
+/// Whether a number stands behind `--slack`, where that option stands at a place.
 #[tactic(auto, unfolding(crate::specs::Words::value_at))]
 fn fits_slack(words: &[String], place: usize) -> bool
     requires { place ≤ 16 }
@@ -213,7 +213,7 @@ fn fits_slack(words: &[String], place: usize) -> bool
     !has_option(words, place, "--slack") || is_number(text_at(words, place + 1).as_bytes())
 }
 
-/// Whether the value of `--draws` at a place, where it stands there, is `1` or `2`.
+/// Whether `1` or `2` stands behind `--draws`, where that option stands at a place.
 #[tactic(auto, unfolding(crate::specs::Words::value_at))]
 fn fits_drawing(words: &[String], place: usize) -> bool
     requires { place ≤ 16 }

@@ -139,7 +139,7 @@ struct Names {
     closed: Option<Name>,
 }
 
-/// These names. A job is made of them at once, so whatever else it needs is made before.
+/// Makes these names. A job's other parts are made before, so that nothing can fail while these are owned.
 fn take_names(alloc: Global, taken: &ArgMatches<'_>) -> Result<Names, NoMemory>
     ensures model { IfOk result (λ names. names.model ≡ word_at (plain_of (found_of taken.now)) 0) }
     ensures initial { IfOk result (λ names. names.initial ≡ word_at (plain_of (found_of taken.now)) 1) }

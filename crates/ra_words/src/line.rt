@@ -28,12 +28,12 @@ fn option<'a>(alloc: Global, name: &'a str) -> Arg<'a>
 fn line_command<'a>(alloc: Global) -> Result<Command<'a>, AllocError>
     ensures { IfOk result (λ command. app_of command ≡ line_app) }
 {
-    let mut rules = Vec::with_capacity(alloc, 4)?;
-    rules.push_reserved(option(alloc, "slack"));
-    rules.push_reserved(option(alloc, "closed"));
-    rules.push_reserved(option(alloc, "draws"));
-    rules.push_reserved(Arg::new(alloc, "plain").action(ArgAction::Append));
-    Command::new(alloc, "reassign").args(rules)
+    let mut arguments = Vec::with_capacity(alloc, 4)?;
+    arguments.push_reserved(option(alloc, "slack"));
+    arguments.push_reserved(option(alloc, "closed"));
+    arguments.push_reserved(option(alloc, "draws"));
+    arguments.push_reserved(Arg::new(alloc, "plain").action(ArgAction::Append));
+    Command::new(alloc, "reassign").args(arguments)
 }
 
 /// The words of a line taken apart. They are judged before, so only memory can be refused.

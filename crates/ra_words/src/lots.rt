@@ -55,7 +55,7 @@ fn budget(word: &[u8]) -> Option<u64>
     }
 }
 
-/// Whether the text of the words begins behind `w:`.
+/// Whether a lot's words are written out, behind `w:`.
 #[tactic(auto, unfolding(crate::specs::LotTexts::is_written))]
 fn is_written(word: &[u8]) -> bool
     ensures value { result ≡ is_written word.now }
@@ -90,7 +90,7 @@ fn seed_budget(word: &[u8]) -> Option<u64>
     budget_of(text_from(word, colon + 1))
 }
 
-/// The number of proposals that a text is. `None` where it is none, or too much.
+/// The number of proposals that a text gives. `None` where it is no number, or too large.
 fn budget_of(text: &[u8]) -> Option<u64>
     ensures { result ≡ (if is_number text.now && nat_le (worth text.now) 1000000 then Some
         (worth text.now) else None) }
