@@ -1,9 +1,8 @@
 -- How `edit` ends, from how its stages end.
 use Rattle.std.proofs.Common.{◌≡◌, ◌≢◌, ◌⊎◌, ℕ, ◌≤◌, List, length, Option, Some, None, IfSome, IsSome, inl, inr, ⊎_elim, refl, sym, ◌∙◌, ap, subst}
 use Rattle.ra_base.specs.declared.causes.Cause.{Cause}
-use Rattle.ra_base.specs.declared.costs.Parts.{Parts}
 use Rattle.ra_base.specs.declared.ids.Machine.{Machine}
-use Rattle.ra_base.specs.Searches.{or_else, first}
+use Rattle.ra_base.specs.Searches.{first}
 use Rattle.ra_edit.specs.Drafts.{Drafted, draft_of, instance_of}
 use Rattle.ra_edit.specs.Replies.{after_edits, replies_to}
 use Rattle.ra_edit.specs.SameLists.{HasLists, AreSameLists}
@@ -11,8 +10,8 @@ use Rattle.ra_edit.specs.declared.replies.EditReply.{EditReply}
 use Rattle.ra_edits_read.specs.declared.faults.EditsFault.{EditsFault}
 use Rattle.ra_edits_read.specs.declared.faults.EditsFault.TheVariants as reader
 use Rattle.ra_edits_read.specs.Answers.{IsEditsRefusal}
-use Rattle.ra_edits_read.specs.EditLists.{EditLists, AreEditsFor}
-use Rattle.ra_edits_read.specs.EditTexts.{edits_refusal, AreEditsOf, kind_place, any_from, below_at, any_at, added_test, resized_test, numbers_test, found_test, edit_test}
+use Rattle.ra_edits_read.specs.EditLists.{EditLists}
+use Rattle.ra_edits_read.specs.EditTexts.{edits_refusal, AreEditsOf, added_test, resized_test, numbers_test, found_test, edit_test}
 use Rattle.ra_io.specs.Faults.{Rose}
 use Rattle.ra_model.specs.Assignments.{IsAssignment}
 use Rattle.ra_model.specs.Costs.{parts_of}
@@ -33,10 +32,10 @@ use Rattle.ra_jobs.specs.declared.status.Status.TheVariants.{Done, Infeasible, B
 use Rattle.ra_jobs.specs.Comes.{KnownTo}
 use Rattle.ra_jobs.specs.Complete.{NoFault}
 use Rattle.ra_jobs.specs.Ends.{Ends}
-use Rattle.ra_jobs.specs.Files.{Held, Faults, Names, name_of, Accepts, InstanceIs, check_names, edit_names}
-use Rattle.ra_jobs.specs.Editing.{left_of, text_left, edits_output, IsEdited, EditsAre, IsTaken, Edited, EditsRefused, EditsAccepted, EditOwn, EditComes, AreEditable, edits_as, EditsSay, HasEdits, EditSays, OverSays}
+use Rattle.ra_jobs.specs.Files.{Held, Faults, Names, name_of, Accepts, InstanceIs, edit_names}
+use Rattle.ra_jobs.specs.Editing.{left_of, text_left, edits_output, IsEdited, IsTaken, Edited, EditsRefused, EditsAccepted, EditOwn, EditComes, AreEditable, edits_as, EditsSay, HasEdits, EditSays, OverSays}
 use Rattle.ra_jobs.specs.Refusals.{Says, CanTell, InitialBreaks, ChangedBreaks}
-use Rattle.ra_jobs.specs.Stages.{JudgeSays, ListsSay, ReadsLists, SourceSays}
+use Rattle.ra_jobs.specs.Stages.{JudgeSays, ListsSay, ReadsLists}
 use Rattle.ra_jobs.specs.Statuses.{status_of}
 use Rattle.ra_jobs.proofs.BareLemmas.{bare}
 use Rattle.ra_jobs.proofs.ComesLemmas.{Listed, told_of}

@@ -1,5 +1,5 @@
 -- How a job ends, from how its stages end.
-use Rattle.std.proofs.Common.{◌≡◌, ◌≢◌, List, ℕ, Bool, true, false, Result, Ok, Err, OnOk, IfErr, refl, sym, ◌∙◌, subst}
+use Rattle.std.proofs.Common.{◌≡◌, ◌≢◌, List, ℕ, true, false, Result, Ok, Err, OnOk, IfErr, refl, sym, ◌∙◌, subst}
 use Rattle.ra_jobs.specs.declared.refusals.Refusal.{Refusal}
 use Rattle.ra_jobs.specs.declared.refusals.Refusal.TheVariants.{Read, Write, Memory}
 use Rattle.ra_jobs.specs.declared.status.Status.{Status}

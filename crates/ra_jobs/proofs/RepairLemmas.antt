@@ -1,9 +1,7 @@
 -- What is printed of the tries of a repair, and where its statuses come.
-use Rattle.std.specs.Prelude.{unwrap_or}
-use Rattle.std.proofs.Common.{◌≡◌, ◌≢◌, ◌⊎◌, ℕ, Bool, true, false, List, [], ◌∷◌, length, Option, Some, None, IsSome, Result, Ok, Err, OnOk, IfErr, inl, inr, ⊎_elim, refl, sym, ap, ◌∙◌, subst, arith}
+use Rattle.std.proofs.Common.{◌≡◌, ◌≢◌, ◌⊎◌, ℕ, false, List, [], ◌∷◌, length, Option, Some, None, IsSome, Result, Ok, Err, OnOk, IfErr, inl, inr, ⊎_elim, refl, sym, ap, ◌∙◌, subst, arith}
 use Rattle.ra_base.specs.declared.causes.Cause.{Cause}
 use Rattle.ra_base.specs.declared.ids.Machine.{Machine}
-use Rattle.ra_io.specs.Faults.{Rose}
 use Rattle.ra_draws.specs.declared.budgets.Lots.{Lots}
 use Rattle.ra_draws.specs.declared.sources.Lot.{Lot}
 use Rattle.ra_draws.specs.Lots.{lot_at, IsLots}
@@ -19,7 +17,7 @@ use Rattle.ra_repair.specs.Repairs.{IsRepaired}
 use Rattle.ra_repair.specs.Runs.{Repaired, repair_run}
 use Rattle.ra_repair.proofs.ZeroLemmas as zero
 use Rattle.ra_repair.proofs.RunLemmas as run
-use Rattle.ra_report.specs.RepairTexts.{text_of_repair, repair_lines}
+use Rattle.ra_report.specs.RepairTexts.{text_of_repair}
 use Rattle.ra_jobs.specs.declared.refusals.File.TheVariants as file
 use Rattle.ra_jobs.specs.declared.refusals.Refusal.{Refusal}
 use Rattle.ra_jobs.specs.declared.refusals.Refusal.TheVariants.{Read, Model, Closed, Initial, Changed, InitialBroken, ChangedBroken, Unrepaired as Left, Write, Memory}
@@ -35,7 +33,7 @@ use Rattle.ra_jobs.specs.Repairing.{IsTried, Tried, RepairOwn, LeavesBroken, Rep
 use Rattle.ra_jobs.specs.Stages.{IsStart}
 use Rattle.ra_jobs.specs.Statuses.{status_of}
 use Rattle.ra_jobs.proofs.CompleteLemmas.{is_done, complete_own, OwnRefused}
-use Rattle.ra_jobs.proofs.ComesLemmas.{Listed, known_model, told_of}
+use Rattle.ra_jobs.proofs.ComesLemmas.{Listed, told_of}
 use Rattle.ra_jobs.proofs.EndLemmas.{ends_refused}
 use Rattle.ra_jobs.proofs.AlikeLemmas.{repaired_same}
 use Rattle.ra_jobs.proofs.MeaningLemmas.{broken_same, no_model, no_closed, no_initial, instances_same, lists_same}
@@ -105,12 +103,6 @@ ends_put held names before now printed own tells out_same err_same (Ok tt) statu
 ends_put held names before now printed own tells out_same err_same (Err refusal) status output says untouched done quiet is line = ends_refused held names before now printed own tells out_same err_same refusal status says is line untouched
 
 -- its own refusals, and their statuses
-own_status : (held : Held) (names : Names) (l : Lots) (prints breaks : List ℕ → Type 0) (r : Refusal) → RepairOwn held names l prints breaks r → (status_of r ≡ Unrepaired) ⊎ (status_of r ≡ WriteFault)
-unfolding status_of
-own_status held names l prints breaks (Left cause) says = inl refl
-own_status held names l prints breaks Write says = inr refl
-own_status held names l prints breaks refusal says = absurd says
-
 own_whole : (held : Held) (names : Names) (l : Lots) (prints breaks : List ℕ → Type 0) → ((text : List ℕ) → breaks text → ⊥) → (r : Refusal) → RepairOwn held names l prints breaks r → status_of r ≡ Unrepaired
 unfolding status_of
 own_whole held names l prints breaks whole (Left cause) says = refl

@@ -1,5 +1,5 @@
 -- What the stages of a job say where they refuse, from what the readers say.
-use Rattle.std.proofs.Common.{◌≡◌, ℕ, ◌<◌, ◌≤◌, ◌-◌, ◌^◌, ◌≢◌, List, Option, Some, None, IfSome, IsSome, refl, sym, inl, inr, ⊎_elim, subst, arith}
+use Rattle.std.proofs.Common.{◌≡◌, ℕ, ◌<◌, ◌≤◌, ◌-◌, ◌^◌, List, Option, Some, None, IfSome, IsSome, refl, sym, inl, inr, ⊎_elim, arith}
 use Rattle.std.specs.Prelude.{IsTrue}
 use Rattle.ra_base.specs.declared.costs.Parts.{Parts}
 use Rattle.ra_base.specs.declared.ids.Machine.{Machine}
@@ -24,7 +24,7 @@ use Rattle.ra_jobs.specs.declared.refusals.Refusal.TheVariants.{Read, Model, Clo
 use Rattle.ra_jobs.specs.Files.{Held, Faults, Names, name_of, check_names, solve_names, bound_names, ModelIs, InstanceIs, Accepts}
 use Rattle.ra_jobs.specs.Outputs.{Printed, BoundIs, BoundRead}
 use Rattle.ra_jobs.specs.Refusals.{Says, Judges, OnlyWrites, Nothing, CanTell}
-use Rattle.ra_jobs.specs.Stages.{model_as, closed_as, list_as, ModelSays, ClosedSays, SourceSays, InitialSays, NamedSays, ListSays, ListsSay, JudgeSays, StartSays, IsClosing, IsList, IsStart, ReadsLists, Passed, Judged}
+use Rattle.ra_jobs.specs.Stages.{model_as, closed_as, list_as, ModelSays, ClosedSays, SourceSays, InitialSays, NamedSays, ListSays, ListsSay, JudgeSays, IsClosing, IsList, IsStart, ReadsLists, Passed, Judged}
 
 pub model_says : (held : Held) (name : List ℕ) (before now : Faults) (fault : ModelFault) → (fault ≡ reader.ReadFault → Rose (before name) (now name)) → (IsTrue (is_by_content fault) → IfSome (held name) (λ bytes. model_refusal bytes ≡ Some fault)) → ModelSays held name before now (model_as fault)
 unfolding is_by_content
@@ -101,10 +101,6 @@ says_source held names before now own (Closed fault) says = says
 says_source held names before now own Memory says = tt
 says_source held names before now own refusal says = absurd says
 
--- the model file alone
-pub says_model : (held : Held) (names : Names) (before now : Faults) (own : Refusal → Type 0) (refusal : Refusal) → ModelSays held names.model before now refusal → Says held names before now own refusal
-says_model held names before now own refusal says = says_source held names before now own refusal (source_model held names.model names.closed before now refusal says)
-
 -- the bound of the files
 
 pub says_named : (held later : Held) (model : List ℕ) (closed initial : Option (List ℕ)) (i : Tables) (first before now : Faults) (own : Refusal → Type 0) → ((other : List ℕ) → later other ≡ held other) → ((other : List ℕ) → first other ≤ before other) → InstanceIs held model closed i → (refusal : Refusal) → NamedSays later initial i before now refusal → Says held (bound_names model closed initial) first now own refusal
@@ -166,11 +162,6 @@ starts held later model closed initial i a0 same instance list = record {
   accepts = record { instance = instance; initial = rw (sym (same initial)) list.0; changed = tt };
   fits = list.1;
 }
-
-pub says_start : (held : Held) (names : Names) (i : Tables) (a0 : List Machine) (first now : Faults) (written : Type 0) → IsSome names.initial → Accepts held names i a0 a0 → (refusal : Refusal) → StartSays i a0 refusal → Says held names first now (Judges held names written) refusal
-says_start held names i a0 first now written has_initial accepts (InitialBroken cause) says = record { tables = i; a0 = a0; a = a0; named = has_initial; accepts = accepts; broken = says }
-says_start held names i a0 first now written has_initial accepts Memory says = tt
-says_start held names i a0 first now written has_initial accepts refusal says = absurd says
 
 -- what a refusal says, where more is said of the job's own
 

@@ -5,7 +5,6 @@ use Rattle.ra_base.specs.declared.ids.Machine.{Machine}
 use Rattle.ra_draws.specs.declared.budgets.Lots.{Lots}
 use Rattle.ra_draws.specs.declared.sources.Lot.{Lot}
 use Rattle.ra_model.specs.declared.raw.Tables.{Tables}
-use Rattle.ra_model.specs.Assignments.{IsAssignment}
 use Rattle.ra_model.specs.Broken.{first_broken}
 use Rattle.ra_model.specs.Feasible.{Feasible}
 use Rattle.ra_repair.specs.Runs.{repair_run}

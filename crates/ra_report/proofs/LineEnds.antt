@@ -247,10 +247,6 @@ after_one (b ∷ body) rest none =
     let first = no_end_first b body none in
     ap (λ (is : Bool). cond is (Some (body ++ 10 ∷ rest)) (after_line (body ++ 10 ∷ rest))) first.first ∙ after_one body rest first.rest
 
-pub left_one : (n : ℕ) (body rest : List ℕ) → HasNoEnd body → lines_left (suc n) (Some (body ++ 10 ∷ rest)) ≡ lines_left n (Some rest)
-unfolding lines_left
-left_one n body rest none = ap (lines_left n) (after_one body rest none)
-
 none_left : (n : ℕ) → lines_left n None ≡ None
 unfolding lines_left
 none_left zero = refl

@@ -1,5 +1,4 @@
 -- The end of the job, and what follows from it.
-use Rattle.std.proofs.Common.{◌≡◌}
 use Rattle.std.specs.Option.{option_copied}
 use Rattle.ra_jobs.specs.Files.{bound_names}
 use Rattle.ra_jobs.specs.Outputs.{BoundPrinted}

@@ -1,6 +1,5 @@
 -- The bound of the files went to the output, or a part of its text.
 use Rattle.std.specs.Option.{option_copied}
-use Rattle.std.specs.Io.KnownBytes.{Appends}
 use Rattle.ra_assign.proofs.ToldLemmas.{at_exit}
 use Rattle.ra_report.specs.Pieces.{Breaks}
 use Rattle.ra_jobs.specs.Files.{bound_names}

@@ -1,7 +1,4 @@
-use Rattle.std.specs.Io.KnownBytes.{Appends}
 use Rattle.ra_assign.proofs.ToldLemmas.{at_exit}
-use Rattle.ra_report.specs.Pieces.{Breaks}
-use Rattle.ra_jobs.specs.Editing.{IsEdited}
 use Rattle.ra_jobs.proofs.EditLemmas.{judge_says, over_says}
 use Rattle.ra_jobs.proofs.ResultLemmas.{if_err_then}
 use Rattle.ra_jobs.proofs.edit.edit_from.Goals as goal

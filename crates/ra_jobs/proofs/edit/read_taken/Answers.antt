@@ -1,4 +1,4 @@
-use Rattle.std.proofs.Common.{◌≡◌, ◌≤◌, ℕ, List, ◌∙◌, le_trans}
+use Rattle.std.proofs.Common.{◌∙◌, le_trans}
 use Rattle.std.specs.Option.{option_copied}
 use Rattle.ra_assign.proofs.ToldLemmas.{at_exit}
 use Rattle.ra_jobs.specs.Editing.{EditOwn}

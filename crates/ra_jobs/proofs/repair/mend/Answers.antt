@@ -1,6 +1,6 @@
 -- What the tries say, in the words of the files.
 use Rattle.std.specs.Option.{option_copied}
-use Rattle.std.proofs.Common.{None, refl}
+use Rattle.std.proofs.Common.{None}
 use Rattle.std.specs.Io.KnownBytes.{Appends}
 use Rattle.ra_assign.proofs.ToldLemmas.{at_exit}
 use Rattle.ra_report.specs.Pieces.{Breaks}

@@ -1,9 +1,9 @@
 -- The end of the job, and what follows from it.
-use Rattle.std.proofs.Common.{◌≡◌, None, refl}
+use Rattle.std.proofs.Common.{None, refl}
 use Rattle.std.specs.Io.KnownBytes.{Appends}
 use Rattle.std.specs.Option.{option_copied}
 use Rattle.ra_jobs.specs.Files.{solve_names}
-use Rattle.ra_jobs.specs.Repairing.{Tried, RepairOwn}
+use Rattle.ra_jobs.specs.Repairing.{RepairOwn}
 use Rattle.ra_report.specs.Pieces.{Breaks}
 use Rattle.ra_jobs.proofs.ComesLemmas.{comes}
 use Rattle.ra_jobs.proofs.EndLemmas.{ends_otherwise}

@@ -1,0 +1,56 @@
+-- What is written is the text of the run.
+use Rattle.std.proofs.Common.{◌≡◌, None, Some, sym, ap, subst, ◌∙◌}
+use Rattle.std.specs.Io.KnownBytes.{Appends}
+use Rattle.ra_base.specs.Listed.{Listed}
+use Rattle.ra_base.specs.declared.ids.Machine.{Machine}
+use Rattle.ra_model.specs.declared.numbers.Instance.{Instance}
+use Rattle.ra_model.specs.Assignments.{IsAssignment}
+use Rattle.ra_model.specs.Broken.{first_broken}
+use Rattle.ra_model.specs.Feasible.{Feasible}
+use Rattle.ra_report.specs.Pieces.{Breaks}
+use Rattle.ra_jobs.proofs.RepairLemmas.{tried}
+use Rattle.ra_jobs.proofs.repair.run_tries.Goals as goal
+
+pub returns-in-Some-clause-refused : goal.returns-in-Some-clause-refused
+returns-in-Some-clause-refused g c =
+    let i = c.args.inst.now.tables in
+    let a0 = c.args.initial.now.items in
+    let r = c.run.new.self in
+    let instance : r.inst.now.tables ≡ i = ap (λ (x : Instance). x.tables) (c.run.ensures.instance ∙ c.requires.instance) in
+    let initial : r.start.now.items ≡ a0 = ap (λ (x : Listed Machine). x.items) (c.run.ensures.initial ∙ c.requires.initial) in
+    let fits : IsAssignment i r.kept.assignment.items = subst (λ t. IsAssignment t r.kept.assignment.items) instance r.keeps.stands.fits in
+    let value : c.assignment.result.now.items ≡ r.kept.assignment.items = ap (λ (x : Listed Machine). x.items) c.assignment.ensures.value in
+    let first : c.first_broken-broken.result ≡ first_broken i a0 r.kept.assignment.items = c.first_broken-broken.ensures.first ∙ ap (first_broken i a0) value in
+    tried i a0 c.args.repair.now.lot.now r (Some c.in-Some.cause) (Appends (g.O.Sink.taken c.args.out.now) (g.O.Sink.taken c.write_repair.new.sink)) c.args.inst.now.well_formed c.run.ensures.run instance initial c.run.ensures.lot fits (sym c.in-Some.is ∙ first)
+    (λ none. subst (Feasible i a0) value (c.first_broken-broken.ensures.feasible.0 (c.in-Some.is ∙ none)))
+    c.in-Ok.ensures.whole
+
+pub returns-in-None-clause-printed : goal.returns-in-None-clause-printed
+returns-in-None-clause-printed g c =
+    let i = c.args.inst.now.tables in
+    let a0 = c.args.initial.now.items in
+    let r = c.run.new.self in
+    let instance : r.inst.now.tables ≡ i = ap (λ (x : Instance). x.tables) (c.run.ensures.instance ∙ c.requires.instance) in
+    let initial : r.start.now.items ≡ a0 = ap (λ (x : Listed Machine). x.items) (c.run.ensures.initial ∙ c.requires.initial) in
+    let fits : IsAssignment i r.kept.assignment.items = subst (λ t. IsAssignment t r.kept.assignment.items) instance r.keeps.stands.fits in
+    let value : c.assignment.result.now.items ≡ r.kept.assignment.items = ap (λ (x : Listed Machine). x.items) c.assignment.ensures.value in
+    let first : c.first_broken-broken.result ≡ first_broken i a0 r.kept.assignment.items = c.first_broken-broken.ensures.first ∙ ap (first_broken i a0) value in
+    tried i a0 c.args.repair.now.lot.now r None (Appends (g.O.Sink.taken c.args.out.now) (g.O.Sink.taken c.write_repair.new.sink)) c.args.inst.now.well_formed c.run.ensures.run instance initial c.run.ensures.lot fits (sym c.in-None.is ∙ first)
+    (λ none. subst (Feasible i a0) value (c.first_broken-broken.ensures.feasible.0 (c.in-None.is ∙ none)))
+    c.in-Ok.ensures.whole
+
+pub returns-in-Err-clause-refused : goal.returns-in-Err-clause-refused
+returns-in-Err-clause-refused g c =
+    let i = c.args.inst.now.tables in
+    let a0 = c.args.initial.now.items in
+    let r = c.run.new.self in
+    let instance : r.inst.now.tables ≡ i = ap (λ (x : Instance). x.tables) (c.run.ensures.instance ∙ c.requires.instance) in
+    let initial : r.start.now.items ≡ a0 = ap (λ (x : Listed Machine). x.items) (c.run.ensures.initial ∙ c.requires.initial) in
+    let fits : IsAssignment i r.kept.assignment.items = subst (λ t. IsAssignment t r.kept.assignment.items) instance r.keeps.stands.fits in
+    let value : c.assignment.result.now.items ≡ r.kept.assignment.items = ap (λ (x : Listed Machine). x.items) c.assignment.ensures.value in
+    let first : c.first_broken-broken.result ≡ first_broken i a0 r.kept.assignment.items = c.first_broken-broken.ensures.first ∙ ap (first_broken i a0) value in (
+      c.first_broken-broken.result,
+      tried i a0 c.args.repair.now.lot.now r c.first_broken-broken.result (Breaks (g.O.Sink.taken c.args.out.now) (g.O.Sink.taken c.write_repair.new.sink) (g.O.Sink.faults c.args.out.now) (g.O.Sink.faults c.write_repair.new.sink)) c.args.inst.now.well_formed c.run.ensures.run instance initial c.run.ensures.lot fits first
+          (λ none. subst (Feasible i a0) value (c.first_broken-broken.ensures.feasible.0 none))
+          c.in-Err.ensures.part,
+    )
