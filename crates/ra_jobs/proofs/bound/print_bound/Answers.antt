@@ -17,3 +17,6 @@ returns-in_err-bound-clause-refused g c =
     let names = bound_names c.args.model.now (option_copied c.args.closed) (option_copied c.args.initial) in
     at_exit _ _ _ c.from_residual.ensures (says_anywhere held names (g.F.Files.faults c.args.files.now) (g.F.Files.faults c.read_bound.new.files)
     (OnlyWrites (BoundPrinted held names (Breaks (g.O.Sink.taken c.args.out.now) (g.O.Sink.taken c.args.out.now) (g.O.Sink.faults c.args.out.now) (g.O.Sink.faults c.args.out.now)))) _ c.in_err-bound.ensures.refused)
+
+pub returns-in-Err-clause-refused : goal.returns-in-Err-clause-refused
+returns-in-Err-clause-refused g c = record { bound = c.in_ok-bound.bound; read = c.in_ok-bound.ensures.read; text = c.in-Err.ensures.part }

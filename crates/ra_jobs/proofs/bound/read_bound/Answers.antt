@@ -1,4 +1,5 @@
 -- The instance was read, and then the initial list where one is named.
+use Rattle.std.proofs.Common.{◌∙◌, le_trans}
 use Rattle.std.specs.Option.{option_copied}
 use Rattle.ra_assign.proofs.ToldLemmas.{at_exit}
 use Rattle.ra_jobs.specs.Files.{bound_names}
@@ -15,3 +16,9 @@ returns-clause-refused g c = if_err_then c.bound_over-ended.result _ _ (says_nam
 
 pub returns-in_err-inst-clause-refused : goal.returns-in_err-inst-clause-refused
 returns-in_err-inst-clause-refused g c = at_exit _ _ _ c.from_residual.ensures (says_source (g.F.Files.held c.args.files.now) (bound_names c.args.model.now (option_copied c.args.closed) (option_copied c.args.initial)) (g.F.Files.faults c.args.files.now) (g.F.Files.faults c.read_instance.new.files) Nothing _ c.in_err-inst.ensures.refused)
+
+pub returns-clause-kept : goal.returns-clause-kept
+returns-clause-kept g c = λ other. c.bound_over-ended.ensures.kept other ∙ c.read_instance.ensures.kept other
+
+pub returns-clause-never_fall : goal.returns-clause-never_fall
+returns-clause-never_fall g c = λ other. le_trans (c.read_instance.ensures.never_fall other) (c.bound_over-ended.ensures.never_fall other)

@@ -29,3 +29,21 @@ returns-in_err-lists-clause-refused g c = at_exit _ _ _ c.from_residual-in_err-l
 
 pub returns-in_err-inst-clause-refused : goal.returns-in_err-inst-clause-refused
 returns-in_err-inst-clause-refused g c = at_exit _ _ _ c.from_residual.ensures (says_source (g.F.Files.held c.args.files.now) (edit_names c.args.model.now (option_copied c.args.closed) c.args.initial.now c.args.current.now c.args.edits.now) (g.F.Files.faults c.args.files.now) (g.F.Files.faults c.read_instance.new.files) (EditOwn (g.F.Files.held c.args.files.now) (edit_names c.args.model.now (option_copied c.args.closed) c.args.initial.now c.args.current.now c.args.edits.now) ⊥) _ c.in_err-inst.ensures.refused)
+
+pub returns-clause-kept : goal.returns-clause-kept
+returns-clause-kept g c = λ other. c.take_edits.ensures.kept other ∙ (c.read_lists.ensures.kept other ∙ c.read_instance.ensures.kept other)
+
+pub returns-clause-never_fall : goal.returns-clause-never_fall
+returns-clause-never_fall g c = λ other. le_trans (c.read_instance.ensures.never_fall other) (le_trans (c.read_lists.ensures.never_fall other) (c.take_edits.ensures.never_fall other))
+
+pub returns-in_err-edits-clause-kept : goal.returns-in_err-edits-clause-kept
+returns-in_err-edits-clause-kept g c = λ other. c.take_edits.ensures.kept other ∙ (c.read_lists.ensures.kept other ∙ c.read_instance.ensures.kept other)
+
+pub returns-in_err-edits-clause-never_fall : goal.returns-in_err-edits-clause-never_fall
+returns-in_err-edits-clause-never_fall g c = λ other. le_trans (c.read_instance.ensures.never_fall other) (le_trans (c.read_lists.ensures.never_fall other) (c.take_edits.ensures.never_fall other))
+
+pub returns-in_err-lists-clause-kept : goal.returns-in_err-lists-clause-kept
+returns-in_err-lists-clause-kept g c = λ other. c.read_lists.ensures.kept other ∙ c.read_instance.ensures.kept other
+
+pub returns-in_err-lists-clause-never_fall : goal.returns-in_err-lists-clause-never_fall
+returns-in_err-lists-clause-never_fall g c = λ other. le_trans (c.read_instance.ensures.never_fall other) (c.read_lists.ensures.never_fall other)

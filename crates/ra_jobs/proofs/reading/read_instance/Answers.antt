@@ -1,4 +1,4 @@
-use Rattle.std.proofs.Common.{refl}
+use Rattle.std.proofs.Common.{refl, ◌∙◌, le_trans}
 use Rattle.std.proofs.lemmas.Result.{MatchResult-weaker}
 use Rattle.std.specs.Option.{option_copied}
 use Rattle.ra_assign.proofs.ToldLemmas.{at_exit}
@@ -19,3 +19,9 @@ returns-in-Some-clause-refused g c = MatchResult-weaker c.close.result c.close.e
 
 pub returns-in_err-inst-clause-refused : goal.returns-in_err-inst-clause-refused
 returns-in_err-inst-clause-refused g c = at_exit _ _ _ c.from_residual.ensures (source_model (g.F.Files.held c.args.files.now) c.args.model.now (option_copied c.args.closed) (g.F.Files.faults c.args.files.now) (g.F.Files.faults c.read_open.new.files) _ c.in_err-inst.ensures.refused)
+
+pub returns-in-Some-clause-kept : goal.returns-in-Some-clause-kept
+returns-in-Some-clause-kept g c = λ other. c.close.ensures.kept other ∙ c.read_open.ensures.kept other
+
+pub returns-in-Some-clause-never_fall : goal.returns-in-Some-clause-never_fall
+returns-in-Some-clause-never_fall g c = λ other. le_trans (c.read_open.ensures.never_fall other) (c.close.ensures.never_fall other)

@@ -1,8 +1,9 @@
+use Rattle.std.proofs.Common.{◌∙◌, le_trans}
 use Rattle.std.specs.Option.{option_copied}
 use Rattle.ra_assign.proofs.ToldLemmas.{at_exit}
 use Rattle.ra_jobs.specs.Files.{solve_names}
 use Rattle.ra_jobs.specs.Refusals.{Nothing}
-use Rattle.ra_jobs.proofs.StageLemmas.{says_initial, says_source}
+use Rattle.ra_jobs.proofs.StageLemmas.{says_initial, says_source, starts}
 use Rattle.ra_jobs.proofs.start.read_start.Goals as goal
 
 pub returns-in_err-initial-clause-refused : goal.returns-in_err-initial-clause-refused
@@ -10,3 +11,18 @@ returns-in_err-initial-clause-refused g c = at_exit _ _ _ c.from_residual-in_err
 
 pub returns-in_err-inst-clause-refused : goal.returns-in_err-inst-clause-refused
 returns-in_err-inst-clause-refused g c = at_exit _ _ _ c.from_residual.ensures (says_source (g.F.Files.held c.args.files.now) (solve_names c.args.model.now (option_copied c.args.closed) c.args.initial.now) (g.F.Files.faults c.args.files.now) (g.F.Files.faults c.read_instance.new.files) Nothing _ c.in_err-inst.ensures.refused)
+
+pub returns-clause-kept : goal.returns-clause-kept
+returns-clause-kept g c = λ other. c.read_list.ensures.kept other ∙ c.read_instance.ensures.kept other
+
+pub returns-clause-never_fall : goal.returns-clause-never_fall
+returns-clause-never_fall g c = λ other. le_trans (c.read_instance.ensures.never_fall other) (c.read_list.ensures.never_fall other)
+
+pub returns-in_err-initial-clause-kept : goal.returns-in_err-initial-clause-kept
+returns-in_err-initial-clause-kept g c = λ other. c.read_list.ensures.kept other ∙ c.read_instance.ensures.kept other
+
+pub returns-in_err-initial-clause-never_fall : goal.returns-in_err-initial-clause-never_fall
+returns-in_err-initial-clause-never_fall g c = λ other. le_trans (c.read_instance.ensures.never_fall other) (c.read_list.ensures.never_fall other)
+
+pub returns-clause-read : goal.returns-clause-read
+returns-clause-read g c = starts (g.F.Files.held c.args.files.now) (g.F.Files.held c.read_instance.new.files) c.args.model.now (option_copied c.args.closed) c.args.initial.now c.in_ok-inst.inst.tables c.in_ok-initial.initial.items c.read_instance.ensures.kept c.in_ok-inst.ensures.read c.in_ok-initial.ensures.read
