@@ -24,7 +24,7 @@ use Rattle.ra_jobs.specs.declared.refusals.Refusal.TheVariants.{Read, Model, Clo
 use Rattle.ra_jobs.specs.Files.{Held, Faults, Names, name_of, check_names, solve_names, bound_names, ModelIs, InstanceIs, Accepts}
 use Rattle.ra_jobs.specs.Outputs.{Printed, BoundIs, BoundRead}
 use Rattle.ra_jobs.specs.Refusals.{Says, Judges, OnlyWrites, Nothing, CanTell}
-use Rattle.ra_jobs.specs.Stages.{model_as, closed_as, list_as, ModelSays, ClosedSays, SourceSays, InitialSays, NamedSays, ListSays, ListsSay, JudgeSays, IsClosing, IsList, IsStart, ReadsLists, Passed, Judged}
+use Rattle.ra_jobs.specs.Stages.{model_as, closed_as, list_as, ModelSays, ClosedSays, SourceSays, InitialSays, NamedSays, ListSays, ListsSay, JudgeSays, StartSays, IsClosing, IsList, IsStart, ReadsLists, Passed, Judged}
 
 pub model_says : (held : Held) (name : List ℕ) (before now : Faults) (fault : ModelFault) → (fault ≡ reader.ReadFault → Rose (before name) (now name)) → (IsTrue (is_by_content fault) → IfSome (held name) (λ bytes. model_refusal bytes ≡ Some fault)) → ModelSays held name before now (model_as fault)
 unfolding is_by_content
@@ -162,6 +162,12 @@ starts held later model closed initial i a0 same instance list = record {
   accepts = record { instance = instance; initial = rw (sym (same initial)) list.0; changed = tt };
   fits = list.1;
 }
+
+-- what is said of the initial list is said of both
+pub judge_start_says : (i : Tables) (a0 a : List Machine) (refusal : Refusal) → StartSays i a0 refusal → JudgeSays i a0 a refusal
+judge_start_says i a0 a (InitialBroken cause) says = says
+judge_start_says i a0 a Memory says = tt
+judge_start_says i a0 a refusal says = absurd says
 
 -- what a refusal says, where more is said of the job's own
 

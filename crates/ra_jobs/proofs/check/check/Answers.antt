@@ -1,3 +1,4 @@
+use Rattle.std.proofs.Common.{refl}
 use Rattle.std.specs.Option.{option_copied}
 use Rattle.std.specs.Io.KnownBytes.{Appends}
 use Rattle.ra_report.specs.Pieces.{Breaks}
@@ -16,3 +17,9 @@ returns-in-Err-clause-refused g c = printed (g.F.Files.held c.args.files.now) (c
 
 pub returns-in_err-parts-clause-refused : goal.returns-in_err-parts-clause-refused
 returns-in_err-parts-clause-refused g c = at_exit _ _ _ c.from_residual.ensures (says_unwritten _ _ _ _ _ _ c.in_err-parts.ensures.refused)
+
+pub returns-in_err-parts-clause-untouched : goal.returns-in_err-parts-clause-untouched
+returns-in_err-parts-clause-untouched g c = at_exit _ _ _ c.from_residual.ensures (λ _. refl)
+
+pub returns-in-Err-clause-untouched : goal.returns-in-Err-clause-untouched
+returns-in-Err-clause-untouched g c = λ otherwise. absurd (otherwise refl)

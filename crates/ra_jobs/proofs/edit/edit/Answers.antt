@@ -30,3 +30,6 @@ returns-in_err-taken-clause-refused g c =
     let names = edit_names c.args.model.now (option_copied c.args.closed) c.args.initial.now c.args.current.now c.args.edits.now in
     at_exit _ _ _ c.from_residual.ensures (says_untaken held names (g.F.Files.faults c.args.files.now) (g.F.Files.faults c.read_taken.new.files)
     (Edited held names (Breaks (g.O.Sink.taken c.args.out.now) (g.O.Sink.taken c.args.out.now) (g.O.Sink.faults c.args.out.now) (g.O.Sink.faults c.args.out.now))) _ c.in_err-taken.ensures.refused)
+
+pub returns-in_err-taken-clause-untouched : goal.returns-in_err-taken-clause-untouched
+returns-in_err-taken-clause-untouched g c = at_exit _ _ _ c.from_residual.ensures (λ _. refl)

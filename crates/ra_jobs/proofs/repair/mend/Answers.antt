@@ -1,6 +1,6 @@
 -- What the tries say, in the words of the files.
 use Rattle.std.specs.Option.{option_copied}
-use Rattle.std.proofs.Common.{None}
+use Rattle.std.proofs.Common.{None, refl}
 use Rattle.std.specs.Io.KnownBytes.{Appends}
 use Rattle.ra_assign.proofs.ToldLemmas.{at_exit}
 use Rattle.ra_report.specs.Pieces.{Breaks}
@@ -34,3 +34,6 @@ returns-in_err-start-clause-refused g c =
     let names = solve_names c.args.model.now (option_copied c.args.closed) c.args.initial.now in
     at_exit _ _ _ c.from_residual.ensures (says_anywhere held names (g.F.Files.faults c.args.files.now) (g.F.Files.faults c.read_start.new.files)
     (RepairOwn held names c.args.lots.now (Appends (g.O.Sink.taken c.args.out.now) (g.O.Sink.taken c.args.out.now)) (Breaks (g.O.Sink.taken c.args.out.now) (g.O.Sink.taken c.args.out.now) (g.O.Sink.faults c.args.out.now) (g.O.Sink.faults c.args.out.now))) _ c.in_err-start.ensures.refused)
+
+pub returns-in_err-start-clause-untouched : goal.returns-in_err-start-clause-untouched
+returns-in_err-start-clause-untouched g c = at_exit _ _ _ c.from_residual.ensures (λ _. refl)
