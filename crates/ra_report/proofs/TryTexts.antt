@@ -1,5 +1,5 @@
 -- The lines of tries, and the output of a repair.
-use Rattle.std.proofs.Common.{◌≡◌, ℕ, ◌+◌, List, Option, refl, add-one}
+use Rattle.std.proofs.Common.{◌≡◌, ℕ, ◌+◌, List, ◌++◌, length, Option, refl, add-one}
 use Rattle.ra_base.specs.declared.causes.Cause.{Cause}
 use Rattle.ra_model.specs.Broken.{first_broken}
 use Rattle.ra_repair.specs.declared.repair.Repair.{Repair}
@@ -7,7 +7,8 @@ use Rattle.ra_repair.specs.declared.tries.Try.{Try}
 use Rattle.ra_repair.specs.Repairs.{try_in}
 use Rattle.ra_text.specs.declared.gathered.Gathered.{Gathered}
 use Rattle.ra_text.specs.Gathering.{Adds}
-use Rattle.ra_report.specs.RepairTexts.{try_line, tries_text, repair_lines, text_of_repair}
+use Rattle.ra_report.specs.JournalTexts.{assignment_line}
+use Rattle.ra_report.specs.RepairTexts.{state_line, try_line, tries_text, repair_lines, text_of_repair}
 use Rattle.ra_text.proofs.GatheringLemmas.{adds_more}
 
 -- one more line
@@ -20,3 +21,13 @@ adds_try taken faults tries n a b c first next = rw add-one (adds_more taken fau
 pub repair_told : (r : Repair) (broken : Option Cause) → broken ≡ first_broken r.inst.now.tables r.start.now.items r.kept.assignment.items → text_of_repair r ≡ repair_lines broken r.kept.assignment.items r.tries.items
 unfolding text_of_repair
 repair_told r broken is = rw is refl
+
+-- the line of the state, that of the list and those of the tries are the output
+pub adds_repair : {O : Type 0} (taken : O → Option (List ℕ)) (faults : O → ℕ) (r : Repair) (broken : Option Cause) (a b c d : Gathered O)
+    → broken ≡ first_broken r.inst.now.tables r.start.now.items r.kept.assignment.items → Adds taken faults a b (state_line broken)
+    → Adds taken faults b c (assignment_line r.kept.assignment.items) → Adds taken faults c d (tries_text r.tries.items (length r.tries.items)) → Adds taken faults a d (text_of_repair r)
+unfolding repair_lines
+adds_repair taken faults r broken a b c d is state listed tries =
+    let last = assignment_line r.kept.assignment.items in
+    let lines = tries_text r.tries.items (length r.tries.items) in
+    rw (repair_told r broken is) (adds_more taken faults a b d (state_line broken) (last ++ lines) state (adds_more taken faults b c d last lines listed tries))

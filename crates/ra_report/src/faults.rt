@@ -67,7 +67,7 @@ pub(crate) fn add_fault<O: Sink>(text: &mut Gathered<'_, O>, fault: &Fault<'_>)
         ],
     );
     add_note(text, line.note);
-    add_pieces(text, &[Piece::Text("\n")])
+    text.add(b"\n")
 }
 
 /// The line of a fault.

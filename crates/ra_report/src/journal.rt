@@ -26,7 +26,7 @@ pub(crate) fn add_entry<O: Sink>(text: &mut Gathered<'_, O>, place: u64, entry: 
     add_front(text, place, entry);
     add_steps(text, &entry.mv);
     add_verdict(text, &entry.verdict);
-    add_pieces(text, &[Piece::Text("\n")])
+    text.add(b"\n")
 }
 
 /// Adds the words of an entry before its steps, with a space behind each.
@@ -34,12 +34,17 @@ fn add_front<O: Sink>(text: &mut Gathered<'_, O>, place: u64, entry: &Entry)
     ensures { Adds O.taken O.faults text.old text.new (entry_front place entry.now) }
 {
     add_decimal(text, place);
-    add_marked(text, b' ', entry.worker as u64);
-    add_marked(text, b' ', entry.k);
-    add_marked(text, b' ', entry.q);
-    text.add(b" ");
-    text.add(kind_name(entry.mv.kind()).as_bytes());
-    text.add(b" ")
+    add_pieces(
+        text,
+        &[
+            Piece::Marked(b' ', entry.worker as u64),
+            Piece::Marked(b' ', entry.k),
+            Piece::Marked(b' ', entry.q),
+            Piece::Text(" "),
+            Piece::Text(kind_name(entry.mv.kind())),
+            Piece::Text(" "),
+        ],
+    )
 }
 
 /// The printed name of a kind of moves.
@@ -78,11 +83,11 @@ fn add_step<O: Sink>(text: &mut Gathered<'_, O>, step: Step)
 fn add_verdict<O: Sink>(text: &mut Gathered<'_, O>, verdict: &Verdict)
     ensures { Adds O.taken O.faults text.old text.new (verdict_text verdict.now) }
 {
-    match *verdict {
-        Verdict::Done { cost } => add_pieces(text, &[Piece::Text("done "), Piece::Number(cost)]),
+    match verdict {
+        Verdict::Done { cost } => add_pieces(text, &[Piece::Text("done "), Piece::Number(*cost)]),
         Verdict::Refused { cause } => {
-            add_pieces(text, &[Piece::Text("refused ")]);
-            add_cause(text, &cause)
+            text.add(b"refused ");
+            add_cause(text, cause)
         }
     }
 }

@@ -29,18 +29,10 @@ pub fn write_repair<O: Sink>(
     ensures never_falls { O.faults sink.old ≤ O.faults sink.new }
 {
     let mut text = Gathered::make(sink);
-    add_repair(&mut text, broken, repair);
+    add_state(&mut text, broken);
+    add_assignment(&mut text, repair.assignment().as_slice());
+    add_tries(&mut text, repair);
     text.finish()
-}
-
-/// Adds the output of a repair.
-fn add_repair<O: Sink>(text: &mut Gathered<'_, O>, broken: Option<&Cause>, repair: &Repair<'_>)
-    ensures { Adds O.taken O.faults text.old text.new (repair_lines
-        (option_copied broken.entry) repair.now.kept.assignment.items repair.now.tries.items) }
-{
-    add_state(text, broken);
-    add_assignment(text, repair.assignment().as_slice());
-    add_tries(text, repair)
 }
 
 /// Adds the line that says whether an assignment is feasible, or what is broken first.

@@ -12,4 +12,4 @@ returns g c =
     let verdict = verdict_text c.args.entry.now.verdict in
     let moved = adds_more g.O.Sink.taken g.O.Sink.faults c.args.text.now c.add_front.new.text c.add_steps.new.text front steps c.add_front.ensures c.add_steps.ensures in
     let judged = adds_more g.O.Sink.taken g.O.Sink.faults c.args.text.now c.add_steps.new.text c.add_verdict.new.text (front ++ steps) verdict moved c.add_verdict.ensures in
-    adds_more g.O.Sink.taken g.O.Sink.faults c.args.text.now c.add_verdict.new.text c.add_pieces.new.text (front ++ steps ++ verdict) line_end judged c.add_pieces.ensures
+    adds_more g.O.Sink.taken g.O.Sink.faults c.args.text.now c.add_verdict.new.text c.add.new.self (front ++ steps ++ verdict) line_end judged c.add.ensures

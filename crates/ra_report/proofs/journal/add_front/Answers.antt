@@ -7,11 +7,8 @@ use Rattle.ra_report.proofs.journal.add_front.Goals as goal
 
 pub returns : goal.returns
 unfolding entry_front
-returns g c = simp append_assoc
-    (adds_more g.O.Sink.taken g.O.Sink.faults c.args.text.now c.add_decimal.new.text c.add-3.new.self (number_text c.args.place) ((32 ∷ number_text c.args.entry.now.worker) ++ ((32 ∷ number_text c.args.entry.now.k) ++ ((32 ∷ number_text c.args.entry.now.q) ++ ((32 ∷ []) ++ ((kind_text c.args.entry.now.mv.kind) ++ (32 ∷ [])))))) c.add_decimal.ensures
-    (adds_more g.O.Sink.taken g.O.Sink.faults c.add_decimal.new.text c.add_marked.new.text c.add-3.new.self (32 ∷ number_text c.args.entry.now.worker) ((32 ∷ number_text c.args.entry.now.k) ++ ((32 ∷ number_text c.args.entry.now.q) ++ ((32 ∷ []) ++ ((kind_text c.args.entry.now.mv.kind) ++ (32 ∷ []))))) c.add_marked.ensures
-    (adds_more g.O.Sink.taken g.O.Sink.faults c.add_marked.new.text c.add_marked-2.new.text c.add-3.new.self (32 ∷ number_text c.args.entry.now.k) ((32 ∷ number_text c.args.entry.now.q) ++ ((32 ∷ []) ++ ((kind_text c.args.entry.now.mv.kind) ++ (32 ∷ [])))) c.add_marked-2.ensures
-    (adds_more g.O.Sink.taken g.O.Sink.faults c.add_marked-2.new.text c.add_marked-3.new.text c.add-3.new.self (32 ∷ number_text c.args.entry.now.q) ((32 ∷ []) ++ ((kind_text c.args.entry.now.mv.kind) ++ (32 ∷ []))) c.add_marked-3.ensures
-    (adds_more g.O.Sink.taken g.O.Sink.faults c.add_marked-3.new.text c.add.new.self c.add-3.new.self (32 ∷ []) ((kind_text c.args.entry.now.mv.kind) ++ (32 ∷ [])) c.add.ensures
-    (adds_more g.O.Sink.taken g.O.Sink.faults c.add.new.self c.add-2.new.self c.add-3.new.self (kind_text c.args.entry.now.mv.kind) (32 ∷ []) (simp (c.as_bytes.ensures.value, c.kind_name.ensures, c.kind.ensures) at c.add-2.ensures)
-    c.add-3.ensures))))))
+returns g c =
+    let e = c.args.entry.now in
+    let place = number_text c.args.place in
+    let words = (32 ∷ number_text e.worker) ++ ((32 ∷ number_text e.k) ++ ((32 ∷ number_text e.q) ++ ((32 ∷ []) ++ (kind_text e.mv.kind ++ (32 ∷ []))))) in
+    simp append_assoc (adds_more g.O.Sink.taken g.O.Sink.faults c.args.text.now c.add_decimal.new.text c.add_pieces.new.text place words c.add_decimal.ensures (simp (c.kind_name.ensures, c.kind.ensures) at c.add_pieces.ensures))

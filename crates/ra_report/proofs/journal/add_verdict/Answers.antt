@@ -6,4 +6,4 @@ use Rattle.ra_report.proofs.journal.add_verdict.Goals as goal
 
 pub returns-in-Refused : goal.returns-in-Refused
 unfolding verdict_text
-returns-in-Refused g c = rw c.in-Refused.is (adds_more g.O.Sink.taken g.O.Sink.faults c.args.text.now c.add_pieces-in-Refused.new.text c.add_cause.new.text (codes "refused ") (cause_text c.in-Refused.cause) c.add_pieces-in-Refused.ensures c.add_cause.ensures)
+returns-in-Refused g c = rw c.in-Refused.is (adds_more g.O.Sink.taken g.O.Sink.faults c.args.text.now c.add.new.self c.add_cause.new.text (codes "refused ") (cause_text c.in-Refused.cause) c.add.ensures c.add_cause.ensures)
