@@ -6,7 +6,6 @@ ghost use Rattle.ra_check.specs.Made.{IsMadeFor};
 ghost use Rattle.ra_draws.specs.Lots.{IsLots};
 ghost use Rattle.ra_model.specs.Assignments.{IsAssignment};
 ghost use Rattle.ra_topology.specs.Fits.{IsTopologyOf};
-ghost use Rattle.ra_repair.specs.Repairs.{IsFresh};
 ghost use Rattle.ra_report.specs.Pieces.{Breaks, Puts};
 ghost use Rattle.ra_jobs.specs.Comes.{Comes};
 ghost use Rattle.ra_jobs.specs.Complete.{AreAccepted, NoFault};
@@ -169,40 +168,13 @@ fn try_over<O: Sink>(
     let Ok(mut repair) = Repair::make(alloc, inst, topo, initial, lot) else {
         return Err(Refusal::Memory);
     };
-    let ended = run_tries(inst, initial, &mut repair, scratch, out);
-    drop(repair);
-    ended
-}
-
-/// Makes the tries of a repair, and writes them.
-fn run_tries<O: Sink>(
-    inst: &Instance,
-    initial: &Assignment,
-    repair: &mut Repair<'_>,
-    scratch: &mut Scratch,
-    out: &mut O,
-) -> Result<(), Refusal>
-    requires fits { IsAssignment inst.now.tables initial.now.items }
-    requires made { IsMadeFor scratch.old inst.now.tables }
-    requires fresh { IsFresh repair.old }
-    requires instance { repair.old.inst.now ≡ inst.now }
-    requires initial { repair.old.start.now ≡ initial.now }
-    ensures printed { OnOk result (IsTried
-        inst.now.tables initial.now.items repair.old.lot.now None
-        (Appends (O.taken out.old) (O.taken out.new))) }
-    ensures refused { IfErr result (TrySays inst.now.tables initial.now.items repair.old.lot.now
-        (Appends (O.taken out.old) (O.taken out.new))
-        (Breaks (O.taken out.old) (O.taken out.new) (O.faults out.old) (O.faults out.new))) }
-    ensures untouched { IfErr result (λ refusal. puts_first refusal ≡ false → out.new ≡ out.old) }
-    ensures out_never_falls { O.faults out.old ≤ O.faults out.new }
-{
     repair.run();
     let broken = first_broken(inst, initial, repair.assignment(), scratch);
-    match write_repair(out, broken.as_ref(), repair) {
-        Ok(()) => match broken {
-            Some(cause) => Err(Refusal::Unrepaired(cause)),
-            None => Ok(()),
-        },
-        Err(_) => Err(Refusal::Write),
+    let ended = write_repair(out, broken.as_ref(), &repair);
+    drop(repair);
+    match (ended, broken) {
+        (Err(_), _) => Err(Refusal::Write),
+        (Ok(()), Some(cause)) => Err(Refusal::Unrepaired(cause)),
+        (Ok(()), None) => Ok(()),
     }
 }
