@@ -5,7 +5,7 @@ ghost use Rattle.ra_model.specs.Broken.{first_broken};
 ghost use Rattle.ra_text.specs.Gathering.{Adds};
 ghost use Rattle.ra_text.specs.Pieces.{Breaks};
 ghost use Rattle.ra_text.specs.Notes.{note_text};
-ghost use Rattle.ra_report.specs.RepairTexts.{state_text, state_line, taken_text, try_front, try_back, try_line, tries_text, repair_lines, text_of_repair};
+ghost use Rattle.ra_report.specs.RepairTexts.{state_text, state_line, taken_text, try_front, try_back, try_line, tries_text, text_of_repair};
 
 use crate::journal::{add_steps, kind_name};
 use ra_base::Cause;
