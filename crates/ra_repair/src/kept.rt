@@ -3,7 +3,6 @@ use ra_cells::Cells;
 use ra_rows::Rows;
 
 /// An assignment with all that is kept of it.
-#[derive(Drop)]
 pub(crate) struct Kept<'a> {
     /// The assignment, an own copy.
     pub(crate) assignment: Assignment,
@@ -13,4 +12,16 @@ pub(crate) struct Kept<'a> {
     pub(crate) cells: Cells<'a>,
     /// Its penalty.
     pub(crate) penalty: u128,
+}
+
+/// Lets all lists go in one call, so that the end of an owner is short to prove.
+impl Drop for Kept<'_> {
+    fn drop(self) {
+        let Kept {
+            assignment: _,
+            rows: _,
+            cells: _,
+            penalty: _,
+        } = self;
+    }
 }

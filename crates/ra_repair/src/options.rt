@@ -20,7 +20,7 @@ use ra_topology::Topology;
 use std::sync::ledger::Ledger;
 
 /// A move, and the penalty after it unless it is left out.
-#[derive(Clone, Copy, Debug, PartialEq, Eq)]
+#[derive(Clone, Copy)]
 pub(crate) struct Choice {
     pub(crate) mv: Move,
     pub(crate) after: Option<u128>,

@@ -2,7 +2,7 @@ ghost use Rattle.std.specs.Prelude.{◌≡◌, ◌<◌, [], ◌∷◌, length, I
 ghost use Rattle.ra_draws.specs.Lots.{IsLots};
 ghost use Rattle.ra_model.specs.Assignments.{IsAssignment};
 ghost use Rattle.ra_topology.specs.Fits.{IsTopologyOf};
-ghost use Rattle.ra_repair.specs.Keeping.{Keeps};
+ghost use Rattle.ra_repair.specs.Keeping.{Keeps, Stands};
 ghost use Rattle.ra_repair.specs.Penalty.{penalty};
 
 use crate::kept::Kept;
@@ -135,17 +135,26 @@ fn kept_of<'a>(
     ensures keeps { IfOk result (λ kept. Keeps kept inst.now.tables a0.now.items) }
     ensures assignment { IfOk result (λ kept. kept.assignment.items ≡ a0.now.items) }
 {
+    let mut kept = standing(alloc, inst, a0)?;
+    kept.penalty = penalty_now(inst, topo, a0, &kept);
+    Ok(kept)
+}
+
+/// A copy of an initial assignment with its rows and counters, before its penalty is summed up.
+fn standing<'a>(alloc: Global, inst: &'a Instance, a0: &'a Assignment) -> Result<Kept<'a>, NoMemory>
+    requires { IsAssignment inst.now.tables a0.now.items }
+    ensures stands { IfOk result (λ kept. Stands kept inst.now.tables a0.now.items) }
+    ensures assignment { IfOk result (λ kept. kept.assignment.items ≡ a0.now.items) }
+{
     let assignment = copy_of(alloc, a0)?;
     let rows = Rows::make(alloc, inst, a0)?;
     let cells = Cells::make(alloc, inst, a0)?;
-    let mut kept = Kept {
+    Ok(Kept {
         assignment,
         rows,
         cells,
         penalty: 0,
-    };
-    kept.penalty = penalty_now(inst, topo, a0, &kept);
-    Ok(kept)
+    })
 }
 
 /// A copy of an assignment.
