@@ -34,7 +34,6 @@ impl Drop for Base {
 }
 
 /// The lists of the machines: their labels, what they hold, and the ways between them.
-#[derive(Drop)]
 pub(crate) struct MachineLists {
     pub(crate) rows: Fixed<MachineRow>,
     pub(crate) capacities: Fixed<u32>,
@@ -42,11 +41,32 @@ pub(crate) struct MachineLists {
     pub(crate) move_costs: Fixed<u32>,
 }
 
+/// Lets all lists go in one call, as `Base` does.
+impl Drop for MachineLists {
+    fn drop(self) {
+        let MachineLists {
+            rows: _,
+            capacities: _,
+            safeties: _,
+            move_costs: _,
+        } = self;
+    }
+}
+
 /// The services and their dependencies.
-#[derive(Drop)]
 pub(crate) struct ServiceLists {
     pub(crate) rows: Fixed<ServiceRow>,
     pub(crate) dependencies: Fixed<Service>,
+}
+
+/// Lets both lists go in one call, as `Base` does.
+impl Drop for ServiceLists {
+    fn drop(self) {
+        let ServiceLists {
+            rows: _,
+            dependencies: _,
+        } = self;
+    }
 }
 
 impl Base {
@@ -82,6 +102,22 @@ impl MachineLists {
         })
     }
 
+    /// The four lists.
+    pub(crate) fn apart(self) -> (Fixed<MachineRow>, Fixed<u32>, Fixed<u32>, Fixed<u32>)
+        ensures rows { result.0.items ≡ self.rows.items }
+        ensures capacities { result.1.items ≡ self.capacities.items }
+        ensures safeties { result.2.items ≡ self.safeties.items }
+        ensures move_costs { result.3.items ≡ self.move_costs.items }
+    {
+        let MachineLists {
+            rows,
+            capacities,
+            safeties,
+            move_costs,
+        } = self;
+        (rows, capacities, safeties, move_costs)
+    }
+
     /// The same lists once more.
     pub(crate) fn copy(&self, alloc: Global) -> Result<MachineLists, NoMemory>
         ensures rows { IfOk result (λ copy. copy.rows.items ≡ self.now.rows.items) }
@@ -109,6 +145,15 @@ impl ServiceLists {
             rows: services_of(alloc, inst)?,
             dependencies: dependencies_of(alloc, inst)?,
         })
+    }
+
+    /// The two lists.
+    pub(crate) fn apart(self) -> (Fixed<ServiceRow>, Fixed<Service>)
+        ensures rows { result.0.items ≡ self.rows.items }
+        ensures dependencies { result.1.items ≡ self.dependencies.items }
+    {
+        let ServiceLists { rows, dependencies } = self;
+        (rows, dependencies)
     }
 
     /// The same lists once more.

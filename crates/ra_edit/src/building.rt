@@ -44,16 +44,18 @@ fn raw_of(
     let requirements = copy_of(alloc, requirements.as_slice())?;
     let balances = copy_of(alloc, base.balances.as_slice())?;
     let resources = copy_of(alloc, base.resources.as_slice())?;
-    let services = base.services.copy(alloc)?;
-    let machines = base.machines.copy(alloc)?;
+    let service_lists = base.services.copy(alloc)?;
+    let machine_lists = base.machines.copy(alloc)?;
+    let (services, dependencies) = service_lists.apart();
+    let (machines, capacities, safeties, move_costs) = machine_lists.apart();
     Ok(RawInstance {
         resources,
-        machines: machines.rows,
-        capacities: machines.capacities,
-        safeties: machines.safeties,
-        move_costs: machines.move_costs,
-        services: services.rows,
-        dependencies: services.dependencies,
+        machines,
+        capacities,
+        safeties,
+        move_costs,
+        services,
+        dependencies,
         processes,
         requirements,
         balances,

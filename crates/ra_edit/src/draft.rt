@@ -48,7 +48,7 @@ impl<'a> Model for Draft<'a> {
 }
 
 /// What is left of a draft: the edited instance and its two lists. The machines that were closed are closed.
-#[derive(Debug, Drop)]
+#[derive(Drop)]
 pub struct Edited {
     pub instance: Instance,
     pub initial: Assignment,

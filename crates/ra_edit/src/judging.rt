@@ -11,7 +11,7 @@ use ra_model::Instance;
 use std::alloc::Global;
 
 /// What is found of the current list of a draft: the first constraint that it breaks, or what it costs.
-#[derive(Clone, Copy, Debug)]
+#[derive(Clone, Copy)]
 pub(crate) enum Judged {
     Refused(Cause),
     Fine(Parts),
