@@ -68,6 +68,16 @@ quotient_below k width n below some = (div-lt_iff_lt-mul some).1 below
 pub rest_below : (k width : ℕ) → 0 < width → k % width < width
 rest_below k width some = mod_below k width some
 
+-- a table with a place has columns
+pub some_width : (k n width : ℕ) → k < n * width → 0 < width
+some_width k n width below = grind arith
+
+pub row_below : (k n width all : ℕ) → k < n * width → n ≡ all → k / width < all
+row_below k n width all below same = rw (← same) (quotient_below k width n below (some_width k n width below))
+
+pub column_below : (k n width all : ℕ) → k < n * width → width ≡ all → k % width < all
+column_below k n width all below same = omega (arith, same, rest_below k width (some_width k n width below))
+
 place_of : (k width : ℕ) → k / width * width + k % width ≡ k
 place_of k width = grind (arith, div-add-mod k width)
 
