@@ -1,6 +1,6 @@
 use Rattle.std.proofs.Common.{◌+◌, ◌<◌, length, ap, ◌∙◌, arith, length-append}
 use Rattle.ra_model.specs.Numbers.{service_count}
-use Rattle.ra_edit.proofs.CopyLaws.{service_more, service_whole, end_next}
+use Rattle.ra_edit.proofs.CopyLaws.{service_more, service_whole, end_next, end_within, start_zero}
 use Rattle.ra_edit.proofs.tables.services_of.Goals as goal
 
 pub loop-s-preserved : goal.loop-s-preserved
@@ -22,3 +22,19 @@ push-requires c = omega (arith, c.loop-s.invariant.size, c.loop-s.invariant.room
 
 pub depends-requires : goal.depends-requires
 depends-requires c = omega (arith, c.loop-s-test.true, c.services-s-end.ensures)
+
+pub loop-s-init : goal.loop-s-init
+loop-s-init c = record {
+  items = c.in_ok-rows.ensures.items;
+  size = ap length c.in_ok-rows.ensures.items;
+  room = c.in_ok-rows.ensures.room ∙ c.services.ensures;
+  ends = start_zero c.args.inst.now.tables;
+}
+
+pub overflow_add-end : goal.overflow_add-end
+overflow_add-end c =
+    let within : c.loop-s.s < service_count c.args.inst.now.tables = omega (arith, c.loop-s-test.true, c.services-s-end.ensures) in
+    omega (arith, end_within c.args.inst.now.tables c.loop-s.s c.args.inst.now.well_formed within, c.depends.ensures.count, c.loop-s.invariant.ends)
+
+pub spread_min-requires : goal.spread_min-requires
+spread_min-requires c = omega (arith, c.loop-s-test.true, c.services-s-end.ensures)
