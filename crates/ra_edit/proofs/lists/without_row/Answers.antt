@@ -17,7 +17,7 @@ pub returns : goal.returns
 returns c =
     c.extend_from_slice-3.ensures.items
     ∙ ap (λ xs. xs ++ take ((c.args.count - 1) * c.args.width - (c.args.p * c.args.width + c.args.width)) (drop (c.args.p * c.args.width + c.args.width) c.args.table.now))
-        (c.extend_from_slice-2.ensures.items
-        ∙ ap (λ xs. xs ++ c.split_at.result.1.now) (c.extend_from_slice.ensures.items ∙ ap (λ xs. xs ++ c.split_at-2.result.0.now) c.in_ok-list.ensures.items ∙ c.split_at-2.ensures.front)
-        ∙ ap (λ ys. take (c.args.p * c.args.width) c.args.table.now ++ ys) c.split_at.ensures.back)
+    (c.extend_from_slice-2.ensures.items
+    ∙ ap (λ xs. xs ++ c.split_at.result.1.now) (c.extend_from_slice.ensures.items ∙ ap (λ xs. xs ++ c.split_at-2.result.0.now) c.in_ok-list.ensures.items ∙ c.split_at-2.ensures.front)
+    ∙ ap (λ ys. take (c.args.p * c.args.width) c.args.table.now ++ ys) c.split_at.ensures.back)
     ∙ dropped_other c.args.width c.args.count c.args.p c.args.table.now c.requires.size (omega (arith, c.requires.row, c.if-p-count.false))
