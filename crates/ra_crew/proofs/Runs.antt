@@ -1,7 +1,6 @@
 -- All workers together: they are made, they run, and at the close the journal is whole.
-use Rattle.std.proofs.Common.{◌≡◌, ℕ, ◌+◌, ◌*◌, ◌<◌, ◌≤◌, List, [], ◌∷◌, ◌++◌, map, get_or, length, All, refl, sym, ap, ◌∙◌, subst, arith}
-use Rattle.std.proofs.lemmas.List.{append-nil, append_assoc, length-map, map-append, get_or-map}
-use mathlib.Core.List.{IsPrefix}
+use Rattle.std.proofs.Common.{◌≡◌, ℕ, ◌+◌, ◌*◌, ◌<◌, ◌≤◌, List, [], ◌∷◌, ◌++◌, map, get_or, slice_index_or, remove, length, All, refl, sym, ap, ◌∙◌, subst, arith}
+use Rattle.std.proofs.lemmas.List.{append_assoc, length-map, map-append, get_or-map}
 use Rattle.ra_base.specs.declared.ids.Machine.{Machine}
 use Rattle.ra_base.specs.Listed.{Listed}
 use Rattle.ra_draws.specs.declared.budgets.Lots.{Lots}
@@ -9,7 +8,7 @@ use Rattle.ra_model.specs.declared.numbers.Instance.{Instance}
 use Rattle.ra_model.specs.declared.raw.Tables.{Tables}
 use Rattle.ra_journal.specs.declared.entries.Entry.{Entry}
 use Rattle.ra_journal.specs.declared.journal.Journal.{Journal}
-use Rattle.ra_journal.specs.Entries.{entries_of, worker_count, budget, proposal_count}
+use Rattle.ra_journal.specs.Entries.{entries_of, worker_count, budget}
 use Rattle.ra_journal.specs.Legal.{Whole}
 use Rattle.ra_journal.proofs.RoomLemmas.{proposals_few}
 use Rattle.ra_turn.specs.Passes.{EachAt, seen_by, made_by, IsPartOf}
@@ -17,12 +16,12 @@ use Rattle.ra_turn.specs.Notes.{by}
 use Rattle.ra_shared.specs.declared.books.Opening.{Opening}
 use Rattle.ra_shared.specs.declared.shared.Shared.{Shared}
 use Rattle.ra_shared.specs.Books.{opening_of_journal}
-use Rattle.ra_shared.specs.Shares.{start_of, IsAtRest, IsNew, IsLast}
+use Rattle.ra_shared.specs.Shares.{start_of, IsNew, IsLast}
 use Rattle.ra_worker.specs.declared.replica.Replica.{Replica}
 use Rattle.ra_worker.specs.Replicas.{IsAt}
 use Rattle.ra_crew.specs.declared.worker.Worker.{Worker}
 use Rattle.ra_crew.specs.Working.{IsAtWork, HasOwn}
-use Rattle.ra_crew.specs.Running.{MayRun, HasRun}
+use Rattle.ra_crew.specs.Running.{HasRun}
 use Rattle.ra_crew.specs.Crews.{IsFresh, IsReadyAs, AreReady, IsFinishedAs, HaveRun}
 use Rattle.ra_crew.proofs.Seen.{own_count, entries_grow}
 use Rattle.ra_crew.proofs.Steps.{place_few}
@@ -40,6 +39,11 @@ has_run s first w work own number turns used = record {
 pub nothing_left : {X : Type 0} (l : List X) → length l ≡ 0 → l ≡ []
 nothing_left [] h = refl
 nothing_left (x ∷ xs) h = absurd (omega arith)
+
+-- the first of a list is taken out
+pub first_out : {X : Type 0} (xs ys : List X) (x : X) → 0 < length xs → x ≡ slice_index_or xs 0 x → ys ≡ remove xs 0 → xs ≡ x ∷ ys
+first_out [] ys x some is rest = absurd (omega (arith, some))
+first_out (v ∷ vs) ys x some is rest = rw (rest, sym is) refl
 
 -- an element of a list that has one
 some_of : {X : Type 0} (xs : List X) (n : ℕ) → n < length xs → X

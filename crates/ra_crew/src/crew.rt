@@ -54,9 +54,8 @@ impl<'a> Crew<'a> {
         ensures lots { IfOk result (λ crew. (start_of crew.shared).lots ≡ lots.now) }
     {
         let journal = Journal::make(alloc, inst, topo, a0, start, lots)?;
-        let (shared, passes) = Shared::make(alloc, journal)?;
-        let workers = make_workers(alloc, inst, topo, a0, start, lots, passes)?;
-        let passes = Vec::with_capacity(alloc, workers.len())?;
+        let (shared, mut passes) = Shared::make(alloc, journal)?;
+        let workers = make_workers(alloc, inst, topo, a0, start, lots, &mut passes)?;
         Ok(Crew {
             shared,
             workers,
@@ -81,7 +80,7 @@ impl<'a> Crew<'a> {
     }
 }
 
-/// A worker for each pass, in order, at place 0.
+/// A worker for each pass, in order, at place 0. It takes all passes, and leaves their room.
 fn make_workers<'a>(
     alloc: Global,
     inst: &'a Instance,
@@ -89,19 +88,22 @@ fn make_workers<'a>(
     a0: &'a Assignment,
     start: Parts,
     lots: &'a Lots,
-    passes: Vec<WorkerPass<'a>>,
+    passes: &mut Vec<WorkerPass<'a>>,
 ) -> Result<Vec<Worker<'a>>, NoMemory>
     requires fits { IsAssignment inst.now.tables a0.now.items }
     requires topology { IsTopologyOf topo.now inst.now.tables }
     requires unbroken { first_broken inst.now.tables a0.now.items a0.now.items ≡ None }
     requires parts { start ≡ parts_of inst.now.tables a0.now.items a0.now.items }
-    requires exist { All (λ pass. pass.number < worker_count lots.now) passes.items }
-    ensures passes { IfOk result (λ workers. map (λ w. w.pass) workers.items ≡ passes.entry.items) }
+    requires exist { All (λ pass. pass.number < worker_count lots.now) passes.old.items }
+    ensures passes { IfOk result (λ workers. map (λ w. w.pass) workers.items ≡ passes.old.items) }
+    ensures taken { IfOk result (λ workers. passes.new.items ≡ []) }
+    ensures room { IfOk result (λ workers. length workers.items ≤ vec_capacity passes.new) }
     ensures fresh { IfOk result (λ workers.
         All (IsFresh inst.now.tables a0.now.items lots.now) workers.items) }
 {
     let mut workers = Vec::with_capacity(alloc, passes.len())?;
-    for pass in passes {
+    'passes: while passes.len() > 0 {
+        let pass = passes.remove(0);
         let worker = make_worker(alloc, inst, topo, a0, start, lots, pass)?;
         workers.push_reserved(worker);
     }

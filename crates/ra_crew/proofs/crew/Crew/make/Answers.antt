@@ -1,4 +1,4 @@
-use Rattle.std.proofs.Common.{◌≡◌, ◌<◌, ◌≤◌, length, map, sym, ap, ◌∙◌, arith}
+use Rattle.std.proofs.Common.{length, sym, ap, ◌∙◌, arith}
 use Rattle.std.proofs.lemmas.List.{length-map}
 use Rattle.ra_journal.specs.Entries.{worker_count}
 use Rattle.ra_shared.specs.declared.books.Opening.{Opening}
@@ -21,5 +21,5 @@ invariant_of-result c =
           (sym (length-map ws (λ (w : Worker). w.pass)) ∙ ap length c.in_ok-workers.ensures.passes ∙ c.in_ok-shared.ensures.count ∙ ap worker_count c.in_ok-journal.ensures.lots)
           (rw c.in_ok-workers.ensures.passes c.in_ok-shared.ensures.passes)
           c.in_ok-workers.ensures.fresh;
-      room = (c.in_ok-passes.ensures.items, omega (arith, c.in_ok-passes.ensures.exact, c.len.ensures));
+      room = (c.in_ok-workers.ensures.taken, c.in_ok-workers.ensures.room);
     }
