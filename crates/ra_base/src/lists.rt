@@ -21,7 +21,7 @@ impl<T: Drop> From<AllocFailed<T>> for NoMemory {
 }
 
 /// A list with a room that is reserved once, so that no call but `make` takes memory.
-#[derive(Debug, Drop)]
+#[derive(Drop)]
 pub struct Fixed<T: Copy> {
     items: Vec<T>,
     room: usize,

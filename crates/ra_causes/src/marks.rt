@@ -1,5 +1,5 @@
 /// Which of its marks a machine is asked for.
-#[derive(Clone, Copy, Debug, PartialEq, Eq)]
+#[derive(Clone, Copy)]
 pub(crate) enum Mark {
     /// Its number.
     OnMachine,

@@ -21,7 +21,6 @@ use std::alloc::Global;
 
 /// How the processes of each service are placed by an assignment that the cells stand for, and which they don't hold.
 /// The tables are made once and changed process by process.
-#[derive(Debug)]
 pub struct Cells<'a> {
     inst: &'a Instance,
     start: &'a Assignment,

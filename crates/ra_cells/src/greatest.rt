@@ -11,7 +11,6 @@ use std::marker::Model;
 
 /// The moved count of each service, which is the number of its processes that aren't on their initial machine, and the
 /// greatest of them. Contracts see the list of counts, and the limit that no count passes.
-#[derive(Debug)]
 pub struct Greatest {
     counts: Fixed<u32>,
     tallies: Fixed<u32>,

@@ -7,7 +7,7 @@ use ra_base::Machine;
 use ra_model::Instance;
 
 /// Which of its marks a machine is asked for.
-#[derive(Clone, Copy, Debug, PartialEq, Eq)]
+#[derive(Clone, Copy)]
 pub(crate) enum Mark {
     OnMachine,
     InLocation,

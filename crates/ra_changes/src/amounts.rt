@@ -2,7 +2,7 @@ ghost use Rattle.std.specs.Prelude.{◌≡◌, ◌^◌, ◌<◌, pos, ◌-ℤ◌
 ghost use Rattle.std.specs.Int.{w128};
 
 /// What is added to a cost, and what is taken away from it.
-#[derive(Clone, Copy, Debug, PartialEq, Eq)]
+#[derive(Clone, Copy)]
 pub(crate) struct Change {
     pub(crate) added: u128,
     pub(crate) taken: u128,

@@ -8,7 +8,6 @@ use std::alloc::Global;
 
 /// Tables that the checks of one instance write into, so that a check takes no memory. What stands in them between
 /// two calls says nothing.
-#[derive(Debug)]
 pub struct Scratch {
     pub(crate) used: Fixed<u64>,
     pub(crate) transient: Fixed<u64>,

@@ -7,7 +7,7 @@ use std::alloc::Global;
 
 /// What the checks of services stand on: the processes of each service, places in the stead of labels, and one mark
 /// for each machine, which a check may stamp as it likes.
-#[derive(Debug, Drop)]
+#[derive(Drop)]
 pub(crate) struct Services {
     pub(crate) members: Members,
     pub(crate) places: Places,

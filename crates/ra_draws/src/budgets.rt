@@ -5,7 +5,7 @@ use crate::sources::Lot;
 use ra_base::Drawing;
 
 /// The lots of a run, one for each worker, with the slack and the drawing that all of them share.
-#[derive(Debug, Drop)]
+#[derive(Drop)]
 pub struct Lots {
     slack: u64,
     drawing: Drawing,

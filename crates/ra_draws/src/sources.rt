@@ -1,7 +1,7 @@
 use ra_base::Fixed;
 
 /// Where the words of a worker come from.
-#[derive(Debug, Drop)]
+#[derive(Drop)]
 pub enum Source {
     /// The words of the generator xoshiro256++ that this seed makes.
     Seed(u64),
@@ -10,7 +10,7 @@ pub enum Source {
 }
 
 /// What a worker is given: the source of its words, and how many proposals it makes.
-#[derive(Debug, Drop)]
+#[derive(Drop)]
 pub struct Lot {
     /// Where its words come from.
     pub source: Source,

@@ -26,7 +26,7 @@ pub enum Edit {
 
 /// Edits in their order, each with a requirement for each resource of an instance. Contracts see the edits and the
 /// requirements as two lists.
-#[derive(Debug, Drop)]
+#[derive(Drop)]
 pub struct Edits {
     pub(crate) width: u32,
     pub(crate) edits: Fixed<Edit>,

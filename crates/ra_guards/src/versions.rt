@@ -9,7 +9,6 @@ use std::marker::Model;
 
 /// The version of each guard: one more than the place of the last entry that touched it, and 0 where none did. Contracts
 /// see the versions of the machines and those of the services.
-#[derive(Debug)]
 pub struct Versions {
     machines: Fixed<u64>,
     services: Fixed<u64>,

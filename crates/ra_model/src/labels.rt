@@ -14,7 +14,7 @@ use std::marker::Model;
 /// For each machine the first machine with the same location label, and the first with the same neighbourhood label.
 /// Labels may be any numbers; places are below the number of machines, and two machines have one place exactly where
 /// they have one label.
-#[derive(Debug, Drop)]
+#[derive(Drop)]
 pub struct Places {
     locations: Fixed<Machine>,
     neighbourhoods: Fixed<Machine>,
@@ -29,7 +29,7 @@ impl Model for Places {
 }
 
 /// Which of its two labels a machine is asked for.
-#[derive(Clone, Copy, Debug, PartialEq, Eq)]
+#[derive(Clone, Copy)]
 pub(crate) enum Label {
     Location,
     Neighbourhood,

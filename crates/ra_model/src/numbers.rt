@@ -11,7 +11,7 @@ use std::sync::ledger::Ledger;
 
 /// An instance: its tables have the lengths that its counts ask for, its counts are within the limits, and all that
 /// is named in it exists.
-#[derive(Debug, Drop)]
+#[derive(Drop)]
 pub struct Instance {
     tables: Tables,
     pub ghost well_formed: { WellFormed tables },

@@ -3,7 +3,7 @@ ghost use Rattle.std.specs.Prelude.{◌≡◌, ℕ, ◌^◌, ◌<◌};
 use ra_base::{Fixed, Resource, Service};
 
 /// One resource: whether it is used in transition as well, and the weight of its load cost.
-#[derive(Clone, Copy, Debug, PartialEq, Eq)]
+#[derive(Clone, Copy)]
 pub struct ResourceRow {
     /// Whether a process that moves uses the resource on its old machine and on its new one.
     pub transient: bool,
@@ -13,7 +13,7 @@ pub struct ResourceRow {
 }
 
 /// One machine: the labels of its neighbourhood and of its location, any numbers.
-#[derive(Clone, Copy, Debug, PartialEq, Eq)]
+#[derive(Clone, Copy)]
 pub struct MachineRow {
     /// The label of the machine's neighbourhood, which dependencies look at.
     pub neighbourhood: u32,
@@ -24,7 +24,7 @@ pub struct MachineRow {
 }
 
 /// One service: how many locations it needs, and where its dependencies end.
-#[derive(Clone, Copy, Debug, PartialEq, Eq)]
+#[derive(Clone, Copy)]
 pub struct ServiceRow {
     /// The least number of different locations that hold a process of the service.
     pub spread_min: u32,
@@ -36,7 +36,7 @@ pub struct ServiceRow {
 }
 
 /// One process: its service, and what it costs to move it.
-#[derive(Clone, Copy, Debug, PartialEq, Eq)]
+#[derive(Clone, Copy)]
 pub struct ProcessRow {
     /// The service that the process belongs to.
     pub service: Service,
@@ -47,7 +47,7 @@ pub struct ProcessRow {
 
 /// One balance objective: on each machine, `target` times what is available of `first` should not be above what is
 /// available of `second`.
-#[derive(Clone, Copy, Debug, PartialEq, Eq)]
+#[derive(Clone, Copy)]
 pub struct BalanceRow {
     pub first: Resource,
     pub second: Resource,
@@ -58,7 +58,6 @@ pub struct BalanceRow {
 }
 
 /// The lists of a model file. Tables are stored by machine or by process first.
-#[derive(Debug)]
 pub struct RawInstance {
     pub resources: Fixed<ResourceRow>,
     pub machines: Fixed<MachineRow>,
@@ -107,7 +106,6 @@ impl Drop for RawInstance {
 
 /// All numbers of an instance: the lists of the model file, and one flag for each machine that says whether it is
 /// closed. No list of flags means that no machine is closed.
-#[derive(Debug)]
 pub struct Tables {
     pub raw: RawInstance,
     pub closed: Option<Fixed<bool>>,

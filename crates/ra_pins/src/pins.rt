@@ -21,7 +21,6 @@ use std::sync::ledger::{Blank, Ledger};
 /// The pinned processes of an instance and a start: those that can be on no other machine than that on which they
 /// start, in any assignment that is feasible with respect to the start. And for each machine and resource what those of
 /// them that start there require.
-#[derive(Debug)]
 pub struct Pins {
     flags: Fixed<bool>,
     machines: u32,

@@ -13,7 +13,6 @@ use std::marker::Brand;
 use std::sync::ledger::{Blank, Ledger};
 
 /// What the search for the pinned processes knows so far.
-#[derive(Debug)]
 pub(crate) struct Search {
     /// For each process whether it is flagged: it is known to stay.
     pub(crate) flags: Fixed<bool>,

@@ -9,7 +9,7 @@ use ra_model::Instance;
 use std::sync::ledger::Ledger;
 
 /// Which resources are meant.
-#[derive(Clone, Copy, Debug, PartialEq, Eq)]
+#[derive(Clone, Copy)]
 pub(crate) enum Columns {
     All,
     Transient,

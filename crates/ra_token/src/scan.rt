@@ -32,7 +32,7 @@ pub fn skip_blanks(bytes: &[u8], from: usize) -> usize
 }
 
 /// How far a run of digits was looked at, and what it is worth there.
-#[derive(Clone, Copy, Debug, PartialEq, Eq)]
+#[derive(Clone, Copy)]
 pub struct Stretch {
     /// The index behind the last digit that was looked at.
     pub end: usize,

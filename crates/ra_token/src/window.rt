@@ -27,7 +27,7 @@ pub struct Window {
 }
 
 /// A run of digits of a file.
-#[derive(Clone, Copy, Debug, PartialEq, Eq)]
+#[derive(Clone, Copy)]
 pub struct Run {
     /// The place behind its last digit.
     pub end: u64,

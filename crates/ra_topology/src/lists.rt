@@ -7,7 +7,7 @@ use ra_base::{Fixed, Service};
 use std::marker::Model;
 
 /// A list of services for each service, all in one table. Contracts see one list for each service.
-#[derive(Debug, Drop)]
+#[derive(Drop)]
 pub(crate) struct ServiceLists {
     pub(crate) all: Fixed<Service>,
     pub(crate) ends: Fixed<u32>,

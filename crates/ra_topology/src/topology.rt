@@ -13,7 +13,6 @@ use std::marker::Model;
 
 /// For each service its processes, the services on which it depends, and those that depend on it. Contracts see one
 /// list of each kind for each service.
-#[derive(Debug)]
 pub struct Topology {
     members: Members,
     needs: ServiceLists,

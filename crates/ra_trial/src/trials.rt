@@ -14,7 +14,7 @@ use std::alloc::Global;
 const MODEL_ROOM: usize = 196_832;
 
 /// The texts of a trial instance.
-#[derive(Debug, Drop)]
+#[derive(Drop)]
 pub struct TrialText {
     /// The model file.
     pub model: Fixed<u8>,
