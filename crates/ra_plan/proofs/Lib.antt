@@ -1,2 +1,3 @@
 pub mod OptionSizes
 pub mod Bests
+pub mod Weighed

@@ -1,10 +1,15 @@
-//! The plan for a proposal: of the moves that its words name, the first of least cost among those that the judge calls
-//! Done, with its weighing. All of it is found by changes on a replica.
+//! The weighing of a move at a world, the verdict on a weighed move, and the plan for a proposal: of the moves that its
+//! words name, the first of least cost among those that the judge calls Done, with its weighing. All of it is found by
+//! changes on a replica.
 #![tactic(auto)]
 
 mod best;
 mod moves;
 mod planning;
 mod shifts;
+mod verdicts;
+mod weighing;
 
 pub use planning::plan;
+pub use verdicts::verdict;
+pub use weighing::weigh;

@@ -7,11 +7,11 @@ ghost use Rattle.ra_local.specs.Moving.{IsOffered};
 ghost use Rattle.ra_plan.specs.Choosing.{IsBest, steps_in};
 
 use crate::best::Best;
+use crate::verdicts::verdict;
 use ra_base::{Drawing, Steps};
 use ra_causes::is_unbroken;
 use ra_changes::changed_by;
 use ra_moves::{Move, options, resolve};
-use ra_weigh::verdict;
 use ra_world::World;
 use std::sync::ledger::Ledger;
 

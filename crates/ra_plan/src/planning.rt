@@ -9,9 +9,9 @@ ghost use Rattle.ra_plan.specs.Choosing.{IsBest};
 use crate::best::Best;
 use crate::moves::best_move;
 use crate::shifts::best_shift;
+use crate::weighing::weigh;
 use ra_base::{Drawing, Steps};
 use ra_moves::{Move, MoveKind, Plan, Weighed, resolve};
-use ra_weigh::weigh;
 use ra_world::World;
 use std::sync::ledger::Ledger;
 

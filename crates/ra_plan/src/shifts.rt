@@ -8,10 +8,10 @@ ghost use Rattle.ra_local.specs.Moving.{IsOffered};
 ghost use Rattle.ra_plan.specs.Choosing.{IsBest, steps_in};
 
 use crate::best::Best;
+use crate::verdicts::verdict;
 use ra_base::{Drawing, Machine, Process, Steps};
 use ra_moves::options;
 use ra_shift::Shift;
-use ra_weigh::verdict;
 use ra_world::World;
 use std::sync::ledger::Ledger;
 

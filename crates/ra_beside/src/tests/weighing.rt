@@ -5,7 +5,7 @@ use super::plans::is_done_at;
 use ra_base::{Drawing, MovedCount, Service, Steps};
 use ra_compare::Beside;
 use ra_moves::{Move, Weighed, options, resolve};
-use ra_weigh::{verdict, weigh};
+use ra_plan::{verdict, weigh};
 use ra_world::World;
 use std::sync::ledger::Ledger;
 

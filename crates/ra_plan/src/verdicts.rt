@@ -3,7 +3,7 @@ ghost use Rattle.ra_moves.specs.declared.steps.Step.{Step};
 ghost use Rattle.ra_moves.specs.Judging.{judge};
 ghost use Rattle.ra_local.specs.Moving.{IsOffered};
 ghost use Rattle.ra_local.specs.Weighing.{weighed_of};
-ghost use Rattle.ra_weigh.specs.Weighings.{IsWeighing};
+ghost use Rattle.ra_plan.specs.Weighings.{IsWeighing};
 
 use ra_moves::{Verdict, Weighed};
 use ra_settle::settle_now;

@@ -1,5 +1,5 @@
-use Rattle.ra_weigh.proofs.Weighed.{has_settling, settling_of}
-use Rattle.ra_weigh.proofs.verdicts.verdict.Goals as goal
+use Rattle.ra_plan.proofs.Weighed.{has_settling, settling_of}
+use Rattle.ra_plan.proofs.verdicts.verdict.Goals as goal
 
 pub settle_now-requires : goal.settle_now-requires
 settle_now-requires c =

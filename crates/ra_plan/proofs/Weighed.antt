@@ -16,7 +16,7 @@ use Rattle.ra_moves.specs.Judging.{repeat_of, broken_by}
 use Rattle.ra_local.specs.Moving.{IsMove, IsOffered}
 use Rattle.ra_local.specs.Weighing.{weighed_of}
 use Rattle.ra_settle.specs.Settling.{AreMovedOf, IsSettling, HasSettling}
-use Rattle.ra_weigh.specs.Weighings.{IsWeighing}
+use Rattle.ra_plan.specs.Weighings.{IsWeighing}
 
 -- the counts that cells keep are the moved counts of their assignment
 pub counts_of_cells : (i : Tables) (a0 a : List Machine) (cells : Cells) (moved : MovedCounts) → StandFor cells i a0 a → moved ≡ cells.greatest → AreMovedOf i a0 a moved
