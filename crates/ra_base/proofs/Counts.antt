@@ -2,7 +2,7 @@
 use Rattle.std.proofs.Common.{◌≡◌, ℕ, ◌+◌, ◌<◌, ◌≤◌, ◌≢◌, Bool, true, false, not, refl, ap, ⊎_elim, arith}
 use Rattle.std.proofs.lemmas.Bool.{cases_lt}
 use Rattle.ra_base.specs.Sums.{one_if, count}
-use Rattle.ra_base.proofs.Sums.{total_none, total_more, total_same, total_zero, total_zero_at, total_constant, total_le, total_term, total_terms, total_positive, total_at_most_one, total_change, total_change_two, total_only, total_of_sum, total_grows, total_bound}
+use Rattle.ra_base.proofs.Sums.{total_none, total_more, total_same, total_zero, total_zero_at, total_constant, total_le, total_term, total_terms, total_positive, total_at_most_one, total_change, total_change_two, total_of_sum, total_grows, total_bound}
 
 pub one_if_true : (t : Bool) → t ≡ true → one_if t ≡ 1
 one_if_true t is = ap one_if is
@@ -78,10 +78,6 @@ count_two n i j test i_within j_within apart i_yes j_yes = ⊎_elim
 -- where any two that pass are one, at most one passes
 pub count_at_most_one : (n : ℕ) (test : ℕ → Bool) → ((i j : ℕ) → i < n → j < n → test i ≡ true → test j ≡ true → i ≡ j) → count n test ≤ 1
 count_at_most_one n test one = total_at_most_one n 1 (λ k. one_if (test k)) (λ k h. one_if_le (test k)) (λ i j i_within j_within i_more j_more. one i j i_within j_within (one_if_positive (test i) i_more) (one_if_positive (test j) j_more))
-
--- all but i fail
-pub count_only : (n i : ℕ) (test : ℕ → Bool) → i < n → ((k : ℕ) → k < n → k ≢ i → test k ≡ false) → count n test ≡ one_if (test i)
-count_only n i test within nones = total_only n i (λ k. one_if (test k)) within (λ k h d. one_if_false (test k) (nones k h d))
 
 pub count_order : (n : ℕ) (s t : ℕ → Bool) → ((k : ℕ) → k < n → s k ≡ true → t k ≡ true) → count n s ≤ count n t
 count_order n s t each = total_le n (λ k. one_if (s k)) (λ k. one_if (t k)) (λ k h. one_if_order (s k) (t k) (each k h))

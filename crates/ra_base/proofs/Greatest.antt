@@ -1,6 +1,6 @@
 -- Laws of `greatest`, the greatest value of a function over the numbers below n.
-use Rattle.std.proofs.Common.{◌≡◌, ℕ, zero, suc, ◌+◌, ◌<◌, ◌≤◌, ◌≢◌, max, eqb, refl, ap, inl, inr, ⊎_elim, add-one, arith, eq-eqb, le_trans}
-use Rattle.std.proofs.lemmas.Bool.{cases_lt, cases_eq, eqb-true, both_ways}
+use Rattle.std.proofs.Common.{◌≡◌, ℕ, zero, suc, ◌+◌, ◌<◌, ◌≤◌, max, eqb, refl, ap, inl, inr, ⊎_elim, add-one, arith, eq-eqb, le_trans}
+use Rattle.std.proofs.lemmas.Bool.{cases_lt, eqb-true, both_ways}
 use Rattle.ra_base.specs.Sums.{greatest, count}
 use Rattle.ra_base.proofs.Counts.{count_zero_at, count_positive}
 
@@ -63,19 +63,6 @@ greatest_le (suc n) f g each = omega (arith, greatest_le n f g (λ k h. each k (
 -- a value that bounds all is the greatest
 pub greatest_is : (n i : ℕ) (f : ℕ → ℕ) → i < n → ((k : ℕ) → k < n → f k ≤ f i) → greatest n f ≡ f i
 greatest_is n i f within each = omega (arith, greatest_at n i f within, greatest_least n (f i) f each)
-
--- where f and g differ at i alone, the greatest rises to the new value at most
-pub greatest_change : (n i : ℕ) (f g : ℕ → ℕ) → i < n → ((k : ℕ) → k < n → k ≢ i → f k ≡ g k) → greatest n g ≤ max (greatest n f) (g i)
-greatest_change n i f g within same = greatest_least n (max (greatest n f) (g i)) g (λ k h. ⊎_elim
-    (λ (here : k ≡ i). omega (arith, ap g here))
-    (λ (apart : k ≢ i). omega (arith, greatest_at n k f h, same k h apart))
-    (cases_eq k i))
-
--- where it rises at i alone, the greatest is the one before or the new value
-pub greatest_raised : (n i : ℕ) (f g : ℕ → ℕ) → i < n → ((k : ℕ) → k < n → k ≢ i → f k ≡ g k) → f i ≤ g i → greatest n g ≡ max (greatest n f) (g i)
-greatest_raised n i f g within same rise =
-    let each = λ (k : ℕ) (h : k < n). ⊎_elim {C = f k ≤ g k} (λ (here : k ≡ i). omega (arith, ap f here, ap g here)) (λ (apart : k ≢ i). omega (arith, same k h apart)) (cases_eq k i) in
-    omega (arith, greatest_change n i f g within same, greatest_at n i g within, greatest_le n f g each)
 
 -- no value has more than b of those up to a bound, and some value has b
 pub greatest_by_counts : (n b top : ℕ) (f : ℕ → ℕ) → greatest n f ≤ top → ((v : ℕ) → b < v → v ≤ top → count n (λ k. eqb (f k) v) ≡ 0) → (0 < b → 0 < count n (λ k. eqb (f k) b)) → greatest n f ≡ b

@@ -34,10 +34,6 @@ pub is_better_none : (best : Option ℕ) → is_better None best ≡ false
 unfolding is_better
 is_better_none best = refl
 
-pub is_better_first : (x : ℕ) → is_better (Some x) None ≡ true
-unfolding is_better
-is_better_first x = refl
-
 pub is_better_some : (x y : ℕ) → is_better (Some x) (Some y) ≡ ltb x y
 unfolding is_better
 is_better_some x y = refl

@@ -80,12 +80,6 @@ total_constant (suc n) c = omega (arith, total_constant n c)
 pub total_within : (n m b : ℕ) (f : ℕ → ℕ) → n ≤ m → ((k : ℕ) → k < n → f k ≤ b) → total n f ≤ m * b
 total_within n m b f few each = le_trans (total_bound n b f each) (mul-le-mul_right b few)
 
-pub total_below : (n b : ℕ) (f : ℕ → ℕ) → 0 < n → ((k : ℕ) → k < n → f k < b) → total n f < n * b
-total_below n b f some each =
-    let sum = total_of_sum n f (λ k. 1) in
-    let bound = total_bound n b (λ k. f k + 1) (λ k h. omega (arith, each k h)) in
-    omega (arith, sum, bound, total_constant n 1)
-
 -- the first n terms are a part of the first m
 pub total_grows : (n m : ℕ) (f : ℕ → ℕ) → n ≤ m → total n f ≤ total m f
 unfolding total
@@ -159,10 +153,6 @@ total_front (suc n) f = omega (arith, total_front n f)
 -- the terms so far and the next are a part of the sum
 pub total_part : (n i : ℕ) (f : ℕ → ℕ) → i < n → total i f + f i ≤ total n f
 total_part n i f within = omega (arith, total_grows (suc i) n f within, total_suc i f)
-
--- a sum over places, each of which has a value: the value of p alone changes
-pub total_change_at : (n p : ℕ) (f : ℕ → ℕ → ℕ) (at to : ℕ → ℕ) → p < n → ((k : ℕ) → k < n → k ≢ p → at k ≡ to k) → total n (λ k. f k (at k)) + f p (to p) ≡ total n (λ k. f k (to k)) + f p (at p)
-total_change_at n p f at to within same = total_change n p (λ k. f k (at k)) (λ k. f k (to k)) within (λ k h d. ap (f k) (same k h d))
 
 pub total_times_right : (n c : ℕ) (f : ℕ → ℕ) → total n (λ k. f k * c) ≡ total n f * c
 unfolding total

@@ -1,5 +1,5 @@
 -- Searches that go from one place that passes a test to the next.
-use Rattle.std.proofs.Common.{◌≡◌, ℕ, ◌+◌, ◌<◌, ◌≤◌, Bool, ◌||◌, eqb, Option, Some, None, sym, ◌∙◌, arith}
+use Rattle.std.proofs.Common.{◌≡◌, ℕ, ◌+◌, ◌<◌, ◌≤◌, Bool, eqb, Option, Some, None, sym, ◌∙◌, arith}
 use Rattle.std.proofs.lemmas.Bool.{ne_eqb, or_from}
 use Rattle.ra_base.specs.Searches.{first}
 use Rattle.ra_base.specs.Sums.{is_named}
@@ -41,9 +41,5 @@ pub clear_more : (n : ℕ) (e : ℕ → ℕ) (low next new x : ℕ) → ClearTo 
 clear_more n e low next new x clear near past is = record {
   between = λ k above below. is_named_more n e k ∙ or_from (is_named n e k) (eqb (e n) k) (clear.between k above (omega arith)) (ne_eqb (e n) k (λ same. absurd (omega (arith, past (omega (arith, is, same)), is, same))));
 }
-
--- clear of two tests
-pub clear_both : (s t : ℕ → Bool) (low next : ℕ) → ClearTo s low next → ClearTo t low next → ClearTo (λ k. s k || t k) low next
-clear_both s t low next one other = record { between = λ k above below. or_from (s k) (t k) (one.between k above below) (other.between k above below) }
 
 pub ruleset clearing = (clear_none, clear_nearer, clear_more)

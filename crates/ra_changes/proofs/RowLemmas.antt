@@ -1,7 +1,6 @@
 -- Rows of requirements and of use, number by number.
-use Rattle.std.proofs.Common.{◌≡◌, ◌≢◌, ℕ, ◌+◌, ◌-◌, ◌*◌, ◌<◌, ◌≤◌, List, length, get_or, set, refl, sym, ap, ◌∙◌, ⊎_elim, arith, get_or-set_same, get_or-set_other, eq-eqb, ne_eqb}
-use Rattle.std.proofs.Math.ListN.{length-set}
-use Rattle.std.proofs.lemmas.Bool.{cases_lt, cond-true, cond-false}
+use Rattle.std.proofs.Common.{◌≡◌, ◌≢◌, ℕ, ◌+◌, ◌-◌, ◌*◌, ◌<◌, ◌≤◌, List, length, get_or, refl, sym, ◌∙◌, arith, eq-eqb, ne_eqb}
+use Rattle.std.proofs.lemmas.Bool.{cond-true, cond-false}
 use Rattle.ra_base.specs.Tables.{cell}
 use Rattle.ra_base.proofs.Tables.{cell_is}
 use Rattle.std.proofs.Common.{take, drop}
@@ -23,38 +22,6 @@ pub record LessTo (n : ℕ) (old new amounts : List ℕ) : Type 0 where
   pub same_length : length new ≡ length old
   pub done : (k : ℕ) → k < n → get_or new k 0 + get_or amounts k 0 ≡ get_or old k 0
   pub rest : (k : ℕ) → n ≤ k → get_or new k 0 ≡ get_or old k 0
-
-pub more_next : (n x : ℕ) (old mid amounts : List ℕ) → MoreTo n old mid amounts → n < length mid → x ≡ get_or mid n 0 + get_or amounts n 0 → MoreTo (n + 1) old (set mid n x) amounts
-more_next n x old mid amounts before within is = record {
-  same_length = length-set mid n x ∙ before.same_length;
-  done = λ k below. ⊎_elim
-      (λ (earlier : k < n). get_or-set_other mid n k x 0 (omega arith) ∙ before.done k earlier)
-      (λ (now : n ≤ k). let same : k ≡ n = omega arith in rw same (get_or-set_same mid n x 0 within ∙ omega (arith, is, before.rest n (omega arith))))
-      (cases_lt k n);
-  rest = λ k above. get_or-set_other mid n k x 0 (omega arith) ∙ before.rest k (omega arith);
-}
-
-pub less_next : (n x : ℕ) (old mid amounts : List ℕ) → LessTo n old mid amounts → n < length mid → x + get_or amounts n 0 ≡ get_or mid n 0 → LessTo (n + 1) old (set mid n x) amounts
-less_next n x old mid amounts before within is = record {
-  same_length = length-set mid n x ∙ before.same_length;
-  done = λ k below. ⊎_elim
-      (λ (earlier : k < n). ap (λ y. y + get_or amounts k 0) (get_or-set_other mid n k x 0 (omega arith)) ∙ before.done k earlier)
-      (λ (now : n ≤ k). let same : k ≡ n = omega arith in rw same (ap (λ y. y + get_or amounts n 0) (get_or-set_same mid n x 0 within) ∙ is ∙ before.rest n (omega arith)))
-      (cases_lt k n);
-  rest = λ k above. get_or-set_other mid n k x 0 (omega arith) ∙ before.rest k (omega arith);
-}
-
-pub more_none : (row amounts : List ℕ) → MoreTo 0 row row amounts
-more_none row amounts = record { same_length = refl; done = λ k below. absurd (omega arith); rest = λ k above. refl }
-
-pub less_none : (row amounts : List ℕ) → LessTo 0 row row amounts
-less_none row amounts = record { same_length = refl; done = λ k below. absurd (omega arith); rest = λ k above. refl }
-
-pub more_all : (n : ℕ) (old new amounts : List ℕ) → MoreTo n old new amounts → length old ≤ n → HasMore old new amounts
-more_all n old new amounts to all = record { same_length = to.same_length; each = λ k within. to.done k (omega arith) }
-
-pub less_all : (n : ℕ) (old new amounts : List ℕ) → LessTo n old new amounts → length old ≤ n → HasMore new old amounts
-less_all n old new amounts to all = record { same_length = sym to.same_length; each = λ k within. sym (to.done k (omega (arith, to.same_length))) }
 
 -- a share at its machine, and elsewhere
 pub share_here : (at m amount : ℕ) → at ≡ m → share_at at m amount ≡ amount

@@ -1,9 +1,8 @@
 -- Laws of tables of sums by machine and resource.
-use Rattle.std.proofs.Common.{◌≡◌, ◌≢◌, ℕ, ◌+◌, ◌*◌, ◌^◌, ◌<◌, ◌≤◌, ◌⊎◌, inl, inr, ⊎_elim, List, [], ◌∷◌, ◌++◌, length, replicate, get_or, set, refl, sym, ap, ◌∙◌, arith, le_refl, eq-eqb, ne_eqb, eqb, ◌||◌, cond, length-set}
+use Rattle.std.proofs.Common.{◌≡◌, ◌≢◌, ℕ, ◌+◌, ◌*◌, ◌^◌, ◌<◌, ◌≤◌, ◌⊎◌, inl, inr, ⊎_elim, List, length, replicate, get_or, set, refl, sym, ◌∙◌, arith, le_refl, eq-eqb, ne_eqb, eqb, ◌||◌, length-set}
 use Rattle.std.proofs.lemmas.Bool.{cases_eq, cases_lt, cond-true, cond-false, or_left, or_right, or_from, cond_both}
-use Rattle.std.proofs.lemmas.List.{replicate-append-replicate, get_or-replicate, get_or_past, get_or_read, length-replicate}
+use Rattle.std.proofs.lemmas.List.{get_or-replicate, get_or_past, length-replicate}
 use Rattle.ra_base.specs.Tables.{cell}
-use Rattle.ra_base.specs.Sums.{total}
 use Rattle.ra_base.proofs.Sums.{total_none, total_more, total_bound}
 use Rattle.ra_base.proofs.Tables.{cell_is, cell_write_same, cell_write_other, place_within}
 use Rattle.ra_base.specs.declared.ids.Machine.{Machine}
@@ -13,10 +12,6 @@ use Rattle.ra_model.specs.Numbers.{resource_count, requirement_of}
 use Rattle.ra_model.specs.Assignments.{machine_at, tally}
 use Rattle.ra_model.specs.Usage.{use_share, transient_share}
 use Rattle.ra_check.specs.Stands.{IsTally, AddsShare, IsBelow}
-
--- one equal item more
-pub replicate_more : {A : Type 0} → (n : ℕ) (a : A) → replicate n a ++ a ∷ [] ≡ replicate (n + 1) a
-replicate_more n a = replicate-append-replicate n 1 a
 
 -- a table of zeros
 
@@ -100,9 +95,6 @@ adds_more i p at n old mid column within part =
       rest = λ m r w h. cell_write_other width mid at n value m r column w (inr (omega arith)) ∙ part.rest m r w (omega arith);
       same_length = length-set mid (at * width + n) value ∙ part.same_length;
     }
-
-pub adds_all : (i : Tables) (p at : ℕ) (old new : List ℕ) → AddsPart i p at (resource_count i) old new → AddsShare (resource_count i) (use_share i) p at old new
-adds_all i p at old new part = record { each = λ m r w. part.done m r w w }
 
 -- sums over the processes
 

@@ -19,7 +19,7 @@ use Rattle.ra_edits_read.specs.EditLists.{EditLists, edit_at, row_of, AreEditsFo
 use Rattle.ra_edit.specs.declared.replies.EditReply.{EditReply}
 use Rattle.ra_edit.specs.declared.replies.EditReply.TheVariants.{Done, NoProcess, Full, Last, Broken}
 use Rattle.ra_edit.specs.Drafts.{Drafted, with_processes, instance_of, draft_of}
-use Rattle.ra_edit.specs.Editing.{process_of, added, retired, resized, edited}
+use Rattle.ra_edit.specs.Editing.{process_of, edited}
 use Rattle.ra_edit.specs.Replies.{broken_in, cost_in, judged, barred, answer, edit_answer, kept, after_edit}
 use Rattle.ra_edit.specs.SameLists.{AreSameLists}
 use Rattle.ra_edit.specs.Keeping.{IsSound, IsKept}
@@ -115,25 +115,6 @@ built_feasible d parts j h same = feasible_from_unbroken j d.initial d.current (
 
 pub built_parts : (d : Drafted) (j : Tables) → AreSameLists (instance_of d) j → parts_of j d.initial d.current ≡ parts_of (instance_of d) d.initial d.current
 built_parts d j same = same_parts (instance_of d) j d.initial d.current same.lists
-
--- an edit leaves the other lists alone
-edited_origin : (d : Drafted) (e : Edit) (requirements : List ℕ) → (edited d e requirements).origin ≡ d.origin
-unfolding edited added retired resized
-edited_origin d (Add s m c) requirements = refl
-edited_origin d (Retire p) requirements = refl
-edited_origin d (Resize p) requirements = refl
-
-kept_origin : (reply : EditReply) (before after : Drafted) → after.origin ≡ before.origin → (kept reply before after).origin ≡ before.origin
-unfolding kept
-kept_origin (Done cost) before after same = same
-kept_origin (NoProcess p) before after same = refl
-kept_origin Full before after same = refl
-kept_origin Last before after same = refl
-kept_origin (Broken cause) before after same = refl
-
-pub after_origin : (d : Drafted) (e : EditLists) (k : ℕ) → (after_edit d e k).origin ≡ d.origin
-unfolding after_edit
-after_origin d e k = kept_origin (edit_answer d e k) d (edited d (edit_at e k) (row_of e.width e.requirements k)) (edited_origin d (edit_at e k) (row_of e.width e.requirements k))
 
 -- what an edit makes of a draft is sound
 pub next_sound : (d old next : Drafted) (e : EditLists) (k : ℕ) → d ≡ old → IsSound d → AreEditsFor old.origin e → k < length e.edits → barred (length d.rows) (edit_at e k) ≡ None → next ≡ edited d (edit_at e k) (row_of e.width e.requirements k) → length (row_of e.width e.requirements k) ≡ e.width → IsSound next

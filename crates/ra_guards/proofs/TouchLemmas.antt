@@ -1,5 +1,5 @@
 -- The guards of a move are untouched exactly where the move is apart from all that was made since.
-use Rattle.std.proofs.Common.{◌≡◌, ℕ, suc, ◌+◌, ◌<◌, ◌≤◌, true, false, List, Option, Some, None, sym, refl, ap, ◌∙◌, ⊎_elim, arith}
+use Rattle.std.proofs.Common.{◌≡◌, ℕ, suc, ◌+◌, ◌<◌, ◌≤◌, true, false, List, Option, Some, None, refl, ap, ◌∙◌, ⊎_elim, arith}
 use Rattle.std.proofs.lemmas.Bool.{cases_Bool, cases_lt, cond-true, cond-false, false_from_ne_true}
 use Rattle.ra_base.specs.declared.ids.Guard.{Guard}
 use Rattle.ra_base.proofs.Greatest.{greatest_at, greatest_least}
@@ -59,9 +59,6 @@ untouched_is_apart i made q n steps = (apart_from_untouched i made q n steps, un
 
 -- for a loop over the places from q on
 
-pub since_none : (i : Tables) (made : List (Option (List Step))) (q : ℕ) (steps : List Step) → ApartSince i made q q steps
-since_none i made q steps = record { each = λ j others since within is. absurd (omega arith) }
-
 pub since_more : (i : Tables) (made : List (Option (List Step))) (q n : ℕ) (steps : List Step) → ((others : List Step) → made_at made n ≡ Some others → Apart i steps others) → ApartSince i made q n steps → ApartSince i made q (n + 1) steps
 since_more i made q n steps here before = record {
   each = λ j others since within is. ⊎_elim
@@ -69,14 +66,3 @@ since_more i made q n steps here before = record {
       (λ (later : n ≤ j). here others (ap (made_at made) (omega arith) ∙ is))
       (cases_lt j n);
 }
-
--- a place that was refused, and one that is done and apart
-pub since_refused : (i : Tables) (made : List (Option (List Step))) (q n : ℕ) (steps : List Step) → made_at made n ≡ None → ApartSince i made q n steps → ApartSince i made q (n + 1) steps
-since_refused i made q n steps none before = since_more i made q n steps (λ others is. absurd (cc (none, is))) before
-
-pub since_done : (i : Tables) (made : List (Option (List Step))) (q n : ℕ) (steps others : List Step) → made_at made n ≡ Some others → Apart i steps others → ApartSince i made q n steps → ApartSince i made q (n + 1) steps
-since_done i made q n steps others done apart before = since_more i made q n steps (λ more is. let same : others ≡ more = cc (done, is) in rw (sym same) apart) before
-
--- a done place that isn't apart
-pub touched_since : (i : Tables) (made : List (Option (List Step))) (q n j : ℕ) (steps others : List Step) → q ≤ j → j < n → made_at made j ≡ Some others → (Apart i steps others → ⊥) → Untouched i made q n steps → ⊥
-touched_since i made q n j steps others since within is met untouched = met ((apart_from_untouched i made q n steps untouched).each j others since within is)

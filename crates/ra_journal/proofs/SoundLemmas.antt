@@ -137,11 +137,3 @@ unfolding cost_at
 sound i a0 l h limits fits feasible legal j within =
     let good = good_up_to i a0 l h limits fits feasible legal j within j (omega arith) in
     record { assignment = good.assignment; feasible = good.feasible; kept = good.kept }
-
--- so the processes of each entry's move are those of the instance
-pub entry_known : (i : Tables) (a0 : List Machine) (l : Lots) (h : List Entry) → WellFormed i → IsAssignment i a0 → Feasible i a0 a0 → Legal i a0 l h → (j : ℕ) → j < length h → AreKnown i (entry_at h j).mv.steps
-entry_known i a0 l h limits fits feasible legal j within =
-    let e = entry_at h j in
-    let here = legal.each j within in
-    let planned = good_up_to i a0 l h limits fits feasible legal j (omega arith) e.q here.placed.place in
-    subst (λ mv. AreKnown i mv.steps) (sym here.planned) (plan_known i a0 (state a0 h e.q) (words l e.worker e.k) l.drawing (allowed l e.worker e.k) limits planned.assignment)

@@ -25,14 +25,6 @@ pub record SeenBelow (h : List Entry) (w q n : ℕ) : Type 0 where
 pub seen_none : (h : List Entry) (w q : ℕ) → SeenBelow h w q 0
 seen_none h w q = record { each = λ j before own. absurd (omega arith) }
 
-pub seen_more : (h : List Entry) (w q n : ℕ) → ((entry_at h n).worker ≡ w → n < q) → SeenBelow h w q n → SeenBelow h w q (n + 1)
-seen_more h w q n here before = record {
-  each = λ j within own. ⊎_elim
-      (λ (earlier : j < n). before.each j earlier own)
-      (λ (later : n ≤ j). let same : n ≡ j = omega arith in omega (arith, here (ap (λ k. (entry_at h k).worker) same ∙ own)))
-      (cases_lt j n);
-}
-
 -- one legal entry more
 pub legal_none : (i : Tables) (a0 : List Machine) (l : Lots) (h : List Entry) → IsLegal i a0 l h 0
 legal_none i a0 l h = record { each = λ j before. absurd (omega arith) }

@@ -1,7 +1,7 @@
 -- Bytes without LF, and the LF behind them.
-use Rattle.std.proofs.Common.{◌≡◌, ℕ, suc, ◌+◌, ◌<◌, ◌≤◌, Bool, true, false, cond, eqb, List, [], ◌∷◌, ◌++◌, length, take, drop, get_or, refl, sym, ◌∙◌, ap, arith, subst, length-append}
+use Rattle.std.proofs.Common.{◌≡◌, ℕ, suc, ◌+◌, ◌<◌, ◌≤◌, Bool, true, false, cond, eqb, List, [], ◌∷◌, ◌++◌, length, take, drop, get_or, refl, sym, ◌∙◌, ap, arith, length-append}
 use Rattle.std.proofs.lemmas.List.{append-nil, take_more, take-append-drop}
-use Rattle.std.proofs.Math.Seq.{drop-cons, take-length}
+use Rattle.std.proofs.Math.Seq.{drop-cons}
 use Rattle.ra_lines.specs.Lines.{ends_line, body_of, HasNoEnd, end_count}
 
 -- of bytes without LF the first is none, and there is none behind it
@@ -81,11 +81,6 @@ cut_at bytes i within is =
 
 pub body_found : (bytes : List ℕ) (i : ℕ) → i < length bytes → get_or bytes i 0 ≡ 10 → HasNoEnd (take i bytes) → take i bytes ≡ body_of bytes
 body_found bytes i within is none = sym (ap body_of (cut_at bytes i within is) ∙ body_before (take i bytes) (drop (suc i) bytes) none)
-
-pub body_all : (bytes : List ℕ) (n : ℕ) → n ≡ length bytes → HasNoEnd (take n bytes) → take n bytes ≡ body_of bytes
-body_all bytes n all none =
-    let same : take n bytes ≡ bytes = ap (λ k. take k bytes) all ∙ take-length bytes in
-    same ∙ (sym (subst HasNoEnd same none))
 
 -- one more byte, and how many LF there are
 pub count_none : end_count [] ≡ 0

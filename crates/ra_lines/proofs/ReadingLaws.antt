@@ -182,11 +182,6 @@ left_behind items at filled n within =
     let long : n + (filled - (at + n)) ≡ filled - at = omega arith in
     ap (take (filled - (at + n))) (sym (drop-drop n at items)) ∙ sym (drop-take n (filled - (at + n)) (drop at items)) ∙ ap (λ k. drop n (take k (drop at items))) long
 
-pub front_ready : (items : List ℕ) (at filled n : ℕ) → n ≤ filled - at → take (at + n - at) (drop at items) ≡ take n (take (filled - at) (drop at items))
-front_ready items at filled n within =
-    let same : at + n - at ≡ n = omega arith in
-    ap (λ k. take k (drop at items)) same ∙ sym (take-take n (filled - at) (drop at items) within)
-
 -- the bytes up to an LF
 pub ended_front : (bytes : List ℕ) (most k : ℕ) → k < length (take most bytes) → take k (take most bytes) ≡ body_of (take most bytes) → get_or (take most bytes) k 0 ≡ 10 → IsEnded (take (k + 1) bytes)
 ended_front bytes most k within body end =
@@ -200,10 +195,6 @@ ended_front bytes most k within body end =
 pub unended_front : (bytes : List ℕ) (most k : ℕ) → k ≤ most → take k (take most bytes) ≡ body_of (take most bytes) → HasNoEnd (take k bytes)
 unended_front bytes most k few body =
     subst HasNoEnd (take-take k most bytes few) (subst HasNoEnd (sym body) (body_twice (take most bytes)))
-
-pub told_without : (told : Option (List ℕ)) (place given : ℕ) (before line ready : List ℕ) → IfSome told (λ bytes. GaveNoEnd bytes place given before line ready) → IfSome told (λ bytes. Gave bytes place given before line ready)
-told_without None place given before line ready gave = tt
-told_without (Some bytes) place given before line ready gave = gave.gave
 
 -- what ends a file is no long line
 pub not_long : (given : ℕ) (next : Next) → (given ≡ 0 → next ≡ End) → (0 < given → next ≡ Last) → next ≡ Long → ⊥

@@ -18,9 +18,7 @@ use Rattle.ra_moves.specs.Replacing.{applied}
 use Rattle.ra_local.specs.Touched.{ends_at, moves_service, guards_service}
 use Rattle.ra_local.specs.Moving.{IsMove}
 use Rattle.ra_local.specs.Laws.{OnlyWhere, AreLocal, FailuresAreLocal}
-use Rattle.ra_moves.specs.Values.{end_count, end_in}
-use Rattle.ra_local.proofs.SearchLemmas.{only_tested}
-use Rattle.ra_local.proofs.EndLemmas.{ends_are_named, unguarded_stays, unguarded_needs}
+use Rattle.ra_local.proofs.EndLemmas.{unguarded_stays, unguarded_needs}
 use Rattle.ra_local.proofs.StayLemmas.{use_same, transient_same, on_machine_same, on_machine_stays, locations_same, in_neighbourhood_same, process_stays, member_stays}
 
 -- what is told of equal values is equal
@@ -122,15 +120,6 @@ closed_local i a0 a steps move fine = record {
 }
 
 -- the failures of machines and of conflicts, where the ends are named by their numbers
-
-pub capacity_at_ends : (i : Tables) (a0 a : List Machine) (steps : List Step) → IsMove i a steps → Fine i a0 a → OnlyWhere (machine_count i) (is_named (end_count steps) (end_in steps)) (row_capacity i (applied a steps))
-capacity_at_ends i a0 a steps move fine = only_tested (machine_count i) (ends_at steps) (is_named (end_count steps) (end_in steps)) (row_capacity i (applied a steps)) (ends_are_named steps) (capacity_local i a0 a steps move fine)
-
-pub transient_at_ends : (i : Tables) (a0 a : List Machine) (steps : List Step) → IsMove i a steps → Fine i a0 a → OnlyWhere (machine_count i) (is_named (end_count steps) (end_in steps)) (row_transient i a0 (applied a steps))
-transient_at_ends i a0 a steps move fine = only_tested (machine_count i) (ends_at steps) (is_named (end_count steps) (end_in steps)) (row_transient i a0 (applied a steps)) (ends_are_named steps) (transient_local i a0 a steps move fine)
-
-pub conflict_at_named : (i : Tables) (a0 a : List Machine) (steps : List Step) (s : ℕ) → IsMove i a steps → Fine i a0 a → s < service_count i → OnlyWhere (machine_count i) (is_named (end_count steps) (end_in steps)) (conflict_test i (applied a steps) s)
-conflict_at_named i a0 a steps s move fine known = only_tested (machine_count i) (ends_at steps) (is_named (end_count steps) (end_in steps)) (conflict_test i (applied a steps) s) (ends_are_named steps) (conflict_at_ends i a0 a steps s move fine known)
 
 -- all together
 

@@ -1,9 +1,9 @@
 -- Searches that find something only where a test is true.
-use Rattle.std.proofs.Common.{◌≡◌, ℕ, ◌<◌, Bool, true, false, Option, None, sym, ◌∙◌, ⊎_elim}
+use Rattle.std.proofs.Common.{◌≡◌, ℕ, ◌<◌, Bool, true, false, Option, sym, ◌∙◌, ⊎_elim}
 use Rattle.std.proofs.lemmas.Bool.{cases_Bool}
 use Rattle.ra_base.specs.Searches.{first}
 use Rattle.ra_base.specs.declared.causes.Cause.{Cause}
-use Rattle.ra_base.proofs.Searches.{first_same, first_none_from}
+use Rattle.ra_base.proofs.Searches.{first_same}
 use Rattle.ra_local.specs.Laws.{OnlyWhere}
 
 -- two searches with one test agree where it is true, so they find the same
@@ -12,10 +12,6 @@ first_agrees n test f g one other same = first_same n f g (λ k within. ⊎_elim
     (λ (yes : test k ≡ true). same k within yes)
     (λ (no : test k ≡ false). one.others k within no ∙ sym (other.others k within no))
     (cases_Bool (test k)))
-
--- where the test is false all along nothing is found
-pub first_nowhere : (n : ℕ) (test : ℕ → Bool) (f : ℕ → Option Cause) → OnlyWhere n test f → ((k : ℕ) → k < n → test k ≡ false) → first n f ≡ None
-first_nowhere n test f only nowhere = first_none_from n f (λ k within. only.others k within (nowhere k within))
 
 -- the same test in other words
 pub only_tested : (n : ℕ) (test other : ℕ → Bool) (f : ℕ → Option Cause) → ((k : ℕ) → test k ≡ other k) → OnlyWhere n test f → OnlyWhere n other f

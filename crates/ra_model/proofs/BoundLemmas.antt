@@ -12,7 +12,7 @@ use Rattle.ra_model.specs.Numbers.{resource_count, machine_count, service_count,
 use Rattle.ra_model.specs.Limits.{WellFormed, Small}
 use Rattle.ra_model.specs.Assignments.{machine_at, tally}
 use Rattle.ra_model.specs.Usage.{use_share, use_of, transient_share, transient_of}
-use Rattle.ra_model.specs.Services.{is_of, of_service, members_at, on_machine, in_neighbourhood, in_location, locations_of, moved_of}
+use Rattle.ra_model.specs.Services.{is_of, of_service, members_at, on_machine, in_location, locations_of, moved_of}
 use Rattle.ra_model.specs.Costs.{excess_on, load_part, load_cost, available, shortfall, balance_part, balance_cost, process_share, process_cost, service_cost, way_share, machine_cost, objective}
 use Rattle.ra_model.specs.Laws.{AllSumsFit}
 
@@ -84,14 +84,6 @@ members_within i a s test = members_part_within i a s test (process_count i)
 pub on_machine_within : (i : Tables) (a : List Machine) (s m : ℕ) → on_machine i a s m ≤ process_count i
 unfolding on_machine
 on_machine_within i a s m = members_within i a s (λ p at. eqb at m)
-
-pub in_neighbourhood_within : (i : Tables) (a : List Machine) (s label : ℕ) → in_neighbourhood i a s label ≤ process_count i
-unfolding in_neighbourhood
-in_neighbourhood_within i a s label = members_within i a s _
-
-pub in_location_within : (i : Tables) (a : List Machine) (s label : ℕ) → in_location i a s label ≤ process_count i
-unfolding in_location
-in_location_within i a s label = members_within i a s _
 
 pub moved_within : (i : Tables) (a0 a : List Machine) (s : ℕ) → moved_of i a0 a s ≤ process_count i
 unfolding moved_of

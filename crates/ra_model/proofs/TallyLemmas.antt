@@ -1,22 +1,18 @@
 -- Laws of `tally`, the sum over processes of a share of each process and its machine, and of `machine_at`.
-use Rattle.std.proofs.Common.{◌≡◌, ◌≢◌, ℕ, suc, ◌+◌, ◌*◌, ◌<◌, ◌≤◌, Bool, cond, eqb, ◌&&◌, List, [], ◌∷◌, ◌++◌, length, get_or, set, slice_index_or, sym, refl, ap, ◌∙◌, ⊎_elim, arith, eq-eqb, ne_eqb, get_or-set_same, get_or-set_other, ext_get_or}
+use Rattle.std.proofs.Common.{◌≡◌, ◌≢◌, ℕ, ◌+◌, ◌*◌, ◌<◌, ◌≤◌, Bool, ◌&&◌, List, length, get_or, set, slice_index_or, sym, refl, ap, ◌∙◌, ⊎_elim, arith, get_or-set_same, get_or-set_other, ext_get_or}
 use Rattle.std.proofs.Math.ListN.{length-set}
-use Rattle.std.proofs.Math.Seq.{get_or-append_seam}
-use Rattle.std.proofs.lemmas.Bool.{cases_eq, cond-true, cond-false}
-use Rattle.std.proofs.lemmas.List.{get_or_append_left, get_or_read, get_or_past}
+use Rattle.std.proofs.lemmas.Bool.{cases_eq}
+use Rattle.std.proofs.lemmas.List.{get_or_read}
 use Rattle.ra_base.specs.Sums.{total, count, pick}
-use Rattle.ra_base.specs.Searches.{first}
 use Rattle.ra_base.specs.declared.ids.Machine.{Machine}
-use Rattle.ra_base.proofs.Sums.{total_none, total_suc, total_more, total_same, total_zero, total_le, total_bound, total_grows, total_term, total_change, total_balance, total_of_sum, total_positive}
+use Rattle.ra_base.proofs.Sums.{total_none, total_more, total_same, total_zero, total_le, total_bound, total_term, total_change}
 use Rattle.ra_base.proofs.Counts.{count_same}
-use Rattle.ra_base.proofs.Searches.{first_same}
-use Rattle.ra_base.proofs.Picks.{pick_count, pick_first, pick_length}
+use Rattle.ra_base.proofs.Picks.{pick_count, pick_length}
 use Rattle.ra_model.specs.declared.raw.Tables.{Tables}
 use Rattle.ra_model.specs.Numbers.{machine_count, process_count}
 use Rattle.ra_model.specs.Assignments.{IsAssignment, machine_at, tally}
 use Rattle.ra_model.specs.Usage.{use_share, use_of, transient_share, transient_of}
 use Rattle.ra_model.specs.Services.{is_of, of_service, members_at}
-use Rattle.ra_model.specs.Broken.{far_test, dependency_test, pair_dependency}
 
 -- the machine of a process
 
@@ -24,10 +20,6 @@ use Rattle.ra_model.specs.Broken.{far_test, dependency_test, pair_dependency}
 pub machine_at_read : (a : List Machine) (p : ℕ) (m : Machine) → p < length a → m ≡ slice_index_or a p m → m.0 ≡ machine_at a p
 unfolding machine_at
 machine_at_read a p m within read = ap (λ (x : Machine). x.0) (get_or_read a p m within read (record { 0 = 0 }))
-
-pub machine_at_past : (a : List Machine) (p : ℕ) → length a ≤ p → machine_at a p ≡ 0
-unfolding machine_at
-machine_at_past a p past = ap (λ (x : Machine). x.0) (get_or_past a p (record { 0 = 0 }) past)
 
 -- a process put on a machine: itself and the others
 pub machine_at_set_same : (a : List Machine) (p : ℕ) (to : Machine) → p < length a → machine_at (set a p to) p ≡ to.0
@@ -37,21 +29,6 @@ machine_at_set_same a p to within = ap (λ (x : Machine). x.0) (get_or-set_same 
 pub machine_at_set_other : (a : List Machine) (p : ℕ) (to : Machine) (k : ℕ) → k ≢ p → machine_at (set a p to) k ≡ machine_at a k
 unfolding machine_at
 machine_at_set_other a p to k apart = ap (λ (x : Machine). x.0) (get_or-set_other a p k to (record { 0 = 0 }) apart)
-
-pub machine_at_set : (a : List Machine) (p : ℕ) (to : Machine) (k : ℕ) → p < length a → machine_at (set a p to) k ≡ cond (eqb k p) to.0 (machine_at a k)
-machine_at_set a p to k within = ⊎_elim
-    (λ (here : k ≡ p). ap (machine_at (set a p to)) here ∙ machine_at_set_same a p to within ∙ sym (cond-true (eqb k p) to.0 (machine_at a k) (eq-eqb k p here)))
-    (λ (apart : k ≢ p). machine_at_set_other a p to k apart ∙ sym (cond-false (eqb k p) to.0 (machine_at a k) (ne_eqb k p apart)))
-    (cases_eq k p)
-
--- one more process at the end
-pub machine_at_push_before : (a : List Machine) (m : Machine) (p : ℕ) → p < length a → machine_at (a ++ m ∷ []) p ≡ machine_at a p
-unfolding machine_at
-machine_at_push_before a m p within = ap (λ (x : Machine). x.0) (get_or_append_left a (m ∷ []) (record { 0 = 0 }) p within)
-
-pub machine_at_push_here : (a : List Machine) (m : Machine) → machine_at (a ++ m ∷ []) (length a) ≡ m.0
-unfolding machine_at
-machine_at_push_here a m = ap (λ (x : Machine). x.0) (get_or-append_seam a m [] (record { 0 = 0 }))
 
 -- two assignments of as many processes with the same machines are one
 pub same_machines : (a b : List Machine) → length a ≡ length b → ((p : ℕ) → p < length a → machine_at a p ≡ machine_at b p) → a ≡ b
@@ -73,10 +50,6 @@ fits_set i a p to fits within exists = record {
 pub tally_none : (f : ℕ → ℕ → ℕ) (a : List Machine) → tally 0 f a ≡ 0
 unfolding tally
 tally_none f a = total_none _
-
-pub tally_suc : (n : ℕ) (f : ℕ → ℕ → ℕ) (a : List Machine) → tally (suc n) f a ≡ tally n f a + f n (machine_at a n)
-unfolding tally
-tally_suc n f a = total_suc n _
 
 -- one more, as a loop over the processes counts
 pub tally_more : (n : ℕ) (f : ℕ → ℕ → ℕ) (a : List Machine) → tally (n + 1) f a ≡ tally n f a + f n (machine_at a n)
@@ -100,26 +73,9 @@ pub tally_bound : (n b : ℕ) (f : ℕ → ℕ → ℕ) (a : List Machine) → (
 unfolding tally
 tally_bound n b f a each = total_bound n b _ each
 
-pub tally_grows : (n m : ℕ) (f : ℕ → ℕ → ℕ) (a : List Machine) → n ≤ m → tally n f a ≤ tally m f a
-unfolding tally
-tally_grows n m f a few = total_grows n m _ few
-
 pub tally_term : (n p : ℕ) (f : ℕ → ℕ → ℕ) (a : List Machine) → p < n → f p (machine_at a p) ≤ tally n f a
 unfolding tally
 tally_term n p f a within = total_term n p (λ k. f k (machine_at a k)) within
-
-pub tally_positive : (n : ℕ) (f : ℕ → ℕ → ℕ) (a : List Machine) → 0 < tally n f a → (p : ℕ) × (p < n) × (0 < f p (machine_at a p))
-unfolding tally
-tally_positive n f a some = total_positive n _ some
-
-pub tally_of_sum : (n : ℕ) (f g : ℕ → ℕ → ℕ) (a : List Machine) → tally n (λ p at. f p at + g p at) a ≡ tally n f a + tally n g a
-unfolding tally
-tally_of_sum n f g a = total_of_sum n _ _
-
--- shares in four states agree two by two for each process, so their sums do
-pub tally_balance : (n : ℕ) (f u g v : ℕ → ℕ → ℕ) (a b c d : List Machine) → ((p : ℕ) → p < n → f p (machine_at a p) + u p (machine_at b p) ≡ g p (machine_at c p) + v p (machine_at d p)) → tally n f a + tally n u b ≡ tally n g c + tally n v d
-unfolding tally
-tally_balance n f u g v a b c d each = total_balance n _ _ _ _ each
 
 -- process p is put on machine `to`
 pub tally_set : (n p : ℕ) (f : ℕ → ℕ → ℕ) (a : List Machine) (to : Machine) → p < n → p < length a → tally n f (set a p to) + f p (machine_at a p) ≡ tally n f a + f p to.0
@@ -127,10 +83,6 @@ unfolding tally
 tally_set n p f a to within there =
     total_change n p (λ k. f k (machine_at (set a p to) k)) (λ k. f k (machine_at a k)) within (λ k h apart. ap (f k) (machine_at_set_other a p to k apart))
     ∙ ap (λ m. total n (λ k. f k (machine_at a k)) + f p m) (machine_at_set_same a p to there)
-
--- processes from n on don't count
-pub tally_set_after : (n p : ℕ) (f : ℕ → ℕ → ℕ) (a : List Machine) (to : Machine) → n ≤ p → tally n f (set a p to) ≡ tally n f a
-tally_set_after n p f a to after = tally_same n f f (set a p to) a (λ k h. ap (f k) (machine_at_set_other a p to k (λ here. absurd (omega arith))))
 
 -- the same for each quantity that is a sum over the processes
 
@@ -162,16 +114,6 @@ members_listed i a s test n g as_many listed =
     ∙ sym (pick_count (process_count i) (is_of i s) (λ p. test p (machine_at a p)))
     ∙ ap (λ k. count k (λ j. test (get_or members j 0) (machine_at a (get_or members j 0)))) all
     ∙ count_same n (λ j. test (get_or members j 0) (machine_at a (get_or members j 0))) (λ j. test (g j) (machine_at a (g j))) (λ j h. ap (λ p. test p (machine_at a p)) (sym (listed j h)))
-
--- the first process of a service that is far from what it needs is the first of the listed members that is
-pub dependency_listed : (i : Tables) (a : List Machine) (s k n : ℕ) (g : ℕ → ℕ) → n ≡ count (process_count i) (is_of i s) → ((j : ℕ) → j < n → g j ≡ get_or (pick (process_count i) (is_of i s)) j 0) → pair_dependency i a s k ≡ first n (λ j. far_test i a s k (g j))
-unfolding pair_dependency dependency_test
-dependency_listed i a s k n g as_many listed =
-    let members = pick (process_count i) (is_of i s) in
-    let all : length members ≡ n = pick_length (process_count i) (is_of i s) ∙ sym as_many in
-    sym (pick_first (process_count i) (is_of i s) (far_test i a s k))
-    ∙ ap (λ m. first m (λ j. far_test i a s k (get_or members j 0))) all
-    ∙ first_same n (λ j. far_test i a s k (get_or members j 0)) (λ j. far_test i a s k (g j)) (λ j h. ap (far_test i a s k) (sym (listed j h)))
 
 -- what a loop over the processes needs
 pub ruleset tallies = (tally_none, tally_more)

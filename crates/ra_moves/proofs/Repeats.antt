@@ -3,8 +3,8 @@ use Rattle.std.proofs.Common.{◌≡◌, Bool, true, false, List, length, None, 
 use Rattle.std.proofs.lemmas.Bool.{both_ways}
 use Rattle.ra_base.specs.Sums.{is_named}
 use Rattle.ra_base.specs.declared.causes.Cause.{Cause}
-use Rattle.ra_base.proofs.Searches.{first_none_at, first_none_from}
-use Rattle.ra_base.proofs.Named.{is_named_at, is_named_not}
+use Rattle.ra_base.proofs.Searches.{first_none_at}
+use Rattle.ra_base.proofs.Named.{is_named_at}
 use Rattle.ra_model.specs.Broken.{cause_if}
 use Rattle.ra_moves.specs.declared.steps.Step.{Step}
 use Rattle.ra_moves.specs.Steps.{process_in, Distinct}
@@ -15,10 +15,6 @@ unfolding cause_if
 no_cause true cause none = absurd (cc)
 no_cause false cause none = refl
 
-none_of : (failed : Bool) (cause : Cause) → failed ≡ false → cause_if failed cause ≡ None
-unfolding cause_if
-none_of failed cause is = rw is refl
-
 pub distinct_from_none : (steps : List Step) → repeat_of steps ≡ None → Distinct steps
 unfolding repeat_of repeat_test
 distinct_from_none steps none = record {
@@ -26,7 +22,3 @@ distinct_from_none steps none = record {
       let unnamed : is_named j (process_in steps) (process_in steps j) ≡ false = no_cause _ _ (first_none_at j (length steps) (repeat_test steps) within none) in
       both_ways _ unnamed (is_named_at j i (process_in steps) (process_in steps j) before same);
 }
-
-pub none_from_distinct : (steps : List Step) → Distinct steps → repeat_of steps ≡ None
-unfolding repeat_of repeat_test
-none_from_distinct steps distinct = first_none_from (length steps) (repeat_test steps) (λ j within. none_of _ _ (is_named_not j (process_in steps) (process_in steps j) (λ i before. distinct.apart i j before within)))

@@ -22,9 +22,6 @@ pub flag_read : (flags : List Bool) (p : ℕ) (b : Bool) → p < length flags �
 unfolding flag_at
 flag_read flags p b within read = get_or_read flags p b within read false
 
-pub number_read : (numbers : List ℕ) (k v : ℕ) → k < length numbers → v ≡ get_or numbers k v → v ≡ get_or numbers k 0
-number_read numbers k v within read = get_or_read numbers k v within read 0
-
 -- what a stamp leaves, process by process
 
 some_none : (test : ℕ → Bool) → some_of 0 test ≡ false

@@ -107,6 +107,3 @@ behind_more i a0 flags p from place j behind last from_on before = ⊎_elim
 
 pub walk_found : (i : Tables) (a0 : List Machine) (flags : List Bool) (p from place : ℕ) → from ≤ place → place < machine_count i → ((k : ℕ) → from ≤ k → k < place → blocked_at i a0 flags p k ≡ true) → blocked_at i a0 flags p place ≡ false → IsWalk i a0 flags p from place
 walk_found i a0 flags p from place onward few behind last = record { onward = onward; within = omega arith; behind = behind; free = λ h. last }
-
-pub walk_ended : (i : Tables) (a0 : List Machine) (flags : List Bool) (p from place end : ℕ) → from ≤ end → place ≡ end → end ≡ machine_count i → ((k : ℕ) → from ≤ k → k < place → blocked_at i a0 flags p k ≡ true) → IsWalk i a0 flags p from end
-walk_ended i a0 flags p from place end onward all is behind = record { onward = onward; within = omega (arith, is); behind = λ j from_on before. behind j from_on (omega (arith, all)); free = λ h. absurd (omega (arith, is)) }

@@ -105,9 +105,6 @@ unbroken_repeats i a0 a steps none = left_none _ _ none
 pub unbroken_moves : (i : Tables) (a0 a : List Machine) (steps : List Step) (unbroken : Bool) → (unbroken ≡ true) ↔ (broken_by i a0 a steps ≡ None) → unbroken ≡ true → IsOffered i a steps → IsMove i a steps
 unbroken_moves i a0 a steps unbroken (gives, back) is offered = offered (unbroken_repeats i a0 a steps (gives is))
 
-pub unbroken_none : (i : Tables) (a0 a : List Machine) (steps : List Step) (unbroken : Bool) → (unbroken ≡ true) ↔ (broken_by i a0 a steps ≡ None) → unbroken ≡ true → broken_by i a0 a steps ≡ None
-unbroken_none i a0 a steps unbroken (gives, back) is = gives is
-
 -- every option of an assignment can be weighed
 pub option_offered : (i : Tables) (a : List Machine) (x : List ℕ) (d : Drawing) (k : ℕ) → WellFormed i → IsAssignment i a → IsOffered i a (option_at a x (machine_count i) d k).steps
 option_offered i a x d k formed fits once =

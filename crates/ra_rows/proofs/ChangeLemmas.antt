@@ -13,7 +13,7 @@ use Rattle.ra_model.specs.Usage.{use_share, transient_share}
 use Rattle.ra_model.proofs.TallyLemmas.{tally_none, tally_more}
 use Rattle.ra_model.proofs.BoundLemmas.{use_part_under}
 use Rattle.ra_rows.specs.Rows.{IsBelow}
-use Rattle.ra_rows.specs.Changes.{at_row, away_row, HasMore, Moves, Shifts, Adds, IsTally, HasRoomFor}
+use Rattle.ra_rows.specs.Changes.{at_row, away_row, HasMore, Moves, Shifts, Adds, IsTally}
 use Rattle.ra_rows.proofs.CellLemmas.{at_row_here, at_row_elsewhere, away_row_home, away_row_other}
 
 -- what a process requires of resource r, at the row of its machine; and the same away from its home
@@ -68,9 +68,6 @@ part_adds i width p at n amount old mid new wide column is part more =
     (rw (← wide) (record { here = λ m. omega (arith, more.here m); others = more.others; same_length = more.same_length }))
 
 -- in the columns that are still to come, there is room and enough
-
-pub part_enough : (i : Tables) (p at n amount : ℕ) (left come : ℕ → ℕ → ℕ) (old mid : List ℕ) → n < resource_count i → amount ≡ requirement_of i p n → HasRoomFor i p at old → Part (resource_count i) n left come old mid → amount ≤ cell (resource_count i) mid at n
-part_enough i p at n amount left come old mid column is enough part = omega (arith, is, enough.each n column, part.rest at n column (omega arith))
 
 pub part_fits : (width n at amount : ℕ) (left come : ℕ → ℕ → ℕ) (old mid : List ℕ) → n < width → amount < 2 ^ 32 → IsBelow width (2 ^ 48) old → Part width n left come old mid → cell width mid at n + amount < 2 ^ 64
 part_fits width n at amount left come old mid column small below part = omega (arith, below.each at n column, part.rest at n column (omega arith))

@@ -80,9 +80,6 @@ used_enough rows p from there has = record { each = λ r w. omega (arith, has.st
 pub transient_enough : (rows : RowTables) (p from : ℕ) → p < process_count rows.tables → HasAt rows p from → HasRoomFor rows.tables p from rows.between
 transient_enough rows p from there has = record { each = λ r w. omega (arith, has.stands.transient from r w, transient_within rows.tables rows.start has.assignment p from r there has.at) }
 
-pub from_within : (rows : RowTables) (p from : ℕ) → p < process_count rows.tables → HasAt rows p from → from < machine_count rows.tables
-from_within rows p from there has = omega (arith, has.stands.fits.in_range p there, has.at)
-
 -- after a shift
 
 pub stand_after : (i : Tables) (start a : List Machine) (p from : ℕ) (to : Machine) (used between used_then between_then : List ℕ) → p < process_count i → to.0 < machine_count i → Shifts (resource_count i) (use_share i) p from to.0 used used_then → Shifts (resource_count i) (transient_share i start) p from to.0 between between_then → StandFor (rows_of i start used between) a → machine_at a p ≡ from → StandFor (rows_of i start used_then between_then) (set a p to)

@@ -24,7 +24,7 @@ use Rattle.ra_jobs.specs.declared.refusals.Refusal.{Refusal}
 use Rattle.ra_jobs.specs.declared.refusals.Refusal.TheVariants.{InitialBroken, Write, Memory}
 use Rattle.ra_jobs.specs.Files.{Held, Faults, Names, solve_names}
 use Rattle.ra_jobs.specs.Refusals.{Says, Judges}
-use Rattle.ra_jobs.specs.Stages.{IsStart, StartSays}
+use Rattle.ra_jobs.specs.Stages.{IsStart}
 use Rattle.ra_jobs.proofs.ComesLemmas.{Went}
 use Rattle.ra_run.specs.Outputs.{IsFirstLeast, Solved}
 use Rattle.ra_run.specs.Solving.{IsReported, RunSays}
@@ -95,12 +95,6 @@ says_run held names i a0 l first now way has_initial limits start (InitialBroken
 says_run held names i a0 l first now way has_initial limits start Write says = solved held names i a0 l way limits start says
 says_run held names i a0 l first now way has_initial limits start Memory says = tt
 says_run held names i a0 l first now way has_initial limits start refusal says = absurd says
-
--- a refusal of the start is one of the run, before anything was written
-pub says_early : (i : Tables) (a0 : List Machine) (written : Type 0) (refusal : Refusal) → StartSays i a0 refusal → RunSays i a0 written refusal
-says_early i a0 written (InitialBroken cause) says = says
-says_early i a0 written Memory says = tt
-says_early i a0 written refusal says = absurd says
 
 -- what was printed of a run, whole or in part, is of files that were accepted, and of a list that is feasible
 pub solved_went : (held : Held) (model : List ℕ) (closed : Option (List ℕ)) (initial : List ℕ) (l : Lots) (way : List ℕ → Type 0) → Solved held (solve_names model closed initial) l way → Went held (solve_names model closed initial)

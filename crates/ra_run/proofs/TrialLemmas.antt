@@ -1,5 +1,5 @@
 -- What a trial reads is the instance of its number and its start; and how it ends.
-use Rattle.std.proofs.Common.{◌≡◌, ◌≢◌, ◌⊎◌, ℕ, zero, suc, ◌*◌, ◌<◌, ◌≤◌, sum_by, List, [], ◌∷◌, length, codes, Option, Some, None, IfSome, inl, inr, ⊎_elim, refl, sym, ◌∙◌, subst, ap, arith, Result, Ok, Err, OnOk, IfErr}
+use Rattle.std.proofs.Common.{◌≡◌, ◌⊎◌, ℕ, zero, suc, ◌*◌, ◌<◌, sum_by, List, [], ◌∷◌, length, codes, Option, Some, None, IfSome, inr, ⊎_elim, refl, sym, ◌∙◌, subst, ap, arith, Result, Ok, Err, OnOk, IfErr}
 use Rattle.ra_base.specs.Listed.{Listed}
 use Rattle.ra_base.specs.declared.ids.Machine.{Machine}
 use Rattle.ra_model.specs.Assignments.{IsAssignment}
@@ -17,7 +17,7 @@ use Rattle.ra_model_read.specs.ModelText.{IsModel}
 use Rattle.ra_assign.specs.Lists.{IsAssignmentOf}
 use Rattle.ra_prepared.specs.declared.solved.Solved.{Solved as Run}
 use Rattle.ra_prepared.specs.Runs.{IsRun}
-use Rattle.ra_report.specs.Summaries.{summary_text, summary_of}
+use Rattle.ra_report.specs.Summaries.{summary_of}
 use Rattle.ra_trial.specs.Instances.{IsTrial, start_list}
 use Rattle.ra_trial.specs.Numbers.{trial_word}
 use Rattle.ra_trial.specs.Trials.{model_text, start_text}
@@ -32,7 +32,7 @@ use Rattle.ra_jobs.specs.Refusals.{Says, Nothing}
 use Rattle.ra_jobs.specs.Statuses.{status_of}
 use Rattle.ra_jobs.specs.declared.status.Status.{Status}
 use Rattle.ra_jobs.specs.declared.status.Status.TheVariants.{Done, WriteFault, NoMemory}
-use Rattle.ra_jobs.specs.Files.{Held, Faults, Names, InstanceIs, ListIs, solve_names}
+use Rattle.ra_jobs.specs.Files.{Held, Names, InstanceIs, ListIs, solve_names}
 use Rattle.ra_jobs.specs.Lines.{refusal_line}
 use Rattle.ra_jobs.specs.Stages.{IsStart}
 use Rattle.ra_jobs.proofs.CompleteLemmas.{never_rose, own_left}
@@ -150,28 +150,6 @@ err_then (Ok x) known follows step is = tt
 err_then (Err e) known follows step is = step e is
 
 -- ---- how it ends
-
-pub trial_done : (number : ℕ) (prints breaks tells : List ℕ → Type 0) (out_same err_same : Type 0) (status : Status) → status ≡ Done → TrialPrinted number prints → err_same → TrialEnds number prints breaks tells out_same err_same status
-trial_done number prints breaks tells out_same err_same status is printed quiet = record {
-  only = inl is;
-  printed = λ e. printed;
-  quiet = λ e. quiet;
-  written = λ e. absurd (let both : Done ≡ WriteFault = sym is ∙ e in cc);
-  write_line = λ e. absurd (let both : Done ≡ WriteFault = sym is ∙ e in cc);
-  untouched = λ e. absurd (let both : Done ≡ NoMemory = sym is ∙ e in cc);
-  memory_line = λ e. absurd (let both : Done ≡ NoMemory = sym is ∙ e in cc);
-}
-
-pub trial_written : (number : ℕ) (prints breaks tells : List ℕ → Type 0) (out_same err_same : Type 0) (status : Status) → status ≡ WriteFault → TrialPrinted number breaks → ((names : Names) → tells (refusal_line names Write)) → TrialEnds number prints breaks tells out_same err_same status
-trial_written number prints breaks tells out_same err_same status is written line = record {
-  only = inr (inl is);
-  printed = λ e. absurd (let both : WriteFault ≡ Done = sym is ∙ e in cc);
-  quiet = λ e. absurd (let both : WriteFault ≡ Done = sym is ∙ e in cc);
-  written = λ e. written;
-  write_line = λ e. line;
-  untouched = λ e. absurd (let both : WriteFault ≡ NoMemory = sym is ∙ e in cc);
-  memory_line = λ e. absurd (let both : WriteFault ≡ NoMemory = sym is ∙ e in cc);
-}
 
 pub trial_memory : (number : ℕ) (prints breaks tells : List ℕ → Type 0) (out_same err_same : Type 0) (status : Status) → status ≡ NoMemory → ((names : Names) → tells (refusal_line names Memory)) → out_same → TrialEnds number prints breaks tells out_same err_same status
 trial_memory number prints breaks tells out_same err_same status is line untouched = record {

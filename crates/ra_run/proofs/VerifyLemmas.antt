@@ -1,6 +1,5 @@
 -- How `verify` ends, from how its stages end.
-use Rattle.std.specs.Prelude.{unwrap_or}
-use Rattle.std.proofs.Common.{◌≡◌, ◌≢◌, ◌⊎◌, ℕ, ◌≤◌, List, [], Option, Some, None, Result, Err, IfSome, IsSome, inl, inr, ⊎_elim, refl, sym, ◌∙◌, subst}
+use Rattle.std.proofs.Common.{◌≡◌, ◌≢◌, ◌⊎◌, ℕ, ◌≤◌, List, Option, Some, None, Result, Err, IfSome, IsSome, inl, inr, ⊎_elim, refl, sym, ◌∙◌, subst}
 use Rattle.ra_base.specs.declared.causes.Cause.{Cause}
 use Rattle.ra_base.specs.declared.ids.Machine.{Machine}
 use Rattle.ra_draws.specs.declared.budgets.Lots.{Lots}
@@ -10,7 +9,6 @@ use Rattle.ra_model.specs.Feasible.{Feasible}
 use Rattle.ra_model.specs.Limits.{WellFormed, Small}
 use Rattle.ra_model.specs.declared.raw.Tables.{Tables}
 use Rattle.ra_model.proofs.BrokenLemmas.{unbroken_from_feasible}
-use Rattle.ra_report.specs.JournalTexts.{accepted_line}
 use Rattle.ra_verify.specs.WrongLines.{IsFirstWrong, IsReport}
 use Rattle.ra_verify.specs.declared.faults.VerifyFault.{VerifyFault}
 use Rattle.ra_verify.specs.declared.faults.VerifyFault.TheVariants as fault
@@ -28,12 +26,11 @@ use Rattle.ra_jobs.specs.Files.{Held, Faults, Names, name_of, Passes, solve_name
 use Rattle.ra_jobs.specs.Refusals.{Says, Nothing, InitialBreaks, ChangedBreaks, CanTell}
 use Rattle.ra_jobs.specs.Stages.{IsStart}
 use Rattle.ra_jobs.specs.Statuses.{status_of}
-use Rattle.ra_jobs.proofs.ComesLemmas.{Listed, Went, infeasible_of, known_model, passed_went, told_of}
+use Rattle.ra_jobs.proofs.ComesLemmas.{Listed, Went, infeasible_of, passed_went, told_of}
 use Rattle.ra_jobs.proofs.CompleteLemmas.{OwnRefused, is_done}
 use Rattle.ra_jobs.proofs.BareLemmas.{bare}
-use Rattle.ra_jobs.proofs.MeaningLemmas.{Told, no_model, no_closed, no_initial, no_initial_break, instances_same, lists_same}
+use Rattle.ra_jobs.proofs.MeaningLemmas.{no_model, no_closed, no_initial, no_initial_break, instances_same, lists_same}
 use Rattle.ra_jobs.proofs.StageLemmas.{can_tell, rose_later, says_more}
-use Rattle.ra_run.specs.Outputs.{Solved}
 use Rattle.ra_run.specs.Verifying.{CountSays, IsCounted, IsRead, IsRightAt, IsRightReport, IsSolved, IsWrongAt, IsWrongReport, ReportWrong, VerdictComes, Verified, VerifyOwn, refused_by}
 use Rattle.ra_run.proofs.AlikeLemmas.{first_wrong_same, is_report_same}
 use Rattle.ra_run.proofs.SolveLemmas.{solved}
@@ -101,11 +98,6 @@ says_count held later model closed initial report i a0 l first before now writte
     record { tables = i; a0 = a0; passes = passes_from held (verify_names model closed initial report) i a0 start says.0; wrong = rw (sym (same report)) says.1 }
 says_count held later model closed initial report i a0 l first before now written same never_fell read Memory says = tt
 says_count held later model closed initial report i a0 l first before now written same never_fell read refusal says = absurd says
-
--- what the verifier answers
-pub right_so : (i : Tables) (a0 : List Machine) (l : Lots) (told : Option (List ℕ)) (n : ℕ) → IfSome told (λ bytes. IsFirstWrong i a0 l bytes None) → IfSome told (λ bytes. IsReport i a0 l bytes n) → IfSome told (IsRightAt i a0 l n)
-right_so i a0 l None n none report = tt
-right_so i a0 l (Some bytes) n none report = record { report = report; none_wrong = none }
 
 pub wrong_so : (i : Tables) (a0 : List Machine) (l : Lots) (told : Option (List ℕ)) (line : ℕ) → WellFormed i → Small i → IsAssignment i a0 → Feasible i a0 a0 → IfSome told (λ bytes. IsFirstWrong i a0 l bytes (Some line)) → IfSome told (IsWrongAt i a0 l line)
 wrong_so i a0 l None line limits small fits start wrong = tt

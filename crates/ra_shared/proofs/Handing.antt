@@ -1,11 +1,11 @@
 -- What a turn in which a worker hands in its plan leaves.
-use Rattle.std.proofs.Common.{◌≡◌, ◌≢◌, ◌⊎◌, ℕ, suc, ◌+◌, ◌-◌, ◌<◌, ◌≤◌, ◌&&◌, cond, ltb, Bool, true, false, List, [], ◌∷◌, ◌++◌, length, drop, slice_get, Option, Some, None, refl, ap, sym, subst, ◌∙◌, ⊎_elim, inl, inr, arith, length-append}
+use Rattle.std.proofs.Common.{◌≡◌, ◌⊎◌, ℕ, ◌+◌, ◌-◌, ◌<◌, ◌≤◌, ◌&&◌, cond, ltb, Bool, true, false, List, [], ◌∷◌, ◌++◌, length, drop, slice_get, Option, Some, None, refl, ap, sym, subst, ◌∙◌, ⊎_elim, inl, inr, arith}
 use Rattle.std.proofs.Math.Seq.{drop-append_seam, drop-length}
-use Rattle.std.proofs.lemmas.Bool.{cases_lt, cases_Bool, and_parts, ltb-true, cond-true, cond-false}
+use Rattle.std.proofs.lemmas.Bool.{cases_lt, cases_Bool, and_parts, ltb-true}
 use Rattle.std.proofs.lemmas.List.{append-nil, length_push}
 use Rattle.std.proofs.lemmas.Option.{slice_get_within}
 use mathlib.Core.List.{IsPrefix}
-use Rattle.ra_base.specs.Searches.{first, or_else}
+use Rattle.ra_base.specs.Searches.{first}
 use Rattle.ra_base.specs.declared.ids.Guard.{Guard}
 use Rattle.ra_base.specs.declared.ids.Guard.TheVariants as guard
 use Rattle.ra_base.specs.declared.ids.Machine.{Machine}
@@ -29,24 +29,24 @@ use Rattle.ra_guards.proofs.TouchLemmas.{stamp_touched, stamp_untouched}
 use Rattle.ra_journal.specs.declared.entries.Entry.{Entry}
 use Rattle.ra_journal.specs.declared.replies.Reply.{Reply}
 use Rattle.ra_journal.specs.declared.replies.Reply.TheVariants.{Recorded, Stale}
-use Rattle.ra_journal.specs.Committing.{next_number, next_move, next_entry, newer_since, committed, Committed, IsCommit}
+use Rattle.ra_journal.specs.Committing.{next_entry, newer_since, Committed, IsCommit}
 use Rattle.ra_journal.specs.Entries.{entry_at, made_in, made_by, steps_made}
 use Rattle.ra_journal.proofs.EndLemmas.{next_is_planned}
 use Rattle.ra_journal.proofs.NewerLemmas.{committed_stale, committed_recorded}
 use Rattle.ra_journal.proofs.Places.{made_place, entry_added}
-use Rattle.ra_turn.specs.Notes.{by, touching, IsVersion, OnlyBy, TouchedAt, HoldsAll}
+use Rattle.ra_turn.specs.Notes.{touching, IsVersion, OnlyBy, HoldsAll}
 use Rattle.ra_turn.specs.declared.sight.Grip.{Grip}
-use Rattle.ra_turn.proofs.Lists.{prefix_self, prefix_longer, by_one_more}
-use Rattle.ra_turn.proofs.Versions.{get_front, get_cases, get_last, version_whole, version_kept, only_shorter}
+use Rattle.ra_turn.proofs.Lists.{prefix_self}
+use Rattle.ra_turn.proofs.Versions.{version_whole, version_kept, only_shorter}
 use Rattle.ra_shared.specs.declared.books.Opening.{Opening}
 use Rattle.ra_shared.specs.Books.{entry_touches, committed_in, KnowsOwn, IsCommitOf}
 use Rattle.ra_shared.specs.Holding.{HoldsWrites, then_version}
-use Rattle.ra_shared.specs.Laws.{IsRecorded, IsStale, RecordedStands, StaleStands}
+use Rattle.ra_shared.specs.Laws.{RecordedStands, StaleStands}
 use Rattle.ra_shared.specs.Numbers.{number_of}
 use Rattle.ra_shared.specs.Shares.{IsCommitted}
 use Rattle.ra_shared.proofs.Agree.{touches_agree}
-use Rattle.ra_shared.proofs.Gripping.{holds_touched, touched_by}
-use Rattle.ra_shared.proofs.Own.{later_commit, own_seen, next_same, get_entry, entry_get, prefix_length}
+use Rattle.ra_shared.proofs.Gripping.{holds_touched}
+use Rattle.ra_shared.proofs.Own.{later_commit}
 
 -- the entry that is added where no guard is newer
 
@@ -187,12 +187,6 @@ module _ (o : Opening) (w : ℕ) (plan : Plan) (g : Guard) (known : IsKnown o.in
       (answered o h w plan later)
 
 -- what the worker has made is then what stands there of its own
-
-pub own_after : (o : Opening) (w : ℕ) (grips : List Grip) (h mine xs : List Entry) → KnowsOwn w h mine → MayGive o grips w h xs → KnowsOwn w xs (mine ++ drop (length h) xs)
-own_after o w grips h mine xs own may = ⊎_elim
-    (λ (same : xs ≡ h). rw same (own ∙ (sym (append-nil mine) ∙ ap (λ (ys : List Entry). mine ++ ys) (sym (drop-length h)))))
-    (λ more. by_one_more (λ (e : Entry). e.worker) w h mine xs more.0 more.1 more.2 own)
-    may
 
 -- the laws for a worker that is answered
 

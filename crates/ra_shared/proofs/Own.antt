@@ -1,12 +1,12 @@
 -- What a worker has seen and made, in a history that is longer.
-use Rattle.std.proofs.Common.{◌≡◌, ◌⊎◌, ℕ, zero, suc, ◌+◌, ◌<◌, ◌≤◌, eqb, Bool, false, List, [], ◌∷◌, ◌++◌, length, slice_get, drop, Some, refl, ap, sym, subst, ◌∙◌, ⊎_elim, inl, inr, arith, length-append}
-use Rattle.std.proofs.lemmas.Bool.{cases_lt, false_from_ne_true, eqb-true, eq-eqb}
-use Rattle.std.proofs.lemmas.List.{append-nil, get_or_append_left, length_push}
+use Rattle.std.proofs.Common.{◌≡◌, ◌⊎◌, ℕ, zero, suc, ◌+◌, ◌<◌, ◌≤◌, eqb, Bool, false, List, ◌++◌, length, slice_get, Some, ap, sym, ◌∙◌, ⊎_elim, arith, length-append}
+use Rattle.std.proofs.lemmas.Bool.{false_from_ne_true, eqb-true, eq-eqb}
+use Rattle.std.proofs.lemmas.List.{get_or_append_left}
 use Rattle.std.proofs.lemmas.Option.{slice_get-get_or, slice_get_within, get_or_from_slice_get}
 use mathlib.Core.List.{IsPrefix}
 use Rattle.ra_base.specs.Sums.{count}
 use Rattle.ra_base.specs.declared.ids.Machine.{Machine}
-use Rattle.ra_base.proofs.Counts.{count_same, count_no}
+use Rattle.ra_base.proofs.Counts.{count_no}
 use Rattle.ra_draws.specs.declared.budgets.Lots.{Lots}
 use Rattle.ra_model.specs.declared.raw.Tables.{Tables}
 use Rattle.ra_moves.specs.declared.verdicts.Plan.{Plan}
@@ -32,9 +32,6 @@ get_entry h j e is = get_or_from_slice_get h j e _ is
 
 pub prefix_length : (h g : List Entry) → IsPrefix h g → length h ≤ length g
 prefix_length h g p = omega (arith, ap length p.1, length-append h p.0)
-
-pub prefix_through : (a b c : List Entry) → IsPrefix a b → b ≡ c → IsPrefix a c
-prefix_through a b c p e = subst (IsPrefix a) e p
 
 -- a list and a longer one agree on the first
 pub same_front : (h g : List Entry) → IsPrefix h g → SameBelow (length h) h g

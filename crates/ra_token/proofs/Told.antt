@@ -4,10 +4,9 @@ use Rattle.std.specs.Char.{is_ascii_digit}
 use Rattle.std.proofs.lemmas.List.{get_or_read}
 use Rattle.std.proofs.lemmas.Option.{slice_get-get_or}
 use Rattle.ra_token.specs.declared.answers.TheConstants.{LARGEST, PLACE_LIMIT}
-use Rattle.ra_token.specs.declared.answers.TokenFault.TheVariants.{TooLarge}
 use Rattle.ra_token.specs.Runs.{is_blank}
 use Rattle.ra_token.specs.Reads.{IsPiece, IsBetween}
-use Rattle.ra_token.specs.Scan.{IsReached, InRun, IsNext, FaultsAt}
+use Rattle.ra_token.specs.Scan.{IsReached, InRun, IsNext}
 use Rattle.ra_token.proofs.Pieces.{piece_within, piece_at}
 use Rattle.ra_token.proofs.Steps.{reached_here, run_begins, run_ends, next_of}
 use Rattle.ra_token.proofs.InPiece.{piece_blanks}
@@ -34,14 +33,6 @@ told_run None piece start place carried end value shows low after goes_on = tt
 told_run (Some bytes) piece start place carried end value shows low after goes_on = λ first run small.
     let here : place ≡ start + (place - start) = omega arith in
     goes_on bytes start first low shows (subst (λ k. InRun bytes first k carried) here run) small
-
-pub told_large : (told : Option (List ℕ)) (piece : List ℕ) (start place carried value : ℕ) → IfSome told (λ bytes. IsPiece bytes start piece) → start + length piece ≤ PLACE_LIMIT → start ≤ place
-    → ((all : List ℕ) (at first : ℕ) → at + length piece ≤ PLACE_LIMIT → IsPiece all at piece → InRun all first (at + (place - start)) carried → LARGEST < value → FaultsAt all first (TooLarge first))
-    → IfSome told (λ bytes. (first : ℕ) → InRun bytes first place carried → LARGEST < value → FaultsAt bytes first (TooLarge first))
-told_large None piece start place carried value shows low after too_large = tt
-told_large (Some bytes) piece start place carried value shows low after too_large = λ first run large.
-    let here : place ≡ start + (place - start) = omega arith in
-    too_large bytes start first low shows (subst (λ k. InRun bytes first k carried) here run) large
 
 -- a byte that is ready is the byte of the file
 pub told_byte : (told : Option (List ℕ)) (items : List ℕ) (start filled at byte : ℕ) → IfSome told (λ bytes. IsPiece bytes start (take filled items)) → start ≤ at → at < start + filled → filled ≤ length items → byte ≡ get_or items (at - start) byte → IfSome told (λ bytes. Some byte ≡ slice_get bytes at)

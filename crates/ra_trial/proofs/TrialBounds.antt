@@ -1,5 +1,5 @@
 -- All numbers in a trial's model file are small, and its text is short.
-use Rattle.std.proofs.Common.{◌≡◌, ◌≢◌, ℕ, zero, suc, ◌+◌, ◌/◌, ◌%◌, ◌^◌, ◌<◌, ◌≤◌, cond, eqb, [], ◌∷◌, refl, sym, subst, ⊎_elim, arith, eq-eqb, ne_eqb}
+use Rattle.std.proofs.Common.{◌≡◌, ◌≢◌, ℕ, ◌+◌, ◌/◌, ◌%◌, ◌^◌, ◌<◌, ◌≤◌, cond, eqb, [], ◌∷◌, sym, subst, ⊎_elim, arith, eq-eqb, ne_eqb}
 use Rattle.std.proofs.lemmas.Bool.{cases_eq, cond-true, cond-false}
 use Rattle.ra_base.proofs.Sums.{total_bound}
 use Rattle.ra_trial.specs.Lines.{listed}
@@ -7,10 +7,6 @@ use Rattle.ra_trial.specs.Numbers.{transient_of, requirement_of, process_cost_of
 use Rattle.ra_trial.specs.Trials.{resource_line, machine_front, machine_line, service_line, process_line, resource_lines, machine_lines, service_lines, process_lines, last_lines}
 use Rattle.ra_trial.proofs.LineNumbers.{all_lines}
 use Rattle.ra_trial.proofs.LineBounds.{IsShort, AreShort, one_short, short_append, group_short, numbers_short, number_short, none_short, numbers_append}
-
-one_of : (d a : ℕ) → d ≢ 0 → 1 + a % d ≤ d
-one_of zero a some = absurd (some refl)
-one_of (suc d) a some = omega arith
 
 chosen_low : (a b x y most : ℕ) → x ≤ most → y ≤ most → cond (eqb a b) x y ≤ most
 chosen_low a b x y most x_low y_low = ⊎_elim

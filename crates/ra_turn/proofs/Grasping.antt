@@ -1,5 +1,5 @@
 -- What a seat holds and was told, over several steps.
-use Rattle.std.proofs.Common.{◌≡◌, ℕ, zero, suc, ◌/◌, ◌%◌, ◌==◌, ◌<◌, Bool, true, false, cond, List, ◌∷◌, Contains, refl, ap, sym, subst, ◌∙◌, eq-eqb, arith}
+use Rattle.std.proofs.Common.{◌≡◌, ℕ, zero, suc, ◌/◌, ◌%◌, ◌==◌, Bool, true, false, cond, List, ◌∷◌, Contains, refl, ap, sym, subst, ◌∙◌, arith}
 use Rattle.atomic_table.specs.Table.{Me}
 use Rattle.ra_turn.specs.declared.sight.Grip.{Grip}
 use Rattle.ra_turn.specs.declared.sight.Sight.{Sight}
@@ -21,15 +21,6 @@ keeps_if false ks more keeps = λ k h. h
 -- what was told before a look stays told
 pub heard_keeps : (guard word : ℕ) (ks : List Grip) → KeepsNews ks (heard guard word ks)
 heard_keeps guard word ks = keeps_if (word % 2 == 0) ks (at_version guard (word / 2) ks) (version_keeps guard (word / 2) ks)
-
-version_has : (guard v : ℕ) (ks : List Grip) → 0 < v → Contains (at_version guard v ks) (grip guard v)
-version_has guard zero ks more = absurd (omega arith)
-version_has guard (suc v) ks more = (0, omega arith, refl)
-
--- an even word that isn't 0 is told
-pub heard_has : (guard word : ℕ) (ks : List Grip) → word % 2 ≡ 0 → 0 < word / 2 → Contains (heard guard word ks) (grip guard (word / 2))
-heard_has guard word ks even more =
-    subst (λ (b : Bool). Contains (cond b (at_version guard (word / 2) ks) ks) (grip guard (word / 2))) (sym (eq-eqb (word % 2) 0 even)) (version_has guard (word / 2) ks more)
 
 module _ {S N O : Type 0} where
   pub only_same : (m m' : Me S (Sight N O)) → m' ≡ m → OnlyHolds m m'

@@ -28,14 +28,6 @@ pub told_map : (told : Option (List ℕ)) (P Q : List ℕ → Type 0) → ((byte
 told_map None P Q f p = tt
 told_map (Some bytes) P Q f p = f bytes p
 
-pub told_two : (told : Option (List ℕ)) (P Q R : List ℕ → Type 0) → ((bytes : List ℕ) → P bytes → Q bytes → R bytes) → IfSome told P → IfSome told Q → IfSome told R
-told_two None P Q R f p q = tt
-told_two (Some bytes) P Q R f p q = f bytes p q
-
-pub told_three : (told : Option (List ℕ)) (P Q R S : List ℕ → Type 0) → ((bytes : List ℕ) → P bytes → Q bytes → R bytes → S bytes) → IfSome told P → IfSome told Q → IfSome told R → IfSome told S
-told_three None P Q R S f p q r = tt
-told_three (Some bytes) P Q R S f p q r = f bytes p q r
-
 -- nothing was read but the head
 pub read_head_only : (i : Tables) (a0 : List Machine) (l : Lots) (bytes : List ℕ) (place : ℕ) (h : List Entry) → Legal i a0 l h → h ≡ [] → AreLines bytes place 10 → AreRead i a0 l bytes place h
 read_head_only i a0 l bytes place h legal none given = record {

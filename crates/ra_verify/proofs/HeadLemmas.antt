@@ -64,13 +64,6 @@ head_end bytes place after n head more on few before more_is none =
           (cases_lt k n);
     }
 
-pub head_ten : (bytes : List ℕ) (place n : ℕ) (head : List ℕ) → IsHeadSoFar bytes place n head → n ≡ 10 → IsHead bytes place 10 head
-head_ten bytes place n head before ten = record {
-  first = record { given = subst (AreLines bytes place) ten before.given; few = omega arith; all = λ less. absurd (omega (arith, less)) };
-  text = before.text;
-  short = λ k within. before.short k (omega (arith, within, ten));
-}
-
 pub head_long : (bytes : List ℕ) (place n : ℕ) (head : List ℕ) → n < 10 → IsHeadSoFar bytes place n head → BeginsOverLong (most_bytes n) (drop place bytes) → first_over_long bytes ≡ Some (n + 1)
 head_long bytes place n head few before is = first_over bytes n few before.short (over_at bytes is.line n (line_next bytes is.line is.others place n before.given is.lines) is.long)
 
@@ -111,10 +104,6 @@ told_long None now place after n most head next same few most_is is before comes
 told_long (Some bytes) now place after n most head next same few most_is is before comes =
     head_long bytes place n head few before
     (subst (λ k. BeginsOverLong k (drop place bytes)) most_is (subst (λ x. IsNext most (drop place bytes) (drop after bytes) x) is (subst (λ t. Comes t place after most next) same comes)))
-
-pub told_ten : (told : Option (List ℕ)) (place n : ℕ) (head : List ℕ) → n ≡ 10 → SoFar told place n head → IfSome told (λ bytes. IsHead bytes place 10 head)
-told_ten None place n head ten before = tt
-told_ten (Some bytes) place n head ten before = head_ten bytes place n head before ten
 
 -- the line that is told is that one
 pub long_told : (told : Option (List ℕ)) (n : ℕ) → IfSome told (λ bytes. first_over_long bytes ≡ Some n) → IfSome told (λ bytes. (m : ℕ) → (let r : Result ℕ VerifyFault = Err (fault.Wrong n) in r) ≡ Err (fault.Wrong m) → first_over_long bytes ≡ Some m)

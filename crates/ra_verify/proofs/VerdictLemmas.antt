@@ -9,7 +9,7 @@ use Rattle.ra_model.specs.declared.raw.Tables.{Tables}
 use Rattle.ra_lines.specs.Lines.{lines_of, line_at, FirstUnlike}
 use Rattle.ra_journal.specs.declared.entries.Entry.{Entry}
 use Rattle.ra_journal.specs.declared.journal.Journal.{Journal}
-use Rattle.ra_journal.specs.Legal.{Legal, Whole}
+use Rattle.ra_journal.specs.Legal.{Whole}
 use Rattle.ra_report.specs.JournalTexts.{report_head, report_text, head_of}
 use Rattle.ra_report.proofs.LineEnds.{head_line_count}
 use Rattle.ra_verify.specs.Judging.{IsAccepted, IsUnfinished, HasUnlike, IsMisjudged}
@@ -97,13 +97,6 @@ wrong_head i a0 l bytes head place lines n j inst initial lots is right judged =
 pub misjudged : (i : Tables) (a0 : List Machine) (l : Lots) (bytes head : List ℕ) (place lines n : ℕ) (j : Journal) → j.inst.now.tables ≡ i → j.a0.now.items ≡ a0 → j.lots.now ≡ l → IsHead bytes place lines head → AreAllRight i a0 l bytes j.book.entries.items → length (lines_of bytes) ≡ lines + length j.book.entries.items → IsMisjudged j head lines n → IsFirstWrong i a0 l bytes (Some n)
 misjudged i a0 l bytes head place lines n j inst initial lots is right long (inl unfinished) = inr (inr (inl (cut_off i a0 l bytes head place lines n j lots is right long unfinished)))
 misjudged i a0 l bytes head place lines n j inst initial lots is right long (inr unlike) = inr (inr (inr (wrong_head i a0 l bytes head place lines n j inst initial lots is right unlike)))
-
--- a report with fewer than ten lines has no entry lines
-pub no_entries : (i : Tables) (a0 : List Machine) (l : Lots) (bytes : List ℕ) (place lines : ℕ) (h : List Entry) → Legal i a0 l h → h ≡ [] → AreFirst bytes place lines → lines < 10 → AreAllRight i a0 l bytes h
-no_entries i a0 l bytes place lines h legal none first few = record {
-  right = record { legal = legal; lines = λ j within. absurd (omega (arith, within, ap (λ (x : List Entry). length x) none)) };
-  all = omega (arith, lines_end bytes place lines first.given (first.all few), few);
-}
 
 pub no_more : (bytes : List ℕ) (place lines : ℕ) (h : List Entry) → h ≡ [] → AreFirst bytes place lines → lines < 10 → length (lines_of bytes) ≡ lines + length h
 no_more bytes place lines h none first few = omega (arith, lines_end bytes place lines first.given (first.all few), ap (λ (x : List Entry). length x) none)

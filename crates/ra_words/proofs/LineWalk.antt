@@ -242,11 +242,6 @@ plain_apart Slack = refl
 plain_apart Closed = refl
 plain_apart Draws = refl
 
-option_apart : (given : Given) → bytes_eq (id_of given) (codes "plain") ≡ false
-option_apart Slack = refl
-option_apart Closed = refl
-option_apart Draws = refl
-
 plain_reads : (rows : List Row) (seen : Seen) (word : Text) → Reads rows seen
     → Reads (settled_rows line_rules (Some (codes "plain", word ∷ [])) rows) (record seen { plain = seen.plain ++ word ∷ [] })
 plain_reads rows seen word reads = record {
