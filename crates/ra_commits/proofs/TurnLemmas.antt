@@ -7,7 +7,7 @@ use Rattle.ra_model.specs.declared.numbers.Instance.{Instance}
 use Rattle.ra_journal.specs.declared.entries.Entry.{Entry}
 use Rattle.ra_journal.specs.declared.journal.Journal.{Journal}
 use Rattle.ra_worker.specs.declared.replica.Replica.{Replica}
-use Rattle.ra_worker.specs.Replicas.{AreAt}
+use Rattle.ra_core.specs.Replicas.{AreAt}
 
 pub are_at_journal : (inst : Instance) (a0 : Listed Machine) (l : Lots) (journal : Journal) (replicas : List Replica) → journal.inst.now ≡ inst → journal.a0.now ≡ a0 → journal.lots.now ≡ l → ((h : List Entry) → AreAt inst.tables a0.items l h replicas)
     → AreAt journal.inst.now.tables journal.a0.now.items journal.lots.now journal.book.entries.items replicas

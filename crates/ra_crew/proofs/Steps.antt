@@ -20,7 +20,7 @@ use Rattle.ra_shared.specs.Laws.{IsRecorded, IsStale}
 use Rattle.ra_shared.specs.Shares.{start_of, IsCommitted, IsAtRest}
 use Rattle.ra_shared.proofs.Handing.{recorded_stands, stale_stands}
 use Rattle.ra_worker.specs.declared.replica.Replica.{Replica}
-use Rattle.ra_worker.specs.Core.{has_used, is_behind, is_skipped}
+use Rattle.ra_worker.specs.Skipping.{has_used, is_behind, is_skipped}
 use Rattle.ra_worker.specs.Replicas.{IsAt, AreNext, AreTold, HasTaken}
 use Rattle.ra_worker.proofs.TurnLemmas.{may_commit, batch_next, batch_long, taken_at}
 use Rattle.ra_crew.specs.declared.worker.Worker.{Worker}

@@ -1,10 +1,4 @@
-pub mod CoreLemmas
 pub mod FollowingLemmas
 pub mod ProposalLemmas
 pub mod ReplicaLemmas
-pub mod UptoLemmas
 pub mod TurnLemmas
-pub mod PlayLemmas
-pub mod RoundLemmas
-pub mod AllLemmas
-pub mod PlayedLemmas

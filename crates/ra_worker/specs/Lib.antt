@@ -1,6 +1,4 @@
-pub mod Core
 pub mod Following
-pub mod Laws
 pub mod Proposals
 pub mod Replicas
-pub mod Rounds
+pub mod Skipping

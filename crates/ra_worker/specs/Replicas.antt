@@ -1,14 +1,13 @@
 -- A replica of a worker, which stands for a state of a journal. It keeps no journal.
-use Rattle.std.specs.Prelude.{◌≡◌, ℕ, ◌+◌, ◌<◌, ◌≤◌, List, length, map, slice_index_or}
+use Rattle.std.specs.Prelude.{◌≡◌, ℕ, ◌+◌, ◌<◌, ◌≤◌, List, length}
 use Rattle.ra_base.specs.declared.ids.Machine.{Machine}
 use Rattle.ra_draws.specs.declared.budgets.Lots.{Lots}
 use Rattle.ra_model.specs.declared.raw.Tables.{Tables}
 use Rattle.ra_journal.specs.declared.entries.Entry.{Entry}
-use Rattle.ra_journal.specs.Entries.{entry_at, entries_of, worker_count}
+use Rattle.ra_journal.specs.Entries.{entry_at, entries_of}
 use Rattle.ra_journal.specs.Legal.{Legal}
 use Rattle.ra_journal.specs.States.{state}
 use Rattle.ra_worker.specs.declared.replica.Replica.{Replica}
-use Rattle.ra_worker.specs.Core.{Core}
 
 -- a replica is at a state of a journal: it is of the same instance, initial assignment and lots, its assignment is the
 -- state at its place, and its worker has made as many proposals as it has entries before that
@@ -45,17 +44,3 @@ pub record HasTaken (before after : Replica) (entries : List Entry) (n : ℕ) : 
   pub worker : after.proposals.worker ≡ before.proposals.worker
   pub place : after.place ≡ before.place + n
   pub at : (h : List Entry) → AreNext before entries h → IsAt before.world.inst.now.tables before.world.start.now.items before.proposals.lots.now h after
-
--- replica w of a list is the one of worker w, at a state of a journal
-pub record IsAtOf (i : Tables) (a0 : List Machine) (l : Lots) (h : List Entry) (w : ℕ) (r : Replica) : Type 0 where
-  pub worker : r.proposals.worker ≡ w
-  pub at : IsAt i a0 l h r
-
--- there is one replica for each worker, in order, each at a state of a journal
-pub record AreAt (i : Tables) (a0 : List Machine) (l : Lots) (h : List Entry) (replicas : List Replica) : Type 0 where
-  pub one_each : length replicas ≡ worker_count l
-  pub each : (w : ℕ) (r : Replica) → w < length replicas → slice_index_or replicas w r ≡ r → IsAtOf i a0 l h w r
-
--- the core that a journal and the replicas are
-unfoldable pub core_of : List Entry → List Replica → Core
-core_of h replicas = record { journal = h; places = map (λ (r : Replica). r.place) replicas }

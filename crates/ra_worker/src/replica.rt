@@ -98,7 +98,7 @@ impl<'a> Replica<'a> {
     }
 
     /// How many proposals its worker makes.
-    pub(crate) fn budget(&self) -> u64
+    pub fn budget(&self) -> u64
         ensures { result ≡ budget self.now.proposals.lots.now self.now.proposals.worker }
     {
         self.proposals.budget()
@@ -155,8 +155,8 @@ impl<'a> Replica<'a> {
         }
     }
 
-    /// Takes in one entry.
-    pub(crate) fn take_entry<L: Ledger>(&mut self, entry: &Entry, steps: &mut Steps<L>)
+    /// Takes in one entry, which was judged at the state for which it stands.
+    pub fn take_entry<L: Ledger>(&mut self, entry: &Entry, steps: &mut Steps<L>)
         requires judged { IsJudged self.old.world.inst.now.tables self.old.world.start.now.items
             self.old.world.kept.assignment.items entry.now.mv.steps entry.now.verdict }
         requires left { entry.now.worker ≡ self.old.proposals.worker → self.old.proposals.number <

@@ -1,17 +1,19 @@
 //! What workers are answered that take turns with the journal.
-ghost use Rattle.ra_worker.specs.Replicas.{AreAt};
+ghost use Rattle.ra_core.specs.Replicas.{AreAt};
 
 use super::first::start_parts;
 use super::lots::{lone_proposal, single_proposals};
 use super::{AWAY, done, shift, stale};
 use ra_base::{Cause, Fixed, Guard, Machine, Resource};
+use ra_core::{CoreEvent, CoreReply, make_replicas};
 use ra_draws::Lots;
 use ra_journal::{Batch, Journal, Reply};
 use ra_model::Instance;
 use ra_moves::Verdict;
+use ra_play::{are_named, play};
 use ra_samples::{assignment, list, sample};
 use ra_topology::Topology;
-use ra_worker::{CoreEvent, CoreReply, Replica, are_named, make_replicas, play};
+use ra_worker::Replica;
 use std::alloc::Global;
 use std::process::Abort;
 

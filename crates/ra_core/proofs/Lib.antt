@@ -1,0 +1,4 @@
+pub mod AllLemmas
+pub mod CoreLemmas
+pub mod TurnLemmas
+pub mod UptoLemmas

@@ -1,0 +1,4 @@
+pub mod StepLemmas
+pub mod PlayLemmas
+pub mod PlayedLemmas
+pub mod RoundLemmas
