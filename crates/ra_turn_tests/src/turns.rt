@@ -3,6 +3,7 @@ mod threads;
 
 ghost use Rattle.std.specs.Prelude.{◌≡◌, ◌+◌, ◌<◌, ◌^◌, [], length, IfSome};
 ghost use Rattle.ra_turn.specs.Passes.{EachAt, IsDone, IsReady, guards_of, grips_of, passes_of};
+ghost use Rattle.ra_turn_tests.specs.Passing.{IsFree};
 
 use pad::{Pad, empty, hold_and_release, plain, take_turn, touching, write_held};
 use ra_turn::{Hold, Pass, Turn};
@@ -13,8 +14,10 @@ use std::test::Fail;
 fn for_two(alloc: Global, turns: u64, guards: u32) -> Option<(Turn<Pad>, Pass<Pad>, Pass<Pad>)>
     requires { turns < 2 ^ 32 }
     ensures lock { IfSome result (λ r. (passes_of r.0 ≡ 2) × (guards_of r.0 ≡ guards)) }
-    ensures first { IfSome result (λ r. IsReady r.0 r.1 × (r.1.number ≡ 0) × (r.1.left ≡ turns) × (grips_of r.1 ≡ [])) }
-    ensures second { IfSome result (λ r. IsReady r.0 r.2 × (r.2.number ≡ 1) × (r.2.left ≡ turns) × (grips_of r.2 ≡ [])) }
+    ensures first { IfSome result (λ r. IsReady r.0 r.1 × (r.1.number ≡ 0) × (r.1.left ≡ turns)
+        × (grips_of r.1 ≡ [])) }
+    ensures second { IfSome result (λ r. IsReady r.0 r.2 × (r.2.number ≡ 1) × (r.2.left ≡ turns)
+        × (grips_of r.2 ≡ [])) }
 {
     let Ok((turn, mut passes)) = Turn::make(alloc, empty(alloc), 2, turns, guards) else {
         return None;
@@ -32,10 +35,11 @@ fn both(
     first: Pass<Pad>,
     second: Pass<Pad>,
 ) -> Option<Vec<Pass<Pad>>>
-    requires first { IsReady turn.now first × (first.number ≡ 0) × (grips_of first ≡ []) }
-    requires second { IsReady turn.now second × (second.number ≡ 1) × (grips_of second ≡ []) }
+    requires first { IsFree turn.now 0 first }
+    requires second { IsFree turn.now 1 second }
     requires two { passes_of turn.now ≡ 2 }
-    ensures { IfSome result (λ all. (length all.items ≡ passes_of turn.now) × EachAt (IsDone turn.now) all.items) }
+    ensures { IfSome result (λ all. (length all.items ≡ passes_of turn.now)
+        × EachAt (IsDone turn.now) all.items) }
 {
     let mut all = Vec::with_capacity(alloc, 2).ok()?;
     all.push_reserved(first);

@@ -1,6 +1,7 @@
 // Workers that write lines in a pad behind the lock. The pad borrows, so that the workers' type names a lifetime.
 ghost use Rattle.std.specs.Prelude.{◌≡◌, ◌+◌, ◌<◌, ◌≤◌, [], ◌++◌, ◌∷◌, false, length, IfSome, MatchBool};
 ghost use Rattle.ra_turn.specs.Passes.{EachAt, IsDone, IsReady, grips_of, passes_of};
+ghost use Rattle.ra_turn_tests.specs.Passing.{HasLetGo, IsFree, MayTake, NumberMayTake};
 
 use ra_shared::{Labour, all_labour};
 use ra_turn::{Pass, Story, Turn};
@@ -47,9 +48,9 @@ pub struct Scribe<'a> {
 }
 
 impl<'a> Labour<Turn<Pad<'a>>> for Scribe<'a> {
-    ghost able = { λ turn s. IsReady turn s.pass × (s.lines ≤ s.pass.left) × (grips_of s.pass ≡ []) };
+    ghost able = { λ turn s. MayTake turn s.lines s.pass };
 
-    ghost done = { λ turn s t. IsReady turn t.pass × (t.pass.number ≡ s.pass.number) × (grips_of t.pass ≡ []) };
+    ghost done = { λ turn s t. IsFree turn s.pass.number t.pass };
 
     fn labour<R: Wait>(&mut self, rt: &R, with: &Turn<Pad<'a>>) {
         let lines = self.lines;
@@ -59,8 +60,8 @@ impl<'a> Labour<Turn<Pad<'a>>> for Scribe<'a> {
 
 // Writes a line in each of so many turns.
 fn write_all<'a, R: Wait>(rt: &R, turn: &Turn<Pad<'a>>, pass: &mut Pass<Pad<'a>>, lines: u32)
-    requires { IsReady turn.now pass.old × (lines ≤ pass.old.left) × (grips_of pass.old ≡ []) }
-    ensures { IsReady turn.now pass.new × (pass.new.number ≡ pass.old.number) × (grips_of pass.new ≡ []) }
+    requires { MayTake turn.now lines pass.old }
+    ensures { IsFree turn.now pass.old.number pass.new }
 {
     for number in 0..lines {
         write_line(rt, turn, pass, number);
@@ -69,7 +70,8 @@ fn write_all<'a, R: Wait>(rt: &R, turn: &Turn<Pad<'a>>, pass: &mut Pass<Pad<'a>>
 
 // Writes a line, if there is memory.
 fn push(pad: &mut Pad<'_>, line: Line) -> bool
-    ensures { MatchBool result (pad.new.lines.items ≡ pad.old.lines.items ++ line ∷ []) (pad.new.lines.items ≡ pad.old.lines.items) }
+    ensures { MatchBool result (pad.new.lines.items ≡ pad.old.lines.items ++ line ∷ [])
+        (pad.new.lines.items ≡ pad.old.lines.items) }
 {
     pad.lines.push(line).is_ok()
 }
@@ -77,7 +79,7 @@ fn push(pad: &mut Pad<'_>, line: Line) -> bool
 // Takes a turn, and writes a line in it.
 fn write_line<'a, R: Wait>(rt: &R, turn: &Turn<Pad<'a>>, pass: &mut Pass<Pad<'a>>, number: u32)
     requires { IsReady turn.now pass.old × (0 < pass.old.left) × (grips_of pass.old ≡ []) }
-    ensures { IsReady turn.now pass.new × (pass.new.number ≡ pass.old.number) × (pass.new.left + 1 ≡ pass.old.left) × (grips_of pass.new ≡ []) }
+    ensures { HasLetGo turn.now pass.old pass.new }
 {
     let by = pass.number();
     let mut held = turn.take(rt, pass);
@@ -93,9 +95,10 @@ fn both<'a>(
     second: Pass<Pad<'a>>,
     lines: u32,
 ) -> Option<Vec<Scribe<'a>>>
-    requires first { IsReady turn.now first × (first.number ≡ 0) × (lines ≤ first.left) × (grips_of first ≡ []) }
-    requires second { IsReady turn.now second × (second.number ≡ 1) × (lines ≤ second.left) × (grips_of second ≡ []) }
-    ensures { IfSome result (λ all. (length all.items ≡ 2) × EachAt (λ n s. IsReady turn.now s.pass × (s.pass.number ≡ n) × (s.lines ≤ s.pass.left) × (grips_of s.pass ≡ [])) all.items) }
+    requires first { NumberMayTake turn.now 0 lines first }
+    requires second { NumberMayTake turn.now 1 lines second }
+    ensures { IfSome result (λ all. (length all.items ≡ 2)
+        × EachAt (λ n s. NumberMayTake turn.now n s.lines s.pass) all.items) }
 {
     let mut all = Vec::with_capacity(alloc, 2).ok()?;
     all.push_reserved(Scribe { pass: first, lines });
@@ -108,9 +111,9 @@ fn both<'a>(
 
 // The two workers.
 fn two<'a>(turn: &Turn<Pad<'a>>, mut all: Vec<Scribe<'a>>) -> Option<(Scribe<'a>, Scribe<'a>)>
-    requires { (length all.items ≡ 2) × EachAt (λ n s. IsReady turn.now s.pass × (s.pass.number ≡ n) × (grips_of s.pass ≡ [])) all.items }
-    ensures first { IfSome result (λ r. IsReady turn.now r.0.pass × (r.0.pass.number ≡ 0) × (grips_of r.0.pass ≡ [])) }
-    ensures second { IfSome result (λ r. IsReady turn.now r.1.pass × (r.1.pass.number ≡ 1) × (grips_of r.1.pass ≡ [])) }
+    requires { (length all.items ≡ 2) × EachAt (λ n s. IsFree turn.now n s.pass) all.items }
+    ensures first { IfSome result (λ r. IsFree turn.now 0 r.0.pass) }
+    ensures second { IfSome result (λ r. IsFree turn.now 1 r.1.pass) }
 {
     let (Some(second), Some(first)) = (all.pop(), all.pop()) else {
         return None;
@@ -125,10 +128,11 @@ fn in_order<'a>(
     first: Pass<Pad<'a>>,
     second: Pass<Pad<'a>>,
 ) -> Option<Vec<Pass<Pad<'a>>>>
-    requires first { IsReady turn.now first × (first.number ≡ 0) × (grips_of first ≡ []) }
-    requires second { IsReady turn.now second × (second.number ≡ 1) × (grips_of second ≡ []) }
+    requires first { IsFree turn.now 0 first }
+    requires second { IsFree turn.now 1 second }
     requires two { passes_of turn.now ≡ 2 }
-    ensures { IfSome result (λ all. (length all.items ≡ passes_of turn.now) × EachAt (IsDone turn.now) all.items) }
+    ensures { IfSome result (λ all. (length all.items ≡ passes_of turn.now)
+        × EachAt (IsDone turn.now) all.items) }
 {
     let mut all = Vec::with_capacity(alloc, 2).ok()?;
     all.push_reserved(first);

@@ -2,6 +2,7 @@
 ghost use Rattle.std.specs.Prelude.{◌≡◌, ℕ, ◌+◌, ◌<◌, ◌≤◌, ◌==◌, [], ◌∷◌, ◌++◌, length, MatchBool};
 ghost use Rattle.ra_turn.specs.Notes.{IsVersion, grip};
 ghost use Rattle.ra_turn.specs.Passes.{IsReady, guards_of, grips_of, seen_by};
+ghost use Rattle.ra_turn_tests.specs.Passing.{HasLetGo, HasTakenTurn, IsFree};
 
 use ra_turn::{Hold, Pass, Story, Turn};
 use std::alloc::Global;
@@ -68,7 +69,8 @@ pub fn touching(by: u32, number: u32, guard: u32) -> Line
 
 // Writes a line, if there is memory.
 fn write(pad: &mut Pad, line: Line) -> bool
-    ensures { MatchBool result (pad.new.lines.items ≡ pad.old.lines.items ++ line ∷ []) (pad.new.lines.items ≡ pad.old.lines.items) }
+    ensures { MatchBool result (pad.new.lines.items ≡ pad.old.lines.items ++ line ∷ [])
+        (pad.new.lines.items ≡ pad.old.lines.items) }
 {
     pad.lines.push(line).is_ok()
 }
@@ -96,7 +98,7 @@ pub fn take_turn<R: Wait>(
     number: Option<u32>,
 ) -> Option<Vec<Line>>
     requires { IsReady turn.now pass.old × (0 < pass.old.left) }
-    ensures { IsReady turn.now pass.new × (pass.new.number ≡ pass.old.number) × (pass.new.left + 1 ≡ pass.old.left) × (grips_of pass.new ≡ grips_of pass.old) }
+    ensures { HasTakenTurn turn.now pass.old pass.new }
 {
     let mut held = turn.take(rt, pass);
     let found = Vec::from_slice(alloc, held.value.lines.as_slice()).ok();
@@ -118,7 +120,7 @@ pub fn write_held<R: Wait>(
 ) -> Hold
     requires pass { IsReady turn.now pass.old × (0 < pass.old.left) × (grips_of pass.old ≡ []) }
     requires guard { guard < guards_of turn.now }
-    ensures { IsReady turn.now pass.new × (pass.new.number ≡ pass.old.number) × (pass.new.left + 1 ≡ pass.old.left) × (grips_of pass.new ≡ []) }
+    ensures { HasLetGo turn.now pass.old pass.new }
 {
     let asked = pass.seen();
     let by = pass.number();
@@ -140,7 +142,7 @@ pub fn write_held<R: Wait>(
 pub fn write_line<R: Wait>(rt: &R, turn: &Turn<Pad>, pass: &mut Pass<Pad>, line: Line)
     requires pass { IsReady turn.now pass.old × (0 < pass.old.left) }
     requires line { (line.by ≡ pass.old.number) × (line.touched ≡ 0) }
-    ensures { IsReady turn.now pass.new × (pass.new.number ≡ pass.old.number) × (pass.new.left + 1 ≡ pass.old.left) × (grips_of pass.new ≡ grips_of pass.old) }
+    ensures { HasTakenTurn turn.now pass.old pass.new }
 {
     let mut held = turn.take(rt, pass);
     write(&mut held.value, line);
@@ -156,9 +158,10 @@ fn write_and_release<R: Wait>(
     line: Line,
 )
     requires pass { IsReady turn.now pass.old × (0 < pass.old.left) }
-    requires held { (v : ℕ) × (grips_of pass.old ≡ grip guard v ∷ []) × (v ≤ length (seen_by pass.old)) }
+    requires held { (v : ℕ) × (grips_of pass.old ≡ grip guard v ∷ [])
+        × (v ≤ length (seen_by pass.old)) }
     requires line { (line.by ≡ pass.old.number) × (line.touched ≡ guard + 1) }
-    ensures { IsReady turn.now pass.new × (pass.new.number ≡ pass.old.number) × (pass.new.left + 1 ≡ pass.old.left) × (grips_of pass.new ≡ []) }
+    ensures { HasLetGo turn.now pass.old pass.new }
 {
     let mut held = turn.take(rt, pass);
     write(&mut held.value, line);
@@ -171,7 +174,7 @@ fn write_and_release<R: Wait>(
 pub fn hold_and_release<R: Wait>(rt: &R, turn: &Turn<Pad>, pass: &mut Pass<Pad>, guard: u32) -> Hold
     requires pass { IsReady turn.now pass.old × (grips_of pass.old ≡ []) }
     requires guard { guard < guards_of turn.now }
-    ensures { IsReady turn.now pass.new × (pass.new.number ≡ pass.old.number) × (grips_of pass.new ≡ []) }
+    ensures { IsFree turn.now pass.old.number pass.new }
 {
     let asked = pass.seen();
     let answer = turn.hold(rt, pass, guard, asked);

@@ -1,6 +1,7 @@
 // Passes in threads of their own.
 ghost use Rattle.std.specs.Prelude.{◌≡◌, ◌+◌, ◌*◌, ◌<◌, ◌≤◌, ◌^◌, []};
 ghost use Rattle.ra_turn.specs.Passes.{IsReady, guards_of, grips_of};
+ghost use Rattle.ra_turn_tests.specs.Passing.{HasLetGo, IsFree, MayTake};
 
 use super::pad::{Line, Pad, empty, plain, write_held, write_line};
 use ra_turn::{Pass, Turn};
@@ -12,8 +13,8 @@ use std::thread::Threads;
 
 // Writes a line in each of so many turns.
 fn write_all<R: Wait>(rt: &R, turn: &Turn<Pad>, pass: &mut Pass<Pad>, turns: u32)
-    requires { IsReady turn.now pass.old × (turns ≤ pass.old.left) × (grips_of pass.old ≡ []) }
-    ensures { IsReady turn.now pass.new × (pass.new.number ≡ pass.old.number) × (grips_of pass.new ≡ []) }
+    requires { MayTake turn.now turns pass.old }
+    ensures { IsFree turn.now pass.old.number pass.new }
 {
     let by = pass.number();
     for number in 0..turns {
@@ -23,9 +24,9 @@ fn write_all<R: Wait>(rt: &R, turn: &Turn<Pad>, pass: &mut Pass<Pad>, turns: u32
 
 // The same, and holds a guard in each eighth turn.
 fn write_some_held<R: Wait>(rt: &R, turn: &Turn<Pad>, pass: &mut Pass<Pad>, turns: u32, guards: u32)
-    requires pass { IsReady turn.now pass.old × (turns ≤ pass.old.left) × (grips_of pass.old ≡ []) }
+    requires pass { MayTake turn.now turns pass.old }
     requires guards { (0 < guards) × (guards ≡ guards_of turn.now) }
-    ensures { IsReady turn.now pass.new × (pass.new.number ≡ pass.old.number) × (grips_of pass.new ≡ []) }
+    ensures { IsFree turn.now pass.old.number pass.new }
 {
     for number in 0..turns {
         write_one(rt, turn, pass, number, guards);
@@ -36,7 +37,7 @@ fn write_some_held<R: Wait>(rt: &R, turn: &Turn<Pad>, pass: &mut Pass<Pad>, turn
 fn write_one<R: Wait>(rt: &R, turn: &Turn<Pad>, pass: &mut Pass<Pad>, number: u32, guards: u32)
     requires pass { IsReady turn.now pass.old × (0 < pass.old.left) × (grips_of pass.old ≡ []) }
     requires guards { (0 < guards) × (guards ≡ guards_of turn.now) }
-    ensures { IsReady turn.now pass.new × (pass.new.number ≡ pass.old.number) × (pass.new.left + 1 ≡ pass.old.left) × (grips_of pass.new ≡ []) }
+    ensures { HasLetGo turn.now pass.old pass.new }
 {
     if number % 8 == 0 {
         write_held(rt, turn, pass, number / 8 % guards, number);
