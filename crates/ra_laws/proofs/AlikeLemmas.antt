@@ -18,7 +18,7 @@ use Rattle.ra_model_read.specs.Lists.{lists_of}
 use Rattle.ra_moves.specs.Judging.{broken_by, judge}
 use Rattle.ra_moves.specs.Options.{option_cost, plan_place, plan_of}
 use Rattle.ra_report.specs.Summaries.{summary_text}
-use Rattle.ra_laws.specs.Laws.{flags_of, AreAlike, AreAlikeLots, RunAlike, AlikeRunAlike}
+use Rattle.ra_laws.specs.JobLaws.{flags_of, AreAlike, AreAlikeLots, RunAlike, AlikeRunAlike}
 use Rattle.ra_jobs.proofs.RowLemmas.{raw_of, bare_raw, raw_same}
 use Rattle.ra_jobs.proofs.BareLemmas.{bare, bare_closed}
 use Rattle.ra_jobs.proofs.MeaningLemmas.{broken_same}

@@ -1,2 +1,2 @@
 pub mod AlikeLemmas
-pub mod LawLemmas
+pub mod JobLemmas

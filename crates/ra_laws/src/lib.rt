@@ -1,24 +1,6 @@
-//! Laws of what jobs compute: each function does nothing, and its contract is a proved law. No program stands on them.
+//! Laws of the definitions, by their subjects: each function does nothing, and its contract is a proved law. No program
+//! stands on them.
 #![tactic(auto)]
 
-ghost use Rattle.ra_laws.specs.Laws.{AlikeRunAlike, ToldFilesMeanOne, TrialsHaveOneText, TrialsPrintOneText};
-
-/// Jobs compute the same from instances with the same numbers, whatever rooms their lists have.
-pub fn alike_run_alike()
-    ensures { AlikeRunAlike }
-{}
-
-/// The told files of a job mean one instance, but for its rooms, and one assignment each.
-pub fn told_files_mean_one()
-    ensures { ToldFilesMeanOne }
-{}
-
-/// The text of a trial rests on its number alone.
-pub fn trials_have_one_text()
-    ensures { TrialsHaveOneText }
-{}
-
-/// Two trials of a number print one text.
-pub fn trials_print_one_text()
-    ensures { TrialsPrintOneText }
-{}
+/// What jobs compute, and trials as they are run.
+pub mod jobs;

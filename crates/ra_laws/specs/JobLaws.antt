@@ -1,5 +1,5 @@
 -- What jobs compute rests on the numbers of an instance, and never on the rooms of its lists. Each law is proved by a
--- function of this crate.
+-- function of `jobs`.
 use Rattle.std.specs.Prelude.{◌≡◌, ℕ, List, Bool, Option, Some, None, IsSome}
 use Rattle.ra_base.specs.Listed.{Listed}
 use Rattle.ra_base.specs.declared.causes.Drawing.{Drawing}

@@ -9,7 +9,7 @@ use Rattle.ra_trial.specs.Instances.{IsTrial, start_list}
 use Rattle.ra_trial.specs.Numbers.{trial_word}
 use Rattle.ra_jobs.specs.declared.refusals.File.TheVariants as file
 use Rattle.ra_jobs.specs.Files.{Held, Names, name_of}
-use Rattle.ra_laws.specs.Laws.{flags_of, AreAlike, AreAlikeLots, AreTold, ToldFilesMeanOne, TrialsHaveOneText, TrialsPrintOneText}
+use Rattle.ra_laws.specs.JobLaws.{flags_of, AreAlike, AreAlikeLots, AreTold, ToldFilesMeanOne, TrialsHaveOneText, TrialsPrintOneText}
 use Rattle.ra_run.specs.Trials.{IsTrialLots}
 use Rattle.ra_laws.proofs.AlikeLemmas.{alike_run_alike, alike_from_bare}
 use Rattle.ra_jobs.proofs.MeaningLemmas.{Told, instances_same, lists_same}
