@@ -1,2 +1,3 @@
 pub mod AlikeLemmas
 pub mod JobLemmas
+pub mod ModelLemmas

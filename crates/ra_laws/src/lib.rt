@@ -4,3 +4,5 @@
 
 /// What jobs compute, and trials as they are run.
 pub mod jobs;
+/// The words of the problem: causes, sums and costs.
+pub mod model;

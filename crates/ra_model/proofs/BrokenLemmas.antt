@@ -16,7 +16,7 @@ use Rattle.ra_model.specs.Services.{is_of, on_machine, in_neighbourhood, locatio
 use Rattle.ra_model.proofs.TallyLemmas.{members_count}
 use Rattle.ra_model.specs.Feasible.{Feasible, HasNear}
 use Rattle.ra_model.specs.Causes.{IsConstraint}
-use Rattle.ra_model.specs.Laws.{BrokenNamesAll, BrokenNamesConstraints}
+use Rattle.ra_model.specs.Laws.{BrokenNamesConstraints}
 use Rattle.ra_model.specs.Broken.{cause_if, capacity_test, row_capacity, broken_capacity, transient_test, row_transient, broken_transient, conflict_test, service_conflict, broken_conflict, spread_test, broken_spread, near_of, far_test, dependency_test, pair_dependency, service_dependency, broken_dependency, closed_test, broken_closed, first_broken}
 
 -- a test names no cause exactly where it is false
@@ -201,9 +201,6 @@ feasible_from_unbroken i a0 a limits fits none = feasible_from_fine i a0 a limit
 
 pub unbroken_from_feasible : (i : Tables) (a0 a : List Machine) → Feasible i a0 a → first_broken i a0 a ≡ None
 unbroken_from_feasible i a0 a feasible = unbroken_from_fine i a0 a (fine_from_feasible i a0 a feasible)
-
-pub unbroken_is_feasible : BrokenNamesAll
-unbroken_is_feasible i a0 a limits fits = (feasible_from_unbroken i a0 a limits fits, unbroken_from_feasible i a0 a)
 
 -- what is found is a constraint
 

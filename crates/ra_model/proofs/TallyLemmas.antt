@@ -1,13 +1,11 @@
 -- Laws of `tally`, the sum over processes of a share of each process and its machine, and of `machine_at`.
-use Rattle.std.proofs.Common.{◌≡◌, ◌≢◌, ℕ, ◌+◌, ◌*◌, ◌<◌, ◌≤◌, Bool, ◌&&◌, List, length, get_or, set, slice_index_or, sym, refl, ap, ◌∙◌, ⊎_elim, arith, get_or-set_same, get_or-set_other, ext_get_or}
+use Rattle.std.proofs.Common.{◌≡◌, ◌≢◌, ℕ, ◌+◌, ◌*◌, ◌<◌, ◌≤◌, Bool, ◌&&◌, List, length, set, slice_index_or, refl, ap, ◌∙◌, ⊎_elim, arith, get_or-set_same, get_or-set_other, ext_get_or}
 use Rattle.std.proofs.Math.ListN.{length-set}
 use Rattle.std.proofs.lemmas.Bool.{cases_eq}
 use Rattle.std.proofs.lemmas.List.{get_or_read}
-use Rattle.ra_base.specs.Sums.{total, count, pick}
+use Rattle.ra_base.specs.Sums.{total, count}
 use Rattle.ra_base.specs.declared.ids.Machine.{Machine}
 use Rattle.ra_base.proofs.Sums.{total_none, total_more, total_same, total_zero, total_le, total_bound, total_term, total_change}
-use Rattle.ra_base.proofs.Counts.{count_same}
-use Rattle.ra_base.proofs.Picks.{pick_count, pick_length}
 use Rattle.ra_model.specs.declared.raw.Tables.{Tables}
 use Rattle.ra_model.specs.Numbers.{machine_count, process_count}
 use Rattle.ra_model.specs.Assignments.{IsAssignment, machine_at, tally}
@@ -104,16 +102,6 @@ members_set i a p to s test fits within = tally_set (process_count i) p (of_serv
 pub members_count : (i : Tables) (a : List Machine) (s : ℕ) (test : ℕ → ℕ → Bool) → members_at i a s test ≡ count (process_count i) (λ p. is_of i s p && test p (machine_at a p))
 unfolding members_at tally of_service
 members_count i a s test = refl
-
--- and a count over the members alone, where g lists them
-pub members_listed : (i : Tables) (a : List Machine) (s : ℕ) (test : ℕ → ℕ → Bool) (n : ℕ) (g : ℕ → ℕ) → n ≡ count (process_count i) (is_of i s) → ((j : ℕ) → j < n → g j ≡ get_or (pick (process_count i) (is_of i s)) j 0) → members_at i a s test ≡ count n (λ j. test (g j) (machine_at a (g j)))
-members_listed i a s test n g as_many listed =
-    let members = pick (process_count i) (is_of i s) in
-    let all : length members ≡ n = pick_length (process_count i) (is_of i s) ∙ sym as_many in
-    members_count i a s test
-    ∙ sym (pick_count (process_count i) (is_of i s) (λ p. test p (machine_at a p)))
-    ∙ ap (λ k. count k (λ j. test (get_or members j 0) (machine_at a (get_or members j 0)))) all
-    ∙ count_same n (λ j. test (get_or members j 0) (machine_at a (get_or members j 0))) (λ j. test (g j) (machine_at a (g j))) (λ j h. ap (λ p. test p (machine_at a p)) (sym (listed j h)))
 
 -- what a loop over the processes needs
 pub ruleset tallies = (tally_none, tally_more)

@@ -1,13 +1,13 @@
 //! An instance of the machine reassignment problem and what the problem's words mean over it.
 //!
 //! The words (usage, feasible, the first broken constraint, the costs) stand in `specs/`, each with a sentence
-//! of the challenge's problem definition; the code here is the instance with its accessors, and the laws of the words.
+//! of the challenge's problem definition; the code here is the instance with its accessors. Laws of the words stand in
+//! `ra_laws`.
 #![tactic(auto)]
 
 mod copying;
 mod fits;
 mod labels;
-pub mod laws;
 mod members;
 mod numbers;
 mod raw;

@@ -1,6 +1,7 @@
-//! Laws of the definitions: each function does nothing, and its contract is a law that was proved.
-ghost use Rattle.ra_model.specs.Laws.{BrokenNamesAll, BrokenNamesConstraints, OneShareChanges, CountsGoOverMembers, AllSumsFit};
+//! Laws of the problem's words: each function does nothing, and its contract is a law that was proved.
+ghost use Rattle.ra_model.specs.Laws.{BrokenNamesConstraints, AllSumsFit};
 ghost use Rattle.ra_model.specs.MachineCosts.{LoadIsByMachine, BalanceIsByMachine, AllMachineCostsFit};
+ghost use Rattle.ra_laws.specs.ModelLaws.{BrokenNamesAll, OneShareChanges, CountsGoOverMembers};
 
 /// An assignment for which no broken constraint is named is feasible, and for a feasible one none is named.
 pub fn broken_names_all()
