@@ -6,6 +6,5 @@ pub mod KeptLemmas
 pub mod LowestLemmas
 pub mod JoinLemmas
 pub mod TouchLemmas
-pub mod VersionLemmas
 pub mod NewestLemmas
 pub mod ResidentLemmas

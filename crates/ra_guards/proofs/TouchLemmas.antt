@@ -7,7 +7,6 @@ use Rattle.ra_model.specs.declared.raw.Tables.{Tables}
 use Rattle.ra_moves.specs.declared.steps.Step.{Step}
 use Rattle.ra_guards.specs.Guards.{writes, is_guard}
 use Rattle.ra_guards.specs.Versions.{made_at, touches, stamp, version, Untouched, Apart, ApartSince}
-use Rattle.ra_guards.specs.Laws.{UntouchedIsApart}
 
 -- the stamp of a place: of one that touches the guard, of one that doesn't, and at most one more than the place
 
@@ -53,9 +52,6 @@ untouched_from_apart i made q n steps apart = record {
       (λ (since : q ≤ j). omega (arith, stamp_untouched i made g j (touches_apart i steps g (made_at made j) (λ others is. apart.each j others since within is) guarded)))
       (cases_lt j q));
 }
-
-pub untouched_is_apart : UntouchedIsApart
-untouched_is_apart i made q n steps = (apart_from_untouched i made q n steps, untouched_from_apart i made q n steps)
 
 -- for a loop over the places from q on
 

@@ -3,7 +3,6 @@
 
 mod apart;
 mod guarding;
-pub mod laws;
 mod lowest;
 mod newest;
 mod services;

@@ -1,3 +1,5 @@
 pub mod AlikeLemmas
 pub mod JobLemmas
 pub mod ModelLemmas
+pub mod GuardLemmas
+pub mod VersionLemmas

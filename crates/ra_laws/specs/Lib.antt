@@ -1,2 +1,3 @@
 pub mod JobLaws
 pub mod ModelLaws
+pub mod GuardLaws

@@ -2,7 +2,6 @@
 use Rattle.std.proofs.Common.{◌≡◌, ℕ, suc, ◌+◌, ◌<◌, ◌≤◌, true, false, cond, List, Option, Some, None, sym, ap, ◌∙◌, ⊎_elim, arith}
 use Rattle.std.proofs.lemmas.Bool.{cases_Bool, both_ways}
 use Rattle.ra_base.specs.declared.ids.Guard.{Guard}
-use Rattle.ra_base.proofs.Greatest.{greatest_none, greatest_above, greatest_kept, greatest_least, greatest_same}
 use Rattle.ra_model.specs.declared.raw.Tables.{Tables}
 use Rattle.ra_model.specs.Numbers.{machine_count, service_count}
 use Rattle.ra_moves.specs.declared.steps.Step.{Step}
@@ -11,7 +10,8 @@ use Rattle.ra_guards.specs.Order.{AreWrites}
 use Rattle.ra_guards.specs.Versions.{made_at, touches, stamp, version}
 use Rattle.ra_guards.specs.VersionTable.{VersionTable}
 use Rattle.ra_guards.specs.Kept.{AreZero, AreVersions, IsTouched}
-use Rattle.ra_guards.specs.Laws.{VersionsAreKept}
+use Rattle.ra_laws.specs.GuardLaws.{VersionsAreKept}
+use Rattle.ra_base.proofs.Greatest.{greatest_none, greatest_above, greatest_kept, greatest_least, greatest_same}
 use Rattle.ra_guards.proofs.TouchLemmas.{stamp_touched, stamp_untouched, stamp_few, touches_done}
 
 -- a version after one more entry

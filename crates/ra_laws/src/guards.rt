@@ -1,5 +1,6 @@
 //! Laws of guards and versions: each function does nothing, and its contract is a law that was proved.
-ghost use Rattle.ra_guards.specs.Laws.{UntouchedIsApart, VersionsAreKept, NewestIsRight, GuardsKeepResidents, UntouchedIsRight};
+ghost use Rattle.ra_guards.specs.Laws.{NewestIsRight, GuardsKeepResidents, UntouchedIsRight};
+ghost use Rattle.ra_laws.specs.GuardLaws.{UntouchedIsApart, VersionsAreKept};
 
 /// The guards of a move are untouched from a place on exactly where the move is apart from each move made since.
 pub fn untouched_is_apart()
