@@ -1,4 +1,4 @@
--- What holds of every journal, each proved by a function of `laws`.
+-- What holds of every journal, each proved by a function of `ra_laws`.
 use Rattle.std.specs.Prelude.{◌≡◌, ℕ, ◌<◌, ◌≤◌, List, [], ◌∷◌, ◌++◌, length, Some}
 use Rattle.ra_base.specs.declared.ids.Machine.{Machine}
 use Rattle.ra_draws.specs.declared.budgets.Lots.{Lots}

@@ -6,7 +6,6 @@ mod batch;
 mod book;
 mod entries;
 mod journal;
-pub mod laws;
 mod listing;
 mod outcomes;
 mod packed;

@@ -6,5 +6,7 @@
 pub mod guards;
 /// What jobs compute, and trials as they are run.
 pub mod jobs;
+/// Journals: which are legal and whole.
+pub mod journal;
 /// The words of the problem: causes, sums and costs.
 pub mod model;
