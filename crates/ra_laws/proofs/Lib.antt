@@ -3,3 +3,4 @@ pub mod JobLemmas
 pub mod ModelLemmas
 pub mod GuardLemmas
 pub mod VersionLemmas
+pub mod SharedLemmas

@@ -1,3 +1,4 @@
 pub mod JobLaws
 pub mod ModelLaws
 pub mod GuardLaws
+pub mod SharedLaws

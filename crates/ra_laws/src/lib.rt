@@ -10,3 +10,5 @@ pub mod jobs;
 pub mod journal;
 /// The words of the problem: causes, sums and costs.
 pub mod model;
+/// Guards in the lock, and the answers of workers.
+pub mod shared;

@@ -1,5 +1,5 @@
--- What holds of guards' numbers in every history, and of what a worker is answered, each proved by a function of `laws`.
-use Rattle.std.specs.Prelude.{◌≡◌, ◌≢◌, ℕ, ◌+◌, ◌<◌, ◌≤◌, true, false, List, [], ◌∷◌, ◌++◌, length, map, Option}
+-- What holds of guards' numbers in every history, and of what a worker is answered, each proved by a function of `ra_laws`.
+use Rattle.std.specs.Prelude.{◌≡◌, ◌≢◌, ℕ, ◌+◌, ◌<◌, ◌≤◌, true, false, List, [], ◌∷◌, ◌++◌, length, Option}
 use Rattle.ra_base.specs.declared.ids.Guard.{Guard}
 use Rattle.ra_model.specs.declared.raw.Tables.{Tables}
 use Rattle.ra_moves.specs.declared.steps.Step.{Step}
@@ -7,11 +7,10 @@ use Rattle.ra_moves.specs.declared.verdicts.Plan.{Plan}
 use Rattle.ra_moves.specs.declared.verdicts.Verdict.{Verdict}
 use Rattle.ra_guards.specs.Guards.{is_guard}
 use Rattle.ra_guards.specs.Order.{IsKnown}
-use Rattle.ra_guards.specs.Versions.{touches, version}
+use Rattle.ra_guards.specs.Versions.{touches}
 use Rattle.ra_journal.specs.declared.entries.Entry.{Entry}
 use Rattle.ra_journal.specs.declared.replies.Reply.TheVariants.{Recorded, Stale}
 use Rattle.ra_journal.specs.Entries.{entry_at, made_by}
-use Rattle.ra_turn.specs.Notes.{IsVersion}
 use Rattle.ra_shared.specs.declared.books.Opening.{Opening}
 use Rattle.ra_shared.specs.Books.{KnowsOwn, IsCommitOf}
 use Rattle.ra_shared.specs.Numbers.{guard_count, number_of, touches_number}
@@ -24,11 +23,6 @@ TouchesAgree = (i : Tables) (made : Option (List Step)) (g : Guard) → IsKnown 
 -- from the guard count on no number is touched
 abbrev pub NoneAbove : Type 0
 NoneAbove = (i : Tables) (made : Option (List Step)) (n : ℕ) → guard_count i ≤ n → touches_number i made n ≡ false
-
--- the lock's version of a guard's number in a history is the guard's version, the greatest of its stamps; `makes` is what an entry makes
-abbrev pub VersionsAgree : Type 0 → Type 0
-VersionsAgree N = (i : Tables) (makes : N → Option (List Step)) (history : List N) (g : Guard) (v : ℕ) → IsKnown i g
-    → IsVersion (λ x. touches_number i (makes x) (number_of i g)) history v → v ≡ version i (map makes history) (length history) g
 
 -- the plan is recorded at place j with this verdict: its entry is the last that the worker has now seen, and it has made this entry besides
 pub record IsRecorded (w : ℕ) (plan : Plan) (mine seen' mine' : List Entry) (j : ℕ) (verdict : Verdict) : Type 0 where

@@ -4,7 +4,6 @@
 
 mod books;
 mod labour;
-pub mod laws;
 mod numbering;
 mod shared;
 

@@ -1,5 +1,6 @@
 //! Laws of guards in the lock and of answers: each function does nothing, and its contract is a law that was proved.
-ghost use Rattle.ra_shared.specs.Laws.{VersionsAgree, TouchesAgree, NoneAbove, RecordedStands, StaleStands};
+ghost use Rattle.ra_shared.specs.Laws.{TouchesAgree, NoneAbove, RecordedStands, StaleStands};
+ghost use Rattle.ra_laws.specs.SharedLaws.{VersionsAgree};
 
 /// The number of a guard stands for the guard: what an entry makes touches the one where it touches the other.
 pub fn touches_agree()

@@ -1,5 +1,5 @@
 use Rattle.ra_shared.proofs.Agree.{none_above}
-use Rattle.ra_shared.proofs.laws.none_above.Goals as goal
+use Rattle.ra_laws.proofs.shared.none_above.Goals as goal
 
 pub returns : goal.returns
 returns c = none_above
