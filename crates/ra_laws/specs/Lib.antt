@@ -2,3 +2,4 @@ pub mod JobLaws
 pub mod ModelLaws
 pub mod GuardLaws
 pub mod SharedLaws
+pub mod TrialLaws

@@ -12,3 +12,5 @@ pub mod journal;
 pub mod model;
 /// Guards in the lock, and the answers of workers.
 pub mod shared;
+/// The texts of a trial and its start.
+pub mod trial;

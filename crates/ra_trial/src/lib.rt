@@ -4,7 +4,6 @@
 #![tactic(auto)]
 
 mod groups;
-pub mod laws;
 mod lines;
 mod machines;
 mod numbers;

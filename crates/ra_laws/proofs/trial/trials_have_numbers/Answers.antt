@@ -1,5 +1,5 @@
 use Rattle.ra_trial.proofs.TrialNumbers.{has_numbers}
-use Rattle.ra_trial.proofs.laws.trials_have_numbers.Goals as goal
+use Rattle.ra_laws.proofs.trial.trials_have_numbers.Goals as goal
 
 pub returns : goal.returns
 returns c = has_numbers

@@ -1,5 +1,5 @@
 -- What the two texts of a trial mean, and that its start is feasible, for all words g. Each is proved by a function of
--- `laws`.
+-- `trial`.
 use Rattle.std.specs.Prelude.{◌≡◌, ◌↔◌, ℕ, List, None}
 use Rattle.ra_base.specs.declared.ids.Machine.{Machine}
 use Rattle.ra_model.specs.declared.raw.Tables.{Tables}

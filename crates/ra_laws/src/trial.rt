@@ -1,5 +1,5 @@
-//! Laws of the definitions: each function does nothing, and its contract is a law that was proved.
-ghost use Rattle.ra_trial.specs.Laws.{ModelTextsAreTrials, ModelTextsAreAccepted, StartTextsAreStarts, TrialsHaveNumbers, TrialsAreWellFormed, StartsAreAssignments, StartsAreFeasible};
+//! Laws of the texts of a trial: each function does nothing, and its contract is a law that was proved.
+ghost use Rattle.ra_laws.specs.TrialLaws.{ModelTextsAreTrials, ModelTextsAreAccepted, StartTextsAreStarts, TrialsHaveNumbers, TrialsAreWellFormed, StartsAreAssignments, StartsAreFeasible};
 
 /// The model file of a trial means the trial's instance and no other.
 pub fn model_texts_are_trials()
