@@ -4,3 +4,4 @@ pub mod ModelLemmas
 pub mod GuardLemmas
 pub mod VersionLemmas
 pub mod SharedLemmas
+pub mod ReportLemmas

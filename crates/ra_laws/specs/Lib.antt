@@ -3,3 +3,4 @@ pub mod ModelLaws
 pub mod GuardLaws
 pub mod SharedLaws
 pub mod TrialLaws
+pub mod ReportLaws

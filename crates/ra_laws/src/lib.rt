@@ -10,6 +10,8 @@ pub mod jobs;
 pub mod journal;
 /// The words of the problem: causes, sums and costs.
 pub mod model;
+/// The lines of a report, and the journal that they tell.
+pub mod report;
 /// Guards in the lock, and the answers of workers.
 pub mod shared;
 /// The texts of a trial and its start.

@@ -1,5 +1,5 @@
 -- The lines of a report: each has one LF, at its end.
-use Rattle.std.proofs.Common.{◌≡◌, ℕ, zero, suc, ◌+◌, ◌/◌, ◌%◌, ◌^◌, ◌<◌, ◌≤◌, Bool, true, false, cond, eqb, List, [], ◌∷◌, ◌++◌, length, drop, slice_get, Option, Some, None, codes, refl, sym, ◌∙◌, ap, arith, append_assoc, ne_eqb, eqb-true, ⊎_elim}
+use Rattle.std.proofs.Common.{◌≡◌, ℕ, zero, suc, ◌+◌, ◌/◌, ◌%◌, ◌^◌, ◌<◌, ◌≤◌, Bool, true, false, cond, eqb, List, [], ◌∷◌, ◌++◌, length, slice_get, Some, None, codes, refl, sym, ◌∙◌, ap, arith, append_assoc, ne_eqb, ⊎_elim}
 use Rattle.std.proofs.lemmas.Bool.{cases_lt}
 use Rattle.std.proofs.lemmas.List.{append-nil}
 use Rattle.std.proofs.lemmas.Option.{none-some, slice_get-get_or, slice_get_past}
@@ -27,7 +27,7 @@ use Rattle.ra_lines.specs.Lines.{lines_of, line_at, ends_line, body_of, HasNoEnd
 use Rattle.ra_lines.proofs.BodyLaws.{no_end_none, no_end_first, no_end_cons, no_end_both, ends_behind}
 use Rattle.ra_lines.proofs.SplitLaws.{line_first, lines_append}
 use Rattle.ra_text.specs.Texts.{space, number_text, number_line, parts_text, with_one, with_two, with_three, cause_text}
-use Rattle.ra_report.specs.JournalTexts.{verdict_text, kind_text, step_text, steps_text, entry_front, entry_line, machines_text, assignment_line, drawing_number, drawing_line, head_text, report_head, head_of, entries_text, entry_lines, after_line, lines_left}
+use Rattle.ra_report.specs.JournalTexts.{verdict_text, kind_text, step_text, steps_text, entry_front, entry_line, machines_text, assignment_line, drawing_number, drawing_line, head_text, report_head, head_of, entries_text, entry_lines, after_line}
 use Rattle.ra_text.proofs.NumberTexts.{glyph_of}
 
 -- a number has no LF
@@ -219,46 +219,9 @@ entries_before h (suc n) x =
     ∙ ap (λ ls. entry_lines h n ++ ls) (line_before (entry_line n (entry_at h n)) x (entry_is_line n (entry_at h n)))
     ∙ sym (append_assoc (entry_lines h n) (entry_line n (entry_at h n) ∷ []) (lines_of x))
 
--- the first line of bytes, which ends with LF, and what follows
-pub record Cut (bytes rest : List ℕ) : Type 0 where
-  pub body : List ℕ
-  pub no_end : HasNoEnd body
-  pub split : bytes ≡ body ++ 10 ∷ rest
-
-bytes_in : Option (List ℕ) → List ℕ
-bytes_in None = []
-bytes_in (Some bytes) = bytes
-
-pub after_cut : (bytes rest : List ℕ) → after_line bytes ≡ Some rest → Cut bytes rest
-unfolding after_line bytes_in
-after_cut [] rest e = absurd (none-some rest e)
-after_cut (b ∷ bytes) rest e = either (eqb b 10) refl (after_cut bytes rest) e
-  where
-    either : (is : Bool) → eqb b 10 ≡ is → (after_line bytes ≡ Some rest → Cut bytes rest) → cond is (Some bytes) (after_line bytes) ≡ Some rest → Cut (b ∷ bytes) rest
-    either true test below here = record { body = []; no_end = no_end_none; split = let byte : b ≡ 10 = eqb-true b 10 test in let same : bytes ≡ rest = ap bytes_in here in (cc) }
-    either false test below here =
-        let cut = below here in
-        record { body = b ∷ cut.body; no_end = no_end_cons b cut.body test cut.no_end; split = ap (λ xs. b ∷ xs) cut.split }
-
 pub after_one : (body rest : List ℕ) → HasNoEnd body → after_line (body ++ 10 ∷ rest) ≡ Some rest
 unfolding after_line
 after_one [] rest none = refl
 after_one (b ∷ body) rest none =
     let first = no_end_first b body none in
     ap (λ (is : Bool). cond is (Some (body ++ 10 ∷ rest)) (after_line (body ++ 10 ∷ rest))) first.first ∙ after_one body rest first.rest
-
-none_left : (n : ℕ) → lines_left n None ≡ None
-unfolding lines_left
-none_left zero = refl
-none_left (suc n) = refl
-
-pub lines_behind : (n : ℕ) (bytes rest : List ℕ) → lines_left n (Some bytes) ≡ Some rest → lines_of rest ≡ drop n (lines_of bytes)
-unfolding lines_left bytes_in
-lines_behind zero bytes rest e = ap (λ o. lines_of (bytes_in o)) (sym e)
-lines_behind (suc n) bytes rest e = either (after_line bytes) refl (lines_behind n) e
-  where
-    either : (o : Option (List ℕ)) → after_line bytes ≡ o → ((xs ys : List ℕ) → lines_left n (Some xs) ≡ Some ys → lines_of ys ≡ drop n (lines_of xs)) → lines_left n o ≡ Some rest → lines_of rest ≡ drop (suc n) (lines_of bytes)
-    either None after below here = absurd (none-some rest (sym (none_left n) ∙ here))
-    either (Some left) after below here =
-        let cut = after_cut bytes left after in
-        below left rest here ∙ sym (ap (drop (suc n)) (ap lines_of cut.split ∙ line_first cut.body left cut.no_end))

@@ -2,7 +2,6 @@ pub mod FaultTexts
 pub mod Fronts
 pub mod JournalTexts
 pub mod Pieces
-pub mod ReportLaws
 pub mod Summaries
 pub mod RepairTexts
 pub mod Texts

@@ -8,7 +8,6 @@ mod details;
 mod faults;
 mod front;
 mod journal;
-pub mod laws;
 mod lengths;
 mod repair;
 mod solved;

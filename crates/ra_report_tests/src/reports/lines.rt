@@ -1,4 +1,4 @@
-//! The lines of entries, of a bound and of a model, each alone, and the laws of what is printed.
+//! The lines of entries, of a bound and of a model, each alone.
 use super::super::texts::SAMPLE;
 use super::sinks::sound;
 use ra_base::{Cause, Machine, Process, Resource, Service};
@@ -8,8 +8,8 @@ use ra_journal::Entry;
 use ra_model_lines::write_model;
 use ra_moves::{Move, Step, Verdict};
 use ra_report::{
-    Fault, Front, WriteFault, is_entry_line, laws, read_front, write_accepted, write_bound,
-    write_entry, write_fault,
+    Fault, Front, WriteFault, is_entry_line, read_front, write_accepted, write_bound, write_entry,
+    write_fault,
 };
 use ra_samples::sample;
 use std::test::Fail;
@@ -174,17 +174,6 @@ fn lines_alone(rt: HostRuntime) -> Result<(), Fail> {
     assert_eq!(rt; write_accepted(&mut out, 20_000), Ok(()));
     assert_eq!(rt; write_fault(&mut out, &Fault::Wrong { line: 11 }), Ok(()));
     assert_eq!(rt; out.bytes(), b"accepted 20000\nwrong line 11\n".as_slice());
-    Ok(())
-}
-
-#[test]
-fn the_laws_do_nothing(_rt: HostRuntime) -> Result<(), Fail> {
-    laws::numbers_are_decimal();
-    laws::same_lines_same_journal();
-    laws::one_journal_of_bytes();
-    laws::report_tells_its_journal();
-    laws::same_line_same_entry();
-    laws::report_has_its_lines();
     Ok(())
 }
 

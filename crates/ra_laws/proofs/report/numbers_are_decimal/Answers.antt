@@ -1,5 +1,5 @@
 use Rattle.ra_text.proofs.NumberTexts.{number_std}
-use Rattle.ra_report.proofs.laws.numbers_are_decimal.Goals as goal
+use Rattle.ra_laws.proofs.report.numbers_are_decimal.Goals as goal
 
 pub returns : goal.returns
 returns c = number_std

@@ -1,4 +1,4 @@
--- What holds of every report, each proved by a function of `laws`.
+-- What holds of every report, each proved by a function of `report`.
 use Rattle.std.specs.Prelude.{◌≡◌, ℕ, ◌^◌, ◌<◌, List, ◌∷◌, ◌++◌, length, drop, Some}
 use Rattle.std.specs.Fmt.{decimal}
 use Rattle.ra_base.specs.declared.causes.Drawing.{Drawing}

@@ -1,7 +1,8 @@
-use Rattle.ra_report.proofs.LineEnds.{line_before, entry_is_line, entries_before, head_line_count, head_before, lines_behind}
+use Rattle.ra_report.proofs.LineEnds.{line_before, entry_is_line, entries_before, head_line_count, head_before}
+use Rattle.ra_laws.proofs.ReportLemmas.{lines_behind}
 use Rattle.ra_report.proofs.ReportTexts.{report_parts}
 use Rattle.ra_report.specs.JournalTexts.{entry_line}
-use Rattle.ra_report.proofs.laws.report_has_its_lines.Goals as goal
+use Rattle.ra_laws.proofs.report.report_has_its_lines.Goals as goal
 
 pub returns-clause-entry : goal.returns-clause-entry
 returns-clause-entry c = λ j e rest. line_before (entry_line j e) rest (entry_is_line j e)

@@ -1,5 +1,5 @@
-//! Laws of the definitions: each function does nothing, and its contract is a law that was proved.
-ghost use Rattle.ra_report.specs.ReportLaws.{NumbersAreDecimal, SameLinesSameJournal, OneJournalOfBytes, WrittenTellsItsJournal, ReportTellsItsJournal, SameLineSameEntry, EntryLineIsOneLine, ReportIsHeadAndEntries, EntriesAreLines, LinesBehind};
+//! Laws of reports: each function does nothing, and its contract is a law that was proved.
+ghost use Rattle.ra_laws.specs.ReportLaws.{NumbersAreDecimal, SameLinesSameJournal, OneJournalOfBytes, WrittenTellsItsJournal, ReportTellsItsJournal, SameLineSameEntry, EntryLineIsOneLine, ReportIsHeadAndEntries, EntriesAreLines, LinesBehind};
 
 /// A number of a program is written as std writes it.
 pub fn numbers_are_decimal()
