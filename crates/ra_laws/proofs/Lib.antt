@@ -5,3 +5,4 @@ pub mod GuardLemmas
 pub mod VersionLemmas
 pub mod SharedLemmas
 pub mod ReportLemmas
+pub mod VerifyLemmas

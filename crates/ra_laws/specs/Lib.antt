@@ -4,3 +4,4 @@ pub mod GuardLaws
 pub mod SharedLaws
 pub mod TrialLaws
 pub mod ReportLaws
+pub mod VerifyLaws

@@ -84,6 +84,3 @@ is_report i a0 l bytes n is number = record {
   text = same_lines bytes (report_text i a0 l is.journal) (got_all (lines_of bytes) (lines_of (report_text i a0 l is.journal)) (λ k. none_wrong_at i a0 l bytes is k));
   number = number;
 }
-
-pub none_wrong_is_report : (i : Tables) (a0 : List Machine) (l : Lots) (bytes : List ℕ) → NoneIsWrong i a0 l bytes → (n : ℕ) × IsReport i a0 l bytes n
-none_wrong_is_report i a0 l bytes is = (length is.journal, is_report i a0 l bytes (length is.journal) is refl)

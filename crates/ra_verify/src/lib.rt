@@ -9,7 +9,6 @@ mod entries;
 mod faults;
 mod head;
 mod judging;
-pub mod laws;
 mod taking;
 mod verifying;
 

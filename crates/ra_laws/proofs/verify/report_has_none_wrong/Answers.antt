@@ -1,5 +1,5 @@
 use Rattle.ra_verify.proofs.LimitLemmas.{report_has_none_wrong}
-use Rattle.ra_verify.proofs.laws.report_has_none_wrong.Goals as goal
+use Rattle.ra_laws.proofs.verify.report_has_none_wrong.Goals as goal
 
 pub returns : goal.returns
 returns c = report_has_none_wrong

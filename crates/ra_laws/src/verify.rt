@@ -1,5 +1,6 @@
 //! Laws of reports: each function does nothing, and its contract is a law that was proved.
-ghost use Rattle.ra_verify.specs.Laws.{OneNextEntry, OneFirstWrong, NoneWrongIsReport, ReportHasNoneWrong};
+ghost use Rattle.ra_verify.specs.Laws.{OneFirstWrong, ReportHasNoneWrong};
+ghost use Rattle.ra_laws.specs.VerifyLaws.{OneNextEntry, NoneWrongIsReport};
 
 /// The entries so far, the worker and the place of a plan tell the one entry that may follow.
 pub fn one_next_entry()

@@ -1,5 +1,5 @@
 use Rattle.ra_verify.proofs.FollowLemmas.{one_next_entry}
-use Rattle.ra_verify.proofs.laws.one_next_entry.Goals as goal
+use Rattle.ra_laws.proofs.verify.one_next_entry.Goals as goal
 
 pub returns : goal.returns
 returns c = one_next_entry
