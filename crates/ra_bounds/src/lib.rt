@@ -3,7 +3,6 @@
 
 mod balance;
 mod costs;
-pub mod laws;
 mod load;
 mod lower;
 mod pinned;

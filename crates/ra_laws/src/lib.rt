@@ -2,6 +2,8 @@
 //! stands on them.
 #![tactic(auto)]
 
+/// The lower bounds.
+pub mod bounds;
 /// The guards of moves and their versions in a history.
 pub mod guards;
 /// What jobs compute, and trials as they are run.

@@ -1,5 +1,5 @@
 use Rattle.ra_bounds.proofs.PinnedLemmas.{none_costs_less_pinned}
-use Rattle.ra_bounds.proofs.laws.none_costs_less_pinned.Goals as goal
+use Rattle.ra_laws.proofs.bounds.none_costs_less_pinned.Goals as goal
 
 pub returns : goal.returns
 returns c = none_costs_less_pinned
