@@ -6,3 +6,4 @@ pub mod VersionLemmas
 pub mod SharedLemmas
 pub mod ReportLemmas
 pub mod VerifyLemmas
+pub mod PinLemmas

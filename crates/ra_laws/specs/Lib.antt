@@ -5,3 +5,4 @@ pub mod SharedLaws
 pub mod TrialLaws
 pub mod ReportLaws
 pub mod VerifyLaws
+pub mod PinLaws

@@ -12,6 +12,8 @@ pub mod jobs;
 pub mod journal;
 /// The words of the problem: causes, sums and costs.
 pub mod model;
+/// The pinned processes of a start.
+pub mod pins;
 /// The lines of a report, and the journal that they tell.
 pub mod report;
 /// Guards in the lock, and the answers of workers.

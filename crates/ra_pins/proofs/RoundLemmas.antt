@@ -11,7 +11,7 @@ use Rattle.ra_model.specs.Assignments.{machine_at}
 use Rattle.ra_model.specs.Services.{is_of}
 use Rattle.ra_model.proofs.TallyLemmas.{tally_le}
 use Rattle.ra_pins.specs.Pinned.{some_of, flagged_share, flagged_use, lacks, lacks_between, holds, taken, blocked, is_open, stuck, round, rounds, is_pinned}
-use Rattle.ra_pins.specs.Laws.{RoundsOnlyAdd, RoundsEnd}
+use Rattle.ra_pins.specs.Laws.{RoundsOnlyAdd}
 
 -- some of them
 
@@ -232,9 +232,6 @@ pinned_closed i a0 = ⊎_elim
 pub rounds_least : (i : Tables) (a0 : List Machine) (x : ℕ → Bool) (n : ℕ) → IsClosed i a0 x → Below i (rounds i a0 n) x
 rounds_least i a0 x zero closed = record { each = λ p h e. absurd (both_ways _ (rounds_none i a0 p) e) }
 rounds_least i a0 x (suc n) closed = rw rounds_next (record { each = λ p h e. closed.each p h ((round_more i a0 (rounds i a0 n) x (rounds_least i a0 x n closed)).each p h e) })
-
-pub rounds_end : RoundsEnd
-rounds_end i a0 n p h e = (rounds_least i a0 (is_pinned i a0) n (pinned_closed i a0)).each p h e
 
 -- a process that is stuck between pinned processes is pinned
 pub pinned_stuck : (i : Tables) (a0 : List Machine) (x : ℕ → Bool) (p : ℕ) → Below i x (is_pinned i a0) → p < process_count i → stuck i a0 x p ≡ true → is_pinned i a0 p ≡ true

@@ -5,7 +5,7 @@ use Rattle.ra_model.specs.declared.raw.Tables.{Tables}
 use Rattle.ra_model.specs.Numbers.{process_count}
 use Rattle.ra_model.specs.Assignments.{IsAssignment, machine_at}
 use Rattle.ra_model.specs.Feasible.{Feasible}
-use Rattle.ra_pins.specs.Pinned.{round, rounds, is_pinned}
+use Rattle.ra_pins.specs.Pinned.{round, is_pinned}
 
 -- a round never takes a flag away
 abbrev pub RoundsOnlyAdd : Type 0
@@ -17,7 +17,3 @@ Stays i a0 p = (a : List Machine) → IsAssignment i a → Feasible i a0 a → m
 
 abbrev pub PinnedStay : Type 0
 PinnedStay = (i : Tables) (a0 : List Machine) (p : ℕ) → p < process_count i → is_pinned i a0 p ≡ true → Stays i a0 p
-
--- further rounds pin nothing more: what any number of rounds flags, as many rounds flag as there are processes
-abbrev pub RoundsEnd : Type 0
-RoundsEnd = (i : Tables) (a0 : List Machine) (n p : ℕ) → p < process_count i → rounds i a0 n p ≡ true → is_pinned i a0 p ≡ true

@@ -3,7 +3,6 @@
 #![tactic(auto)]
 
 mod blocked;
-pub mod laws;
 mod looks;
 mod marks;
 mod pins;

@@ -1,5 +1,5 @@
 use Rattle.ra_pins.proofs.RoundLemmas.{rounds_only_add}
-use Rattle.ra_pins.proofs.laws.rounds_only_add.Goals as goal
+use Rattle.ra_laws.proofs.pins.rounds_only_add.Goals as goal
 
 pub returns : goal.returns
 returns c = rounds_only_add

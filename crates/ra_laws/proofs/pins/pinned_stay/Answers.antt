@@ -1,5 +1,5 @@
 use Rattle.ra_pins.proofs.StayLemmas.{pinned_stay}
-use Rattle.ra_pins.proofs.laws.pinned_stay.Goals as goal
+use Rattle.ra_laws.proofs.pins.pinned_stay.Goals as goal
 
 pub returns : goal.returns
 returns c = pinned_stay

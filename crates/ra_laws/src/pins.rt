@@ -1,5 +1,6 @@
 //! Laws of the pinned processes: each function does nothing, and its contract is a law that was proved.
-ghost use Rattle.ra_pins.specs.Laws.{RoundsOnlyAdd, PinnedStay, RoundsEnd};
+ghost use Rattle.ra_pins.specs.Laws.{RoundsOnlyAdd, PinnedStay};
+ghost use Rattle.ra_laws.specs.PinLaws.{RoundsEnd};
 
 /// A round never takes a flag away.
 pub fn rounds_only_add()
