@@ -14,6 +14,8 @@ pub mod journal;
 pub mod model;
 /// The pinned processes of a start.
 pub mod pins;
+/// Penalties, and runs of tries.
+pub mod repair;
 /// The lines of a report, and the journal that they tell.
 pub mod report;
 /// Guards in the lock, and the answers of workers.

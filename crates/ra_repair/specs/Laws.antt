@@ -1,4 +1,4 @@
--- What holds of every penalty and of every run, each law proved by a function of `laws`.
+-- What holds of every penalty and of every run, each law proved by a function of `ra_laws`.
 use Rattle.std.specs.Prelude.{◌≡◌, ◌↔◌, ◌≢◌, List, length}
 use Rattle.ra_base.specs.declared.ids.Machine.{Machine}
 use Rattle.ra_draws.specs.declared.sources.Lot.{Lot}

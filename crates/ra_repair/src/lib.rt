@@ -8,7 +8,6 @@ mod far;
 mod flaws;
 mod following;
 mod kept;
-pub mod laws;
 mod options;
 mod repair;
 mod sums;

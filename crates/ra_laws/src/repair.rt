@@ -1,4 +1,4 @@
-//! Laws of the definitions: each function does nothing, and its contract is a law that was proved.
+//! Laws of penalties and of runs of tries: each function does nothing, and its contract is a law that was proved.
 ghost use Rattle.ra_repair.specs.Laws.{ZeroIsFeasible, UsesItsBudget};
 
 /// The penalty of an assignment is 0 exactly where it is feasible.
