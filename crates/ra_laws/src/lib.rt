@@ -14,6 +14,8 @@ pub mod journal;
 pub mod model;
 /// The pinned processes of a start.
 pub mod pins;
+/// What a model file means.
+pub mod reading;
 /// Penalties, and runs of tries.
 pub mod repair;
 /// The lines of a report, and the journal that they tell.

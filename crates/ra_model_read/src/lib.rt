@@ -6,7 +6,6 @@
 mod balances;
 mod faults;
 mod fields;
-pub mod laws;
 mod machines;
 mod processes;
 mod reader;

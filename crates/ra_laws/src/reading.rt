@@ -1,4 +1,4 @@
-//! A law of the definitions: its function does nothing, and its contract is what was proved.
+//! A law of model files: its function does nothing, and its contract is what was proved.
 ghost use Rattle.std.specs.Prelude.{ℕ, List};
 ghost use Rattle.ra_model_read.specs.Texts.{ModelIsItsNumbers};
 
