@@ -7,3 +7,4 @@ pub mod SharedLemmas
 pub mod ReportLemmas
 pub mod VerifyLemmas
 pub mod PinLemmas
+pub mod LineLemmas

@@ -6,3 +6,4 @@ pub mod TrialLaws
 pub mod ReportLaws
 pub mod VerifyLaws
 pub mod PinLaws
+pub mod LineLaws

@@ -10,6 +10,8 @@ pub mod guards;
 pub mod jobs;
 /// Journals: which are legal and whole.
 pub mod journal;
+/// The lines of bytes.
+pub mod lines;
 /// The words of the problem: causes, sums and costs.
 pub mod model;
 /// The pinned processes of a start.

@@ -3,4 +3,3 @@ pub mod Standing
 pub mod Reading
 pub mod Windows
 pub mod Comparing
-pub mod LineLaws

@@ -6,7 +6,6 @@
 
 mod answers;
 mod expected;
-pub mod laws;
 mod reader;
 mod scan;
 mod window;

@@ -6,7 +6,7 @@ use super::files::failing;
 use super::found::same;
 use ra_base::Fixed;
 use ra_io::{Files, MemoryFiles, put_all};
-use ra_lines::{Expected, LineReader, Next, ReadFault, laws};
+use ra_lines::{Expected, LineReader, Next, ReadFault};
 use std::alloc::Global;
 use std::process::Abort;
 
@@ -102,6 +102,4 @@ fn a_text_is_compared(rt: HostRuntime) {
     same(&rt, put_all(&mut sink, b"one\nten\n").is_err(), true);
     same(&rt, sink.is_same(), false);
     same(&rt, sink.unlike_line(), Some(1));
-    laws::lines_are_the_bytes();
-    laws::lines_are_whole();
 }

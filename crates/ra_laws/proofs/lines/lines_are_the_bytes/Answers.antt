@@ -1,5 +1,5 @@
 use Rattle.ra_lines.proofs.SplitLaws.{joined_back, lines_append}
-use Rattle.ra_lines.proofs.laws.lines_are_the_bytes.Goals as goal
+use Rattle.ra_laws.proofs.lines.lines_are_the_bytes.Goals as goal
 
 pub returns-clause-bytes : goal.returns-clause-bytes
 returns-clause-bytes c = joined_back

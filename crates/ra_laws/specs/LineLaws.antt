@@ -1,4 +1,4 @@
--- What holds of the lines of any bytes, each proved by a function of `laws`.
+-- What holds of the lines of any bytes, each proved by a function of `lines`.
 use Rattle.std.specs.Prelude.{◌≡◌, ℕ, suc, ◌<◌, true, List, [], ◌∷◌, ◌++◌, length, Some}
 use Rattle.ra_lines.specs.Lines.{lines_of, line_at, joined_lines, ends_line}
 

@@ -1,5 +1,5 @@
-//! Laws of the definitions: each function does nothing, and its contract is a law that was proved.
-ghost use Rattle.ra_lines.specs.LineLaws.{LinesAreTheBytes, LinesOfBoth, LinesAreWhole};
+//! Laws of lines: each function does nothing, and its contract is a law that was proved.
+ghost use Rattle.ra_laws.specs.LineLaws.{LinesAreTheBytes, LinesOfBoth, LinesAreWhole};
 
 /// The lines of some bytes are the bytes, and nothing is lost between them.
 pub fn lines_are_the_bytes()
