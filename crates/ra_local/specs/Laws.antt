@@ -1,4 +1,4 @@
--- What holds of every move, each law proved by a function of `laws`.
+-- What holds of every move, each law proved by a function of `ra_laws`.
 use Rattle.std.specs.Prelude.{◌≡◌, ℕ, ◌<◌, List, length, Option, None, Bool, false}
 use Rattle.ra_base.specs.Sums.{is_named}
 use Rattle.ra_base.specs.declared.causes.Cause.{Cause}

@@ -1,5 +1,5 @@
 use Rattle.ra_local.proofs.Determined.{weighing_is_determined}
-use Rattle.ra_local.proofs.laws.weighing_is_determined.Goals as goal
+use Rattle.ra_laws.proofs.moves.weighing_is_determined.Goals as goal
 
 pub returns : goal.returns
 returns c = weighing_is_determined
