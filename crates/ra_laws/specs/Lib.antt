@@ -7,3 +7,4 @@ pub mod ReportLaws
 pub mod VerifyLaws
 pub mod PinLaws
 pub mod LineLaws
+pub mod ModelTextLaws

@@ -14,6 +14,8 @@ pub mod journal;
 pub mod lines;
 /// The words of the problem: causes, sums and costs.
 pub mod model;
+/// The text of an instance.
+pub mod model_text;
 /// What a move can break, and what its weighing rests on.
 pub mod moves;
 /// The pinned processes of a start.

@@ -9,11 +9,11 @@ use Rattle.ra_model_read.specs.FieldOrder.{resource_numbers, machine_numbers, se
 use Rattle.ra_model_read.specs.Lists.{Lists, lists_of}
 use Rattle.ra_model_read.specs.ModelText.{model_of, IsModel, model_refusal}
 use Rattle.ra_model_read.proofs.TextAccepted.{text_accepted}
-use Rattle.ra_model_text.specs.Laws.{IsOpened}
+use Rattle.ra_laws.specs.ModelTextLaws.{IsOpened}
 use Rattle.ra_model_text.specs.ModelTexts.{model_text}
-use Rattle.ra_model_text.proofs.Counts.{numbers_few}
-use Rattle.ra_model_text.proofs.SmallNumbers.{model_told}
-use Rattle.ra_model_text.proofs.Telling.{tells_whole}
+use Rattle.ra_laws.proofs.ModelTextCounts.{numbers_few}
+use Rattle.ra_laws.proofs.SmallNumbers.{model_told}
+use Rattle.ra_laws.proofs.Telling.{tells_whole}
 
 -- flags of closed machines are no matter of the limits and of the numbers
 

@@ -1,4 +1,4 @@
--- What the text of an instance means. Each law is proved by a function of `laws`.
+-- What the text of an instance means. Each law is proved by a function of `model_text`.
 use Rattle.std.specs.Prelude.{◌≡◌, ◌↔◌, None}
 use Rattle.ra_model.specs.declared.raw.Tables.{Tables}
 use Rattle.ra_model.specs.Limits.{WellFormed, Small}

@@ -1,5 +1,5 @@
-//! Laws of the definitions: each function does nothing, and its contract is a law that was proved.
-ghost use Rattle.ra_model_text.specs.Laws.{ModelTextsAreModels, ModelTextsAreAccepted};
+//! Laws of the text of an instance: each function does nothing, and its contract is a law that was proved.
+ghost use Rattle.ra_laws.specs.ModelTextLaws.{ModelTextsAreModels, ModelTextsAreAccepted};
 
 /// The text of an instance within the limits means exactly the instance without closed machines: its lists and no
 /// others.

@@ -1,0 +1,5 @@
+use Rattle.ra_laws.proofs.ModelTextMeaning.{text_is_model}
+use Rattle.ra_laws.proofs.model_text.model_texts_are_models.Goals as goal
+
+pub returns : goal.returns
+returns c = text_is_model

@@ -1,4 +1,0 @@
-pub mod Telling
-pub mod SmallNumbers
-pub mod Counts
-pub mod Meaning

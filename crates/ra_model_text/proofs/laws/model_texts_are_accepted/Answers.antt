@@ -1,5 +1,0 @@
-use Rattle.ra_model_text.proofs.Meaning.{text_accepted_whole}
-use Rattle.ra_model_text.proofs.laws.model_texts_are_accepted.Goals as goal
-
-pub returns : goal.returns
-returns c = text_accepted_whole

@@ -1,5 +1,0 @@
-use Rattle.ra_model_text.proofs.Meaning.{text_is_model}
-use Rattle.ra_model_text.proofs.laws.model_texts_are_models.Goals as goal
-
-pub returns : goal.returns
-returns c = text_is_model
