@@ -7,5 +7,4 @@ pub mod ResultLemmas
 pub mod EndLemmas
 pub mod CompleteLemmas
 pub mod ComesLemmas
-pub mod EditLemmas
 pub mod RepairLemmas

@@ -5,7 +5,6 @@ pub mod Files
 pub mod Lines
 pub mod Outputs
 pub mod Refusals
-pub mod Editing
 pub mod Repairing
 pub mod Stages
 pub mod Statuses

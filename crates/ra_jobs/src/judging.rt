@@ -11,8 +11,9 @@ use ra_check::{Scratch, first_broken, parts};
 use ra_model::Instance;
 use std::alloc::Global;
 
-/// The parts of the cost of the new list, where both lists are feasible.
-pub(crate) fn judge(
+/// The parts of the cost of the new list, where both lists are feasible. Else the refusal names the list that breaks a
+/// constraint, the initial one first, and what it breaks; or memory was refused.
+pub fn judge(
     alloc: Global,
     inst: &Instance,
     initial: &Assignment,

@@ -1,11 +1,10 @@
-//! The jobs that need no solver: `check_run`, `bound_run`, `edit_run` and `repair_run`, over files and sinks that are handed
-//! in; and what every job stands on: its files and what they mean, its refusals, and how it ends. It stands beside the
-//! crates of a run of workers; `ra_run` stands on both.
+//! The jobs that need neither solver nor edits: `check_run`, `bound_run` and `repair_run`, over files and sinks that are
+//! handed in; and what every job stands on: its files and what they mean, its refusals, and how it ends. It stands beside
+//! the crates of a run of workers; `ra_run` stands on both. The job `edit` stands in `ra_edit_job`.
 #![tactic(auto)]
 
 mod bound;
 mod check;
-mod edit;
 mod judging;
 mod lists;
 mod reading;
@@ -18,8 +17,9 @@ mod steady;
 
 pub use bound::{bound_from, bound_run};
 pub use check::check_run;
-pub use edit::edit_run;
-pub use judging::judge_start;
+pub use judging::{judge, judge_start};
+pub use lists::{Lists, read_lists};
+pub use reading::read_instance;
 pub use refusals::{File, JobFiles, Refusal};
 pub use refusing::{finish, put_line, refuse_memory, refuse_unread, refuse_words};
 pub use repair::repair_run;

@@ -59,15 +59,16 @@ fn file_of(which: Which) -> File
     }
 }
 
-/// The two lists of a check.
+/// The two lists of a check or of edits: the initial one, and the new one or the current one.
 #[derive(Drop)]
-pub(crate) struct Lists {
-    pub(crate) initial: Assignment,
-    pub(crate) changed: Assignment,
+pub struct Lists {
+    pub initial: Assignment,
+    pub changed: Assignment,
 }
 
-/// The initial list, and then the new one.
-pub(crate) fn read_lists<F: Files>(
+/// The initial list, and then the new one, each of which fits the instance. Else the first of the two that could not be
+/// read, or that is no assignment for the instance, is refused; or memory was.
+pub fn read_lists<F: Files>(
     alloc: Global,
     files: &mut F,
     initial: &Name,

@@ -11,8 +11,9 @@ use ra_model::Instance;
 use ra_model_read::{ModelFault, read_model};
 use std::alloc::Global;
 
-/// The instance of the model file, with the machines of the closed list closed, where one is named.
-pub(crate) fn read_instance<F: Files>(
+/// The instance of the model file, with the machines of the closed list closed, where one is named. Else the first of the
+/// two files that could not be read, or that is no model or no closed list for it, is refused; or memory was.
+pub fn read_instance<F: Files>(
     alloc: Global,
     files: &mut F,
     model: &Name,

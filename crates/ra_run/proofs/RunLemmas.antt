@@ -12,10 +12,10 @@ use Rattle.ra_jobs.specs.Files.{Held, Faults, Names, check_names, solve_names, b
 use Rattle.ra_jobs.specs.Lines.{refusal_line}
 use Rattle.ra_jobs.specs.Outputs.{Printed, BoundPrinted}
 use Rattle.ra_jobs.proofs.ComesLemmas.{Went, comes, printed_went, bound_listed, judges_listed, writes_listed}
-use Rattle.ra_jobs.proofs.EditLemmas.{edit_not, edited_listed, own_listed as edits_listed}
 use Rattle.ra_jobs.proofs.EndLemmas.{ends_memory}
 use Rattle.ra_jobs.proofs.RepairLemmas.{own_listed as repair_listed, repair_not, tried_listed}
 use Rattle.ra_jobs.proofs.StageLemmas.{says_more}
+use Rattle.ra_edit_job.proofs.EditLemmas.{edit_not, edited_listed, own_listed as edits_listed}
 use Rattle.ra_run.specs.Commands.{Answers, OfJob, OutputOf, OwnComes, OwnOf, ValidFor}
 use Rattle.ra_run.specs.Outputs.{Solved}
 use Rattle.ra_run.specs.Trials.{TrialEnds}

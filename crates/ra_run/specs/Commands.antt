@@ -13,8 +13,8 @@ use Rattle.ra_jobs.specs.Complete.{AreAccepted, AreValid}
 use Rattle.ra_jobs.specs.Files.{Held, Faults, Names, check_names, solve_names, bound_names, verify_names, edit_names}
 use Rattle.ra_jobs.specs.Outputs.{Printed, BoundPrinted}
 use Rattle.ra_jobs.specs.Refusals.{Judges, OnlyWrites, Nothing}
-use Rattle.ra_jobs.specs.Editing.{AreEditable, EditComes, EditOwn, Edited}
 use Rattle.ra_jobs.specs.Repairing.{RepairComes, RepairOwn, Tried}
+use Rattle.ra_edit_job.specs.Editing.{AreEditable, EditComes, EditOwn, Edited}
 use Rattle.ra_run.specs.Outputs.{Solved}
 use Rattle.ra_run.specs.Trials.{TrialPrinted}
 use Rattle.ra_run.specs.Verifying.{VerdictComes, Verified, VerifyOwn}

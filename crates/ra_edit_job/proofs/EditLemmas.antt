@@ -1,0 +1,327 @@
+-- How `edit` ends, from how its stages end.
+use Rattle.std.proofs.Common.{◌≡◌, ◌≢◌, ◌⊎◌, ℕ, ◌≤◌, List, length, Option, Some, None, IfSome, IsSome, inl, inr, ⊎_elim, refl, sym, ◌∙◌, ap, subst}
+use Rattle.ra_base.specs.declared.causes.Cause.{Cause}
+use Rattle.ra_base.specs.declared.ids.Machine.{Machine}
+use Rattle.ra_base.specs.Searches.{first}
+use Rattle.ra_edit.specs.Drafts.{Drafted, draft_of, instance_of}
+use Rattle.ra_edit.specs.Replies.{after_edits, replies_to}
+use Rattle.ra_edit.specs.SameLists.{HasLists, AreSameLists}
+use Rattle.ra_edit.specs.declared.replies.EditReply.{EditReply}
+use Rattle.ra_edits_read.specs.declared.faults.EditsFault.{EditsFault}
+use Rattle.ra_edits_read.specs.declared.faults.EditsFault.TheVariants as reader
+use Rattle.ra_edits_read.specs.Answers.{IsEditsRefusal}
+use Rattle.ra_edits_read.specs.EditLists.{EditLists}
+use Rattle.ra_edits_read.specs.EditTexts.{edits_refusal, AreEditsOf, added_test, resized_test, numbers_test, found_test, edit_test}
+use Rattle.ra_io.specs.Faults.{Rose}
+use Rattle.ra_model.specs.Assignments.{IsAssignment}
+use Rattle.ra_model.specs.Costs.{parts_of}
+use Rattle.ra_model.specs.Feasible.{Feasible}
+use Rattle.ra_model.specs.Numbers.{resource_row, machine_row, service_row, process_row, balance_row, resource_count, machine_count, service_count, process_count, balance_count, transient_at, load_weight_of, neighbourhood_of, location_of, capacity_of, safety_of, way_cost_of, spread_of, dependency_end, dependency_start, dependency_count, need_at, need_of, service_of, requirement_of, process_cost_of, first_of, second_of, target_of, balance_weight_of, process_weight_of, service_weight_of, machine_weight_of}
+use Rattle.ra_model.specs.declared.raw.RawInstance.{RawInstance}
+use Rattle.ra_model.specs.declared.raw.Tables.{Tables}
+use Rattle.ra_model.proofs.BrokenLemmas.{unbroken_from_feasible}
+use Rattle.ra_model_read.specs.FieldOrder.{joined, resource_numbers, machine_numbers, service_numbers, process_numbers}
+use Rattle.ra_model_read.specs.Lists.{lists_of}
+use Rattle.ra_model_text.specs.ModelTexts.{group_text, resource_text, machine_text, service_text, process_text, balance_text, weights_text, model_text}
+use Rattle.ra_jobs.specs.declared.refusals.File.TheVariants as file
+use Rattle.ra_jobs.specs.declared.refusals.Refusal.{Refusal}
+use Rattle.ra_jobs.specs.declared.refusals.Refusal.TheVariants.{Read, Model, Closed, Initial, Changed, Edits, InitialBroken, ChangedBroken, Write, Memory}
+use Rattle.ra_jobs.specs.declared.status.Status.{Status}
+use Rattle.ra_jobs.specs.declared.status.Status.TheVariants.{Done, Infeasible, BadEdits, NoMemory}
+use Rattle.ra_jobs.specs.Comes.{KnownTo}
+use Rattle.ra_jobs.specs.Complete.{NoFault}
+use Rattle.ra_jobs.specs.Ends.{Ends}
+use Rattle.ra_jobs.specs.Files.{Held, Faults, Names, name_of, Accepts, InstanceIs, edit_names}
+use Rattle.ra_jobs.specs.Refusals.{Says, CanTell, InitialBreaks, ChangedBreaks}
+use Rattle.ra_jobs.specs.Stages.{JudgeSays, ListsSay, ReadsLists}
+use Rattle.ra_jobs.specs.Statuses.{status_of}
+use Rattle.ra_jobs.proofs.BareLemmas.{bare}
+use Rattle.ra_jobs.proofs.ComesLemmas.{Listed, told_of}
+use Rattle.ra_jobs.proofs.CompleteLemmas.{is_done, complete, contradiction}
+use Rattle.ra_jobs.proofs.MeaningLemmas.{no_model, no_closed, no_initial, no_changed, no_initial_break, no_changed_break, instances_same}
+use Rattle.ra_jobs.proofs.RowLemmas.{raw_of, bare_raw, raw_same}
+use Rattle.ra_jobs.proofs.StageLemmas.{rose_later, can_tell, says_more}
+use Rattle.ra_edit_job.specs.EditedTexts.{model_part, edited_lines, edited_text}
+use Rattle.ra_edit_job.specs.Editing.{left_of, text_left, edits_output, IsEdited, IsTaken, Edited, EditsRefused, EditsAccepted, EditOwn, EditComes, AreEditable, edits_as, EditsSay, HasEdits, EditSays, OverSays}
+
+-- ---- the text of instances with the same lists
+
+lists_as : (x y : RawInstance) → HasLists x y → lists_of x ≡ lists_of y
+lists_as x y h = rw (h.resources, h.machines, h.capacities, h.safeties, h.move_costs, h.services, h.dependencies, h.processes, h.requirements, h.balances, h.process_weight, h.service_weight, h.machine_weight) refl
+
+-- the instance of lists without room, in which no machine is closed
+abbrev open_bare : RawInstance → Tables
+open_bare raw = record { raw = bare_raw raw; closed = None }
+
+text_bare : (i : Tables) → model_text (open_bare i.raw) ≡ model_text i
+unfolding raw_of bare_raw model_text group_text resource_text machine_text service_text process_text balance_text weights_text joined resource_numbers machine_numbers service_numbers process_numbers resource_row machine_row service_row process_row balance_row resource_count machine_count service_count process_count balance_count transient_at load_weight_of neighbourhood_of location_of capacity_of safety_of way_cost_of spread_of dependency_end dependency_start dependency_count need_at need_of service_of requirement_of process_cost_of first_of second_of target_of balance_weight_of process_weight_of service_weight_of machine_weight_of
+text_bare i = refl
+
+pub text_same : (i j : Tables) → HasLists j.raw i.raw → model_text j ≡ model_text i
+text_same i j same = sym (text_bare j) ∙ (ap (λ (raw : RawInstance). model_text (record { raw = raw; closed = None })) (raw_same j.raw i.raw (lists_as j.raw i.raw same)) ∙ text_bare i)
+
+-- the text of what a draft leaves is that of the draft
+pub left_text : (d : Drafted) (i : Tables) (a0 a : List Machine) (replies : List EditReply) → AreSameLists (instance_of d) i → a0 ≡ d.initial → a ≡ d.current → parts_of i a0 a ≡ parts_of (instance_of d) d.initial d.current → edited_text i a0 a replies ≡ edited_text (instance_of d) d.initial d.current replies
+unfolding edited_text edited_lines model_part
+left_text d i a0 a replies same first second parts = rw (parts, text_same (instance_of d) i same.lists, first, second) refl
+
+-- the run of edits of an instance and two lists
+pub edited : (i : Tables) (a0 a : List Machine) (e : EditLists) (made d : Drafted) (instance : Tables) (first second : List Machine) (replies : List EditReply) (way : List ℕ → Type 0) → Feasible i a0 a0 → Feasible i a0 a → made ≡ draft_of i a0 a → d ≡ after_edits made e (length e.edits) → replies ≡ replies_to made e (length e.edits) → Feasible (instance_of d) d.initial d.current → AreSameLists (instance_of d) instance → first ≡ d.initial → second ≡ d.current → parts_of instance first second ≡ parts_of (instance_of d) d.initial d.current
+    → way (edited_text instance first second replies) → IsEdited i a0 a e way
+unfolding left_of text_left edits_output
+edited i a0 a e made d instance first second replies way start current from run answers feasible same first_is second_is parts text =
+    let left : d ≡ left_of i a0 a e = rw from at run in
+    let told : replies ≡ replies_to (draft_of i a0 a) e (length e.edits) = rw from at answers in
+    record {
+      start = start;
+      current = current;
+      left = subst (λ (x : Drafted). Feasible (instance_of x) x.initial x.current) left feasible;
+      text = subst (λ (x : Drafted). way (text_left (draft_of i a0 a) x e)) left (rw (sym told) (rw (left_text d instance first second replies same first_is second_is parts) at text));
+    }
+
+-- ---- the stages
+
+pub edits_say : (held : Held) (name : List ℕ) (i : Tables) (before now : Faults) (fault : EditsFault) → (fault ≡ reader.ReadFault → Rose (before name) (now name)) → IfSome (held name) (λ bytes. IsEditsRefusal bytes i fault) → EditsSay held name i before now (edits_as fault)
+edits_say held name i before now reader.ReadFault rose told = rose refl
+edits_say held name i before now (reader.BadByte at byte) rose told = ((λ e. cc, λ e. cc), told)
+edits_say held name i before now (reader.TooLarge at) rose told = ((λ e. cc, λ e. cc), told)
+edits_say held name i before now reader.TooLong rose told = ((λ e. cc, λ e. cc), told)
+edits_say held name i before now (reader.Missing edit) rose told = ((λ e. cc, λ e. cc), told)
+edits_say held name i before now (reader.Range at value least most) rose told = ((λ e. cc, λ e. cc), told)
+edits_say held name i before now (reader.TooMany at) rose told = ((λ e. cc, λ e. cc), told)
+edits_say held name i before now reader.NoMemory rose told = tt
+
+-- a refusal of the lists
+pub says_listed : (held later : Held) (model : List ℕ) (closed : Option (List ℕ)) (initial current edits : List ℕ) (i : Tables) (first before now : Faults) (own : Refusal → Type 0) → ((other : List ℕ) → later other ≡ held other) → ((other : List ℕ) → first other ≤ before other) → InstanceIs held model closed i → (refusal : Refusal) → ListsSay later initial current i before now refusal → Says held (edit_names model closed initial current edits) first now own refusal
+unfolding name_of
+says_listed held later model closed initial current edits i first before now own same never_fell instance (Read file.Initial) says = record { earlier = (i, instance); named = refl; rose = rose_later (first initial) (before initial) (now initial) (never_fell initial) says }
+says_listed held later model closed initial current edits i first before now own same never_fell instance (Read file.Changed) says = record { earlier = (i, says.0, instance, rw (sym (same initial)) says.1); named = refl; rose = rose_later (first current) (before current) (now current) (never_fell current) says.2 }
+says_listed held later model closed initial current edits i first before now own same never_fell instance (Initial fault) says = record { tables = i; instance = instance; name = initial; named = refl; refused = record { in_file = says.in_file; refused = rw (sym (same initial)) says.refused } }
+says_listed held later model closed initial current edits i first before now own same never_fell instance (Changed fault) says = record { tables = i; a0 = says.0; instance = instance; initial = rw (sym (same initial)) says.1; name = current; named = refl; refused = record { in_file = says.2.in_file; refused = rw (sym (same current)) says.2.refused } }
+says_listed held later model closed initial current edits i first before now own same never_fell instance Memory says = tt
+says_listed held later model closed initial current edits i first before now own same never_fell instance refusal says = absurd says
+
+-- the lists were accepted
+pub accepts_lists : (held later : Held) (model : List ℕ) (closed : Option (List ℕ)) (initial current edits : List ℕ) (i : Tables) (a0 a : List Machine) → ((other : List ℕ) → later other ≡ held other) → InstanceIs held model closed i → ReadsLists later initial current i a0 a → Accepts held (edit_names model closed initial current edits) i a0 a
+accepts_lists held later model closed initial current edits i a0 a same instance lists = record {
+  instance = instance;
+  initial = rw (sym (same initial)) lists.initial;
+  changed = rw (sym (same current)) lists.changed;
+}
+
+-- a refusal of the edits
+pub says_edits : (held later : Held) (model : List ℕ) (closed : Option (List ℕ)) (initial current edits : List ℕ) (i : Tables) (a0 a : List Machine) (first before now : Faults) (written : Type 0) → ((other : List ℕ) → later other ≡ held other) → ((other : List ℕ) → first other ≤ before other) → Accepts held (edit_names model closed initial current edits) i a0 a → (refusal : Refusal) → EditsSay later edits i before now refusal
+    → Says held (edit_names model closed initial current edits) first now (EditOwn held (edit_names model closed initial current edits) written) refusal
+unfolding name_of
+says_edits held later model closed initial current edits i a0 a first before now written same never_fell accepts (Read file.Edits) says = record { earlier = (i, a0, a, accepts); named = refl; rose = rose_later (first edits) (before edits) (now edits) (never_fell edits) says }
+says_edits held later model closed initial current edits i a0 a first before now written same never_fell accepts (Edits fault) says = record { tables = i; a0 = a0; a = a; accepts = accepts; named = refl; in_file = says.0; refused = rw (sym (same edits)) says.1 }
+says_edits held later model closed initial current edits i a0 a first before now written same never_fell accepts Memory says = tt
+says_edits held later model closed initial current edits i a0 a first before now written same never_fell accepts refusal says = absurd says
+
+pub taken_all : (held later : Held) (model : List ℕ) (closed : Option (List ℕ)) (initial current edits : List ℕ) (i : Tables) (a0 a : List Machine) (e : EditLists) → ((other : List ℕ) → later other ≡ held other) → Accepts held (edit_names model closed initial current edits) i a0 a → IsAssignment i a0 → IsAssignment i a → HasEdits later edits i e → IsTaken held (edit_names model closed initial current edits) i a0 a e
+unfolding name_of
+taken_all held later model closed initial current edits i a0 a e same accepts first second has = record { accepts = accepts; initial = first; current = second; edits = rw (sym (same edits)) has.edits; fits = has.fits }
+
+some_then : (told : Option (List ℕ)) (P Q : List ℕ → Type 0) → ((bytes : List ℕ) → P bytes → Q bytes) → IfSome told P → IfSome told Q
+some_then None P Q step is = tt
+some_then (Some bytes) P Q step is = step bytes is
+
+accepted_of : (held : Held) (names : Names) (i : Tables) (a0 a : List Machine) (e : EditLists) → IsTaken held names i a0 a e → EditsAccepted held names
+accepted_of held names i a0 a e taken = record { tables = i; a0 = a0; a = a; accepts = taken.accepts; none = some_then (held (name_of names file.Edits)) (λ bytes. AreEditsOf bytes i e) (λ bytes. edits_refusal bytes i ≡ None) (λ bytes are. are.accepted) taken.edits }
+
+-- a refusal of the run
+pub says_run : (held : Held) (names : Names) (i : Tables) (a0 a : List Machine) (e : EditLists) (before now : Faults) (way : List ℕ → Type 0) → IsSome names.initial → IsSome names.changed → IsTaken held names i a0 a e → (refusal : Refusal) → EditSays i a0 a (IsEdited i a0 a e way) refusal → Says held names before now (EditOwn held names (Edited held names way)) refusal
+says_run held names i a0 a e before now way has_initial has_changed taken (InitialBroken cause) says = (accepted_of held names i a0 a e taken, record { tables = i; a0 = a0; a = a; named = has_initial; accepts = taken.accepts; broken = says })
+says_run held names i a0 a e before now way has_initial has_changed taken (ChangedBroken cause) says = (accepted_of held names i a0 a e taken, record { tables = i; a0 = a0; a = a; start_named = has_initial; named = has_changed; accepts = taken.accepts; initial = says.0; broken = says.1 })
+says_run held names i a0 a e before now way has_initial has_changed taken Write says = record { tables = i; a0 = a0; a = a; edits = e; taken = taken; run = says }
+says_run held names i a0 a e before now way has_initial has_changed taken Memory says = tt
+says_run held names i a0 a e before now way has_initial has_changed taken refusal says = absurd says
+
+pub edited_all : (held : Held) (names : Names) (i : Tables) (a0 a : List Machine) (e : EditLists) (way : List ℕ → Type 0) → IsTaken held names i a0 a e → IsEdited i a0 a e way → Edited held names way
+edited_all held names i a0 a e way taken run = record { tables = i; a0 = a0; a = a; edits = e; taken = taken; run = run }
+
+pub judge_says : (i : Tables) (a0 a : List Machine) (written : Type 0) (refusal : Refusal) → JudgeSays i a0 a refusal → EditSays i a0 a written refusal
+judge_says i a0 a written (InitialBroken cause) says = says
+judge_says i a0 a written (ChangedBroken cause) says = says
+judge_says i a0 a written Memory says = tt
+judge_says i a0 a written refusal says = absurd says
+
+pub over_says : (i : Tables) (a0 a : List Machine) (written : Type 0) (refusal : Refusal) → OverSays written refusal → EditSays i a0 a written refusal
+over_says i a0 a written Write says = says
+over_says i a0 a written Memory says = tt
+over_says i a0 a written refusal says = absurd says
+
+own_more : (held : Held) (names : Names) (written more : Type 0) → (written → more) → (r : Refusal) → EditOwn held names written r → EditOwn held names more r
+own_more held names written more step (Edits fault) says = says
+own_more held names written more step (InitialBroken cause) says = says
+own_more held names written more step (ChangedBroken cause) says = says
+own_more held names written more step Write says = step says
+own_more held names written more step refusal says = absurd says
+
+pub says_untaken : (held : Held) (names : Names) (before now : Faults) (written : Type 0) (refusal : Refusal) → Says held names before now (EditOwn held names ⊥) refusal → Says held names before now (EditOwn held names written) refusal
+says_untaken held names before now written refusal says = says_more held names before now (EditOwn held names ⊥) (EditOwn held names written) (own_more held names ⊥ written (λ none. absurd none)) refusal says
+
+own_tells : (held : Held) (names : Names) (written : Type 0) (r : Refusal) → EditOwn held names written r → CanTell names r
+own_tells held names written (Edits fault) says = (says.named, says.in_file)
+own_tells held names written (InitialBroken cause) says = says.1.named
+own_tells held names written (ChangedBroken cause) says = says.1.named
+own_tells held names written Write says = tt
+own_tells held names written refusal says = absurd says
+
+pub can_tell_edits : (held : Held) (names : Names) (before now : Faults) (written : Type 0) (refusal : Refusal) → Says held names before now (EditOwn held names written) refusal → CanTell names refusal
+can_tell_edits held names before now written = can_tell held names before now (EditOwn held names written) (own_tells held names written)
+
+-- ---- where its statuses come
+
+pub edited_listed : (held : Held) (names : Names) (way : List ℕ → Type 0) → Edited held names way → Listed held names
+edited_listed held names way is = record { tables = is.tables; a0 = is.a0; a = is.a; accepts = is.taken.accepts }
+
+pub own_listed : (held : Held) (names : Names) (way : List ℕ → Type 0) (r : Refusal) → EditOwn held names (Edited held names way) r → Listed held names
+own_listed held names way (Edits fault) says = record { tables = says.tables; a0 = says.a0; a = says.a; accepts = says.accepts }
+own_listed held names way (InitialBroken cause) says = record { tables = says.1.tables; a0 = says.1.a0; a = says.1.a; accepts = says.1.accepts }
+own_listed held names way (ChangedBroken cause) says = record { tables = says.1.tables; a0 = says.1.a0; a = says.1.a; accepts = says.1.accepts }
+own_listed held names way Write says = edited_listed held names way says
+own_listed held names way refusal says = absurd says
+
+-- instances that differ in room alone take the same edits files
+edits_bare : (bytes : List ℕ) (i : Tables) → edits_refusal bytes (bare i) ≡ edits_refusal bytes i
+unfolding raw_of bare_raw edits_refusal edit_test found_test numbers_test added_test resized_test resource_count machine_count service_count
+edits_bare bytes i = refl
+
+edits_same : (bytes : List ℕ) (i j : Tables) → bare i ≡ bare j → edits_refusal bytes i ≡ edits_refusal bytes j
+edits_same bytes i j same = sym (edits_bare bytes i) ∙ (ap (edits_refusal bytes) same ∙ edits_bare bytes j)
+
+-- over valid files none of its own refusals can come
+valid_none : (held : Held) (names : Names) (way : List ℕ → Type 0) → AreEditable held names → ((text : List ℕ) → way text → ⊥) → (refusal : Refusal) → EditOwn held names (Edited held names way) refusal → ⊥
+valid_none held names way editable whole (Edits fault) says =
+    let are = editable.edits says.tables says.a0 says.a says.accepts in
+    contradiction (held (name_of names file.Edits)) are.0 (λ bytes. edits_refusal bytes says.tables) fault are.1 are.2 says.refused
+valid_none held names way editable whole (InitialBroken cause) says =
+    let b = says.1 in
+    let none = unbroken_from_feasible b.tables b.a0 b.a0 (editable.valid.initial b.named b.tables b.a0 b.a b.accepts) in
+    let both : None ≡ Some cause = sym none ∙ b.broken in
+    cc
+valid_none held names way editable whole (ChangedBroken cause) says =
+    let b = says.1 in
+    let none = unbroken_from_feasible b.tables b.a0 b.a (editable.valid.changed b.named b.tables b.a0 b.a b.accepts) in
+    let both : None ≡ Some cause = sym none ∙ b.broken in
+    cc
+valid_none held names way editable whole Write says = whole _ says.run.text
+valid_none held names way editable whole refusal says = says
+
+pub complete_edits : {held : Held} {names : Names} {before now : Faults} {way : List ℕ → Type 0} {output : Type 0} {tells : List ℕ → Type 0} {out_same err_same : Type 0} {status : Status} → Ends held names before now output (EditOwn held names (Edited held names way)) tells out_same err_same status → AreEditable held names → NoFault names before now → ((text : List ℕ) → way text → ⊥) → (status ≡ Done) ⊎ (status ≡ NoMemory)
+complete_edits {held} {names} {before} {now} {way} ends editable sound whole = complete ends editable.valid.accepted sound (valid_none held names way editable whole)
+
+-- over known files that are accepted, a refusal is one of the job's own, or of memory
+own_known : (held : Held) (model : List ℕ) (closed : Option (List ℕ)) (initial current edits : List ℕ) (before now : Faults) (own : Refusal → Type 0) → KnownTo held (edit_names model closed initial current edits) before now file.Edits → (i : Tables) (a0 a : List Machine) → Accepts held (edit_names model closed initial current edits) i a0 a → (refusal : Refusal) → Says held (edit_names model closed initial current edits) before now own refusal → own refusal ⊎ (status_of refusal ≡ NoMemory)
+unfolding status_of name_of
+own_known held model closed initial current edits before now own known i a0 a accepts (Read file.Model) says = absurd ((known.0 tt).1 says.rose)
+own_known held model closed initial current edits before now own known i a0 a accepts (Read file.Closed) says = absurd ((known.1 says.named).1 says.rose)
+own_known held model closed initial current edits before now own known i a0 a accepts (Read file.Initial) says = absurd ((known.2 says.named).1 says.rose)
+own_known held model closed initial current edits before now own known i a0 a accepts (Read file.Changed) says = absurd ((known.3 says.named).1 says.rose)
+own_known held model closed initial current edits before now own known i a0 a accepts (Read file.Report) says = absurd (let none = says.named in cc)
+own_known held model closed initial current edits before now own known i a0 a accepts (Read file.Edits) says = absurd ((known.4 says.named).1 says.rose)
+own_known held model closed initial current edits before now own known i a0 a accepts (Model fault) says = absurd (no_model held model (known.0 tt).0 fault says accepts.instance.model accepts.instance.read)
+own_known held model closed initial current edits before now own known i a0 a accepts (Closed fault) says = absurd (no_closed held model closed (known.0 tt).0 (told_of held closed _ known.1) fault says i accepts.instance)
+own_known held model closed initial current edits before now own known i a0 a accepts (Initial fault) says = absurd (no_initial held (edit_names model closed initial current edits) (known.0 tt).0 (told_of held closed _ known.1) (told_of held (Some initial) _ known.2) fault says i a0 accepts.instance accepts.initial)
+own_known held model closed initial current edits before now own known i a0 a accepts (Changed fault) says = absurd (no_changed held (edit_names model closed initial current edits) (known.0 tt).0 (told_of held closed _ known.1) (told_of held (Some current) _ known.3) fault says i a accepts.instance accepts.changed)
+own_known held model closed initial current edits before now own known i a0 a accepts Memory says = inr refl
+own_known held model closed initial current edits before now own known i a0 a accepts refusal says = inl says
+
+-- no edits file is refused and accepted at once
+told_not : (told : Option (List ℕ)) → IsSome told → (P Q : List ℕ → Type 0) → ((bytes : List ℕ) → P bytes → Q bytes → ⊥) → IfSome told P → IfSome told Q → ⊥
+told_not None some P Q never p q = absurd (cc)
+told_not (Some bytes) some P Q never p q = never bytes p q
+
+not_both : (held : Held) (model : List ℕ) (closed : Option (List ℕ)) (initial current edits : List ℕ) (before now : Faults) → KnownTo held (edit_names model closed initial current edits) before now file.Edits → (fault : EditsFault) → EditsRefused held (edit_names model closed initial current edits) fault → EditsAccepted held (edit_names model closed initial current edits) → ⊥
+unfolding name_of
+not_both held model closed initial current edits before now known fault refused accepted =
+    let same = instances_same held model closed (known.0 tt).0 (told_of held closed _ known.1) refused.tables accepted.tables refused.accepts.instance accepted.accepts.instance in
+    told_not (held edits) (known.4 refl).0 (λ bytes. edits_refusal bytes refused.tables ≡ Some fault) (λ bytes. edits_refusal bytes accepted.tables ≡ None)
+    (λ bytes some none. let both : None ≡ Some fault = sym none ∙ (sym (edits_same bytes refused.tables accepted.tables same) ∙ some) in cc)
+    refused.refused accepted.none
+
+bad_own : (held : Held) (model : List ℕ) (closed : Option (List ℕ)) (initial current edits : List ℕ) (before now : Faults) (way : List ℕ → Type 0) → KnownTo held (edit_names model closed initial current edits) before now file.Edits → (fault : EditsFault) → EditsRefused held (edit_names model closed initial current edits) fault → (refusal : Refusal) → EditOwn held (edit_names model closed initial current edits) (Edited held (edit_names model closed initial current edits) way) refusal → status_of refusal ≡ BadEdits
+unfolding status_of
+bad_own held model closed initial current edits before now way known fault refused (Edits other) says = refl
+bad_own held model closed initial current edits before now way known fault refused (InitialBroken cause) says = absurd (not_both held model closed initial current edits before now known fault refused says.0)
+bad_own held model closed initial current edits before now way known fault refused (ChangedBroken cause) says = absurd (not_both held model closed initial current edits before now known fault refused says.0)
+bad_own held model closed initial current edits before now way known fault refused Write says = absurd (not_both held model closed initial current edits before now known fault refused (accepted_of held (edit_names model closed initial current edits) says.tables says.a0 says.a says.edits says.taken))
+bad_own held model closed initial current edits before now way known fault refused refusal says = absurd says
+
+-- no run is written of lists that break a constraint
+broken_not : (held : Held) (model : List ℕ) (closed : Option (List ℕ)) (initial current edits : List ℕ) (before now : Faults) (way : List ℕ → Type 0) → KnownTo held (edit_names model closed initial current edits) before now file.Edits → (cause : Cause) → (InitialBreaks held (edit_names model closed initial current edits) cause ⊎ ChangedBreaks held (edit_names model closed initial current edits) cause) → Edited held (edit_names model closed initial current edits) way → ⊥
+unfolding name_of
+broken_not held model closed initial current edits before now way known cause breaks is = ⊎_elim
+    (λ (b : InitialBreaks held (edit_names model closed initial current edits) cause). no_initial_break held (edit_names model closed initial current edits) (known.0 tt).0 (told_of held closed _ known.1) (told_of held (Some initial) _ known.2) cause b is.tables is.a0 is.a is.taken.accepts is.run.start)
+    (λ (b : ChangedBreaks held (edit_names model closed initial current edits) cause). no_changed_break held (edit_names model closed initial current edits) (known.0 tt).0 (told_of held closed _ known.1) (told_of held (Some initial) _ known.2) (told_of held (Some current) _ known.3) cause b is.tables is.a0 is.a is.taken.accepts is.run.current)
+    breaks
+
+broken_own : (held : Held) (model : List ℕ) (closed : Option (List ℕ)) (initial current edits : List ℕ) (before now : Faults) (way : List ℕ → Type 0) → KnownTo held (edit_names model closed initial current edits) before now file.Edits → EditsAccepted held (edit_names model closed initial current edits) → (cause : Cause) → (InitialBreaks held (edit_names model closed initial current edits) cause ⊎ ChangedBreaks held (edit_names model closed initial current edits) cause) → (refusal : Refusal) → EditOwn held (edit_names model closed initial current edits) (Edited held (edit_names model closed initial current edits) way) refusal → status_of refusal ≡ Infeasible
+unfolding status_of
+broken_own held model closed initial current edits before now way known accepted cause breaks (Edits fault) says = absurd (not_both held model closed initial current edits before now known fault says accepted)
+broken_own held model closed initial current edits before now way known accepted cause breaks (InitialBroken other) says = refl
+broken_own held model closed initial current edits before now way known accepted cause breaks (ChangedBroken other) says = refl
+broken_own held model closed initial current edits before now way known accepted cause breaks Write says = absurd (broken_not held model closed initial current edits before now way known cause breaks says)
+broken_own held model closed initial current edits before now way known accepted cause breaks refusal says = absurd says
+
+-- what each of its own statuses says
+says_bad : (held : Held) (names : Names) (written : Type 0) (before now : Faults) (refusal : Refusal) → Says held names before now (EditOwn held names written) refusal → status_of refusal ≡ BadEdits → (fault : EditsFault) × EditsRefused held names fault
+unfolding status_of
+says_bad held names written before now (Edits fault) says e = (fault, says)
+says_bad held names written before now refusal says e = absurd (let both : status_of refusal ≡ BadEdits = e in cc)
+
+says_broken : (held : Held) (names : Names) (written : Type 0) (before now : Faults) (refusal : Refusal) → Says held names before now (EditOwn held names written) refusal → status_of refusal ≡ Infeasible → EditsAccepted held names × ((cause : Cause) × (InitialBreaks held names cause ⊎ ChangedBreaks held names cause))
+unfolding status_of
+says_broken held names written before now (InitialBroken cause) says e = (says.0, (cause, inl says.1))
+says_broken held names written before now (ChangedBroken cause) says e = (says.0, (cause, inr says.1))
+says_broken held names written before now refusal says e = absurd (let both : status_of refusal ≡ Infeasible = e in cc)
+
+-- a job that isn't done has a status that its own refusals give it, or that of memory
+stops : (held : Held) (model : List ℕ) (closed : Option (List ℕ)) (initial current edits : List ℕ) (before now : Faults) (output : Type 0) (own : Refusal → Type 0) (tells : List ℕ → Type 0) (out_same err_same : Type 0) (status this : Status) → Ends held (edit_names model closed initial current edits) before now output own tells out_same err_same status → KnownTo held (edit_names model closed initial current edits) before now file.Edits → Listed held (edit_names model closed initial current edits) → (output → ⊥) → ((refusal : Refusal) → own refusal → status_of refusal ≡ this) → (status ≡ this) ⊎ (status ≡ NoMemory)
+stops held model closed initial current edits before now output own tells out_same err_same status this ends known listed undone step = ⊎_elim
+    (λ (done : status ≡ Done). absurd (undone (ends.printed done)))
+    (λ (other : status ≢ Done).
+    let refused = ends.refused other in
+    ⊎_elim
+    (λ (says : own refused.refusal). inl (refused.is ∙ step refused.refusal says))
+    (λ (memory : status_of refused.refusal ≡ NoMemory). inr (refused.is ∙ memory))
+    (own_known held model closed initial current edits before now own known listed.tables listed.a0 listed.a listed.accepts refused.refusal refused.says))
+    (is_done status)
+
+pub edit_comes : {held : Held} {before now : Faults} {tells : List ℕ → Type 0} {out_same err_same : Type 0} {status : Status} (model : List ℕ) (closed : Option (List ℕ)) (initial current edits : List ℕ) (prints breaks : List ℕ → Type 0)
+    → Ends held (edit_names model closed initial current edits) before now (Edited held (edit_names model closed initial current edits) prints) (EditOwn held (edit_names model closed initial current edits) (Edited held (edit_names model closed initial current edits) breaks)) tells out_same err_same status
+    → EditComes held (edit_names model closed initial current edits) before now status
+edit_comes {held} {before} {now} {tells} {out_same} {err_same} {status} model closed initial current edits prints breaks ends =
+    let names = (edit_names model closed initial current edits) in
+    let output = Edited held names prints in
+    let own : Refusal → Type 0 = EditOwn held names (Edited held names breaks) in
+    record {
+      bad_edits = record {
+        only = λ (is : status ≡ BadEdits).
+            let refused = ends.refused (λ (done : status ≡ Done). let e : Done ≡ BadEdits = sym done ∙ is in cc) in
+            says_bad held names (Edited held names breaks) before now refused.refusal refused.says (sym refused.is ∙ is);
+        always = λ known cause.
+            let r = cause.1 in
+            stops held model closed initial current edits before now output own tells out_same err_same status BadEdits ends known (record { tables = r.tables; a0 = r.a0; a = r.a; accepts = r.accepts })
+            (λ o. not_both held model closed initial current edits before now known cause.0 r (accepted_of held names o.tables o.a0 o.a o.edits o.taken))
+            (bad_own held model closed initial current edits before now breaks known cause.0 r);
+      };
+      infeasible = record {
+        only = λ (is : status ≡ Infeasible).
+            let refused = ends.refused (λ (done : status ≡ Done). let e : Done ≡ Infeasible = sym done ∙ is in cc) in
+            says_broken held names (Edited held names breaks) before now refused.refusal refused.says (sym refused.is ∙ is);
+        always = λ known cause.
+            let r = cause.0 in
+            stops held model closed initial current edits before now output own tells out_same err_same status Infeasible ends known (record { tables = r.tables; a0 = r.a0; a = r.a; accepts = r.accepts })
+            (broken_not held model closed initial current edits before now prints known cause.1.0 cause.1.1)
+            (broken_own held model closed initial current edits before now breaks known r cause.1.0 cause.1.1);
+      };
+    }
+
+-- where memory was refused before the words were read
+pub edit_not : (held : Held) (names : Names) (before now : Faults) (status : Status) → status ≡ NoMemory → EditComes held names before now status
+edit_not held names before now status is = record {
+  bad_edits = record { only = λ e. absurd (let both : NoMemory ≡ BadEdits = sym is ∙ e in cc); always = λ known cause. inr is };
+  infeasible = record { only = λ e. absurd (let both : NoMemory ≡ Infeasible = sym is ∙ e in cc); always = λ known cause. inr is };
+}

@@ -1,0 +1,264 @@
+ghost use Rattle.std.specs.Prelude.{◌≡◌, ◌≢◌, ◌⊎◌, ℕ, ◌≤◌, List, OnOk, IfOk, IfErr};
+ghost use Rattle.std.specs.Io.KnownBytes.{Appends};
+ghost use Rattle.std.specs.Option.{option_copied};
+ghost use Rattle.ra_edits_read.specs.EditLists.{AreEditsFor};
+ghost use Rattle.ra_io.specs.Faults.{Rose};
+ghost use Rattle.ra_model.specs.Assignments.{IsAssignment};
+ghost use Rattle.ra_model.specs.Costs.{parts_of};
+ghost use Rattle.ra_model.specs.Feasible.{Feasible};
+ghost use Rattle.ra_topology.specs.Fits.{IsTopologyOf};
+ghost use Rattle.ra_report.specs.Pieces.{Breaks, Puts};
+ghost use Rattle.ra_jobs.specs.Comes.{Comes};
+ghost use Rattle.ra_jobs.specs.Complete.{NoFault};
+ghost use Rattle.ra_jobs.specs.Ends.{Ends};
+ghost use Rattle.ra_jobs.specs.Files.{edit_names};
+ghost use Rattle.ra_jobs.specs.Refusals.{Says};
+ghost use Rattle.ra_edit_job.specs.Editing.{AreEditable, EditComes, EditOwn, EditSays, Edited, EditsSay, HasEdits, IsEdited, IsTaken, OverSays, edits_as};
+
+use crate::edited::write_edited;
+use ra_base::{Assignment, Name, Parts};
+use ra_edit::Draft;
+use ra_edits_read::{Edits, EditsFault, read_edits};
+use ra_io::{Files, Sink};
+use ra_jobs::{File, JobFiles, Lists, Refusal, Status, finish, judge, read_instance, read_lists};
+use ra_model::Instance;
+use ra_topology::Topology;
+use std::alloc::Global;
+
+/// Adds, retires and resizes processes of a model as the list `edits` says, on the list `current`, which is feasible from
+/// the list `initial`: prints the edited model and lists and the answer to each edit, or puts one line that says why not.
+/// It returns, and waits for nobody.
+pub fn edit_run<'n, F: Files, O: Sink, E: Sink>(
+    alloc: Global,
+    model: &'n Name,
+    initial: &'n Name,
+    current: &'n Name,
+    edits: &'n Name,
+    closed: Option<&'n Name>,
+    files: &mut F,
+    out: &mut O,
+    err: &mut E,
+) -> Status
+    ensures ends { let names = edit_names model.now
+        (option_copied closed.entry) initial.now current.now edits.now in
+        Ends (F.held files.old) names (F.faults files.old) (F.faults files.new)
+        (Edited (F.held files.old) names (Appends (O.taken out.old) (O.taken out.new)))
+        (EditOwn (F.held files.old) names (Edited (F.held files.old) names
+        (Breaks (O.taken out.old) (O.taken out.new) (O.faults out.old) (O.faults out.new))))
+        (Puts (E.taken err.old) (E.taken err.new) (E.faults err.old) (E.faults err.new))
+        (out.new ≡ out.old) (err.new ≡ err.old) result }
+    ensures not_usage { result ≢ Status.Usage }
+
+    // Each status but `Done` comes where its cause stands, and only there.
+    ensures comes { let names = edit_names model.now
+        (option_copied closed.entry) initial.now current.now edits.now in
+        Comes (F.held files.old) names (F.faults files.old) (F.faults files.new)
+        (EditOwn (F.held files.old) names (Edited (F.held files.old) names
+        (Breaks (O.taken out.old) (O.taken out.new) (O.faults out.old) (O.faults out.new))))
+        (out.new ≡ out.old) result }
+    ensures own_comes { let names = edit_names model.now
+        (option_copied closed.entry) initial.now current.now edits.now in
+        EditComes (F.held files.old) names (F.faults files.old) (F.faults files.new) result }
+
+    // Over valid files, and where no fault of a file of the job or of the output was counted, the edits are done.
+    ensures complete { let names = edit_names model.now
+        (option_copied closed.entry) initial.now current.now edits.now in
+        AreEditable (F.held files.old) names
+        → NoFault names (F.faults files.old) (F.faults files.new)
+        → (Rose (O.faults out.old) (O.faults out.new) → ⊥)
+        → (result ≡ Status.Done) ⊎ (result ≡ Status.NoMemory) }
+    ensures kept { (other : List ℕ) → F.held files.new other ≡ F.held files.old other }
+    ensures never_fall { (other : List ℕ) → F.faults files.old other ≤ F.faults files.new other }
+    ensures out_never_falls { O.faults out.old ≤ O.faults out.new }
+    ensures err_never_falls { E.faults err.old ≤ E.faults err.new }
+{
+    let names = JobFiles {
+        model,
+        closed,
+        initial: Some(initial),
+        changed: Some(current),
+        report: None,
+        edits: Some(edits),
+    };
+    let ended = edit(alloc, model, initial, current, edits, closed, files, out);
+    finish(err, &names, ended)
+}
+
+/// The same but for the line of its refusal.
+fn edit<F: Files, O: Sink>(
+    alloc: Global,
+    model: &Name,
+    initial: &Name,
+    current: &Name,
+    edits: &Name,
+    closed: Option<&Name>,
+    files: &mut F,
+    out: &mut O,
+) -> Result<(), Refusal>
+    ensures printed { OnOk result (Edited (F.held files.old)
+        (edit_names model.now (option_copied closed.entry) initial.now current.now edits.now)
+        (Appends (O.taken out.old) (O.taken out.new))) }
+    ensures refused { IfErr result (Says (F.held files.old)
+        (edit_names model.now (option_copied closed.entry) initial.now current.now edits.now)
+        (F.faults files.old) (F.faults files.new)
+        (EditOwn (F.held files.old)
+        (edit_names model.now (option_copied closed.entry) initial.now current.now edits.now)
+        (Edited (F.held files.old)
+        (edit_names model.now (option_copied closed.entry) initial.now current.now edits.now)
+        (Breaks (O.taken out.old) (O.taken out.new) (O.faults out.old) (O.faults out.new))))) }
+    ensures untouched { IfErr result (λ refusal. refusal ≢ Refusal.Write → out.new ≡ out.old) }
+    ensures kept { (other : List ℕ) → F.held files.new other ≡ F.held files.old other }
+    ensures never_fall { (other : List ℕ) → F.faults files.old other ≤ F.faults files.new other }
+    ensures out_never_falls { O.faults out.old ≤ O.faults out.new }
+{
+    let taken = read_taken(alloc, model, initial, current, edits, closed, files)?;
+    let ended = edit_from(
+        alloc,
+        &taken.inst,
+        &taken.lists.initial,
+        &taken.lists.changed,
+        &taken.edits,
+        out,
+    );
+    drop(taken);
+    ended
+}
+
+/// What the files of edits mean.
+#[derive(Drop)]
+struct Taken {
+    inst: Instance,
+    lists: Lists,
+    edits: Edits,
+}
+
+/// The instance, the two lists and the edits, where all files are accepted.
+fn read_taken<F: Files>(
+    alloc: Global,
+    model: &Name,
+    initial: &Name,
+    current: &Name,
+    edits: &Name,
+    closed: Option<&Name>,
+    files: &mut F,
+) -> Result<Taken, Refusal>
+    ensures read { IfOk result (λ t. IsTaken (F.held files.old)
+        (edit_names model.now (option_copied closed.entry) initial.now current.now edits.now)
+        t.inst.tables t.lists.initial.items t.lists.changed.items t.edits) }
+    ensures refused { IfErr result (Says (F.held files.old)
+        (edit_names model.now (option_copied closed.entry) initial.now current.now edits.now)
+        (F.faults files.old) (F.faults files.new)
+        (EditOwn (F.held files.old)
+        (edit_names model.now (option_copied closed.entry) initial.now current.now edits.now) ⊥)) }
+    ensures kept { (other : List ℕ) → F.held files.new other ≡ F.held files.old other }
+    ensures never_fall { (other : List ℕ) → F.faults files.old other ≤ F.faults files.new other }
+{
+    let inst = read_instance(alloc, files, model, closed)?;
+    let lists = read_lists(alloc, files, initial, current, &inst)?;
+    let edits = take_edits(alloc, files, edits, &inst)?;
+    Ok(Taken { inst, lists, edits })
+}
+
+/// The edits of an edits file.
+fn take_edits<F: Files>(
+    alloc: Global,
+    files: &mut F,
+    name: &Name,
+    inst: &Instance,
+) -> Result<Edits, Refusal>
+    ensures read { IfOk result (λ e. HasEdits (F.held files.old) name.now inst.now.tables e) }
+    ensures refused { IfErr result (EditsSay (F.held files.old) name.now inst.now.tables
+        (F.faults files.old) (F.faults files.new)) }
+    ensures kept { (other : List ℕ) → F.held files.new other ≡ F.held files.old other }
+    ensures never_fall { (other : List ℕ) → F.faults files.old other ≤ F.faults files.new other }
+{
+    match read_edits(alloc, files, name.as_str(), inst) {
+        Ok(edits) => Ok(edits),
+        Err(fault) => Err(edits_refused(fault)),
+    }
+}
+
+/// A refusal of the reader of edits, as one of a job.
+fn edits_refused(fault: EditsFault) -> Refusal
+    ensures { result ≡ edits_as fault }
+{
+    match fault {
+        EditsFault::ReadFault => Refusal::Read(File::Edits),
+        EditsFault::NoMemory => Refusal::Memory,
+        fault => Refusal::Edits(fault),
+    }
+}
+
+/// The edits and their text, where both lists are feasible.
+fn edit_from<O: Sink>(
+    alloc: Global,
+    inst: &Instance,
+    initial: &Assignment,
+    current: &Assignment,
+    edits: &Edits,
+    out: &mut O,
+) -> Result<(), Refusal>
+    requires start_fits { IsAssignment inst.now.tables initial.now.items }
+    requires fits { IsAssignment inst.now.tables current.now.items }
+    requires edits { AreEditsFor inst.now.tables edits.now }
+    ensures printed { OnOk result (IsEdited inst.now.tables initial.now.items current.now.items
+        edits.now (Appends (O.taken out.old) (O.taken out.new))) }
+    ensures refused { IfErr result (EditSays inst.now.tables initial.now.items current.now.items
+        (IsEdited inst.now.tables initial.now.items current.now.items edits.now
+        (Breaks (O.taken out.old) (O.taken out.new) (O.faults out.old) (O.faults out.new)))) }
+    ensures untouched { IfErr result (λ refusal. refusal ≢ Refusal.Write → out.new ≡ out.old) }
+    ensures out_never_falls { O.faults out.old ≤ O.faults out.new }
+{
+    let start = judge(alloc, inst, initial, current)?;
+    let Ok(topo) = Topology::make(alloc, inst) else {
+        return Err(Refusal::Memory);
+    };
+    let ended = edit_over(alloc, inst, &topo, initial, current, start, edits, out);
+    drop(topo);
+    ended
+}
+
+/// The same over the topology of the instance. The current list is feasible, and its cost has these parts.
+fn edit_over<O: Sink>(
+    alloc: Global,
+    inst: &Instance,
+    topo: &Topology,
+    initial: &Assignment,
+    current: &Assignment,
+    start: Parts,
+    edits: &Edits,
+    out: &mut O,
+) -> Result<(), Refusal>
+    requires start_fits { IsAssignment inst.now.tables initial.now.items }
+    requires fits { IsAssignment inst.now.tables current.now.items }
+    requires edits { AreEditsFor inst.now.tables edits.now }
+    requires topology { IsTopologyOf topo.now inst.now.tables }
+    requires start { Feasible inst.now.tables initial.now.items initial.now.items }
+    requires feasible { Feasible inst.now.tables initial.now.items current.now.items }
+    requires parts { start ≡ parts_of inst.now.tables initial.now.items current.now.items }
+    ensures printed { OnOk result (IsEdited inst.now.tables initial.now.items current.now.items
+        edits.now (Appends (O.taken out.old) (O.taken out.new))) }
+    ensures refused { IfErr result (OverSays
+        (IsEdited inst.now.tables initial.now.items current.now.items edits.now
+        (Breaks (O.taken out.old) (O.taken out.new) (O.faults out.old) (O.faults out.new)))) }
+    ensures untouched { IfErr result (λ refusal. refusal ≢ Refusal.Write → out.new ≡ out.old) }
+    ensures out_never_falls { O.faults out.old ≤ O.faults out.new }
+{
+    let Ok(mut draft) = Draft::make(alloc, inst, topo, initial, current, start) else {
+        return Err(Refusal::Memory);
+    };
+    let Ok(replies) = draft.edit_all(alloc, edits) else {
+        return Err(Refusal::Memory);
+    };
+    let parts = draft.parts();
+    let Ok(edited) = draft.finish(alloc) else {
+        return Err(Refusal::Memory);
+    };
+    let ended = write_edited(out, &parts, &edited, &replies);
+    drop(edited);
+    drop(replies);
+    match ended {
+        Ok(()) => Ok(()),
+        Err(_) => Err(Refusal::Write),
+    }
+}

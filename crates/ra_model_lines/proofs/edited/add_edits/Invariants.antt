@@ -1,7 +1,0 @@
--- The lines of the edits so far.
-use Rattle.ra_text.specs.Gathering.{Adds}
-use Rattle.ra_model_lines.specs.EditedTexts.{edits_text}
-use Rattle.ra_model_lines.proofs.edited.add_edits.Given as goal
-
-abbrev pub invariant-loop-place : goal.invariant-loop-place
-invariant-loop-place g l = Adds g.O.Sink.taken g.O.Sink.faults l.initial.text l.text (edits_text l.replies.items l.place)
