@@ -16,7 +16,8 @@ use Rattle.ra_assign.specs.declared.faults.AssignFault.{AssignFault}
 use Rattle.ra_assign.specs.declared.faults.AssignFault.TheVariants.{ReadFault, Missing, NoMachine, Extra}
 use Rattle.ra_assign.specs.Lists.{assign_fault, process_test, end_test, assign_refusal, IsAssignmentOf}
 use Rattle.ra_assign.specs.Answers.{AssignSays}
-use Rattle.ra_assign.specs.Reading.{TakesMachine, HasTaken, HasEnded, HasNext, HasFault}
+use Rattle.ra_token.specs.Moments.{HasNext, HasFault}
+use Rattle.ra_assign.specs.Reading.{TakesMachine, HasTaken, HasEnded}
 use Rattle.ra_assign.proofs.AssignLemmas.{process_fault, process_missing, process_outside, process_inside, end_fault, end_sound, end_extra, taken_all, refused_at, refused_behind}
 
 -- only a failed fetch is told as one

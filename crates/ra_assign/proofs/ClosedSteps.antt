@@ -15,7 +15,8 @@ use Rattle.ra_assign.specs.declared.faults.ClosedFault.{ClosedFault}
 use Rattle.ra_assign.specs.declared.faults.ClosedFault.TheVariants.{ReadFault, TooLong, NoMachine}
 use Rattle.ra_assign.specs.ClosedLists.{closed_fault, closed_refusal}
 use Rattle.ra_assign.specs.Answers.{ClosedSays, IsClosedRefusal}
-use Rattle.ra_assign.specs.Reading.{TakesClosed, HasFlaggedFirst, HasNext, HasFault, ClosedStop}
+use Rattle.ra_token.specs.Moments.{HasNext, HasFault}
+use Rattle.ra_assign.specs.Reading.{TakesClosed, HasFlaggedFirst, ClosedStop}
 use Rattle.ra_assign.proofs.ClosedLemmas.{token_inside, token_outside, closed_refused_at, closed_refused_end, few_tokens, flagged_more, flagged_none}
 
 -- only a failed fetch is told as one

@@ -5,7 +5,8 @@ ghost use Rattle.ra_model.specs.Assignments.{IsAssignment};
 ghost use Rattle.ra_model.specs.Numbers.{machine_count, process_count};
 ghost use Rattle.ra_assign.specs.Lists.{IsAssignmentOf, assign_fault, process_test, end_test};
 ghost use Rattle.ra_assign.specs.Answers.{IsAssignRefusal, AssignSays};
-ghost use Rattle.ra_assign.specs.Reading.{here, Stands, Went, Refuses, HasNext, HasFault, TakesMachine, HasEnded};
+ghost use Rattle.ra_token.specs.Moments.{here, Stands, Went, Refuses, HasNext, HasFault};
+ghost use Rattle.ra_assign.specs.Reading.{TakesMachine, HasEnded};
 
 use crate::faults::AssignFault;
 use ra_base::{Assignment, Fixed, Machine, Process};

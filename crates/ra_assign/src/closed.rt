@@ -4,7 +4,8 @@ ghost use Rattle.ra_token.specs.TokenList.{tokens_before};
 ghost use Rattle.ra_model.specs.Numbers.{machine_count};
 ghost use Rattle.ra_assign.specs.ClosedLists.{IsClosedOf, closed_fault};
 ghost use Rattle.ra_assign.specs.Answers.{IsClosedRefusal};
-ghost use Rattle.ra_assign.specs.Reading.{here, Stands, Went, Refuses, HasNext, HasFault, ClosedNext, ClosedStop};
+ghost use Rattle.ra_token.specs.Moments.{here, Stands, Went, Refuses, HasNext, HasFault};
+ghost use Rattle.ra_assign.specs.Reading.{ClosedNext, ClosedStop};
 
 use crate::faults::ClosedFault;
 use ra_base::{Fixed, Machine};

@@ -14,7 +14,7 @@ use Rattle.ra_token.specs.TokenList.{tokens, tokens_before, IsAnswer, GaveAll}
 use Rattle.ra_token.specs.Faults.{first_fault}
 use Rattle.ra_model.specs.declared.raw.Tables.{Tables}
 use Rattle.ra_model.specs.Numbers.{resource_count}
-use Rattle.ra_assign.specs.Reading.{HasNext, HasFault}
+use Rattle.ra_token.specs.Moments.{HasNext, HasFault}
 use Rattle.ra_edits_read.specs.declared.edits.Edit.{Edit}
 use Rattle.ra_edits_read.specs.declared.edits.Edit.TheVariants.{Retire}
 use Rattle.ra_edits_read.specs.declared.faults.EditsFault.{EditsFault}

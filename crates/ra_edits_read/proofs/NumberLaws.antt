@@ -11,7 +11,7 @@ use Rattle.ra_token.specs.declared.answers.TokenFault.TheVariants as told
 use Rattle.ra_token.specs.TokenList.{tokens, tokens_before, IsAnswer, GaveAll}
 use Rattle.ra_token.specs.Faults.{first_fault}
 use Rattle.ra_token.specs.Values.{values_from, AddsValues}
-use Rattle.ra_assign.specs.Reading.{HasNext, HasFault}
+use Rattle.ra_token.specs.Moments.{HasNext, HasFault}
 use Rattle.ra_edits_read.specs.declared.faults.EditsFault.{EditsFault}
 use Rattle.ra_edits_read.specs.declared.faults.EditsFault.TheVariants.{ReadFault, BadByte, TooLarge, TooLong, Missing, Range, TooMany, NoMemory}
 use Rattle.ra_edits_read.specs.EditTexts.{value_at, edits_fault, none_left, any_test, below_test, any_at, below_at, any_from}

@@ -1,7 +1,7 @@
 //! Numbers of an edit, one or some of them.
 ghost use Rattle.std.specs.Prelude.{◌≡◌, ℕ, ◌+◌, ◌-◌, ◌<◌, ◌≤◌, List, length, slice_get, IfSome, IfOk, IfErr, OnOk};
 ghost use Rattle.ra_token.specs.TokenList.{tokens, tokens_before};
-ghost use Rattle.ra_assign.specs.Reading.{here, Stands, Went, Refuses, HasNext, HasFault};
+ghost use Rattle.ra_token.specs.Moments.{here, Stands, Went, Refuses, HasNext, HasFault};
 ghost use Rattle.ra_edits_read.specs.EditTexts.{edits_fault, any_at, below_at, any_from};
 ghost use Rattle.ra_edits_read.specs.Answers.{EditsSays};
 ghost use Rattle.ra_edits_read.specs.Reading.{TakesNumber, TakesValues};

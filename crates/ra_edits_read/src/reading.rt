@@ -2,7 +2,7 @@ ghost use Rattle.std.specs.Prelude.{◌≡◌, ℕ, ◌+◌, ◌*◌, ◌<◌, �
 ghost use Rattle.ra_io.specs.Faults.{Rose};
 ghost use Rattle.ra_token.specs.TokenList.{tokens_before};
 ghost use Rattle.ra_model.specs.Numbers.{resource_count};
-ghost use Rattle.ra_assign.specs.Reading.{here, Stands, Went, Refuses};
+ghost use Rattle.ra_token.specs.Moments.{here, Stands, Went, Refuses};
 ghost use Rattle.ra_edits_read.specs.EditLists.{AreEditsFor, AllFit, FitsInstance};
 ghost use Rattle.ra_edits_read.specs.EditTexts.{AreEditsOf, numbers_test, added_test, resized_test, any_at};
 ghost use Rattle.ra_edits_read.specs.Answers.{IsEditsRefusal, EditsSays};

@@ -10,3 +10,4 @@ pub mod Exits
 pub mod ToldByte
 pub mod ValueLaws
 pub mod Written
+pub mod ToldLemmas

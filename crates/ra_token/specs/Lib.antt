@@ -5,3 +5,4 @@ pub mod Standing
 pub mod Reads
 pub mod Values
 pub mod Scan
+pub mod Moments

@@ -1,6 +1,6 @@
 use Rattle.std.proofs.Common.{arith}
 use Rattle.ra_assign.proofs.AssignSteps.{stopped, missing, outside, takes}
-use Rattle.ra_assign.proofs.ToldLemmas.{at_exit, went_as, refuses_as, refuses_here}
+use Rattle.ra_token.proofs.ToldLemmas.{at_exit, went_as, refuses_as, refuses_here}
 use Rattle.ra_assign.proofs.assignments.next_machine.Goals as goal
 
 pub returns-in_err-token-clause-refuses : goal.returns-in_err-token-clause-refuses

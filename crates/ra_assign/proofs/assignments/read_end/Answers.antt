@@ -1,5 +1,5 @@
 use Rattle.ra_assign.proofs.AssignSteps.{stopped_behind, ended, extra}
-use Rattle.ra_assign.proofs.ToldLemmas.{at_exit, went_as, refuses_as, refuses_here}
+use Rattle.ra_token.proofs.ToldLemmas.{at_exit, went_as, refuses_as, refuses_here}
 use Rattle.ra_assign.proofs.assignments.read_end.Goals as goal
 
 pub returns-in_err-next-clause-refuses : goal.returns-in_err-next-clause-refuses

@@ -1,7 +1,8 @@
 use Rattle.std.proofs.Common.{◌≡◌, ℕ, ◌<◌, length}
 use Rattle.ra_model.specs.Assignments.{machine_at}
 use Rattle.ra_model.specs.Numbers.{machine_count}
-use Rattle.ra_assign.specs.Reading.{here, Went, HasTaken}
+use Rattle.ra_token.specs.Moments.{here, Went}
+use Rattle.ra_assign.specs.Reading.{HasTaken}
 use Rattle.ra_assign.proofs.assignments.read_machines.Given as goal
 
 abbrev pub invariant-loop-p : goal.invariant-loop-p

@@ -2,7 +2,7 @@ use Rattle.std.proofs.Common.{arith, length-set}
 use Rattle.std.proofs.lemmas.List.{length-replicate}
 use Rattle.ra_assign.proofs.ClosedLemmas.{flagged_all}
 use Rattle.ra_assign.proofs.ClosedSteps.{first_none, first_more, too_many}
-use Rattle.ra_assign.proofs.ToldLemmas.{at_exit, went_nowhere, went_on, refuses_next, refuses_standing}
+use Rattle.ra_token.proofs.ToldLemmas.{at_exit, went_nowhere, went_on, refuses_next, refuses_standing}
 use Rattle.ra_assign.proofs.closed.flag_machines.Goals as goal
 
 pub loop-taken-init : goal.loop-taken-init

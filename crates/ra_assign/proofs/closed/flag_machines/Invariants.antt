@@ -1,6 +1,7 @@
 use Rattle.std.proofs.Common.{◌≡◌, length}
 use Rattle.ra_model.specs.Numbers.{machine_count}
-use Rattle.ra_assign.specs.Reading.{here, Went, HasFlaggedFirst}
+use Rattle.ra_token.specs.Moments.{here, Went}
+use Rattle.ra_assign.specs.Reading.{HasFlaggedFirst}
 use Rattle.ra_assign.proofs.closed.flag_machines.Given as goal
 
 abbrev pub invariant-loop-taken : goal.invariant-loop-taken

@@ -1,6 +1,6 @@
 use Rattle.std.proofs.Common.{ap, sym, ◌∙◌, Err}
 use Rattle.ra_assign.proofs.ClosedSteps.{fault_read}
-use Rattle.ra_assign.proofs.ToldLemmas.{told_fault}
+use Rattle.ra_token.proofs.ToldLemmas.{told_fault}
 use Rattle.ra_assign.proofs.closed.next_token.Goals as goal
 
 pub returns-in-Err-clause-refuses : goal.returns-in-Err-clause-refuses

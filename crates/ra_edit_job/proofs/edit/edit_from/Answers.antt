@@ -1,4 +1,4 @@
-use Rattle.ra_assign.proofs.ToldLemmas.{at_exit}
+use Rattle.ra_token.proofs.ToldLemmas.{at_exit}
 use Rattle.ra_jobs.proofs.ResultLemmas.{if_err_then}
 use Rattle.ra_edit_job.proofs.EditLemmas.{judge_says, over_says}
 use Rattle.ra_edit_job.proofs.edit.edit_from.Goals as goal

@@ -1,6 +1,6 @@
 use Rattle.std.proofs.Common.{◌∙◌, le_trans}
 use Rattle.std.specs.Option.{option_copied}
-use Rattle.ra_assign.proofs.ToldLemmas.{at_exit}
+use Rattle.ra_token.proofs.ToldLemmas.{at_exit}
 use Rattle.ra_jobs.specs.Files.{edit_names}
 use Rattle.ra_jobs.proofs.StageLemmas.{says_source}
 use Rattle.ra_edit_job.specs.Editing.{EditOwn}

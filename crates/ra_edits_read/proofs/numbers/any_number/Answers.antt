@@ -1,5 +1,5 @@
 use Rattle.ra_edits_read.proofs.NumberLaws.{any_stopped, any_missing, takes}
-use Rattle.ra_assign.proofs.ToldLemmas.{at_exit, went_as, refuses_as, refuses_here}
+use Rattle.ra_token.proofs.ToldLemmas.{at_exit, went_as, refuses_as, refuses_here}
 use Rattle.ra_edits_read.proofs.numbers.any_number.Goals as goal
 
 pub returns-in_err-token-clause-refuses : goal.returns-in_err-token-clause-refuses

@@ -1,6 +1,6 @@
 use Rattle.std.proofs.Common.{arith}
 use Rattle.ra_edits_read.proofs.NumberLaws.{below_stopped, below_missing, below_outside, takes}
-use Rattle.ra_assign.proofs.ToldLemmas.{at_exit, went_as, refuses_as, refuses_here}
+use Rattle.ra_token.proofs.ToldLemmas.{at_exit, went_as, refuses_as, refuses_here}
 use Rattle.ra_edits_read.proofs.numbers.number_below.Goals as goal
 
 pub returns-in_err-token-clause-refuses : goal.returns-in_err-token-clause-refuses

@@ -3,7 +3,7 @@ use Rattle.ra_token.specs.TokenList.{tokens_before, IsAnswer}
 use Rattle.ra_edits_read.specs.declared.faults.EditsFault.TheVariants.{Missing}
 use Rattle.ra_edits_read.specs.EditTexts.{any_from}
 use Rattle.ra_token.specs.Values.{AddsValues}
-use Rattle.ra_assign.proofs.ToldLemmas.{told_then, told_both}
+use Rattle.ra_token.proofs.ToldLemmas.{told_then, told_both}
 use Rattle.ra_edits_read.proofs.NumberLaws.{fault_read, takes_values, values_missing, values_stopped}
 use Rattle.ra_edits_read.proofs.numbers.take_numbers.Goals as goal
 

@@ -1,5 +1,5 @@
 use Rattle.std.proofs.Common.{arith}
-use Rattle.ra_assign.proofs.ToldLemmas.{at_exit, went_on, refuses_as, refuses_here, refuses_next}
+use Rattle.ra_token.proofs.ToldLemmas.{at_exit, went_on, refuses_as, refuses_here, refuses_next}
 use Rattle.ra_edits_read.proofs.EditLaws.{no_kind, has_edit}
 use Rattle.ra_edits_read.proofs.FileLaws.{stop_file, stop_kind, stop_behind}
 use Rattle.ra_edits_read.proofs.reading.next_edit.Goals as goal

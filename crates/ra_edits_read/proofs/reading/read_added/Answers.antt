@@ -1,5 +1,5 @@
 use Rattle.std.proofs.Common.{◌+◌, length, ap, ◌∙◌, arith}
-use Rattle.ra_assign.proofs.ToldLemmas.{at_exit, went_on, refuses_as, refuses_next}
+use Rattle.ra_token.proofs.ToldLemmas.{at_exit, went_on, refuses_as, refuses_next}
 use Rattle.ra_edits_read.proofs.EditLaws.{TakesTwo, TakesThree, at_service, at_machine, at_requirements, at_cost, at_added}
 use Rattle.ra_edits_read.proofs.reading.read_added.Goals as goal
 

@@ -1,6 +1,6 @@
 use Rattle.std.proofs.Common.{◌≡◌, ◌+◌, [], ◌∷◌, length, refl, ap, sym, ◌∙◌, arith, length-append, zero-mul}
 use Rattle.ra_model.specs.Numbers.{resource_count}
-use Rattle.ra_assign.proofs.ToldLemmas.{at_exit, went_nowhere, went_on, refuses_next}
+use Rattle.ra_token.proofs.ToldLemmas.{at_exit, went_nowhere, went_on, refuses_next}
 use Rattle.ra_edits_read.proofs.FileLaws.{has_none, has_more, has_all, has_ended, last_stop, next_row, fit_none, fit_more}
 use Rattle.ra_edits_read.proofs.reading.read_all.Goals as goal
 

@@ -1,7 +1,7 @@
 -- The first k edits were read.
 use Rattle.std.proofs.Common.{◌≡◌, ◌*◌, length}
 use Rattle.ra_model.specs.Numbers.{resource_count}
-use Rattle.ra_assign.specs.Reading.{here, Went}
+use Rattle.ra_token.specs.Moments.{here, Went}
 use Rattle.ra_edits_read.specs.EditLists.{AllFit}
 use Rattle.ra_edits_read.specs.Reading.{HasEdits}
 use Rattle.ra_edits_read.proofs.reading.read_all.Given as goal

@@ -1,6 +1,6 @@
 use Rattle.std.proofs.Common.{arith}
 use Rattle.ra_edits_read.proofs.FileLaws.{stop_file, stop_many}
-use Rattle.ra_assign.proofs.ToldLemmas.{at_exit, went_as, refuses_as, refuses_here}
+use Rattle.ra_token.proofs.ToldLemmas.{at_exit, went_as, refuses_as, refuses_here}
 use Rattle.ra_edits_read.proofs.reading.read_end.Goals as goal
 
 pub returns-in_err-next-clause-refuses : goal.returns-in_err-next-clause-refuses

@@ -1,4 +1,4 @@
-use Rattle.ra_assign.proofs.ToldLemmas.{at_exit, went_as}
+use Rattle.ra_token.proofs.ToldLemmas.{at_exit, went_as}
 use Rattle.ra_edits_read.proofs.reading.read_lists.Goals as goal
 
 pub returns-in_err-read_all-clause-refuses : goal.returns-in_err-read_all-clause-refuses

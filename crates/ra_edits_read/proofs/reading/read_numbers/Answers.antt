@@ -1,4 +1,4 @@
-use Rattle.ra_assign.proofs.ToldLemmas.{went_as, refuses_as}
+use Rattle.ra_token.proofs.ToldLemmas.{went_as, refuses_as}
 use Rattle.std.proofs.Common.{◌≡◌, arith}
 use Rattle.std.proofs.lemmas.Result.{IfOk-weaker, IfErr-weaker}
 use Rattle.ra_edits_read.proofs.EditLaws.{test_added, test_retired, test_resized, takes_other}

@@ -1,4 +1,4 @@
-use Rattle.ra_assign.proofs.ToldLemmas.{at_exit, went_on, refuses_as, refuses_next}
+use Rattle.ra_token.proofs.ToldLemmas.{at_exit, went_on, refuses_as, refuses_next}
 use Rattle.ra_edits_read.proofs.EditLaws.{resized_process, at_resized_requirements, at_resized}
 use Rattle.ra_edits_read.proofs.reading.read_resized.Goals as goal
 

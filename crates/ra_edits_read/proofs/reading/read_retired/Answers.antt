@@ -1,4 +1,4 @@
-use Rattle.ra_assign.proofs.ToldLemmas.{went_as}
+use Rattle.ra_token.proofs.ToldLemmas.{went_as}
 use Rattle.ra_edits_read.proofs.EditLaws.{at_retired}
 use Rattle.ra_edits_read.proofs.reading.read_retired.Goals as goal
 

@@ -1,6 +1,6 @@
 -- The bound of the files went to the output, or a part of its text.
 use Rattle.std.specs.Option.{option_copied}
-use Rattle.ra_assign.proofs.ToldLemmas.{at_exit}
+use Rattle.ra_token.proofs.ToldLemmas.{at_exit}
 use Rattle.ra_report.specs.Pieces.{Breaks}
 use Rattle.ra_jobs.specs.Files.{bound_names}
 use Rattle.ra_jobs.specs.Outputs.{BoundPrinted}

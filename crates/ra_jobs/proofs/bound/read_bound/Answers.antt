@@ -1,7 +1,7 @@
 -- The instance was read, and then the initial list where one is named.
 use Rattle.std.proofs.Common.{◌∙◌, le_trans}
 use Rattle.std.specs.Option.{option_copied}
-use Rattle.ra_assign.proofs.ToldLemmas.{at_exit}
+use Rattle.ra_token.proofs.ToldLemmas.{at_exit}
 use Rattle.ra_jobs.specs.Files.{bound_names}
 use Rattle.ra_jobs.specs.Refusals.{Nothing}
 use Rattle.ra_jobs.proofs.ResultLemmas.{if_ok_then, if_err_then}

@@ -3,7 +3,7 @@ use Rattle.std.specs.Option.{option_copied}
 use Rattle.std.specs.Io.KnownBytes.{Appends}
 use Rattle.ra_report.specs.Pieces.{Breaks}
 use Rattle.ra_jobs.specs.Files.{check_names}
-use Rattle.ra_assign.proofs.ToldLemmas.{at_exit}
+use Rattle.ra_token.proofs.ToldLemmas.{at_exit}
 use Rattle.ra_jobs.proofs.StageLemmas.{printed, says_unwritten}
 use Rattle.ra_jobs.proofs.check.check.Goals as goal
 

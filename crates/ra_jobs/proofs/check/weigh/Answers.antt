@@ -1,7 +1,7 @@
 use Rattle.std.proofs.Common.{refl, ◌∙◌, le_trans}
 use Rattle.std.proofs.lemmas.Result.{MatchResult-weaker}
 use Rattle.std.specs.Option.{option_copied}
-use Rattle.ra_assign.proofs.ToldLemmas.{at_exit}
+use Rattle.ra_token.proofs.ToldLemmas.{at_exit}
 use Rattle.ra_jobs.specs.Files.{check_names}
 use Rattle.ra_jobs.specs.Refusals.{Judges}
 use Rattle.ra_jobs.proofs.StageLemmas.{accepts_all, passed_all, says_judge, says_lists, says_source}

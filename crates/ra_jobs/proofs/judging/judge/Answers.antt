@@ -1,5 +1,5 @@
 use Rattle.std.proofs.Common.{sym, ◌∙◌}
-use Rattle.ra_assign.proofs.ToldLemmas.{at_exit}
+use Rattle.ra_token.proofs.ToldLemmas.{at_exit}
 use Rattle.ra_jobs.proofs.StageLemmas.{judge_start_says}
 use Rattle.ra_jobs.proofs.judging.judge.Goals as goal
 

@@ -2,7 +2,7 @@
 use Rattle.std.specs.Option.{option_copied}
 use Rattle.std.proofs.Common.{None, refl}
 use Rattle.std.specs.Io.KnownBytes.{Appends}
-use Rattle.ra_assign.proofs.ToldLemmas.{at_exit}
+use Rattle.ra_token.proofs.ToldLemmas.{at_exit}
 use Rattle.ra_report.specs.Pieces.{Breaks}
 use Rattle.ra_jobs.specs.Files.{solve_names}
 use Rattle.ra_jobs.specs.Repairing.{RepairOwn}

@@ -1,6 +1,6 @@
 use Rattle.std.proofs.Common.{◌∙◌, le_trans}
 use Rattle.std.specs.Option.{option_copied}
-use Rattle.ra_assign.proofs.ToldLemmas.{at_exit}
+use Rattle.ra_token.proofs.ToldLemmas.{at_exit}
 use Rattle.ra_jobs.specs.Files.{solve_names}
 use Rattle.ra_jobs.specs.Refusals.{Nothing}
 use Rattle.ra_jobs.proofs.StageLemmas.{says_initial, says_source, starts}

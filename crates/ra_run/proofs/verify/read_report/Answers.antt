@@ -1,6 +1,6 @@
 use Rattle.std.proofs.lemmas.Result.{MatchResult-weaker}
 use Rattle.std.specs.Option.{option_copied}
-use Rattle.ra_assign.proofs.ToldLemmas.{at_exit}
+use Rattle.ra_token.proofs.ToldLemmas.{at_exit}
 use Rattle.ra_jobs.specs.Files.{verify_names}
 use Rattle.ra_run.specs.Verifying.{VerifyOwn}
 use Rattle.ra_run.proofs.VerifyLemmas.{read_so, says_before, says_count}

@@ -4,7 +4,7 @@ use Rattle.ra_io.specs.Faults.{Rose}
 use Rattle.ra_token.specs.Reads.{StandsIn}
 use Rattle.ra_token.specs.declared.answers.TokenFault.{TokenFault}
 use Rattle.ra_token.specs.TokenList.{tokens_before, IsAnswer}
-use Rattle.ra_assign.specs.Reading.{Here, Stands, Goes, Went, Refuses, HasFault}
+use Rattle.ra_token.specs.Moments.{Here, Stands, Goes, Went, Refuses, HasFault}
 
 -- the exit of a `?`
 pub at_exit : {T E : Type 0} (r : Result T E) (Q : E → Type 0) (fault : E) → IsErr r × IsErrAnd r (λ e. e ≡ fault) → Q fault → IfErr r Q
