@@ -13,7 +13,7 @@ use Rattle.ra_model.specs.Broken.{capacity_test, row_capacity, broken_capacity, 
 use Rattle.ra_model.proofs.TallyLemmas.{tally_le}
 use Rattle.ra_moves.specs.declared.steps.Step.{Step}
 use Rattle.ra_moves.specs.Steps.{to_in}
-use Rattle.ra_local.specs.Laws.{OnlyWhere}
+use Rattle.ra_moves.specs.Laws.{OnlyWhere}
 use Rattle.ra_causes.specs.Holding.{FitsAt, FitsBelow, FitsAll}
 use Rattle.ra_causes.proofs.TestLemmas.{capacity_over, capacity_within, transient_over, transient_within, transient_once}
 use Rattle.ra_causes.proofs.HoldLemmas.{NoneAt, none_start, none_more, none_all}

@@ -9,8 +9,8 @@ use Rattle.ra_model.specs.Assignments.{tally}
 use Rattle.ra_moves.specs.declared.steps.Step.{Step}
 use Rattle.ra_moves.specs.Replacing.{applied}
 use Rattle.ra_moves.specs.Values.{gone, come}
-use Rattle.ra_local.specs.Moving.{IsMove}
-use Rattle.ra_local.proofs.StayLemmas.{tally_applied}
+use Rattle.ra_moves.specs.Moving.{IsMove}
+use Rattle.ra_moves.proofs.StayLemmas.{tally_applied}
 
 -- what the first n steps add and take, each no more than a bound
 pub record Flows (f : ℕ → ℕ → ℕ) (steps : List Step) (n bound came went : ℕ) : Type 0 where

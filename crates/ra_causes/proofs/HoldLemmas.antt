@@ -23,10 +23,10 @@ use Rattle.ra_moves.specs.Replacing.{applied}
 use Rattle.ra_moves.specs.Values.{gone, come}
 use Rattle.ra_moves.proofs.ValueLemmas.{use_elsewhere}
 use Rattle.ra_moves.specs.Judging.{repeat_of, same_of, broken_by}
-use Rattle.ra_local.specs.Touched.{service_in, moves_service}
-use Rattle.ra_local.specs.Moving.{IsMove}
-use Rattle.ra_local.specs.Laws.{OnlyWhere, AreLocal}
-use Rattle.ra_local.proofs.StayLemmas.{tally_applied}
+use Rattle.ra_moves.specs.Touched.{service_in, moves_service}
+use Rattle.ra_moves.specs.Moving.{IsMove}
+use Rattle.ra_moves.specs.Laws.{OnlyWhere, AreLocal}
+use Rattle.ra_moves.proofs.StayLemmas.{tally_applied}
 use Rattle.ra_causes.proofs.TestLemmas.{spread_few}
 
 -- nothing is found at the first n names

@@ -9,8 +9,8 @@ use Rattle.ra_moves.specs.declared.steps.Step.{Step}
 use Rattle.ra_moves.specs.Steps.{step_at, process_in}
 use Rattle.ra_moves.specs.Replacing.{applied}
 use Rattle.ra_moves.proofs.ValueLemmas.{fits_after}
-use Rattle.ra_local.specs.Moving.{IsMove}
-use Rattle.ra_local.proofs.StayLemmas.{applied_of, process_stays}
+use Rattle.ra_moves.specs.Moving.{IsMove}
+use Rattle.ra_moves.proofs.StayLemmas.{applied_of, process_stays}
 use Rattle.ra_causes.proofs.StepLemmas.{process_read, to_read}
 
 -- where its step leads

@@ -16,8 +16,8 @@ use Rattle.ra_causes.proofs.StepLemmas.{from_read, to_read}
 use Rattle.ra_moves.specs.Replacing.{applied}
 use Rattle.ra_moves.specs.Values.{end_count, end_in}
 use Rattle.ra_moves.proofs.ValueLemmas.{end_from, end_to}
-use Rattle.ra_local.specs.Moving.{IsMove}
-use Rattle.ra_local.proofs.StayLemmas.{tally_stays}
+use Rattle.ra_moves.specs.Moving.{IsMove}
+use Rattle.ra_moves.proofs.StayLemmas.{tally_stays}
 use Rattle.ra_causes.specs.declared.marks.Mark.TheVariants.{InLocation}
 use Rattle.ra_causes.specs.Marks.{mark_of, has_mark, marked, held_in, end_location}
 

@@ -16,9 +16,9 @@ use Rattle.ra_model.proofs.BrokenLemmas.{Fine, dependency_met, dependency_unbrok
 use Rattle.ra_moves.specs.declared.steps.Step.{Step}
 use Rattle.ra_moves.specs.Steps.{process_in, from_in, to_in}
 use Rattle.ra_moves.specs.Replacing.{applied}
-use Rattle.ra_local.specs.Touched.{service_in}
-use Rattle.ra_local.specs.Moving.{IsMove}
-use Rattle.ra_local.proofs.StayLemmas.{applied_of, process_stays}
+use Rattle.ra_moves.specs.Touched.{service_in}
+use Rattle.ra_moves.specs.Moving.{IsMove}
+use Rattle.ra_moves.proofs.StayLemmas.{applied_of, process_stays}
 use Rattle.ra_base.specs.declared.ids.Service.{Service}
 use Rattle.ra_topology.specs.Lists.{service_at, is_dependant, AreDependantsOf}
 use Rattle.ra_causes.specs.declared.marks.Mark.TheVariants.{InNeighbourhood}

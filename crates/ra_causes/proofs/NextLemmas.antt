@@ -18,8 +18,8 @@ use Rattle.ra_topology.specs.TopologyLists.{TopologyLists}
 use Rattle.ra_topology.specs.Fits.{IsTopologyOf}
 use Rattle.ra_moves.specs.declared.steps.Step.{Step}
 use Rattle.ra_moves.specs.Steps.{from_in, to_in}
-use Rattle.ra_local.specs.Touched.{ends_at, service_in, moves_service}
-use Rattle.ra_local.specs.Laws.{OnlyWhere, AreLocal}
+use Rattle.ra_moves.specs.Touched.{ends_at, service_in, moves_service}
+use Rattle.ra_moves.specs.Laws.{OnlyWhere, AreLocal}
 use Rattle.ra_causes.specs.Searching.{ClearTo, Ascend}
 use Rattle.ra_causes.specs.Touching.{needs_moved, touches_service}
 

@@ -6,7 +6,7 @@ use Rattle.ra_base.specs.Sums.{is_named}
 use Rattle.ra_base.specs.declared.causes.Cause.{Cause}
 use Rattle.ra_base.proofs.Searches.{first_none_from, first_skip, first_more_none, first_found}
 use Rattle.ra_base.proofs.Named.{is_named_none, is_named_more}
-use Rattle.ra_local.specs.Laws.{OnlyWhere}
+use Rattle.ra_moves.specs.Laws.{OnlyWhere}
 use Rattle.ra_causes.specs.Searching.{ClearTo, Sought}
 
 pub sought_start : (n : ℕ) (test : ℕ → Bool) (f : ℕ → Option Cause) (low : ℕ) → OnlyWhere n test f → low ≤ n → ClearTo test 0 low → Sought n f low

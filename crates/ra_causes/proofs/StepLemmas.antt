@@ -12,8 +12,8 @@ use Rattle.ra_model.specs.Usage.{use_share, transient_share}
 use Rattle.ra_moves.specs.declared.steps.Step.{Step}
 use Rattle.ra_moves.specs.Steps.{step_at, process_in, from_in, to_in}
 use Rattle.ra_moves.specs.Values.{gone, come}
-use Rattle.ra_local.specs.Touched.{service_in}
-use Rattle.ra_local.specs.Moving.{IsMove}
+use Rattle.ra_moves.specs.Touched.{service_in}
+use Rattle.ra_moves.specs.Moving.{IsMove}
 
 -- its process and its machines exist
 pub step_process : (i : Tables) (a : List Machine) (steps : List Step) (j : ℕ) (s : Step) → IsMove i a steps → s ≡ step_at steps j → j < length steps → s.process.0 < process_count i

@@ -11,7 +11,7 @@ use Rattle.ra_model.specs.Members.{member_at}
 use Rattle.ra_model.specs.Services.{in_neighbourhood}
 use Rattle.ra_moves.specs.declared.steps.Step.{Step}
 use Rattle.ra_moves.specs.Steps.{from_in, to_in}
-use Rattle.ra_local.specs.Touched.{service_in}
+use Rattle.ra_moves.specs.Touched.{service_in}
 
 -- each service that service s needs has a process in a neighbourhood, given by its label
 pub record FindsNeeds (i : Tables) (b : List Machine) (s label : ℕ) : Type 0 where

@@ -3,7 +3,7 @@ use Rattle.std.specs.Prelude.{ℕ, zero, suc, Bool, false, ◌||◌, List, lengt
 use Rattle.ra_model.specs.declared.raw.Tables.{Tables}
 use Rattle.ra_model.specs.Relations.{depends}
 use Rattle.ra_moves.specs.declared.steps.Step.{Step}
-use Rattle.ra_local.specs.Touched.{service_in, moves_service}
+use Rattle.ra_moves.specs.Touched.{service_in, moves_service}
 
 -- service u depends on a service that one of the first n steps moves
 unfoldable pub needs_moved : Tables → List Step → ℕ → ℕ → Bool

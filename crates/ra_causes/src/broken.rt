@@ -2,7 +2,7 @@ ghost use Rattle.std.specs.Prelude.{◌≡◌, ◌↔◌, ◌+◌, ◌*◌, ◌�
 ghost use Rattle.ra_model.specs.Numbers.{resource_count};
 ghost use Rattle.ra_model.specs.Broken.{first_broken};
 ghost use Rattle.ra_moves.specs.Judging.{broken_by};
-ghost use Rattle.ra_local.specs.Moving.{IsOffered};
+ghost use Rattle.ra_moves.specs.Moving.{IsOffered};
 ghost use Rattle.ra_causes.specs.Trials.{tables_of, initial_of, after_of};
 
 use crate::steps::{repeat_of, same_of};

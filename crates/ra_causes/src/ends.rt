@@ -3,7 +3,7 @@ ghost use Rattle.ra_base.specs.Sums.{is_named};
 ghost use Rattle.ra_model.specs.Numbers.{machine_count, service_count, process_count};
 ghost use Rattle.ra_moves.specs.Steps.{process_in};
 ghost use Rattle.ra_topology.specs.Lists.{is_dependant, service_at};
-ghost use Rattle.ra_local.specs.Touched.{ends_at, moves_service};
+ghost use Rattle.ra_moves.specs.Touched.{ends_at, moves_service};
 ghost use Rattle.ra_causes.specs.Searching.{ClearTo, Ascend};
 ghost use Rattle.ra_causes.specs.Touching.{touches_service};
 ghost use Rattle.ra_causes.specs.Trials.{tables_of, steps_of};

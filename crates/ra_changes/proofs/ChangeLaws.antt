@@ -20,11 +20,11 @@ use Rattle.ra_moves.specs.Steps.{process_in, from_in, to_in}
 use Rattle.ra_moves.specs.Replacing.{applied}
 use Rattle.ra_moves.specs.Values.{gone, come, end_count, end_in}
 use Rattle.ra_moves.specs.Judging.{broken_by}
-use Rattle.ra_local.specs.Moving.{IsMove}
-use Rattle.ra_local.specs.Weighing.{local_cost, local_change, changed_count, weighed_by, weighed_of}
-use Rattle.ra_local.proofs.EndLemmas.{ends_are_named}
-use Rattle.ra_local.proofs.StayLemmas.{tally_applied}
-use Rattle.ra_local.proofs.ChangeLemmas.{load_stays, balance_stays}
+use Rattle.ra_moves.specs.Moving.{IsMove}
+use Rattle.ra_moves.specs.Weighing.{local_cost, local_change, changed_count, weighed_by, weighed_of}
+use Rattle.ra_moves.proofs.EndLemmas.{ends_are_named}
+use Rattle.ra_moves.proofs.StayLemmas.{tally_applied}
+use Rattle.ra_moves.proofs.ChangeLemmas.{load_stays, balance_stays}
 use Rattle.ra_world.proofs.RenewalLaws.{load_from, balance_from}
 use Rattle.ra_changes.specs.PlaceCosts.{row_cost, place_cost}
 use Rattle.ra_changes.specs.CountLists.{AreCountsOf}

@@ -14,8 +14,8 @@ use Rattle.ra_moves.specs.Steps.{step_at, process_in, from_in, to_in}
 use Rattle.ra_moves.specs.Replacing.{after_steps, applied}
 use Rattle.ra_moves.specs.Values.{gone, come, end_count, end_in}
 use Rattle.ra_moves.proofs.ValueLemmas.{tally_after, fits_after, end_from, end_to}
-use Rattle.ra_local.specs.Touched.{service_in}
-use Rattle.ra_local.specs.Moving.{IsMove}
+use Rattle.ra_moves.specs.Touched.{service_in}
+use Rattle.ra_moves.specs.Moving.{IsMove}
 use Rattle.ra_world.proofs.RequiredLaws.{process_read}
 
 -- the numbers of a step

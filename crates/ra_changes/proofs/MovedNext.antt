@@ -18,11 +18,11 @@ use Rattle.ra_cells.specs.Marks.{away}
 use Rattle.ra_moves.specs.declared.steps.Step.{Step}
 use Rattle.ra_moves.specs.Steps.{process_in, from_in, to_in}
 use Rattle.ra_moves.specs.Replacing.{after_steps, applied}
-use Rattle.ra_local.specs.Touched.{service_in}
-use Rattle.ra_local.specs.Moving.{IsMove}
-use Rattle.ra_local.specs.Weighing.{moved_count, services_moved, count_at}
-use Rattle.ra_local.proofs.StayLemmas.{of_other}
-use Rattle.ra_local.proofs.MovedServices.{services_none, services_new, services_again, services_few, count_there, count_past}
+use Rattle.ra_moves.specs.Touched.{service_in}
+use Rattle.ra_moves.specs.Moving.{IsMove}
+use Rattle.ra_moves.specs.Weighing.{moved_count, services_moved, count_at}
+use Rattle.ra_moves.proofs.StayLemmas.{of_other}
+use Rattle.ra_moves.proofs.MovedServices.{services_none, services_new, services_again, services_few, count_there, count_past}
 use Rattle.ra_changes.specs.CountLists.{AreCountsOf}
 use Rattle.ra_changes.proofs.MoveLemmas.{tally_next}
 

@@ -11,7 +11,7 @@ use Rattle.ra_rows.specs.Rows.{IsUsageRow}
 use Rattle.ra_moves.specs.declared.steps.Step.{Step}
 use Rattle.ra_moves.specs.Steps.{step_at, process_in, from_in, to_in}
 use Rattle.ra_moves.specs.Replacing.{after_steps}
-use Rattle.ra_local.specs.Moving.{IsMove}
+use Rattle.ra_moves.specs.Moving.{IsMove}
 use Rattle.ra_world.specs.Required.{AreRequired}
 use Rattle.ra_changes.specs.RowChanges.{share_at, HasFollowed, CanFollow}
 use Rattle.ra_changes.proofs.MoveLemmas.{from_read, to_read, tally_next}

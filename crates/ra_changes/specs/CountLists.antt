@@ -4,7 +4,7 @@ use Rattle.ra_base.specs.declared.costs.MovedCount.{MovedCount}
 use Rattle.ra_base.specs.declared.ids.Machine.{Machine}
 use Rattle.ra_model.specs.declared.raw.Tables.{Tables}
 use Rattle.ra_moves.specs.declared.steps.Step.{Step}
-use Rattle.ra_local.specs.Weighing.{services_moved, count_at}
+use Rattle.ra_moves.specs.Weighing.{services_moved, count_at}
 
 -- the counts of the different services of the first n steps, and None behind them
 pub record AreCountsOf (i : Tables) (a0 a : List Machine) (steps : List Step) (n : ℕ) (counts : List (Option MovedCount)) : Type 0 where

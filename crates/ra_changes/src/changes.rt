@@ -1,8 +1,8 @@
 ghost use Rattle.std.specs.Prelude.{◌≡◌, ◌+◌, ◌*◌, ◌≤◌, length, None};
 ghost use Rattle.ra_model.specs.Numbers.{resource_count};
 ghost use Rattle.ra_moves.specs.Judging.{broken_by};
-ghost use Rattle.ra_local.specs.Moving.{IsMove};
-ghost use Rattle.ra_local.specs.Weighing.{weighed_of};
+ghost use Rattle.ra_moves.specs.Moving.{IsMove};
+ghost use Rattle.ra_moves.specs.Weighing.{weighed_of};
 
 use crate::amounts::difference;
 use crate::counts::counts_of;

@@ -4,9 +4,9 @@ ghost use Rattle.ra_model.specs.Numbers.{service_count, process_count};
 ghost use Rattle.ra_model.specs.Services.{moved_of};
 ghost use Rattle.ra_cells.specs.Marks.{away};
 ghost use Rattle.ra_moves.specs.Replacing.{after_steps};
-ghost use Rattle.ra_local.specs.Touched.{service_in};
-ghost use Rattle.ra_local.specs.Moving.{IsMove};
-ghost use Rattle.ra_local.specs.Weighing.{moved_count, services_moved};
+ghost use Rattle.ra_moves.specs.Touched.{service_in};
+ghost use Rattle.ra_moves.specs.Moving.{IsMove};
+ghost use Rattle.ra_moves.specs.Weighing.{moved_count, services_moved};
 ghost use Rattle.ra_changes.specs.CountLists.{AreCountsOf};
 
 use ra_base::{Machine, MovedCount, Service};

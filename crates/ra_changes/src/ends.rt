@@ -3,7 +3,7 @@ ghost use Rattle.ra_base.specs.Sums.{total, is_named, fresh};
 ghost use Rattle.ra_model.specs.Numbers.{machine_count};
 ghost use Rattle.ra_moves.specs.Replacing.{applied};
 ghost use Rattle.ra_moves.specs.Values.{end_count, end_in};
-ghost use Rattle.ra_local.specs.Moving.{IsMove};
+ghost use Rattle.ra_moves.specs.Moving.{IsMove};
 ghost use Rattle.ra_world.specs.Required.{AreRequired};
 ghost use Rattle.ra_changes.specs.PlaceCosts.{row_cost};
 

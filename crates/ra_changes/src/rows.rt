@@ -3,7 +3,7 @@ ghost use Rattle.ra_base.specs.Tables.{cell};
 ghost use Rattle.ra_model.specs.Numbers.{resource_count, machine_count};
 ghost use Rattle.ra_rows.specs.Rows.{IsUsageRow};
 ghost use Rattle.ra_moves.specs.Replacing.{applied};
-ghost use Rattle.ra_local.specs.Moving.{IsMove};
+ghost use Rattle.ra_moves.specs.Moving.{IsMove};
 ghost use Rattle.ra_world.specs.Required.{AreRequired};
 ghost use Rattle.ra_changes.specs.RowChanges.{share_at, HasMore, HasMoreAt, HasFollowed, CanFollow};
 

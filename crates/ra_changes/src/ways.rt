@@ -3,7 +3,7 @@ ghost use Rattle.ra_base.specs.Sums.{total};
 ghost use Rattle.ra_model.specs.Numbers.{machine_count, process_count};
 ghost use Rattle.ra_model.specs.Assignments.{IsAssignment};
 ghost use Rattle.ra_moves.specs.Values.{gone, come};
-ghost use Rattle.ra_local.specs.Moving.{IsMove};
+ghost use Rattle.ra_moves.specs.Moving.{IsMove};
 ghost use Rattle.ra_changes.specs.PlaceCosts.{place_cost};
 
 use crate::amounts::Change;

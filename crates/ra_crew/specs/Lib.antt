@@ -1,3 +1,5 @@
 pub mod Working
 pub mod Running
 pub mod Crews
+pub mod Ready
+pub mod Runs

@@ -2,7 +2,7 @@
 use Rattle.std.specs.Prelude.{◌≡◌, ℕ, ◌+◌, ◌*◌, ◌<◌, ◌≤◌, List, length}
 use Rattle.ra_moves.specs.declared.verdicts.Plan.{Plan}
 use Rattle.ra_moves.specs.Options.{plan_of}
-use Rattle.ra_local.specs.Weighing.{weighed_of}
+use Rattle.ra_moves.specs.Weighing.{weighed_of}
 use Rattle.ra_journal.specs.declared.replies.Reply.{Reply}
 use Rattle.ra_journal.specs.declared.replies.Reply.TheVariants.{Recorded, Stale}
 use Rattle.ra_journal.specs.Entries.{entries_of, proposal_count, words, allowed}

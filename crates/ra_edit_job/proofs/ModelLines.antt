@@ -6,7 +6,7 @@ use Rattle.ra_model.specs.declared.raw.Tables.{Tables}
 use Rattle.ra_model.specs.Numbers.{resource_count, machine_count, neighbourhood_of, location_of, capacity_of, safety_of, way_cost_of, spread_of, dependency_count, need_of, service_of, requirement_of, process_cost_of}
 use Rattle.ra_model_read.specs.FieldOrder.{joined, row_of, machine_numbers, service_numbers, process_numbers}
 use Rattle.ra_trial.specs.Lines.{more_text, line_text}
-use Rattle.ra_model_text.specs.ModelTexts.{group_text, machine_text, service_text, process_text}
+use Rattle.ra_trial.specs.ModelTexts.{group_text, machine_text, service_text, process_text}
 use Rattle.ra_text.specs.declared.gathered.Gathered.{Gathered}
 use Rattle.ra_text.specs.Gathering.{Adds}
 use Rattle.ra_edit_job.specs.ModelLines.{spaced, group_to}

@@ -1,7 +1,7 @@
 ghost use Rattle.std.specs.Prelude.{◌≡◌, ◌<◌, ◌≤◌, OnOk, OnErr};
 ghost use Rattle.std.specs.Io.KnownBytes.{Appends};
 ghost use Rattle.ra_model.specs.Numbers.{resource_count, machine_count, service_count, process_count, balance_count};
-ghost use Rattle.ra_model_text.specs.ModelTexts.{group_text, resource_text, machine_text, service_text, process_text, balance_text, model_text};
+ghost use Rattle.ra_trial.specs.ModelTexts.{group_text, resource_text, machine_text, service_text, process_text, balance_text, model_text};
 ghost use Rattle.ra_text.specs.Gathering.{Adds};
 ghost use Rattle.ra_text.specs.Pieces.{Breaks};
 

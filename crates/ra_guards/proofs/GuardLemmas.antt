@@ -16,7 +16,7 @@ use Rattle.ra_model.specs.Limits.{WellFormed}
 use Rattle.ra_model.specs.Relations.{are_joined}
 use Rattle.ra_moves.specs.declared.steps.Step.{Step}
 use Rattle.ra_moves.specs.Steps.{step_at, process_in, from_in, to_in}
-use Rattle.ra_local.specs.Touched.{ends_at, service_in, moves_service, reads_service, guards_service}
+use Rattle.ra_moves.specs.Touched.{ends_at, service_in, moves_service, reads_service, guards_service}
 use Rattle.ra_guards.specs.Guards.{AreKnown, AreWithin, writes, reads, is_guard, meets_step}
 use Rattle.ra_guards.specs.Versions.{Apart}
 

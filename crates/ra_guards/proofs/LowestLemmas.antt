@@ -17,7 +17,7 @@ use Rattle.ra_model.specs.Relations.{are_joined}
 use Rattle.ra_moves.specs.declared.steps.Step.{Step}
 use Rattle.ra_moves.specs.Steps.{step_at, process_in, from_in, to_in}
 use Rattle.ra_topology.specs.Lists.{service_at}
-use Rattle.ra_local.specs.Touched.{ends_at, service_in, moves_service, reads_service}
+use Rattle.ra_moves.specs.Touched.{ends_at, service_in, moves_service, reads_service}
 use Rattle.ra_guards.specs.declared.newest.Newer.{Newer}
 use Rattle.ra_guards.specs.Guards.{AreWithin, writes, reads, is_guard}
 use Rattle.ra_guards.specs.Order.{IsKnown, number_in, guard_of}

@@ -18,7 +18,7 @@ use Rattle.ra_model.specs.Relations.{depends, are_joined}
 use Rattle.ra_moves.specs.declared.steps.Step.{Step}
 use Rattle.ra_moves.specs.Steps.{process_in, from_in, to_in}
 use Rattle.ra_topology.proofs.NeedLemmas.{need_within}
-use Rattle.ra_local.specs.Touched.{ends_at, service_in, moves_service, reads_service, guards_service}
+use Rattle.ra_moves.specs.Touched.{ends_at, service_in, moves_service, reads_service, guards_service}
 use Rattle.ra_guards.specs.Guards.{AreWithin, writes, reads, is_guard}
 use Rattle.ra_guards.specs.Order.{IsKnown, guard_at, AreWrites}
 use Rattle.ra_guards.specs.Versions.{version, Untouched}

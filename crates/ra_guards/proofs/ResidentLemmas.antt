@@ -13,10 +13,10 @@ use Rattle.ra_moves.specs.declared.steps.Step.{Step}
 use Rattle.ra_moves.specs.Steps.{process_in, from_in, to_in}
 use Rattle.ra_moves.specs.Replacing.{Applied, applied}
 use Rattle.ra_moves.proofs.Applying.{applied_at_once}
-use Rattle.ra_local.specs.Touched.{ends_at, service_in, moves_service, reads_service, guards_service}
-use Rattle.ra_local.specs.Moving.{IsMove, IsOffered}
-use Rattle.ra_local.specs.Alike.{SameOn, SameOf, HeldAlike}
-use Rattle.ra_local.proofs.Determined.{weighing_is_determined}
+use Rattle.ra_moves.specs.Touched.{ends_at, service_in, moves_service, reads_service, guards_service}
+use Rattle.ra_moves.specs.Moving.{IsMove, IsOffered}
+use Rattle.ra_moves.specs.Alike.{SameOn, SameOf, HeldAlike}
+use Rattle.ra_moves.proofs.Determined.{weighing_is_determined}
 use Rattle.ra_guards.specs.Guards.{writes}
 use Rattle.ra_guards.specs.Versions.{made_at, Apart, ApartSince}
 use Rattle.ra_guards.specs.Made.{after_made, made_state, StandsHere, MadeStand}

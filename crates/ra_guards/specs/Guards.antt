@@ -6,7 +6,7 @@ use Rattle.ra_model.specs.declared.raw.Tables.{Tables}
 use Rattle.ra_model.specs.Numbers.{machine_count, process_count, service_of}
 use Rattle.ra_moves.specs.declared.steps.Step.{Step}
 use Rattle.ra_moves.specs.Steps.{process_in, from_in, to_in}
-use Rattle.ra_local.specs.Touched.{ends_at, moves_service, reads_service, guards_service}
+use Rattle.ra_moves.specs.Touched.{ends_at, moves_service, reads_service, guards_service}
 
 -- the write guards of a move: the machines that its steps leave and enter, and the services of its processes
 unfoldable pub writes : Tables → List Step → Guard → Bool

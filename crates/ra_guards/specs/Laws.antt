@@ -5,8 +5,8 @@ use Rattle.ra_base.specs.declared.ids.Machine.{Machine}
 use Rattle.ra_model.specs.declared.raw.Tables.{Tables}
 use Rattle.ra_model.specs.Limits.{WellFormed}
 use Rattle.ra_moves.specs.declared.steps.Step.{Step}
-use Rattle.ra_local.specs.Moving.{IsOffered}
-use Rattle.ra_local.specs.Alike.{HeldAlike}
+use Rattle.ra_moves.specs.Moving.{IsOffered}
+use Rattle.ra_moves.specs.Alike.{HeldAlike}
 use Rattle.ra_guards.specs.Guards.{AreWithin, writes}
 use Rattle.ra_guards.specs.Versions.{version, Untouched, ApartSince}
 use Rattle.ra_guards.specs.VersionTable.{VersionTable}

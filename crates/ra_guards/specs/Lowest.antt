@@ -9,7 +9,7 @@ use Rattle.ra_model.specs.Relations.{are_joined}
 use Rattle.ra_moves.specs.declared.steps.Step.{Step}
 use Rattle.ra_moves.specs.Steps.{from_in, to_in}
 use Rattle.ra_topology.specs.Lists.{service_at}
-use Rattle.ra_local.specs.Touched.{service_in}
+use Rattle.ra_moves.specs.Touched.{service_in}
 use Rattle.ra_guards.specs.Guards.{writes}
 use Rattle.ra_guards.specs.Order.{IsKnown, number_in, guard_of}
 

@@ -8,9 +8,9 @@ use Rattle.ra_model.specs.Broken.{first_broken}
 use Rattle.ra_moves.specs.declared.steps.Step.{Step}
 use Rattle.ra_moves.specs.Steps.{from_in, to_in, StandsAt, Distinct}
 use Rattle.ra_moves.specs.Replacing.{applied}
-use Rattle.ra_local.specs.Moving.{IsOffered}
-use Rattle.ra_local.specs.Weighing.{weighed_of}
-use Rattle.ra_local.specs.Alike.{HeldAlike}
+use Rattle.ra_moves.specs.Moving.{IsOffered}
+use Rattle.ra_moves.specs.Weighing.{weighed_of}
+use Rattle.ra_moves.specs.Alike.{HeldAlike}
 use Rattle.ra_guards.specs.Versions.{made_at}
 
 -- an assignment after the steps that are made, if there are any

@@ -1,6 +1,6 @@
 ghost use Rattle.std.specs.Prelude.{◌≡◌, ◌↔◌, ◌<◌, true};
 ghost use Rattle.ra_model.specs.Numbers.{process_count};
-ghost use Rattle.ra_local.specs.Touched.{ends_at};
+ghost use Rattle.ra_moves.specs.Touched.{ends_at};
 ghost use Rattle.ra_guards.specs.Guards.{AreKnown, meets_step};
 ghost use Rattle.ra_guards.specs.Versions.{Apart};
 

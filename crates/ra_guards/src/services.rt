@@ -1,7 +1,7 @@
 ghost use Rattle.std.specs.Prelude.{◌≡◌, ◌<◌};
 ghost use Rattle.ra_model.specs.Numbers.{service_count};
 ghost use Rattle.ra_model.specs.Relations.{depends, are_joined};
-ghost use Rattle.ra_local.specs.Touched.{moves_service, reads_service, guards_service};
+ghost use Rattle.ra_moves.specs.Touched.{moves_service, reads_service, guards_service};
 ghost use Rattle.ra_guards.specs.Guards.{AreKnown};
 
 use ra_base::Service;
@@ -9,7 +9,7 @@ use ra_model::Instance;
 use ra_moves::Move;
 
 /// Whether a service is a guard of a move.
-#[tactic(auto, unfolding(ra_local::specs::Touched::guards_service))]
+#[tactic(auto, unfolding(ra_moves::specs::Touched::guards_service))]
 pub(crate) fn guards_service(inst: &Instance, mv: &Move, service: Service) -> bool
     requires known { AreKnown inst.now.tables mv.now.steps }
     requires there { service.0 < service_count inst.now.tables }
@@ -19,7 +19,7 @@ pub(crate) fn guards_service(inst: &Instance, mv: &Move, service: Service) -> bo
 }
 
 /// Whether a process of a service moves.
-#[tactic(auto, using(ra_base::proofs::Named::names, crate::proofs::GuardLemmas::known, crate::proofs::GuardLemmas::service_at), unfolding(ra_local::specs::Touched::moves_service))]
+#[tactic(auto, using(ra_base::proofs::Named::names, crate::proofs::GuardLemmas::known, crate::proofs::GuardLemmas::service_at), unfolding(ra_moves::specs::Touched::moves_service))]
 pub(crate) fn moves_service(inst: &Instance, mv: &Move, service: Service) -> bool
     requires known { AreKnown inst.now.tables mv.now.steps }
     ensures { result ≡ moves_service inst.now.tables mv.now.steps service.0 }

@@ -5,7 +5,7 @@ use Rattle.ra_draws.specs.declared.budgets.Lots.{Lots}
 use Rattle.ra_model.specs.declared.raw.Tables.{Tables}
 use Rattle.ra_model.proofs.BrokenLemmas.{unbroken_from_feasible}
 use Rattle.ra_moves.specs.declared.verdicts.Plan.{Plan}
-use Rattle.ra_local.specs.Weighing.{weighed_of}
+use Rattle.ra_moves.specs.Weighing.{weighed_of}
 use Rattle.ra_guards.specs.declared.newest.Newer.{Newer}
 use Rattle.ra_journal.specs.declared.entries.Entry.{Entry}
 use Rattle.ra_journal.specs.Committing.{next_number, next_move, next_entry, newer_since, committed_by, committed, IsCommit}

@@ -14,8 +14,8 @@ use Rattle.ra_moves.specs.declared.verdicts.Verdict.TheVariants.{Done, Refused}
 use Rattle.ra_moves.specs.declared.verdicts.Weighed.{Weighed}
 use Rattle.ra_moves.specs.Replacing.{applied}
 use Rattle.ra_cells.specs.MovedCounts.{MovedCounts}
-use Rattle.ra_local.specs.Moving.{IsOffered}
-use Rattle.ra_local.specs.Weighing.{weighed_of}
+use Rattle.ra_moves.specs.Moving.{IsOffered}
+use Rattle.ra_moves.specs.Weighing.{weighed_of}
 use Rattle.ra_settle.specs.Settling.{AreMovedOf}
 use Rattle.ra_guards.specs.VersionTable.{VersionTable}
 use Rattle.ra_guards.specs.Kept.{version_in, IsTableOf, AreVersions}

@@ -15,9 +15,9 @@ use Rattle.ra_moves.specs.Steps.{process_in, from_in}
 use Rattle.ra_moves.specs.Options.{kind_of, shift_of, swap_of, chain_of, option_of, option_at, plan_of, plan_place}
 use Rattle.ra_moves.proofs.OptionLemmas.{option_stands, option_reaches}
 use Rattle.ra_moves.proofs.Repeats.{distinct_from_none}
-use Rattle.ra_local.specs.Touched.{ends_at}
-use Rattle.ra_local.specs.Moving.{IsOffered}
-use Rattle.ra_local.specs.Alike.{HeldAlike}
+use Rattle.ra_moves.specs.Touched.{ends_at}
+use Rattle.ra_moves.specs.Moving.{IsOffered}
+use Rattle.ra_moves.specs.Alike.{HeldAlike}
 
 option_few : (k : MoveKind) (a : List Machine) (x : List ℕ) (m : ℕ) (d : Drawing) (o : ℕ) → length (option_of k a x m d o).steps ≤ 3
 unfolding option_of shift_of swap_of chain_of

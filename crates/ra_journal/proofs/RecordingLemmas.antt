@@ -13,8 +13,8 @@ use Rattle.ra_moves.specs.declared.verdicts.Weighed.{Weighed}
 use Rattle.ra_moves.specs.MoveSteps.{MoveSteps}
 use Rattle.ra_moves.specs.Judging.{judge}
 use Rattle.ra_cells.specs.MovedCounts.{MovedCounts}
-use Rattle.ra_local.specs.Moving.{IsOffered}
-use Rattle.ra_local.specs.Weighing.{weighed_of}
+use Rattle.ra_moves.specs.Moving.{IsOffered}
+use Rattle.ra_moves.specs.Weighing.{weighed_of}
 use Rattle.ra_settle.specs.Settling.{IsSettling}
 use Rattle.ra_settle.proofs.Settles.{changes}
 use Rattle.ra_guards.specs.Kept.{IsTableOf}

@@ -13,8 +13,8 @@ use Rattle.ra_moves.specs.declared.steps.Step.{Step}
 use Rattle.ra_moves.specs.declared.verdicts.Verdict.{Verdict}
 use Rattle.ra_moves.specs.declared.verdicts.Verdict.TheVariants.{Done, Refused}
 use Rattle.ra_moves.specs.Judging.{repeat_of, broken_by, verdict_of, judge}
-use Rattle.ra_local.specs.Moving.{IsMove, IsOffered}
-use Rattle.ra_local.specs.Alike.{HeldAlike}
+use Rattle.ra_moves.specs.Moving.{IsMove, IsOffered}
+use Rattle.ra_moves.specs.Alike.{HeldAlike}
 use Rattle.ra_guards.specs.Versions.{Untouched}
 use Rattle.ra_guards.specs.Made.{made_state}
 use Rattle.ra_guards.proofs.TouchLemmas.{apart_from_untouched}

@@ -11,7 +11,7 @@ use Rattle.ra_model.specs.Limits.{WellFormed}
 use Rattle.ra_model.specs.Numbers.{machine_count, service_count}
 use Rattle.ra_moves.specs.declared.steps.Step.{Step}
 use Rattle.ra_moves.specs.Steps.{process_in, from_in, to_in}
-use Rattle.ra_local.specs.Touched.{ends_at, service_in, moves_service}
+use Rattle.ra_moves.specs.Touched.{ends_at, service_in, moves_service}
 use Rattle.ra_guards.specs.Guards.{writes, AreWithin}
 use Rattle.ra_guards.specs.Order.{AreWrites}
 use Rattle.ra_guards.specs.VersionTable.{VersionTable}

@@ -7,7 +7,7 @@ use Rattle.ra_model.specs.Limits.{WellFormed}
 use Rattle.ra_model.specs.Assignments.{IsAssignment}
 use Rattle.ra_model.specs.Feasible.{Feasible}
 use Rattle.ra_moves.specs.declared.steps.Step.{Step}
-use Rattle.ra_local.specs.Moving.{IsMove, IsOffered}
+use Rattle.ra_moves.specs.Moving.{IsMove, IsOffered}
 use Rattle.ra_journal.specs.declared.entries.Entry.{Entry}
 use Rattle.ra_journal.specs.Committing.{next_number, committed}
 use Rattle.ra_journal.specs.Entries.{entry_at, made_by, worker_count, budget}

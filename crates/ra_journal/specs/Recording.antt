@@ -12,8 +12,8 @@ use Rattle.ra_moves.specs.Judging.{broken_by}
 use Rattle.ra_moves.specs.Replacing.{applied}
 use Rattle.ra_cells.specs.MovedCounts.{MovedCounts}
 use Rattle.ra_cells.specs.Replaced.{IsChange}
-use Rattle.ra_local.specs.Moving.{IsMove}
-use Rattle.ra_local.specs.Weighing.{weighed_of}
+use Rattle.ra_moves.specs.Moving.{IsMove}
+use Rattle.ra_moves.specs.Weighing.{weighed_of}
 use Rattle.ra_settle.specs.Settling.{AreMovedOf}
 use Rattle.ra_guards.specs.Kept.{version_in, IsTableOf}
 use Rattle.ra_guards.specs.VersionTable.{VersionTable}

@@ -10,7 +10,7 @@ use Rattle.ra_model_read.specs.Lists.{Lists, lists_of}
 use Rattle.ra_model_read.specs.ModelText.{model_of, IsModel, model_refusal}
 use Rattle.ra_model_read.proofs.TextAccepted.{text_accepted}
 use Rattle.ra_laws.specs.ModelTextLaws.{IsOpened}
-use Rattle.ra_model_text.specs.ModelTexts.{model_text}
+use Rattle.ra_trial.specs.ModelTexts.{model_text}
 use Rattle.ra_laws.proofs.ModelTextCounts.{numbers_few}
 use Rattle.ra_laws.proofs.SmallNumbers.{model_told}
 use Rattle.ra_laws.proofs.Telling.{tells_whole}

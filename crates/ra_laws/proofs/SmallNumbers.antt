@@ -9,7 +9,7 @@ use Rattle.ra_model_read.specs.FieldOrder.{joined, row_of, resource_numbers, mac
 use Rattle.ra_trial.specs.Lines.{line_text}
 use Rattle.ra_trial.proofs.LineBounds.{IsSmall}
 use Rattle.ra_trial.proofs.LineTokens.{Small}
-use Rattle.ra_model_text.specs.ModelTexts.{resource_text, machine_text, service_text, process_text, balance_text, weights_text, model_text}
+use Rattle.ra_trial.specs.ModelTexts.{resource_text, machine_text, service_text, process_text, balance_text, weights_text, model_text}
 use Rattle.ra_laws.proofs.Telling.{Tells, tells_line, tells_append, tells_group}
 
 -- numbers that are all small

@@ -11,7 +11,7 @@ use Rattle.ra_trial.specs.Lines.{line_text, lines_text}
 use Rattle.ra_trial.proofs.LineBounds.{IsSmall, one_short}
 use Rattle.ra_trial.proofs.LineLemmas.{lines_one}
 use Rattle.ra_trial.proofs.LineTokens.{Small, line_ahead}
-use Rattle.ra_model_text.specs.ModelTexts.{group_text}
+use Rattle.ra_trial.specs.ModelTexts.{group_text}
 
 -- the tokens of the text are the numbers, whatever stands before it and behind it, and it is not long
 pub record Tells (text numbers : List ℕ) : Type 0 where

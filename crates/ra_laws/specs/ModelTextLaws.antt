@@ -4,7 +4,7 @@ use Rattle.ra_model.specs.declared.raw.Tables.{Tables}
 use Rattle.ra_model.specs.Limits.{WellFormed, Small}
 use Rattle.ra_model_read.specs.Lists.{lists_of}
 use Rattle.ra_model_read.specs.ModelText.{IsModel, model_refusal}
-use Rattle.ra_model_text.specs.ModelTexts.{model_text}
+use Rattle.ra_trial.specs.ModelTexts.{model_text}
 
 -- an instance with the numbers of another, and with no machine closed
 pub record IsOpened (i opened : Tables) : Type 0 where

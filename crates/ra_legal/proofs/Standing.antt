@@ -25,7 +25,7 @@ use Rattle.ra_moves.specs.MoveSteps.{MoveSteps}
 use Rattle.ra_moves.proofs.Applying.{after_stayed}
 use Rattle.ra_moves.proofs.OptionLemmas.{option_stands}
 use Rattle.ra_moves.proofs.Repeats.{distinct_from_none}
-use Rattle.ra_local.specs.Touched.{service_in, moves_service}
+use Rattle.ra_moves.specs.Touched.{service_in, moves_service}
 use Rattle.ra_guards.specs.Guards.{AreKnown, writes, is_guard}
 use Rattle.ra_guards.specs.Versions.{Apart, ApartSince, Untouched}
 use Rattle.ra_guards.proofs.TouchLemmas.{apart_from_untouched}

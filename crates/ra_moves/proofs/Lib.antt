@@ -4,3 +4,13 @@ pub mod Settled
 pub mod StepLemmas
 pub mod Repeats
 pub mod ValueLemmas
+pub mod MovedServices
+pub mod SearchLemmas
+pub mod EndLemmas
+pub mod StayLemmas
+pub mod Local
+pub mod AlikeLemmas
+pub mod CauseLemmas
+pub mod ChangeLemmas
+pub mod CountLemmas
+pub mod Determined

@@ -6,3 +6,8 @@ pub mod Replacing
 pub mod Settling
 pub mod Steps
 pub mod Values
+pub mod Touched
+pub mod Moving
+pub mod Weighing
+pub mod Alike
+pub mod Laws

@@ -17,8 +17,8 @@ use Rattle.ra_moves.specs.declared.verdicts.Weighed.{Weighed}
 use Rattle.ra_moves.specs.Judging.{judge, broken_by, repeat_of, verdict_of}
 use Rattle.ra_moves.proofs.Repeats.{distinct_from_none}
 use Rattle.ra_moves.proofs.OptionLemmas.{option_stands, option_reaches}
-use Rattle.ra_local.specs.Moving.{IsMove, IsOffered}
-use Rattle.ra_local.specs.Weighing.{weighed_of}
+use Rattle.ra_moves.specs.Moving.{IsMove, IsOffered}
+use Rattle.ra_moves.specs.Weighing.{weighed_of}
 use Rattle.ra_moves.specs.MoveSteps.{MoveSteps}
 use Rattle.ra_moves.specs.declared.steps.MoveKind.TheVariants.{Shift}
 use Rattle.ra_moves.specs.Options.{kind_of, option_count, drawn, target, leaving, option_at, option_cost, done_cost, plan_place, plan_of}

@@ -13,8 +13,8 @@ use Rattle.ra_cells.specs.declared.cells.Cells.{Cells}
 use Rattle.ra_moves.specs.declared.steps.Step.{Step}
 use Rattle.ra_moves.specs.declared.verdicts.Weighed.{Weighed}
 use Rattle.ra_moves.specs.Judging.{repeat_of, broken_by}
-use Rattle.ra_local.specs.Moving.{IsMove, IsOffered}
-use Rattle.ra_local.specs.Weighing.{weighed_of}
+use Rattle.ra_moves.specs.Moving.{IsMove, IsOffered}
+use Rattle.ra_moves.specs.Weighing.{weighed_of}
 use Rattle.ra_settle.specs.Settling.{AreMovedOf, IsSettling, HasSettling}
 use Rattle.ra_plan.specs.Weighings.{IsWeighing}
 

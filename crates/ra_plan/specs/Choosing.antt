@@ -6,7 +6,7 @@ use Rattle.ra_model.specs.Numbers.{machine_count}
 use Rattle.ra_moves.specs.Options.{option_at, option_cost}
 use Rattle.ra_moves.specs.declared.steps.Step.{Step}
 use Rattle.ra_moves.specs.declared.verdicts.Weighed.{Weighed}
-use Rattle.ra_local.specs.Weighing.{weighed_of}
+use Rattle.ra_moves.specs.Weighing.{weighed_of}
 use Rattle.ra_world.specs.declared.world.World.{World}
 use Rattle.ra_plan.specs.declared.best.Best.{Best}
 

@@ -3,7 +3,7 @@ ghost use Rattle.ra_base.specs.declared.causes.Drawing.{Drawing};
 ghost use Rattle.ra_model.specs.Numbers.{resource_count, machine_count};
 ghost use Rattle.ra_moves.specs.MoveSteps.{step_count};
 ghost use Rattle.ra_moves.specs.Options.{kind_of, option_count};
-ghost use Rattle.ra_local.specs.Moving.{IsOffered};
+ghost use Rattle.ra_moves.specs.Moving.{IsOffered};
 ghost use Rattle.ra_plan.specs.Choosing.{IsBest, steps_in};
 
 use crate::best::Best;

@@ -2,8 +2,8 @@ ghost use Rattle.std.specs.Prelude.{◌≡◌, ℕ, Some, ◌+◌, ◌*◌, ◌�
 ghost use Rattle.ra_base.specs.declared.causes.Drawing.TheVariants.{One, Two};
 ghost use Rattle.ra_model.specs.Numbers.{resource_count, machine_count};
 ghost use Rattle.ra_moves.specs.Options.{plan_of, option_count};
-ghost use Rattle.ra_local.specs.Moving.{IsOffered};
-ghost use Rattle.ra_local.specs.Weighing.{weighed_of};
+ghost use Rattle.ra_moves.specs.Moving.{IsOffered};
+ghost use Rattle.ra_moves.specs.Weighing.{weighed_of};
 ghost use Rattle.ra_plan.specs.Choosing.{IsBest};
 
 use crate::best::Best;

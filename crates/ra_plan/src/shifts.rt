@@ -4,7 +4,7 @@ ghost use Rattle.ra_moves.specs.declared.steps.MoveKind.TheVariants as kind;
 ghost use Rattle.ra_moves.specs.Options.{kind_of, drawn, target, count_of, option_count};
 ghost use Rattle.ra_base.specs.declared.causes.Drawing.{Drawing};
 ghost use Rattle.ra_moves.specs.Options.{leaving};
-ghost use Rattle.ra_local.specs.Moving.{IsOffered};
+ghost use Rattle.ra_moves.specs.Moving.{IsOffered};
 ghost use Rattle.ra_plan.specs.Choosing.{IsBest, steps_in};
 
 use crate::best::Best;

@@ -1,8 +1,8 @@
 ghost use Rattle.std.specs.Prelude.{◌≡◌, List};
 ghost use Rattle.ra_moves.specs.declared.steps.Step.{Step};
 ghost use Rattle.ra_moves.specs.Judging.{judge};
-ghost use Rattle.ra_local.specs.Moving.{IsOffered};
-ghost use Rattle.ra_local.specs.Weighing.{weighed_of};
+ghost use Rattle.ra_moves.specs.Moving.{IsOffered};
+ghost use Rattle.ra_moves.specs.Weighing.{weighed_of};
 ghost use Rattle.ra_plan.specs.Weighings.{IsWeighing};
 
 use ra_moves::{Verdict, Weighed};

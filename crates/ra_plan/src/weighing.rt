@@ -1,7 +1,7 @@
 ghost use Rattle.std.specs.Prelude.{◌≡◌, ◌+◌, ◌*◌, ◌≤◌, pos, Some, None};
 ghost use Rattle.ra_model.specs.Numbers.{resource_count};
-ghost use Rattle.ra_local.specs.Moving.{IsOffered};
-ghost use Rattle.ra_local.specs.Weighing.{weighed_of};
+ghost use Rattle.ra_moves.specs.Moving.{IsOffered};
+ghost use Rattle.ra_moves.specs.Weighing.{weighed_of};
 
 use ra_base::{Cause, Steps};
 use ra_causes::broken_of;

@@ -5,8 +5,8 @@ use Rattle.ra_bounds.specs.declared.costs.Bound.{Bound}
 use Rattle.ra_bounds.specs.PinnedBounds.{pinned_bound_of}
 use Rattle.ra_draws.specs.declared.budgets.Lots.{Lots}
 use Rattle.ra_model.specs.declared.raw.Tables.{Tables}
-use Rattle.ra_prepared.specs.declared.solved.Solved.{Solved}
-use Rattle.ra_prepared.specs.Runs.{IsRun}
+use Rattle.ra_crew.specs.declared.solved.Solved.{Solved}
+use Rattle.ra_crew.specs.Runs.{IsRun}
 use Rattle.ra_report.specs.JournalTexts.{best_state}
 
 -- its best state is that of its journal

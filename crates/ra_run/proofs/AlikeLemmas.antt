@@ -15,7 +15,7 @@ use Rattle.ra_journal.specs.Best.{best_place, best_of}
 use Rattle.ra_journal.specs.Entries.{entry_at, words, allowed}
 use Rattle.ra_journal.specs.Legal.{Legal, IsLegalAt}
 use Rattle.ra_journal.specs.States.{state, cost_at}
-use Rattle.ra_local.specs.Touched.{service_in, moves_service, reads_service}
+use Rattle.ra_moves.specs.Touched.{service_in, moves_service, reads_service}
 use Rattle.ra_model.specs.declared.raw.RawInstance.{RawInstance}
 use Rattle.ra_model.specs.declared.raw.Tables.{Tables}
 use Rattle.ra_model.specs.Costs.{parts_of}

@@ -10,8 +10,8 @@ use Rattle.ra_moves.specs.declared.steps.Step.{Step}
 use Rattle.ra_moves.specs.declared.verdicts.Weighed.{Weighed}
 use Rattle.ra_moves.specs.Judging.{broken_by}
 use Rattle.ra_moves.specs.Replacing.{applied}
-use Rattle.ra_local.specs.Moving.{IsMove}
-use Rattle.ra_local.specs.Weighing.{weighed_of}
+use Rattle.ra_moves.specs.Moving.{IsMove}
+use Rattle.ra_moves.specs.Weighing.{weighed_of}
 use Rattle.ra_settle.specs.Settling.{AreMovedOf}
 use Rattle.ra_settle.proofs.MovedAfter.{counts_after}
 use Rattle.ra_settle.proofs.Settles.{whole_is}

@@ -17,11 +17,11 @@ use Rattle.ra_cells.specs.Replaced.{counted_after, greatest_with, IsChange, AreA
 use Rattle.ra_moves.specs.declared.steps.Step.{Step}
 use Rattle.ra_moves.specs.Steps.{process_in}
 use Rattle.ra_moves.specs.Replacing.{applied}
-use Rattle.ra_local.specs.Touched.{service_in, moves_service}
-use Rattle.ra_local.specs.Moving.{IsMove}
-use Rattle.ra_local.specs.Weighing.{moved_count, services_moved, count_at, changed_count}
-use Rattle.ra_local.proofs.StayLemmas.{members_same}
-use Rattle.ra_local.proofs.MovedServices.{services_few, services_named, services_placed, services_apart, count_there, count_past}
+use Rattle.ra_moves.specs.Touched.{service_in, moves_service}
+use Rattle.ra_moves.specs.Moving.{IsMove}
+use Rattle.ra_moves.specs.Weighing.{moved_count, services_moved, count_at, changed_count}
+use Rattle.ra_moves.proofs.StayLemmas.{members_same}
+use Rattle.ra_moves.proofs.MovedServices.{services_few, services_named, services_placed, services_apart, count_there, count_past}
 use Rattle.ra_settle.specs.Settling.{AreMovedOf}
 
 -- the count of a service of which no process moves stays

@@ -21,8 +21,8 @@ use Rattle.ra_moves.specs.declared.verdicts.Weighed.{Weighed}
 use Rattle.ra_moves.specs.Judging.{repeat_of, broken_by, rise_test, verdict_of, judge}
 use Rattle.ra_moves.specs.Replacing.{applied}
 use Rattle.ra_moves.specs.Settling.{settled_cost}
-use Rattle.ra_local.specs.Moving.{IsMove}
-use Rattle.ra_local.specs.Weighing.{local_cost, local_change, changed_count, weighed_by, weighed_of}
+use Rattle.ra_moves.specs.Moving.{IsMove}
+use Rattle.ra_moves.specs.Weighing.{local_cost, local_change, changed_count, weighed_by, weighed_of}
 use Rattle.ra_settle.specs.Settling.{AreMovedOf, IsSettling}
 use Rattle.ra_settle.proofs.MovedAfter.{count_changes, counts_apart, greatest_after_move}
 

@@ -10,8 +10,8 @@ use Rattle.ra_model.specs.Costs.{objective}
 use Rattle.ra_cells.specs.MovedCounts.{MovedCounts}
 use Rattle.ra_moves.specs.declared.steps.Step.{Step}
 use Rattle.ra_moves.specs.declared.verdicts.Weighed.{Weighed}
-use Rattle.ra_local.specs.Moving.{IsOffered}
-use Rattle.ra_local.specs.Weighing.{weighed_of}
+use Rattle.ra_moves.specs.Moving.{IsOffered}
+use Rattle.ra_moves.specs.Weighing.{weighed_of}
 
 -- the moved counts of assignment a, reached from a0: one for each service, none above the number of all processes
 pub record AreMovedOf (i : Tables) (a0 a : List Machine) (moved : MovedCounts) : Type 0 where

@@ -5,8 +5,8 @@ ghost use Rattle.ra_cells.specs.Replaced.{counted_after, IsChange};
 ghost use Rattle.ra_moves.specs.declared.steps.Step.{Step};
 ghost use Rattle.ra_moves.specs.Judging.{broken_by};
 ghost use Rattle.ra_moves.specs.Replacing.{applied};
-ghost use Rattle.ra_local.specs.Moving.{IsMove};
-ghost use Rattle.ra_local.specs.Weighing.{weighed_of};
+ghost use Rattle.ra_moves.specs.Moving.{IsMove};
+ghost use Rattle.ra_moves.specs.Weighing.{weighed_of};
 ghost use Rattle.ra_settle.specs.Settling.{AreMovedOf, IsRoomFor};
 
 use ra_base::MovedCount;

@@ -11,7 +11,7 @@ use Rattle.ra_draws.specs.declared.budgets.Lots.{Lots}
 use Rattle.ra_model.specs.declared.raw.Tables.{Tables}
 use Rattle.ra_moves.specs.declared.verdicts.Plan.{Plan}
 use Rattle.ra_moves.specs.Options.{plan_of}
-use Rattle.ra_local.specs.Weighing.{weighed_of}
+use Rattle.ra_moves.specs.Weighing.{weighed_of}
 use Rattle.ra_journal.specs.declared.entries.Entry.{Entry}
 use Rattle.ra_journal.specs.Committing.{next_number, IsCommit}
 use Rattle.ra_journal.specs.Entries.{entry_at, entries_of, words, allowed}

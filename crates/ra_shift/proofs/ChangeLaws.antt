@@ -22,8 +22,8 @@ use Rattle.ra_moves.specs.Steps.{process_in, step_at}
 use Rattle.ra_moves.specs.Replacing.{applied}
 use Rattle.ra_moves.specs.Judging.{broken_by}
 use Rattle.ra_moves.specs.Options.{leaving}
-use Rattle.ra_local.specs.Touched.{service_in}
-use Rattle.ra_local.specs.Weighing.{is_new_service, local_cost, local_change, moved_count, changed_count, count_at, services_moved, weighed_by, weighed_of}
+use Rattle.ra_moves.specs.Touched.{service_in}
+use Rattle.ra_moves.specs.Weighing.{is_new_service, local_cost, local_change, moved_count, changed_count, count_at, services_moved, weighed_by, weighed_of}
 use Rattle.ra_shift.specs.Conditions.{shifted}
 use Rattle.ra_shift.specs.Sharing.{use_without, use_with, row_cost, cost_of, way_cost}
 use Rattle.ra_shift.proofs.RoomLaws.{IsStart, use_entered, use_left}

@@ -4,7 +4,7 @@ ghost use Rattle.ra_model.specs.Assignments.{machine_at};
 ghost use Rattle.ra_model.specs.Services.{on_machine, in_neighbourhood, locations_of};
 ghost use Rattle.ra_moves.specs.Options.{leaving};
 ghost use Rattle.ra_moves.specs.Judging.{broken_by};
-ghost use Rattle.ra_local.specs.Weighing.{local_change, moved_count, weighed_of};
+ghost use Rattle.ra_moves.specs.Weighing.{local_change, moved_count, weighed_of};
 ghost use Rattle.ra_shift.specs.Conditions.{shifted, HasRoom, HasRoomBetween, FindsNeeds, MayLeave};
 ghost use Rattle.ra_shift.specs.Sharing.{AreRequired, use_without, row_cost, cost_of, way_cost, locations_without};
 

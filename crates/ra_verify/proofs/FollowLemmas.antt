@@ -8,7 +8,7 @@ use Rattle.ra_base.proofs.Counts.{count_no}
 use Rattle.ra_draws.specs.declared.budgets.Lots.{Lots}
 use Rattle.ra_model.specs.declared.raw.Tables.{Tables}
 use Rattle.ra_moves.specs.declared.verdicts.Plan.{Plan}
-use Rattle.ra_local.specs.Weighing.{weighed_of}
+use Rattle.ra_moves.specs.Weighing.{weighed_of}
 use Rattle.ra_guards.specs.declared.newest.Newer.{Newer}
 use Rattle.ra_guards.proofs.NewestLemmas.{newest_is_right}
 use Rattle.ra_journal.specs.declared.entries.Entry.{Entry}

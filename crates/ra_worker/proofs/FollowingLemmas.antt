@@ -14,7 +14,7 @@ use Rattle.ra_moves.specs.declared.verdicts.Verdict.{Verdict}
 use Rattle.ra_moves.specs.declared.verdicts.Verdict.TheVariants.{Done, Refused}
 use Rattle.ra_moves.specs.Judging.{broken_by, repeat_of}
 use Rattle.ra_moves.specs.Replacing.{applied}
-use Rattle.ra_local.specs.Moving.{IsMove}
+use Rattle.ra_moves.specs.Moving.{IsMove}
 use Rattle.ra_journal.specs.declared.entries.Entry.{Entry}
 use Rattle.ra_journal.specs.Entries.{entry_at, entries_of, steps_made, made_by}
 use Rattle.ra_journal.specs.Legal.{Legal}

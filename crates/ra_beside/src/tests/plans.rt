@@ -1,7 +1,7 @@
 //! The plan of a proposal by changes, and the plain one.
 ghost use Rattle.std.specs.Prelude.{◌≡◌};
-ghost use Rattle.ra_local.specs.Moving.{IsOffered};
-ghost use Rattle.ra_local.specs.Weighing.{weighed_of};
+ghost use Rattle.ra_moves.specs.Moving.{IsOffered};
+ghost use Rattle.ra_moves.specs.Weighing.{weighed_of};
 
 use ra_base::{Drawing, Steps};
 use ra_check::Scratch;

@@ -1,5 +1,5 @@
 //! A weighing at a world that has taken in a move.
-ghost use Rattle.ra_local.specs.Moving.{IsOffered};
+ghost use Rattle.ra_moves.specs.Moving.{IsOffered};
 
 use super::plans::is_done_at;
 use ra_base::{Drawing, MovedCount, Service, Steps};

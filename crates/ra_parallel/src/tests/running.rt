@@ -6,12 +6,12 @@ ghost use Rattle.ra_model.specs.Costs.{parts_of};
 
 use ra_base::{Assignment, Fixed, NoMemory, Parts};
 use ra_check::{Scratch, first_broken, parts};
+use ra_crew::{Prepared, Solved};
 use ra_draws::Lots;
 use ra_io::Gate;
 use ra_journal::{Entry, Journal};
 use ra_legal::first_illegal;
 use ra_model::Instance;
-use ra_prepared::{Prepared, Solved};
 use ra_samples::assignment;
 use ra_topology::Topology;
 use ra_words::{Job, read_words};

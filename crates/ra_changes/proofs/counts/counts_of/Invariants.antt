@@ -1,6 +1,6 @@
 -- The counts of the different services of the first steps.
 use Rattle.std.proofs.Common.{◌≡◌, length}
-use Rattle.ra_local.specs.Weighing.{services_moved}
+use Rattle.ra_moves.specs.Weighing.{services_moved}
 use Rattle.ra_changes.specs.CountLists.{AreCountsOf}
 use Rattle.ra_changes.proofs.counts.counts_of.Given as goal
 

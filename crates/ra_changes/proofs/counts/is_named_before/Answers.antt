@@ -1,7 +1,7 @@
 -- One more step.
 use Rattle.std.proofs.Common.{◌≡◌, ◌∙◌, sym, arith}
 use Rattle.ra_base.proofs.Named.{is_named_none, is_named_found}
-use Rattle.ra_local.specs.Touched.{service_in}
+use Rattle.ra_moves.specs.Touched.{service_in}
 use Rattle.ra_changes.proofs.MoveLemmas.{unnamed_more}
 use Rattle.ra_changes.proofs.counts.is_named_before.Goals as goal
 

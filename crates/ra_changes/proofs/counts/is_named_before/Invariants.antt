@@ -1,7 +1,7 @@
 -- None of the first steps moves a process of the service.
 use Rattle.std.proofs.Common.{◌≡◌, false}
 use Rattle.ra_base.specs.Sums.{is_named}
-use Rattle.ra_local.specs.Touched.{service_in}
+use Rattle.ra_moves.specs.Touched.{service_in}
 use Rattle.ra_changes.proofs.counts.is_named_before.Given as goal
 
 abbrev pub invariant-loop-k : goal.invariant-loop-k

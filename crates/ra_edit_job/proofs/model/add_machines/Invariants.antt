@@ -1,5 +1,5 @@
 use Rattle.ra_model.specs.Numbers.{machine_count}
-use Rattle.ra_model_text.specs.ModelTexts.{machine_text}
+use Rattle.ra_trial.specs.ModelTexts.{machine_text}
 use Rattle.ra_text.specs.Gathering.{Adds}
 use Rattle.ra_edit_job.specs.ModelLines.{group_to}
 use Rattle.ra_edit_job.proofs.model.add_machines.Given as goal

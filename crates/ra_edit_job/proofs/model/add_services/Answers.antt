@@ -1,6 +1,6 @@
 use Rattle.std.proofs.Common.{arith}
 use Rattle.ra_model.specs.Numbers.{service_count}
-use Rattle.ra_model_text.specs.ModelTexts.{service_text}
+use Rattle.ra_trial.specs.ModelTexts.{service_text}
 use Rattle.ra_edit_job.proofs.ModelLines.{group_none, group_more, group_all}
 use Rattle.ra_edit_job.proofs.model.add_services.Goals as goal
 

@@ -1,5 +1,5 @@
 use Rattle.ra_model.specs.Numbers.{service_count}
-use Rattle.ra_model_text.specs.ModelTexts.{service_text}
+use Rattle.ra_trial.specs.ModelTexts.{service_text}
 use Rattle.ra_text.specs.Gathering.{Adds}
 use Rattle.ra_edit_job.specs.ModelLines.{group_to}
 use Rattle.ra_edit_job.proofs.model.add_services.Given as goal

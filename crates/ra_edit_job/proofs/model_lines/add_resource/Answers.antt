@@ -1,5 +1,5 @@
 use Rattle.ra_model_read.specs.FieldOrder.{resource_numbers}
-use Rattle.ra_model_text.specs.ModelTexts.{resource_text}
+use Rattle.ra_trial.specs.ModelTexts.{resource_text}
 use Rattle.ra_edit_job.proofs.model_lines.add_resource.Goals as goal
 
 pub returns : goal.returns

@@ -1,6 +1,6 @@
 use Rattle.std.proofs.Common.{◌≡◌, ◌∙◌, length, sym, arith}
 use Rattle.ra_base.proofs.Named.{is_named_none, is_named_found}
-use Rattle.ra_local.specs.Touched.{service_in, moves_service}
+use Rattle.ra_moves.specs.Touched.{service_in, moves_service}
 use Rattle.ra_guards.proofs.GuardLemmas.{step_known, service_at, unnamed_more}
 use Rattle.ra_guards.proofs.services.moves_service.Goals as goal
 

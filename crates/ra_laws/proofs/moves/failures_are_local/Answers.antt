@@ -1,4 +1,4 @@
-use Rattle.ra_local.proofs.Local.{failures_are_local}
+use Rattle.ra_moves.proofs.Local.{failures_are_local}
 use Rattle.ra_laws.proofs.moves.failures_are_local.Goals as goal
 
 pub returns : goal.returns

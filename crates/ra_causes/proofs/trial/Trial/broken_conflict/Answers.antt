@@ -2,7 +2,7 @@
 use Rattle.std.proofs.Common.{sym, arith}
 use Rattle.ra_model.specs.Numbers.{service_count}
 use Rattle.ra_model.specs.Broken.{service_conflict, broken_conflict}
-use Rattle.ra_local.specs.Touched.{moves_service}
+use Rattle.ra_moves.specs.Touched.{moves_service}
 use Rattle.ra_causes.specs.Trials.{tables_of, steps_of, after_of}
 use Rattle.ra_causes.proofs.SeekLemmas.{sought_start, sought_on, sought_found, sought_all}
 use Rattle.ra_causes.proofs.trial.Trial.broken_conflict.Goals as goal

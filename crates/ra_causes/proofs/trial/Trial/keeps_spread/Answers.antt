@@ -4,7 +4,7 @@ use Rattle.std.proofs.lemmas.Bool.{both_ways}
 use Rattle.ra_base.proofs.Searches.{first_none_at}
 use Rattle.ra_model.specs.Numbers.{service_count}
 use Rattle.ra_model.specs.Broken.{spread_test, broken_spread}
-use Rattle.ra_local.specs.Touched.{service_in}
+use Rattle.ra_moves.specs.Touched.{service_in}
 use Rattle.ra_causes.specs.Trials.{tables_of, steps_of, before_of, after_of}
 use Rattle.ra_causes.proofs.StepLemmas.{service_read, step_process, service_there}
 use Rattle.ra_causes.proofs.HoldLemmas.{none_start, none_more, none_all, told_true, told_false, spread_moved}

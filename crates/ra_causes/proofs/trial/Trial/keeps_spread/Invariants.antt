@@ -1,6 +1,6 @@
 -- Nothing is broken where the steps so far lead.
 use Rattle.ra_model.specs.Broken.{spread_test}
-use Rattle.ra_local.specs.Touched.{service_in}
+use Rattle.ra_moves.specs.Touched.{service_in}
 use Rattle.ra_causes.specs.Trials.{tables_of, steps_of, after_of}
 use Rattle.ra_causes.proofs.HoldLemmas.{NoneAt}
 use Rattle.ra_causes.proofs.trial.Trial.keeps_spread.Given as goal

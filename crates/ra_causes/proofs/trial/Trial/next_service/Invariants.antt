@@ -2,7 +2,7 @@
 use Rattle.std.proofs.Common.{◌≤◌}
 use Rattle.ra_base.specs.Sums.{is_named}
 use Rattle.ra_model.specs.Numbers.{service_count}
-use Rattle.ra_local.specs.Touched.{service_in}
+use Rattle.ra_moves.specs.Touched.{service_in}
 use Rattle.ra_causes.specs.Searching.{ClearTo}
 use Rattle.ra_causes.specs.Trials.{tables_of, steps_of}
 use Rattle.ra_causes.proofs.trial.Trial.next_service.Given as goal

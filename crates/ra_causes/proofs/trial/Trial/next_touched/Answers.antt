@@ -1,6 +1,6 @@
 -- One more step.
 use Rattle.std.proofs.Common.{arith, ◌≡◌, length}
-use Rattle.ra_local.specs.Touched.{service_in}
+use Rattle.ra_moves.specs.Touched.{service_in}
 use Rattle.ra_causes.specs.Trials.{tables_of, steps_of, before_of}
 use Rattle.ra_causes.proofs.SeekLemmas.{clear_none, clear_nearer, clear_more}
 use Rattle.ra_causes.proofs.StepLemmas.{service_read, step_process, service_there}

@@ -1,6 +1,6 @@
 -- What a world keeps is what a trial needs.
 use Rattle.ra_model.proofs.BrokenLemmas.{fine_from_unbroken}
-use Rattle.ra_local.proofs.Local.{failures_are_local}
+use Rattle.ra_moves.proofs.Local.{failures_are_local}
 use Rattle.ra_causes.proofs.trial.Trial.of.Goals as goal
 
 pub invariant_of-result : goal.invariant_of-result

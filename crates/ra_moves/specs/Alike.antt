@@ -6,7 +6,7 @@ use Rattle.ra_model.specs.declared.raw.Tables.{Tables}
 use Rattle.ra_model.specs.Numbers.{service_of}
 use Rattle.ra_model.specs.Assignments.{machine_at}
 use Rattle.ra_moves.specs.declared.steps.Step.{Step}
-use Rattle.ra_local.specs.Touched.{ends_at, guards_service}
+use Rattle.ra_moves.specs.Touched.{ends_at, guards_service}
 
 -- machine m holds the same processes in both
 pub record SameOn (a b : List Machine) (m : ℕ) : Type 0 where

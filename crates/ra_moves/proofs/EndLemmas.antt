@@ -11,7 +11,7 @@ use Rattle.ra_moves.specs.declared.steps.Step.{Step}
 use Rattle.ra_moves.specs.Steps.{process_in, from_in, to_in}
 use Rattle.ra_moves.specs.Values.{end_count, end_in}
 use Rattle.ra_moves.proofs.ValueLemmas.{end_from, end_to}
-use Rattle.ra_local.specs.Touched.{ends_at, service_in, moves_service, reads_service, guards_service}
+use Rattle.ra_moves.specs.Touched.{ends_at, service_in, moves_service, reads_service, guards_service}
 
 -- machines
 

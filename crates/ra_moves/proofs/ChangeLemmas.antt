@@ -16,12 +16,12 @@ use Rattle.ra_model.specs.MachineCosts.{machine_load, machine_balance}
 use Rattle.ra_model.proofs.MachineLemmas.{load_by_machine, balance_by_machine, row_load_same, row_balance_same}
 use Rattle.ra_moves.specs.declared.steps.Step.{Step}
 use Rattle.ra_moves.specs.Replacing.{applied}
-use Rattle.ra_local.specs.Touched.{ends_at}
-use Rattle.ra_local.specs.Moving.{IsMove}
-use Rattle.ra_local.specs.Alike.{SameOn, HeldAlike}
-use Rattle.ra_local.specs.Weighing.{local_cost, local_change}
-use Rattle.ra_local.proofs.StayLemmas.{tally_applied, use_same}
-use Rattle.ra_local.proofs.AlikeLemmas.{same_on_after, use_alike}
+use Rattle.ra_moves.specs.Touched.{ends_at}
+use Rattle.ra_moves.specs.Moving.{IsMove}
+use Rattle.ra_moves.specs.Alike.{SameOn, HeldAlike}
+use Rattle.ra_moves.specs.Weighing.{local_cost, local_change}
+use Rattle.ra_moves.proofs.StayLemmas.{tally_applied, use_same}
+use Rattle.ra_moves.proofs.AlikeLemmas.{same_on_after, use_alike}
 
 -- sums change by as much, where each term is kept or is the same in both
 pub total_agrees : (n : ℕ) (test : ℕ → Bool) (old_one new_one old_other new_other : ℕ → ℕ) → ((k : ℕ) → test k ≡ false → new_one k ≡ old_one k) → ((k : ℕ) → test k ≡ false → new_other k ≡ old_other k) → ((k : ℕ) → test k ≡ true → old_one k ≡ old_other k) → ((k : ℕ) → test k ≡ true → new_one k ≡ new_other k) → total n new_one + total n old_other ≡ total n new_other + total n old_one

@@ -7,12 +7,12 @@ use Rattle.ra_model.specs.declared.raw.Tables.{Tables}
 use Rattle.ra_model.specs.Services.{moved_of}
 use Rattle.ra_moves.specs.declared.steps.Step.{Step}
 use Rattle.ra_moves.specs.Replacing.{applied}
-use Rattle.ra_local.specs.Touched.{service_in}
-use Rattle.ra_local.specs.Moving.{IsMove}
-use Rattle.ra_local.specs.Alike.{SameOf, HeldAlike}
-use Rattle.ra_local.specs.Weighing.{moved_count, is_new_service, services_moved, count_at, changed_count}
-use Rattle.ra_local.proofs.EndLemmas.{moved_guarded, service_moved}
-use Rattle.ra_local.proofs.AlikeLemmas.{same_of_after, moved_alike}
+use Rattle.ra_moves.specs.Touched.{service_in}
+use Rattle.ra_moves.specs.Moving.{IsMove}
+use Rattle.ra_moves.specs.Alike.{SameOf, HeldAlike}
+use Rattle.ra_moves.specs.Weighing.{moved_count, is_new_service, services_moved, count_at, changed_count}
+use Rattle.ra_moves.proofs.EndLemmas.{moved_guarded, service_moved}
+use Rattle.ra_moves.proofs.AlikeLemmas.{same_of_after, moved_alike}
 
 pub moved_count_same : (i : Tables) (a0 a b : List Machine) (steps : List Step) (s : ℕ) → IsMove i a steps → IsMove i b steps → SameOf i a b s → moved_count i a0 a steps s ≡ moved_count i a0 b steps s
 unfolding moved_count

@@ -8,8 +8,8 @@ use Rattle.ra_base.specs.declared.ids.Machine.{Machine}
 use Rattle.ra_base.proofs.Named.{is_named_none, is_named_at, is_named_from}
 use Rattle.ra_model.specs.declared.raw.Tables.{Tables}
 use Rattle.ra_moves.specs.declared.steps.Step.{Step}
-use Rattle.ra_local.specs.Touched.{service_in}
-use Rattle.ra_local.specs.Weighing.{moved_count, is_new_service, services_moved, count_at}
+use Rattle.ra_moves.specs.Touched.{service_in}
+use Rattle.ra_moves.specs.Weighing.{moved_count, is_new_service, services_moved, count_at}
 
 -- a name is named later too, and one that is named only with the last name is that
 named_later : (n : ℕ) (e : ℕ → ℕ) (m : ℕ) → is_named n e m ≡ true → is_named (suc n) e m ≡ true

@@ -15,11 +15,11 @@ use Rattle.ra_model.proofs.BrokenLemmas.{Fine, fine_from_unbroken}
 use Rattle.ra_moves.specs.declared.steps.Step.{Step}
 use Rattle.ra_moves.specs.Steps.{process_in}
 use Rattle.ra_moves.specs.Replacing.{applied}
-use Rattle.ra_local.specs.Touched.{ends_at, moves_service, guards_service}
-use Rattle.ra_local.specs.Moving.{IsMove}
-use Rattle.ra_local.specs.Laws.{OnlyWhere, AreLocal, FailuresAreLocal}
-use Rattle.ra_local.proofs.EndLemmas.{unguarded_stays, unguarded_needs}
-use Rattle.ra_local.proofs.StayLemmas.{use_same, transient_same, on_machine_same, on_machine_stays, locations_same, in_neighbourhood_same, process_stays, member_stays}
+use Rattle.ra_moves.specs.Touched.{ends_at, moves_service, guards_service}
+use Rattle.ra_moves.specs.Moving.{IsMove}
+use Rattle.ra_moves.specs.Laws.{OnlyWhere, AreLocal, FailuresAreLocal}
+use Rattle.ra_moves.proofs.EndLemmas.{unguarded_stays, unguarded_needs}
+use Rattle.ra_moves.proofs.StayLemmas.{use_same, transient_same, on_machine_same, on_machine_stays, locations_same, in_neighbourhood_same, process_stays, member_stays}
 
 -- what is told of equal values is equal
 

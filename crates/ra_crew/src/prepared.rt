@@ -6,13 +6,13 @@ ghost use Rattle.ra_topology.specs.Fits.{IsTopologyOf};
 ghost use Rattle.ra_journal.specs.Best.{best_of};
 ghost use Rattle.ra_journal.specs.States.{state};
 ghost use Rattle.ra_check.specs.Made.{IsMadeFor};
-ghost use Rattle.ra_prepared.specs.Ready.{IsFor};
-ghost use Rattle.ra_prepared.specs.Runs.{IsRun};
+ghost use Rattle.ra_crew.specs.Ready.{IsFor};
+ghost use Rattle.ra_crew.specs.Runs.{IsRun};
 
+use crate::crew::Crew;
 use crate::solved::Solved;
 use ra_base::{Assignment, Fixed, NoMemory, Parts};
 use ra_check::{Scratch, parts};
-use ra_crew::Crew;
 use ra_draws::Lots;
 use ra_io::Gate;
 use ra_journal::Journal;

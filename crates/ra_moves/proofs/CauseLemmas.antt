@@ -12,13 +12,13 @@ use Rattle.ra_model.proofs.BrokenLemmas.{Fine}
 use Rattle.ra_moves.specs.declared.steps.Step.{Step}
 use Rattle.ra_moves.specs.Steps.{process_in}
 use Rattle.ra_moves.specs.Replacing.{applied}
-use Rattle.ra_local.specs.Touched.{ends_at, moves_service, guards_service}
-use Rattle.ra_local.specs.Moving.{IsMove}
-use Rattle.ra_local.specs.Alike.{SameOn, SameOf, HeldAlike}
-use Rattle.ra_local.proofs.SearchLemmas.{first_agrees}
-use Rattle.ra_local.proofs.EndLemmas.{moved_guarded, need_guarded, needing_guarded}
-use Rattle.ra_local.proofs.Local.{capacity_told, transient_told, conflict_told, spread_told, pair_told, closed_told, capacity_local, transient_local, conflict_local, spread_local, pair_local, closed_local}
-use Rattle.ra_local.proofs.AlikeLemmas.{named_same, same_on_after, same_of_after, use_alike, transient_alike, on_machine_alike, in_neighbourhood_alike, locations_alike}
+use Rattle.ra_moves.specs.Touched.{ends_at, moves_service, guards_service}
+use Rattle.ra_moves.specs.Moving.{IsMove}
+use Rattle.ra_moves.specs.Alike.{SameOn, SameOf, HeldAlike}
+use Rattle.ra_moves.proofs.SearchLemmas.{first_agrees}
+use Rattle.ra_moves.proofs.EndLemmas.{moved_guarded, need_guarded, needing_guarded}
+use Rattle.ra_moves.proofs.Local.{capacity_told, transient_told, conflict_told, spread_told, pair_told, closed_told, capacity_local, transient_local, conflict_local, spread_local, pair_local, closed_local}
+use Rattle.ra_moves.proofs.AlikeLemmas.{named_same, same_on_after, same_of_after, use_alike, transient_alike, on_machine_alike, in_neighbourhood_alike, locations_alike}
 
 -- the same steps move two assignments that break nothing and are alike for them
 pub record BothMove (i : Tables) (a0 a b : List Machine) (steps : List Step) : Type 0 where

@@ -4,7 +4,7 @@ use Rattle.std.proofs.lemmas.Bool.{cases_Bool}
 use Rattle.ra_base.specs.Searches.{first}
 use Rattle.ra_base.specs.declared.causes.Cause.{Cause}
 use Rattle.ra_base.proofs.Searches.{first_same}
-use Rattle.ra_local.specs.Laws.{OnlyWhere}
+use Rattle.ra_moves.specs.Laws.{OnlyWhere}
 
 -- two searches with one test agree where it is true, so they find the same
 pub first_agrees : (n : ℕ) (test : ℕ → Bool) (f g : ℕ → Option Cause) → OnlyWhere n test f → OnlyWhere n test g → ((k : ℕ) → k < n → test k ≡ true → f k ≡ g k) → first n f ≡ first n g

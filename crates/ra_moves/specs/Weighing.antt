@@ -12,7 +12,7 @@ use Rattle.ra_moves.specs.declared.steps.Step.{Step}
 use Rattle.ra_moves.specs.declared.verdicts.Weighed.{Weighed}
 use Rattle.ra_moves.specs.Replacing.{applied}
 use Rattle.ra_moves.specs.Judging.{broken_by}
-use Rattle.ra_local.specs.Touched.{service_in}
+use Rattle.ra_moves.specs.Touched.{service_in}
 
 -- load, balance, process and machine cost together
 unfoldable pub local_cost : Tables → List Machine → List Machine → ℕ

@@ -10,10 +10,10 @@ use Rattle.ra_model.specs.Broken.{first_broken, row_capacity, row_transient, con
 use Rattle.ra_moves.specs.declared.steps.Step.{Step}
 use Rattle.ra_moves.specs.Steps.{process_in}
 use Rattle.ra_moves.specs.Replacing.{applied}
-use Rattle.ra_local.specs.Touched.{ends_at, moves_service, guards_service}
-use Rattle.ra_local.specs.Moving.{IsMove, IsOffered}
-use Rattle.ra_local.specs.Weighing.{weighed_of}
-use Rattle.ra_local.specs.Alike.{HeldAlike}
+use Rattle.ra_moves.specs.Touched.{ends_at, moves_service, guards_service}
+use Rattle.ra_moves.specs.Moving.{IsMove, IsOffered}
+use Rattle.ra_moves.specs.Weighing.{weighed_of}
+use Rattle.ra_moves.specs.Alike.{HeldAlike}
 
 -- a cause is found at a place below n only where a test of the place is true
 pub record OnlyWhere (n : ℕ) (test : ℕ → Bool) (found : ℕ → Option Cause) : Type 0 where

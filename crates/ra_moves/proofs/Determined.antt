@@ -12,13 +12,13 @@ use Rattle.ra_moves.specs.declared.steps.Step.{Step}
 use Rattle.ra_moves.specs.declared.verdicts.Weighed.{Weighed}
 use Rattle.ra_moves.specs.Replacing.{applied}
 use Rattle.ra_moves.specs.Judging.{repeat_of, same_of, broken_by}
-use Rattle.ra_local.specs.Moving.{IsOffered}
-use Rattle.ra_local.specs.Alike.{HeldAlike}
-use Rattle.ra_local.specs.Weighing.{local_change, changed_count, weighed_by, weighed_of}
-use Rattle.ra_local.specs.Laws.{WeighingIsDetermined}
-use Rattle.ra_local.proofs.CauseLemmas.{BothMove, broken_same}
-use Rattle.ra_local.proofs.ChangeLemmas.{change_same}
-use Rattle.ra_local.proofs.CountLemmas.{counts_same}
+use Rattle.ra_moves.specs.Moving.{IsOffered}
+use Rattle.ra_moves.specs.Alike.{HeldAlike}
+use Rattle.ra_moves.specs.Weighing.{local_change, changed_count, weighed_by, weighed_of}
+use Rattle.ra_moves.specs.Laws.{WeighingIsDetermined}
+use Rattle.ra_moves.proofs.CauseLemmas.{BothMove, broken_same}
+use Rattle.ra_moves.proofs.ChangeLemmas.{change_same}
+use Rattle.ra_moves.proofs.CountLemmas.{counts_same}
 
 -- what a weighing is made of is the same
 record SameParts (broken other_broken : Option Cause) (local other_local : ℤ) (counts other_counts : ℕ → Option MovedCount) : Type 0 where

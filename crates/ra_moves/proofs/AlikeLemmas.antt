@@ -15,9 +15,9 @@ use Rattle.ra_model.proofs.TallyLemmas.{tally_same}
 use Rattle.ra_moves.specs.declared.steps.Step.{Step}
 use Rattle.ra_moves.specs.Steps.{process_in}
 use Rattle.ra_moves.specs.Replacing.{applied}
-use Rattle.ra_local.specs.Moving.{IsMove}
-use Rattle.ra_local.specs.Alike.{SameOn, SameOf}
-use Rattle.ra_local.proofs.StayLemmas.{applied_of, process_stays, of_other}
+use Rattle.ra_moves.specs.Moving.{IsMove}
+use Rattle.ra_moves.specs.Alike.{SameOn, SameOf}
+use Rattle.ra_moves.proofs.StayLemmas.{applied_of, process_stays, of_other}
 
 -- after a move
 

@@ -18,9 +18,9 @@ use Rattle.ra_moves.specs.Replacing.{Applied, applied}
 use Rattle.ra_moves.specs.Values.{gone, come}
 use Rattle.ra_moves.proofs.Applying.{applied_at_once}
 use Rattle.ra_moves.proofs.ValueLemmas.{tally_after, use_elsewhere}
-use Rattle.ra_local.specs.Touched.{ends_at, moves_service}
-use Rattle.ra_local.specs.Moving.{IsMove}
-use Rattle.ra_local.proofs.EndLemmas.{end_not_left, end_not_entered, service_not_moved}
+use Rattle.ra_moves.specs.Touched.{ends_at, moves_service}
+use Rattle.ra_moves.specs.Moving.{IsMove}
+use Rattle.ra_moves.proofs.EndLemmas.{end_not_left, end_not_entered, service_not_moved}
 
 -- a move, all at once
 pub applied_of : (i : Tables) (a : List Machine) (steps : List Step) → IsMove i a steps → Applied steps a (applied a steps)

@@ -7,7 +7,7 @@ use Rattle.ra_model.specs.Costs.{parts_of}
 use Rattle.ra_journal.specs.Best.{best_of}
 use Rattle.ra_journal.specs.Legal.{Legal, Whole}
 use Rattle.ra_journal.specs.States.{state}
-use Rattle.ra_prepared.specs.declared.solved.Solved.{Solved}
+use Rattle.ra_crew.specs.declared.solved.Solved.{Solved}
 
 -- its journal is legal and has each proposal of each worker once, its best state is the first of least cost, and its parts
 -- are that state's

@@ -2,8 +2,8 @@ use Rattle.std.proofs.Common.{◌≤◌, length, sym, subst, arith}
 use Rattle.ra_model.specs.declared.numbers.Instance.{Instance}
 use Rattle.ra_model.specs.Assignments.{IsAssignment}
 use Rattle.ra_journal.proofs.EndLemmas.{sound_at}
-use Rattle.ra_prepared.proofs.RunLemmas.{within_journal}
-use Rattle.ra_prepared.proofs.prepared.bring_to_best.Goals as goal
+use Rattle.ra_crew.proofs.RunLemmas.{within_journal}
+use Rattle.ra_crew.proofs.prepared.bring_to_best.Goals as goal
 
 pub restore-requires-clause-within : goal.restore-requires-clause-within
 restore-requires-clause-within c =

@@ -1,5 +1,0 @@
-pub mod Touched
-pub mod Moving
-pub mod Weighing
-pub mod Alike
-pub mod Laws
