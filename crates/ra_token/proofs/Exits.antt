@@ -1,13 +1,13 @@
 -- Errors that are passed on, and what is told of a file that was read twice.
-use Rattle.std.proofs.Common.{◌≡◌, ℕ, ◌-◌, ◌^◌, ◌<◌, ◌≤◌, ⊎_elim, List, Option, Some, None, Result, Ok, Err, IfSome, sym, refl, ◌∙◌, subst, inl, inr, arith}
+use Rattle.std.proofs.Common.{◌≡◌, ℕ, ◌-◌, ◌^◌, ◌<◌, ◌≤◌, ⊎_elim, List, Option, Some, None, Result, Ok, Err, IfSome, slice_get, sym, refl, ◌∙◌, subst, inl, inr, arith}
 use Rattle.std.specs.Prelude.{⊤}
 use Rattle.ra_io.specs.Faults.{Rose}
 use Rattle.ra_token.specs.declared.answers.TheConstants.{LARGEST}
 use Rattle.ra_token.specs.declared.answers.TokenFault.{TokenFault}
 use Rattle.ra_token.specs.declared.answers.TokenFault.TheVariants.{ReadFault, BadByte, TooLarge, TooLong, NoMemory}
-use Rattle.ra_token.specs.TokenList.{IsAnswer}
+use Rattle.ra_token.specs.TokenList.{IsAnswer, tokens, tokens_before}
 use Rattle.ra_token.specs.Reads.{IsBetween}
-use Rattle.ra_token.specs.Scan.{IsReached, Begins, InRun, IsTaken, IsNext, FaultsAt}
+use Rattle.ra_token.specs.Scan.{IsReached, Begins, InRun, IsTaken, IsNext, FaultsAt, token_of}
 use Rattle.ra_token.proofs.Steps.{reached_here, next_of}
 use Rattle.ra_token.proofs.Scanning.{KeepsFiles}
 
@@ -93,6 +93,16 @@ pub told_next : (told told_now : Option (List ℕ)) (from start place value : �
 told_next None told_now from start place value same begins taken = tt
 told_next (Some bytes) told_now from start place value same begins taken =
     next_of bytes from start place value begins.reached (subst (λ t. IfSome t (λ xs. IsTaken xs start place value)) same taken)
+
+token_there : (told : Option (List ℕ)) (at start place value : ℕ) → IfSome told (λ bytes. IsNext bytes at start place value) → IfSome told (λ bytes. slice_get (tokens bytes) (tokens_before bytes at) ≡ Some (token_of value start))
+token_there None at start place value next = tt
+token_there (Some bytes) at start place value next = next.token
+
+-- what comes next is the next token
+pub told_token : (told told_now : Option (List ℕ)) (from at start place value : ℕ) → told_now ≡ told → at ≡ from → IfSome told_now (λ bytes. IsNext bytes at start place value) → IfSome told (λ bytes. slice_get (tokens bytes) (tokens_before bytes from) ≡ Some (token_of value start))
+told_token told told_now from at start place value same here next =
+    subst (λ k. IfSome told (λ bytes. slice_get (tokens bytes) (tokens_before bytes k) ≡ Some (token_of value start))) here
+    (subst (λ t. IfSome t (λ bytes. slice_get (tokens bytes) (tokens_before bytes at) ≡ Some (token_of value start))) same (token_there told_now at start place value next))
 
 -- a fault there comes next
 pub told_refused : (told told_now : Option (List ℕ)) (from at : ℕ) (fault : TokenFault) → told_now ≡ told → IfSome told (λ bytes. Begins bytes from at) → IfSome told_now (λ bytes. FaultsAt bytes at fault) → IfSome told (λ bytes. FaultsAt bytes from fault)

@@ -5,6 +5,7 @@ pub mod TokenLaws
 pub mod Steps
 pub mod InPiece
 pub mod Told
+pub mod Fetched
 pub mod Scanning
 pub mod Exits
 pub mod ToldByte

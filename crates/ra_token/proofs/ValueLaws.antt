@@ -84,3 +84,8 @@ told_more (Some bytes) (Some now) (Some next) from before between after t taken 
     adds_then bytes from.place between.place after.place (taken + 1) n all xs us zs number
     (adds_then bytes from.place before.place between.place taken 1 (taken + 1) xs ys us refl adds one)
     (subst (λ b. AddsValues b between.place after.place n us zs) is_next ready)
+
+-- as many, up to the same place
+pub told_as_many : (told : Option (List ℕ)) (from at place n k : ℕ) (xs ys : List ℕ) → at ≡ place → n ≡ k → IfSome told (λ bytes. AddsValues bytes from at n xs ys) → IfSome told (λ bytes. AddsValues bytes from place k xs ys)
+told_as_many told from at place n k xs ys same number adds =
+    subst (λ p. IfSome told (λ bytes. AddsValues bytes from p k xs ys)) same (subst (λ m. IfSome told (λ bytes. AddsValues bytes from at m xs ys)) number adds)
