@@ -5,7 +5,7 @@ ghost use Rattle.ra_model.specs.Numbers.{resource_count, machine_count, process_
 ghost use Rattle.ra_model.specs.Assignments.{IsAssignment};
 ghost use Rattle.ra_pins.specs.Pinned.{is_pinned, pinned_load, flagged_share};
 ghost use Rattle.ra_pins.specs.PinLists.{flag_at};
-ghost use Rattle.ra_pins.specs.Pins.{ArePins};
+ghost use Rattle.ra_pins.specs.Pins.{AreExact, ArePins};
 ghost use Rattle.ra_pins.specs.Loads.{IsTally};
 ghost use Rattle.ra_pins.specs.Laws.{Stays};
 
@@ -64,18 +64,12 @@ impl Pins {
         requires fits { IsAssignment inst.now.tables a0.now.items }
         ensures { IfOk result (λ pins. ArePins pins inst.now.tables a0.now.items) }
     {
-        let machines = inst.machines();
-        let resources = inst.resources();
-        let members = Members::make(alloc, inst)?;
-        let mut loads = copies(alloc, machines as usize * resources as usize, 0u64)?;
-        let mut search = Search::make(alloc, inst, a0)?;
-        settle::<Brand>(inst, a0, &members, &mut search, Blank::new(1));
-        let flags = search.into_flags();
-        add_loads::<Brand>(inst, a0, &flags, &mut loads, Blank::new(1));
+        let flags = flags_of(alloc, inst, a0)?;
+        let loads = loads_of(alloc, inst, a0, &flags)?;
         Ok(Pins {
             flags,
-            machines,
-            resources,
+            machines: inst.machines(),
+            resources: inst.resources(),
             loads,
         })
     }
@@ -100,6 +94,38 @@ impl Pins {
     {
         read_cell(&self.loads, self.resources, m.0, r.0)
     }
+}
+
+/// The flags of the pinned processes. What the search needs besides ends here.
+fn flags_of(alloc: Global, inst: &Instance, a0: &Assignment) -> Result<Fixed<bool>, NoMemory>
+    requires { IsAssignment inst.now.tables a0.now.items }
+    ensures { IfOk result (λ flags. AreExact inst.now.tables a0.now.items flags.items) }
+{
+    let members = Members::make(alloc, inst)?;
+    let mut search = Search::make(alloc, inst, a0)?;
+    settle::<Brand>(inst, a0, &members, &mut search, Blank::new(1));
+    Ok(search.into_flags())
+}
+
+/// By machine, then resource: what the flagged processes require that start there.
+fn loads_of(
+    alloc: Global,
+    inst: &Instance,
+    a0: &Assignment,
+    flags: &Fixed<bool>,
+) -> Result<Fixed<u64>, NoMemory>
+    requires fits { IsAssignment inst.now.tables a0.now.items }
+    requires flags { length flags.now.items ≡ process_count inst.now.tables }
+    ensures { IfOk result (λ loads. IsTally inst.now.tables (process_count inst.now.tables)
+        (flagged_share inst.now.tables (flag_at flags.now.items)) a0.now.items loads.items) }
+{
+    let mut loads = copies(
+        alloc,
+        inst.machines() as usize * inst.resources() as usize,
+        0u64,
+    )?;
+    add_loads::<Brand>(inst, a0, flags, &mut loads, Blank::new(1));
+    Ok(loads)
 }
 
 /// Adds to a table of zeros what the flagged processes require of the resources of their machines.

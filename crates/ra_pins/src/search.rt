@@ -52,13 +52,12 @@ impl Search {
     {
         let processes = inst.processes() as usize;
         let machines = inst.machines() as usize;
+        let kept = kept_at_start(alloc, inst, a0)?;
         let flags = copies(alloc, processes, false)?;
         let places = copies(alloc, processes, 1u32)?;
         let fuller = copies(alloc, machines, 0u32)?;
         let touched = copies(alloc, inst.services() as usize, false)?;
         let marks = copies(alloc, machines, 0u32)?;
-        let mut kept = copies(alloc, machines * inst.resources() as usize, 0u64)?;
-        keep_between::<Brand>(inst, a0, &mut kept, Blank::new(1));
         Ok(Search {
             flags,
             kept,
@@ -83,6 +82,21 @@ impl Search {
         } = self;
         flags
     }
+}
+
+/// What is kept at the start: what all processes require of the transient resources of their machines.
+fn kept_at_start(alloc: Global, inst: &Instance, a0: &Assignment) -> Result<Fixed<u64>, NoMemory>
+    requires { IsAssignment inst.now.tables a0.now.items }
+    ensures { IfOk result (λ kept. IsTally inst.now.tables (process_count inst.now.tables)
+        (row_share inst.now.tables columns.Transient) a0.now.items kept.items) }
+{
+    let mut kept = copies(
+        alloc,
+        inst.machines() as usize * inst.resources() as usize,
+        0u64,
+    )?;
+    keep_between::<Brand>(inst, a0, &mut kept, Blank::new(1));
+    Ok(kept)
 }
 
 /// Adds to a table of zeros what all processes require of the transient resources of their machines.

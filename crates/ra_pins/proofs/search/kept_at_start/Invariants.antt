@@ -1,5 +1,5 @@
 -- The ledger is the one of the blank that is handed in.
-use Rattle.ra_pins.proofs.search.Search.make.Given as goal
+use Rattle.ra_pins.proofs.search.kept_at_start.Given as goal
 
 abbrev pub ghosts-keep_between : goal.ghosts-keep_between
 ghosts-keep_between a = record { name = a.blank.name; parts = a.blank.parts }
