@@ -1,2 +1,3 @@
 pub mod Conditions
+pub mod Leaving
 pub mod Sharing

@@ -1,12 +1,13 @@
 ghost use Rattle.std.specs.Prelude.{◌≡◌, ◌≢◌, ℕ, ◌+◌, ◌*◌, ◌^◌, ◌<◌, ◌≤◌, ◌↔◌, [], ◌∷◌, None, true, false, pos, ◌-ℤ◌};
-ghost use Rattle.ra_model.specs.Numbers.{resource_count, machine_count, process_count, service_of, location_of, neighbourhood_of, spread_of, closed_at, transient_at, capacity_of, service_count};
+ghost use Rattle.ra_model.specs.Numbers.{resource_count, machine_count, process_count, service_of, neighbourhood_of, spread_of, closed_at, transient_at, capacity_of, service_count};
 ghost use Rattle.ra_model.specs.Assignments.{machine_at};
 ghost use Rattle.ra_model.specs.Services.{on_machine, in_neighbourhood, locations_of};
 ghost use Rattle.ra_moves.specs.Options.{leaving};
 ghost use Rattle.ra_moves.specs.Judging.{broken_by};
 ghost use Rattle.ra_moves.specs.Weighing.{local_change, moved_count, weighed_of};
 ghost use Rattle.ra_shift.specs.Conditions.{shifted, HasRoom, HasRoomBetween, FindsNeeds, MayLeave};
-ghost use Rattle.ra_shift.specs.Sharing.{AreRequired, use_without, row_cost, cost_of, way_cost, locations_without};
+ghost use Rattle.ra_shift.specs.Leaving.{machine_left, location_left, neighbourhood_left, spread_left, spread_wanted, MayGo, cost_left, cost_before};
+ghost use Rattle.ra_shift.specs.Sharing.{AreRequired, cost_of, way_cost};
 
 use crate::costs::{cost_with, cost_without, difference, way_cost};
 use crate::reads::{is_away, machine_of, may_leave, one_when, required_of, spread_without};
@@ -40,20 +41,20 @@ pub struct Shift<'w, 'a> {
     /// The same while it stays, and what its own way costs so far.
     before: u128,
     pub ghost process_known: { process.0 < process_count world.now.inst.now.tables },
-    ghost from_is: { from.0 ≡ machine_at world.now.kept.assignment.items process.0 },
+    ghost from_is: { from.0 ≡ machine_left world.now process.0 },
     ghost home_is: { home.0 ≡ machine_at world.now.start.now.items process.0 },
     ghost service_is: { service.0 ≡ service_of world.now.inst.now.tables process.0 },
     ghost required_are: { AreRequired world.now.inst.now.tables process.0 required },
-    ghost location_is: { location ≡ location_of world.now.inst.now.tables (machine_at world.now.kept.assignment.items process.0) },
-    ghost neighbourhood_is: { neighbourhood ≡ neighbourhood_of world.now.inst.now.tables (machine_at world.now.kept.assignment.items process.0) },
-    ghost spread_is: { spread_without ≡ locations_without world.now.inst.now.tables world.now.kept.assignment.items process.0 },
+    ghost location_is: { location ≡ location_left world.now process.0 },
+    ghost neighbourhood_is: { neighbourhood ≡ neighbourhood_left world.now process.0 },
+    ghost spread_is: { spread_without ≡ spread_left world.now process.0 },
     ghost spread_few: { spread_without ≤ 50000 },
-    ghost wants_is: { spread_min ≡ spread_of world.now.inst.now.tables (service_of world.now.inst.now.tables process.0) },
-    ghost may: { may_leave ≡ true → MayLeave world.now.inst.now.tables world.now.kept.assignment.items process.0 },
-    ghost may_not: { may_leave ≡ false → MayLeave world.now.inst.now.tables world.now.kept.assignment.items process.0 → ⊥ },
-    ghost without_is: { without ≡ row_cost world.now.inst.now.tables (machine_at world.now.kept.assignment.items process.0) (use_without world.now.inst.now.tables world.now.kept.assignment.items process.0) },
+    ghost wants_is: { spread_min ≡ spread_wanted world.now process.0 },
+    ghost may: { may_leave ≡ true → MayGo world.now process.0 },
+    ghost may_not: { may_leave ≡ false → MayGo world.now process.0 → ⊥ },
+    ghost without_is: { without ≡ cost_left world.now process.0 },
     ghost without_small: { without ≤ 30 * 2 ^ 96 },
-    ghost before_is: { before ≡ cost_of world.now.inst.now.tables world.now.kept.assignment.items (machine_at world.now.kept.assignment.items process.0) + way_cost world.now.inst.now.tables world.now.start.now.items process.0 (machine_at world.now.kept.assignment.items process.0) },
+    ghost before_is: { before ≡ cost_before world.now process.0 },
     ghost before_small: { before ≤ 2 ^ 102 },
 }
 
