@@ -35,13 +35,15 @@ pub(crate) struct Trial<'a, 'b> {
     pub ghost moves: { IsMove inst.now.tables at.now.items mv.now.steps },
     pub ghost begins: { IsAssignment inst.now.tables start.now.items },
     pub ghost fine: { Fine inst.now.tables start.now.items at.now.items },
-    pub ghost local: { AreLocal inst.now.tables start.now.items (applied at.now.items mv.now.steps) mv.now.steps },
+    pub ghost local: { AreLocal inst.now.tables start.now.items (applied at.now.items
+        mv.now.steps) mv.now.steps },
     pub ghost topology: { IsTopologyOf topo.now inst.now.tables },
     pub ghost rows_tables: { rows.now.tables ≡ inst.now.tables },
     pub ghost rows_start: { rows.now.start ≡ start.now.items },
     pub ghost rows_stand: { row_words.StandFor rows.now at.now.items },
     pub ghost cells_tables: { cells.now.inst.now.tables ≡ inst.now.tables },
-    pub ghost cells_stand: { cell_words.StandFor cells.now inst.now.tables start.now.items at.now.items },
+    pub ghost cells_stand: { cell_words.StandFor cells.now inst.now.tables start.now.items
+        at.now.items },
     pub ghost known: { AreRequired inst.now.tables mv.now.steps (length mv.now.steps) required },
 }
 

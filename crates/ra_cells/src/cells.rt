@@ -35,11 +35,16 @@ pub struct Cells<'a> {
     /// How many locations each service is in.
     spreads: Fixed<u32>,
     greatest: Greatest,
-    ghost starts_there: { AreStarts inst.now.tables (service_count inst.now.tables + 1) starts.items },
-    ghost machines_sorted: { AreSorted inst.now.tables (service_count inst.now.tables) machines.items },
-    ghost locations_sorted: { AreSorted inst.now.tables (service_count inst.now.tables) locations.items },
-    ghost neighbourhoods_sorted: { AreSorted inst.now.tables (service_count inst.now.tables) neighbourhoods.items },
-    ghost spreads_there: { AreDifferent inst.now.tables locations.items (service_count inst.now.tables) spreads.items },
+    ghost starts_there: { AreStarts inst.now.tables (service_count inst.now.tables + 1)
+        starts.items },
+    ghost machines_sorted: { AreSorted inst.now.tables (service_count inst.now.tables)
+        machines.items },
+    ghost locations_sorted: { AreSorted inst.now.tables (service_count inst.now.tables)
+        locations.items },
+    ghost neighbourhoods_sorted: { AreSorted inst.now.tables (service_count inst.now.tables)
+        neighbourhoods.items },
+    ghost spreads_there: { AreDifferent inst.now.tables locations.items (service_count
+        inst.now.tables) spreads.items },
     pub ghost counts_there: { length greatest.counts ≡ service_count inst.now.tables },
     pub ghost limit_there: { greatest.limit ≡ process_count inst.now.tables },
     pub ghost start_fits: { IsAssignment inst.now.tables start.now.items },

@@ -44,7 +44,8 @@ impl<'a> Model for Draft<'a> {
 
     ghost view = { λ d. drafted d.inst.now.tables d.lists };
 
-    ghost invariant = { λ d. IsBaseOf d.base d.inst.now.tables × IsKept (drafted d.inst.now.tables d.lists) d.parts };
+    ghost invariant = { λ d. IsBaseOf d.base d.inst.now.tables × IsKept (drafted
+        d.inst.now.tables d.lists) d.parts };
 }
 
 /// What is left of a draft: the edited instance and its two lists. The machines that were closed are closed.

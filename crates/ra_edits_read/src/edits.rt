@@ -39,9 +39,14 @@ impl Model for Edits {
 
     ghost Value = { EditLists };
 
-    ghost view = { λ e. record { width = e.width; edits = e.edits.items; requirements = e.requirements.items } };
+    ghost view = { λ e. record {
+      width = e.width;
+      edits = e.edits.items;
+      requirements = e.requirements.items;
+    } };
 
-    ghost invariant = { λ e. (length e.edits.items ≤ 100000) × ((e.width ≤ 20) × (length e.requirements.items ≡ length e.edits.items * e.width)) };
+    ghost invariant = { λ e. (length e.edits.items ≤ 100000) × ((e.width ≤ 20) × (length
+        e.requirements.items ≡ length e.edits.items * e.width)) };
 }
 
 impl Edits {

@@ -24,7 +24,8 @@ pub struct Expected<'a> {
 impl<'a> Expected<'a> {
     /// It was given nothing yet.
     pub fn make(expected: &'a [u8]) -> Expected<'a>
-        ensures none { taken_of result.expected.now result.agreed result.other ≡ opened expected.now }
+        ensures none { taken_of result.expected.now result.agreed result.other ≡ opened
+            expected.now }
         ensures sound { result.faults ≡ 0 }
     {
         Expected {

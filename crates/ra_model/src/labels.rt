@@ -25,7 +25,10 @@ impl Model for Places {
 
     ghost Value = { PlaceLists };
 
-    ghost view = { λ p. record { locations = p.locations.items; neighbourhoods = p.neighbourhoods.items } };
+    ghost view = { λ p. record {
+      locations = p.locations.items;
+      neighbourhoods = p.neighbourhoods.items;
+    } };
 }
 
 /// Which of its two labels a machine is asked for.

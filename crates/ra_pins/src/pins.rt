@@ -46,7 +46,12 @@ impl Model for Pins {
 
     ghost Value = { PinLists };
 
-    ghost view = { λ pins. record { flags = pins.flags.items; machines = pins.machines; resources = pins.resources; loads = pins.loads.items } };
+    ghost view = { λ pins. record {
+      flags = pins.flags.items;
+      machines = pins.machines;
+      resources = pins.resources;
+      loads = pins.loads.items;
+    } };
 
     ghost invariant = { λ pins. length pins.loads.items ≡ pins.machines * pins.resources };
 }

@@ -21,7 +21,8 @@ pub(crate) struct Best {
 impl Best {
     /// No option so far.
     pub(crate) fn none() -> Best
-        ensures { (w : World) (x : List ℕ) (d : Drawing) (allowed : ℕ) → IsBest w x d allowed 0 result }
+        ensures { (w : World) (x : List ℕ) (d : Drawing) (allowed : ℕ) → IsBest w x d allowed 0
+            result }
     {
         Best {
             cost: None,

@@ -34,9 +34,12 @@ pub fn plan<L: Ledger>(
         world.now.kept.assignment.items words.now drawing allowed }
     ensures weighed { result.weighed ≡ weighed_of world.now.inst.now.tables
         world.now.start.now.items world.now.kept.assignment.items result.mv.steps }
-    ensures offered { IsOffered world.now.inst.now.tables world.now.kept.assignment.items result.mv.steps }
-    ensures counted_one { drawing ≡ One → steps.new ≤ steps.old + 24 * resource_count world.now.inst.now.tables }
-    ensures counted_two { drawing ≡ Two → steps.new ≤ steps.old + 384 * resource_count world.now.inst.now.tables }
+    ensures offered { IsOffered world.now.inst.now.tables world.now.kept.assignment.items
+        result.mv.steps }
+    ensures counted_one { drawing ≡ One → steps.new ≤ steps.old + 24 * resource_count
+        world.now.inst.now.tables }
+    ensures counted_two { drawing ≡ Two → steps.new ≤ steps.old + 384 * resource_count
+        world.now.inst.now.tables }
 {
     let best = best_option(world, words, drawing, allowed, steps);
     let machines = world.instance().machines();

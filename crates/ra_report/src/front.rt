@@ -92,7 +92,8 @@ fn number_at(bytes: &[u8]) -> Option<u64>
 /// A number with one digit more, where it is below 2 ^ 64.
 fn one_more(value: u64, digit: u64) -> Option<u64>
     requires { digit ≤ 9 }
-    ensures { result ≡ (if nat_lt (10 * value + digit) (2 ^ 64) then Some (10 * value + digit) else None) }
+    ensures { result ≡ (if nat_lt (10 * value + digit) (2 ^ 64) then Some (10 * value + digit)
+        else None) }
 {
     value.checked_mul(10)?.checked_add(digit)
 }

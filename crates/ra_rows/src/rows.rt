@@ -43,9 +43,19 @@ impl<'a> Model for Rows<'a> {
 
     ghost use Rattle.ra_rows.specs.Rows.{AreRows};
 
-    ghost view = { λ rows. record { tables = rows.inst.now.tables; start = rows.a0.now.items; used = rows.used.items; between = rows.between.items } };
+    ghost view = { λ rows. record {
+      tables = rows.inst.now.tables;
+      start = rows.a0.now.items;
+      used = rows.used.items;
+      between = rows.between.items;
+    } };
 
-    ghost invariant = { λ rows. AreRows (record { tables = rows.inst.now.tables; start = rows.a0.now.items; used = rows.used.items; between = rows.between.items }) };
+    ghost invariant = { λ rows. AreRows (record {
+      tables = rows.inst.now.tables;
+      start = rows.a0.now.items;
+      used = rows.used.items;
+      between = rows.between.items;
+    }) };
 }
 
 impl<'a> Rows<'a> {

@@ -26,7 +26,12 @@ impl Model for Tokens {
 
     ghost Value = { Standing };
 
-    ghost view = { λ t. record { name = t.name; place = t.place; start = t.window.start; ready = take t.window.filled t.window.buffer.items } };
+    ghost view = { λ t. record {
+      name = t.name;
+      place = t.place;
+      start = t.window.start;
+      ready = take t.window.filled t.window.buffer.items;
+    } };
 
     ghost invariant = { λ t. t.place ≤ PLACE_LIMIT };
 }

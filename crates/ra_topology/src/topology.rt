@@ -35,7 +35,11 @@ impl Model for Topology {
 
     ghost Value = { TopologyLists };
 
-    ghost view = { λ t. record { members = t.members; needs = t.needs; dependants = t.dependants } };
+    ghost view = { λ t. record {
+      members = t.members;
+      needs = t.needs;
+      dependants = t.dependants;
+    } };
 }
 
 impl Topology {

@@ -47,7 +47,8 @@ fn transient_flag(r: u32) -> u32
 /// Adds the count of services and the line of each.
 pub(crate) fn push_services(text: &mut Fixed<u8>, words: &Words)
     requires { length text.old.items + 8512 ≤ text.old.room }
-    ensures { Adds text.old text.new (lines_text (service_lines (trial_word words.now.number))) 8512 }
+    ensures { Adds text.old text.new (lines_text (service_lines (trial_word words.now.number)))
+        8512 }
 {
     push_line(text, &[SERVICES]);
     for s in 0..SERVICES {
@@ -72,7 +73,8 @@ fn push_service(text: &mut Fixed<u8>, words: &Words, s: u32)
 /// Adds the count of processes and the line of each.
 pub(crate) fn push_processes(text: &mut Fixed<u8>, words: &Words)
     requires { length text.old.items + 67012 ≤ text.old.room }
-    ensures { Adds text.old text.new (lines_text (process_lines (trial_word words.now.number))) 67012 }
+    ensures { Adds text.old text.new (lines_text (process_lines (trial_word words.now.number)))
+        67012 }
 {
     push_line(text, &[PROCESSES]);
     for p in 0..PROCESSES {

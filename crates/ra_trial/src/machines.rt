@@ -23,7 +23,8 @@ pub(crate) fn make_line(alloc: Global) -> Result<Fixed<u32>, NoMemory>
 pub(crate) fn push_machines(text: &mut Fixed<u8>, line: &mut Fixed<u32>, words: &Words)
     requires room { length text.old.items + 121112 ≤ text.old.room }
     requires line { line.old.room ≡ 110 }
-    ensures { Adds text.old text.new (lines_text (machine_lines (trial_word words.now.number))) 121112 }
+    ensures { Adds text.old text.new (lines_text (machine_lines (trial_word words.now.number)))
+        121112 }
 {
     push_line(text, &[MACHINES]);
     for m in 0..MACHINES {
@@ -36,7 +37,8 @@ fn push_machine(text: &mut Fixed<u8>, line: &mut Fixed<u32>, words: &Words, m: u
     requires machine { m < 100 }
     requires room { length text.old.items + 1211 ≤ text.old.room }
     requires line { line.old.room ≡ 110 }
-    ensures adds { Adds text.old text.new (line_text (machine_line (trial_word words.now.number) m)) 1211 }
+    ensures adds { Adds text.old text.new (line_text (machine_line (trial_word words.now.number)
+        m)) 1211 }
     ensures line { line.new.room ≡ 110 }
 {
     gather_machine(line, words, m);

@@ -27,7 +27,8 @@ pub struct Law;
 impl<V: Story> TableRule<Option<V>, Sight<V::Note, V::Opening>, Key<V>> for Law {
     ghost use Rattle.ra_turn.specs.Law.{Ruled, maker};
 
-    ghost holds = { λ key. Ruled V.opening V.notes V.author V.touches key.passes key.turns key.guards (V.opening key.start.value) };
+    ghost holds = { λ key. Ruled V.opening V.notes V.author V.touches key.passes key.turns
+        key.guards (V.opening key.start.value) };
 
     ghost first = { λ key. maker key.passes key.turns (V.opening key.start.value) };
 }

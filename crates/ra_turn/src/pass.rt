@@ -16,7 +16,8 @@ pub struct Pass<V: Story> {
     pub ghost lefts: { (view seat.me).left ≡ left },
     pub ghost seens: { length (view seat.me).own.seen ≡ seen },
     pub ghost alone: { length (view seat.me).joined ≡ 0 },
-    pub ghost owned: { by V.author (view seat.me).own.number (view seat.me).own.seen ≡ (view seat.me).own.mine },
+    pub ghost owned: { by V.author (view seat.me).own.number (view seat.me).own.seen ≡ (view
+        seat.me).own.mine },
     pub ghost small: { seen < 2 ^ 62 },
     pub ghost within: { All (λ k. 3 + k.guard < seat.table_id.words) (view seat.me).grips },
 }

@@ -137,7 +137,8 @@ fn read_entry<F: Files>(
 /// Takes in the entry that a line of a report tells, where it may follow.
 fn take_entry(line: &[u8], checker: &mut Checker<'_>) -> Result<bool, VerifyFault>
     requires ready { IsOpen checker.old }
-    ensures right { IsOk result → (result ≡ Ok true) × HasTakenLine checker.old checker.new line.now }
+    ensures right { IsOk result → (result ≡ Ok true) × HasTakenLine checker.old checker.new
+        line.now }
     ensures wrong { IfErr result (λ why. (why ≡ fault.Wrong (11 + length (entries_in checker.old)))
         × ((e : Recorded) → MayFollow checker.old e
         → line.now ≢ entry_line (length (entries_in checker.old)) e)) }

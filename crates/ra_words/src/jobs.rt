@@ -142,8 +142,10 @@ struct Names {
 /// Makes these names. A job's other parts are made before, so that nothing can fail while these are owned.
 fn take_names(alloc: Global, taken: &ArgMatches<'_>) -> Result<Names, NoMemory>
     ensures model { IfOk result (λ names. names.model ≡ word_at (plain_of (found_of taken.now)) 0) }
-    ensures initial { IfOk result (λ names. names.initial ≡ word_at (plain_of (found_of taken.now)) 1) }
-    ensures closed { IfOk result (λ names. names.closed ≡ first_value (found_of taken.now) (codes "closed")) }
+    ensures initial { IfOk result (λ names. names.initial ≡ word_at (plain_of (found_of
+        taken.now)) 1) }
+    ensures closed { IfOk result (λ names. names.closed ≡ first_value (found_of taken.now) (codes
+        "closed")) }
 {
     Ok(Names {
         model: plain_name(alloc, taken, 0)?,

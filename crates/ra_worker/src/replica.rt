@@ -92,7 +92,8 @@ impl<'a> Replica<'a> {
 
     /// How many proposals its worker has left.
     pub fn left(&self) -> u64
-        ensures { result ≡ budget self.now.proposals.lots.now self.now.proposals.worker - self.now.proposals.number }
+        ensures { result ≡ budget self.now.proposals.lots.now self.now.proposals.worker -
+            self.now.proposals.number }
     {
         self.proposals.budget() - self.proposals.number
     }

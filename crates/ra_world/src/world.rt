@@ -36,7 +36,8 @@ pub struct World<'a> {
     pub ghost fits: { IsAssignment inst.now.tables start.now.items },
     pub ghost topology: { IsTopologyOf topo.now inst.now.tables },
     pub ghost keeps: { Keeps kept inst.now.tables start.now.items },
-    pub ghost unbroken: { first_broken inst.now.tables start.now.items kept.assignment.items ≡ None },
+    pub ghost unbroken: { first_broken inst.now.tables start.now.items kept.assignment.items ≡
+        None },
 }
 
 impl<'a> World<'a> {
