@@ -1,5 +1,5 @@
 -- One row more at the end of a list of rows.
-use Rattle.std.proofs.Common.{◌≡◌, ℕ, zero, suc, ◌+◌, ◌*◌, ◌<◌, ◌≤◌, refl, ap, ◌∙◌, sym, subst, List, [], ◌∷◌, ◌++◌, length, map, arith, add-one, ⊎_elim}
+use Rattle.std.proofs.Common.{◌≡◌, ℕ, zero, suc, ◌+◌, ◌*◌, ◌^◌, ◌<◌, ◌≤◌, refl, ap, ◌∙◌, sym, subst, List, [], ◌∷◌, ◌++◌, length, map, arith, add-one, ⊎_elim}
 use Rattle.std.proofs.lemmas.List.{map-append, length-map, get_or_append_left, length_push, nil_from_length}
 use Rattle.std.proofs.lemmas.Bool.{cases_lt}
 use Rattle.std.proofs.Math.Nat.{mul-le-mul_right}
@@ -43,6 +43,9 @@ below_next P n before here k within = ⊎_elim (λ (h : k < n). before k h) (λ 
 
 pub row_within : (R M m n room : ℕ) → n ≡ m * R → room ≡ M * R → m < M → n + R ≤ room
 row_within R M m n room items all below = let wide : (m + 1) * R ≤ M * R = mul-le-mul_right R (omega arith) in omega (arith, items, all, wide)
+
+pub row_fits : (R M m : ℕ) → m < M → M ≤ 5000 → R ≤ 5000 → m * R + R < 2 ^ 64
+row_fits R M m below few narrow = let wide : m * R ≤ 5000 * R = mul-le-mul_right R (omega arith) in omega (arith, wide)
 
 pub has_machine : (R M m : ℕ) (t new : MachineTables) (row : MachineRow) → HasMachines R M m t → new.rows.items ≡ t.rows.items ++ row ∷ []
     → length new.capacities.items ≡ length t.capacities.items + R → length new.safeties.items ≡ length t.safeties.items + R → length new.move_costs.items ≡ length t.move_costs.items + M

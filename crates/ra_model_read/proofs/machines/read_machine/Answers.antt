@@ -1,7 +1,7 @@
-use Rattle.std.proofs.Common.{refl}
+use Rattle.std.proofs.Common.{refl, arith}
 use Rattle.ra_model_read.specs.ModelText.{machine}
 use Rattle.ra_model_read.proofs.Steps.{gives_bind, gives_then, refuses_first, refuses_next, refused_at_exit}
-use Rattle.ra_model_read.proofs.Rows.{machine_pushed, row_within, has_machine}
+use Rattle.ra_model_read.proofs.Rows.{machine_pushed, row_within, row_fits, has_machine}
 use Rattle.ra_model_read.proofs.machines.read_machine.Goals as goal
 
 pub returns-in_err-neighbourhood-clause-refuses : goal.returns-in_err-neighbourhood-clause-refuses
@@ -39,3 +39,18 @@ read_numbers-requires-2-clause-room g c = row_within _ _ _ _ _ c.requires.has.sa
 
 pub read_numbers-requires-3-clause-room : goal.read_numbers-requires-3-clause-room
 read_numbers-requires-3-clause-room g c = row_within _ _ _ _ _ c.requires.has.move_costs c.requires.has.move_costs_room c.requires.below
+
+pub overflow_mul-row : goal.overflow_mul-row
+overflow_mul-row g c = omega (arith, row_fits c.args.resource_count _ c.args.m c.requires.below c.requires.within (omega arith))
+
+pub overflow_mul-ways : goal.overflow_mul-ways
+overflow_mul-ways g c = omega (arith, row_fits c.args.machine_count _ c.args.m c.requires.below c.requires.within c.requires.within)
+
+pub read_numbers-requires-clause-fits : goal.read_numbers-requires-clause-fits
+read_numbers-requires-clause-fits g c = row_fits c.args.resource_count _ c.args.m c.requires.below c.requires.within (omega arith)
+
+pub read_numbers-requires-2-clause-fits : goal.read_numbers-requires-2-clause-fits
+read_numbers-requires-2-clause-fits g c = row_fits c.args.resource_count _ c.args.m c.requires.below c.requires.within (omega arith)
+
+pub read_numbers-requires-3-clause-fits : goal.read_numbers-requires-3-clause-fits
+read_numbers-requires-3-clause-fits g c = row_fits c.args.machine_count _ c.args.m c.requires.below c.requires.within c.requires.within
