@@ -3,21 +3,17 @@ use Rattle.std.proofs.Common.{◌≡◌, ◌≢◌, ℕ, ◌<◌, ◌≤◌, Boo
 use Rattle.std.proofs.lemmas.Bool.{cond-true, cond-false, and_from, and_left, and_right, not_from_true, not_from_false}
 use Rattle.ra_base.specs.declared.ids.Machine.{Machine}
 use Rattle.ra_base.specs.declared.causes.Cause.{Cause}
-use Rattle.ra_base.specs.declared.causes.Cause.TheVariants.{Repeat, Same, Capacity, Transient, Conflict, Spread, Dependency, Closed}
-use Rattle.ra_base.specs.Sums.{one_if, is_named}
+use Rattle.ra_base.specs.declared.causes.Cause.TheVariants.{Capacity, Transient, Conflict, Spread, Dependency, Closed}
+use Rattle.ra_base.specs.Sums.{one_if}
 use Rattle.ra_model.specs.declared.raw.Tables.{Tables}
 use Rattle.ra_model.specs.Numbers.{transient_at, capacity_of, spread_of, need_of, neighbourhood_of, closed_at, service_of}
 use Rattle.ra_model.specs.Assignments.{machine_at}
 use Rattle.ra_model.specs.Usage.{use_of, transient_of}
 use Rattle.ra_model.specs.Services.{is_of, of_service, on_machine, in_neighbourhood, locations_of, in_location}
 use Rattle.ra_model.specs.Broken.{cause_if, capacity_test, transient_test, conflict_test, spread_test, near_of, far_test, closed_test}
-use Rattle.ra_moves.specs.declared.steps.Step.{Step}
-use Rattle.ra_moves.specs.Steps.{step_at, process_in, from_in, to_in}
-use Rattle.ra_moves.specs.Judging.{repeat_test, same_test}
 use Rattle.ra_causes.specs.declared.marks.Mark.{Mark}
 use Rattle.ra_causes.specs.declared.marks.Mark.TheVariants.{OnMachine, InLocation, InNeighbourhood}
 use Rattle.ra_causes.specs.Marks.{mark_of, has_mark, marked}
-use Rattle.ra_causes.proofs.StepLemmas.{from_read, to_read}
 
 -- a test that failed, and one that held
 pub failed_if : (failed : Bool) (cause : Cause) → failed ≡ true → Some cause ≡ cause_if failed cause
@@ -128,28 +124,6 @@ pub closed_home : (i : Tables) (a0 b : List Machine) (p home m : ℕ) → home �
 unfolding closed_test
 closed_home i a0 b p home m home_is m_is same = rw (← home_is, ← m_is) (held_if _ _ (and_right _ _ (not_from_true _ (eq-eqb home m same))))
 
--- steps
-
-pub same_some : (steps : List Step) (j : ℕ) (s : Step) → s ≡ step_at steps j → s.from.0 ≡ s.to.0 → same_test steps j ≡ Some (Same s.process)
-unfolding same_test from_in to_in process_in
-same_some steps j s is same = let here = rw is at same in rw is (sym (failed_if _ _ (eq-eqb _ _ here)))
-
-pub same_none : (steps : List Step) (j : ℕ) (s : Step) → s ≡ step_at steps j → s.from.0 ≢ s.to.0 → same_test steps j ≡ None
-unfolding same_test
-same_none steps j s is apart = sym (held_if _ _ (ne_eqb _ _ (λ same. apart (sym (from_read steps j s is) ∙ same ∙ to_read steps j s is))))
-
-process_number : (steps : List Step) (j : ℕ) (s : Step) → s ≡ step_at steps j → process_in steps j ≡ s.process.0
-unfolding process_in
-process_number steps j s is = ap (λ (t : Step). t.process.0) (sym is)
-
-pub repeat_some : (steps : List Step) (j : ℕ) (s : Step) → s ≡ step_at steps j → is_named j (process_in steps) s.process.0 ≡ true → repeat_test steps j ≡ Some (Repeat s.process)
-unfolding repeat_test
-repeat_some steps j s is named = let process : process_in steps j ≡ s.process.0 = process_number steps j s is in rw process (sym (failed_if _ _ named))
-
-pub repeat_none : (steps : List Step) (j : ℕ) (s : Step) → s ≡ step_at steps j → is_named j (process_in steps) s.process.0 ≡ false → repeat_test steps j ≡ None
-unfolding repeat_test
-repeat_none steps j s is unnamed = let process : process_in steps j ≡ s.process.0 = process_number steps j s is in rw process (sym (held_if _ _ unnamed))
-
 pub ruleset capacities = (capacity_over, capacity_within)
 
 pub ruleset transients = (transient_over, transient_within, transient_once)
@@ -161,7 +135,3 @@ pub ruleset spreads = (spread_few, spread_enough)
 pub ruleset fars = (far_some, far_none)
 
 pub ruleset closes = (closed_some, closed_open, closed_home)
-
-pub ruleset repeats = (repeat_some, repeat_none)
-
-pub ruleset sames = (same_some, same_none)

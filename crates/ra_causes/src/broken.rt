@@ -5,10 +5,9 @@ ghost use Rattle.ra_moves.specs.Judging.{broken_by};
 ghost use Rattle.ra_moves.specs.Moving.{IsOffered};
 ghost use Rattle.ra_causes.specs.Trials.{tables_of, initial_of, after_of};
 
-use crate::steps::{repeat_of, same_of};
 use crate::trial::Trial;
 use ra_base::{Cause, Steps};
-use ra_moves::Move;
+use ra_moves::{Move, repeat_of, same_of};
 use ra_world::World;
 use std::sync::ledger::Ledger;
 

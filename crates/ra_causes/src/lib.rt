@@ -10,7 +10,6 @@ mod holding;
 mod locations;
 mod marks;
 mod services;
-mod steps;
 mod trial;
 mod values;
 

@@ -4,12 +4,14 @@
 #![tactic(auto)]
 
 mod drawn;
+mod flaws;
 mod moves;
 mod replace;
 mod steps;
 mod verdicts;
 
 pub use drawn::{options, resolve};
+pub use flaws::{first_flaw, repeat_of, same_of};
 pub use moves::Move;
 pub use replace::{apply, undo};
 pub use steps::{MoveKind, Step};

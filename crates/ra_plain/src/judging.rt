@@ -8,11 +8,10 @@ ghost use Rattle.ra_check.specs.Made.{IsMadeFor};
 ghost use Rattle.ra_moves.specs.Steps.{StandsAt, from_in, to_in};
 ghost use Rattle.ra_moves.specs.Judging.{judge, rise_test, verdict_of};
 
-use crate::refusals::first_flaw;
 use ra_base::{Assignment, Cause};
 use ra_check::{Scratch, first_broken, parts};
 use ra_model::Instance;
-use ra_moves::{Move, Verdict, apply, undo};
+use ra_moves::{Move, Verdict, apply, first_flaw, undo};
 
 /// The verdict on a move of assignment `a`, whose cost is `before`: the first cause for which it is refused, in the
 /// order Repeat, Same, the first constraint that is broken after it, Rise; or Done with the cost after it. The move is

@@ -4,7 +4,6 @@
 
 mod judging;
 mod planning;
-mod refusals;
 
 pub use judging::judge_plainly;
 pub use planning::{Planned, plan_plainly};

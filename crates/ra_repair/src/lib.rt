@@ -5,7 +5,6 @@
 mod above;
 mod apart;
 mod far;
-mod flaws;
 mod following;
 mod kept;
 mod options;

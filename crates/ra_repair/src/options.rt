@@ -10,12 +10,11 @@ ghost use Rattle.ra_repair.specs.Keeping.{Keeps};
 ghost use Rattle.ra_repair.specs.Penalty.{penalty};
 ghost use Rattle.ra_repair.specs.Runs.{try_count, try_option, penalty_by, option_penalty, chosen, least_after};
 
-use crate::flaws::first_flaw;
 use crate::following::{follow, go_back};
 use crate::kept::Kept;
 use ra_base::{Assignment, Drawing, Steps};
 use ra_model::Instance;
-use ra_moves::{Move, options, resolve};
+use ra_moves::{Move, first_flaw, options, resolve};
 use ra_topology::Topology;
 use std::sync::ledger::Ledger;
 

@@ -4,23 +4,23 @@ ghost use Rattle.ra_base.specs.Sums.{is_named};
 ghost use Rattle.ra_moves.specs.Judging.{repeat_test, repeat_of, same_test, same_of};
 ghost use Rattle.ra_moves.specs.Steps.{process_in};
 
+use crate::moves::Move;
 use ra_base::{Cause, Process};
-use ra_moves::Move;
 
 /// The cause for which a move is refused whatever it is applied to: Repeat, else Same.
 #[tactic(auto, using(ra_base::proofs::Searches::choices))]
-pub(crate) fn first_flaw(mv: &Move) -> Option<Cause>
+pub fn first_flaw(mv: &Move) -> Option<Cause>
     ensures { result ≡ or_else (repeat_of mv.now.steps) (same_of mv.now.steps) }
 {
-    match first_repeat(mv) {
+    match repeat_of(mv) {
         Some(cause) => Some(cause),
-        None => first_same(mv),
+        None => same_of(mv),
     }
 }
 
-/// The first step that names a process of an earlier step.
-#[tactic(auto, using(ra_base::proofs::Searches::searches), unfolding(ra_moves::specs::Judging::repeat_of))]
-fn first_repeat(mv: &Move) -> Option<Cause>
+/// The cause Repeat of the first step that names a process of an earlier step.
+#[tactic(auto, using(ra_base::proofs::Searches::searches), unfolding(crate::specs::Judging::repeat_of))]
+pub fn repeat_of(mv: &Move) -> Option<Cause>
     ensures { result ≡ repeat_of mv.now.steps }
 {
     for j in 0..mv.steps() {
@@ -32,7 +32,8 @@ fn first_repeat(mv: &Move) -> Option<Cause>
 }
 
 /// One step, where it names a process of an earlier step.
-#[tactic(auto, unfolding(ra_moves::specs::Judging::repeat_test, ra_moves::specs::Steps::process_in, ra_model::specs::Broken::cause_if))]
+#[inline(always)]
+#[tactic(auto, unfolding(crate::specs::Judging::repeat_test, crate::specs::Steps::process_in, ra_model::specs::Broken::cause_if))]
 fn repeat_test(mv: &Move, j: u32) -> Option<Cause>
     requires { j < length mv.now.steps }
     ensures { result ≡ repeat_test mv.now.steps j }
@@ -46,7 +47,8 @@ fn repeat_test(mv: &Move, j: u32) -> Option<Cause>
 }
 
 /// Whether one of the first steps of a move names a process.
-#[tactic(auto, using(ra_base::proofs::Named::names), unfolding(ra_moves::specs::Steps::process_in))]
+#[inline(always)]
+#[tactic(auto, using(ra_base::proofs::Named::names), unfolding(crate::specs::Steps::process_in))]
 fn is_named(mv: &Move, count: u32, process: Process) -> bool
     requires { count ≤ length mv.now.steps }
     ensures { result ≡ is_named count (process_in mv.now.steps) process.0 }
@@ -59,9 +61,9 @@ fn is_named(mv: &Move, count: u32, process: Process) -> bool
     false
 }
 
-/// The first step that leaves its process where it is.
-#[tactic(auto, using(ra_base::proofs::Searches::searches), unfolding(ra_moves::specs::Judging::same_of))]
-fn first_same(mv: &Move) -> Option<Cause>
+/// The cause Same of the first step that leaves its process where it is.
+#[tactic(auto, using(ra_base::proofs::Searches::searches), unfolding(crate::specs::Judging::same_of))]
+pub fn same_of(mv: &Move) -> Option<Cause>
     ensures { result ≡ same_of mv.now.steps }
 {
     for j in 0..mv.steps() {
@@ -73,7 +75,8 @@ fn first_same(mv: &Move) -> Option<Cause>
 }
 
 /// One step, where it leaves its process where it is.
-#[tactic(auto, unfolding(ra_moves::specs::Judging::same_test, ra_moves::specs::Steps::process_in, ra_moves::specs::Steps::from_in, ra_moves::specs::Steps::to_in, ra_model::specs::Broken::cause_if))]
+#[inline(always)]
+#[tactic(auto, unfolding(crate::specs::Judging::same_test, crate::specs::Steps::process_in, crate::specs::Steps::from_in, crate::specs::Steps::to_in, ra_model::specs::Broken::cause_if))]
 fn same_test(mv: &Move, j: u32) -> Option<Cause>
     requires { j < length mv.now.steps }
     ensures { result ≡ same_test mv.now.steps j }

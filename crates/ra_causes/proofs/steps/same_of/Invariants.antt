@@ -1,7 +1,0 @@
-use Rattle.std.proofs.Common.{◌≡◌, None}
-use Rattle.ra_base.specs.Searches.{first}
-use Rattle.ra_moves.specs.Judging.{same_test}
-use Rattle.ra_causes.proofs.steps.same_of.Given as goal
-
-abbrev pub invariant-loop-j : goal.invariant-loop-j
-invariant-loop-j l = first l.j (same_test l.mv.steps) ≡ None
