@@ -23,7 +23,8 @@ closed_fault token.NoMemory = NoMemory
 -- a token that names no machine
 unfoldable pub machine_test : Tables → Option Token → Option ClosedFault
 machine_test i None = None
-machine_test i (Some t) = if nat_lt t.value (machine_count i) then None else Some (NoMachine t.at t.value)
+machine_test i (Some t) =
+    if nat_lt t.value (machine_count i) then None else Some (NoMachine t.at t.value)
 
 unfoldable pub token_test : List ℕ → Tables → ℕ → Option ClosedFault
 token_test bytes i k = machine_test i (slice_get (tokens bytes) k)
@@ -35,7 +36,8 @@ file_fault (Some fault) = Some (closed_fault fault)
 
 -- the first refusal of a closed list
 unfoldable pub closed_refusal : List ℕ → Tables → Option ClosedFault
-closed_refusal bytes i = or_else (first (length (tokens bytes)) (token_test bytes i)) (file_fault (first_fault bytes))
+closed_refusal bytes i =
+    or_else (first (length (tokens bytes)) (token_test bytes i)) (file_fault (first_fault bytes))
 
 -- whether one of the tokens names machine m
 abbrev pub names_machine : List Token → ℕ → Bool
@@ -45,4 +47,5 @@ names_machine ts m = list_any (λ t. t.value == m) ts
 pub record IsClosedOf (bytes : List ℕ) (i : Tables) (flags : List Bool) : Type 0 where
   pub accepted : closed_refusal bytes i ≡ None
   pub one_each : length flags ≡ machine_count i
-  pub named : (m : ℕ) → m < machine_count i → slice_index_or flags m false ≡ names_machine (tokens bytes) m
+  pub named : (m : ℕ) → m < machine_count i
+      → slice_index_or flags m false ≡ names_machine (tokens bytes) m

@@ -29,7 +29,8 @@ none_left (Some fault) p = assign_fault fault
 -- what is wrong with the machine of process p, which is token p
 unfoldable pub machine_test : Tables → Option TokenFault → ℕ → Option Token → Option AssignFault
 machine_test i fault p None = Some (none_left fault p)
-machine_test i fault p (Some t) = if nat_lt t.value (machine_count i) then None else Some (NoMachine (record { 0 = p }) t.value)
+machine_test i fault p (Some t) =
+    if nat_lt t.value (machine_count i) then None else Some (NoMachine (record { 0 = p }) t.value)
 
 unfoldable pub process_test : List ℕ → Tables → ℕ → Option AssignFault
 process_test bytes i p = machine_test i (first_fault bytes) p (slice_get (tokens bytes) p)
@@ -45,7 +46,8 @@ end_test bytes n = behind_test (first_fault bytes) (slice_get (tokens bytes) n)
 
 -- the first refusal of an assignment file
 unfoldable pub assign_refusal : List ℕ → Tables → Option AssignFault
-assign_refusal bytes i = or_else (first (process_count i) (process_test bytes i)) (end_test bytes (process_count i))
+assign_refusal bytes i =
+    or_else (first (process_count i) (process_test bytes i)) (end_test bytes (process_count i))
 
 -- the machine that a token names
 abbrev pub machine_of : Token → Machine

@@ -44,4 +44,9 @@ balance_bound i = total (balance_count i) (λ b. balance_weight_of i b * lack i 
 
 -- the bound: its two parts and their sum
 unfoldable pub bound_of : Tables → Bound
-bound_of i = record { load = load_bound i; balance = balance_bound i; total = load_bound i + balance_bound i }
+bound_of i =
+    record {
+      load = load_bound i;
+      balance = balance_bound i;
+      total = load_bound i + balance_bound i;
+    }

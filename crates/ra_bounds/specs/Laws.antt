@@ -17,7 +17,9 @@ pub record IsBelow (i : Tables) (a0 a : List Machine) : Type 0 where
 
 -- no feasible assignment costs less than the bound
 abbrev pub NoneCostsLess : Type 0
-NoneCostsLess = (i : Tables) (a0 a : List Machine) → WellFormed i → IsAssignment i a → Feasible i a0 a → IsBelow i a0 a
+NoneCostsLess =
+    (i : Tables) (a0 a : List Machine) → WellFormed i → IsAssignment i a → Feasible i a0 a
+    → IsBelow i a0 a
 
 -- the bound of an instance and a start is at most the cost of an assignment, and so is each of its parts
 pub record IsBelowPinned (i : Tables) (a0 a : List Machine) : Type 0 where
@@ -27,8 +29,11 @@ pub record IsBelowPinned (i : Tables) (a0 a : List Machine) : Type 0 where
 
 -- no assignment that is feasible with respect to the start costs less than the bound of both
 abbrev pub NoneCostsLessPinned : Type 0
-NoneCostsLessPinned = (i : Tables) (a0 a : List Machine) → WellFormed i → IsAssignment i a → Feasible i a0 a → IsBelowPinned i a0 a
+NoneCostsLessPinned =
+    (i : Tables) (a0 a : List Machine) → WellFormed i → IsAssignment i a → Feasible i a0 a
+    → IsBelowPinned i a0 a
 
 -- which is at least the bound of the instance alone
 abbrev pub PinnedIsAtLeast : Type 0
-PinnedIsAtLeast = (i : Tables) (a0 : List Machine) → (bound_of i).total ≤ (pinned_bound_of i a0).total
+PinnedIsAtLeast =
+    (i : Tables) (a0 : List Machine) → (bound_of i).total ≤ (pinned_bound_of i a0).total

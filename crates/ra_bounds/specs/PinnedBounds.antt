@@ -23,4 +23,9 @@ pinned_load_bound i a0 = total (resource_count i) (λ r. load_weight_of i r * pi
 
 -- the bound: this load, the balance of the bound of the instance alone, and their sum
 unfoldable pub pinned_bound_of : Tables → List Machine → Bound
-pinned_bound_of i a0 = record { load = pinned_load_bound i a0; balance = balance_bound i; total = pinned_load_bound i a0 + balance_bound i }
+pinned_bound_of i a0 =
+    record {
+      load = pinned_load_bound i a0;
+      balance = balance_bound i;
+      total = pinned_load_bound i a0 + balance_bound i;
+    }

@@ -19,12 +19,15 @@ pub record FindsNeeds (i : Tables) (b : List Machine) (s label : ℕ) : Type 0 w
 
 -- where service s has no process in a neighbourhood, no service that needs it has one there
 pub record LeavesNone (i : Tables) (b : List Machine) (s label : ℕ) : Type 0 where
-  pub each : in_neighbourhood i b s label ≡ 0 → (u : ℕ) → u < service_count i → depends i u s ≡ true → in_neighbourhood i b u label ≡ 0
+  pub each : in_neighbourhood i b s label ≡ 0 → (u : ℕ) → u < service_count i → depends i u s ≡ true
+      → in_neighbourhood i b u label ≡ 0
 
 -- the process of each of the first n steps finds what its service needs where it goes, and leaves none alone
 pub record KeepNear (i : Tables) (b : List Machine) (steps : List Step) (n : ℕ) : Type 0 where
-  pub finds : (j : ℕ) → j < n → FindsNeeds i b (service_in i steps j) (neighbourhood_of i (to_in steps j))
-  pub leaves : (j : ℕ) → j < n → LeavesNone i b (service_in i steps j) (neighbourhood_of i (from_in steps j))
+  pub finds : (j : ℕ) → j < n
+      → FindsNeeds i b (service_in i steps j) (neighbourhood_of i (to_in steps j))
+  pub leaves : (j : ℕ) → j < n
+      → LeavesNone i b (service_in i steps j) (neighbourhood_of i (from_in steps j))
 
 -- member x of some, which are of service s, is far from what dependency k needs
 unfoldable pub far_member : Tables → List Machine → ℕ → ℕ → List Process → ℕ → Option Cause

@@ -16,4 +16,5 @@ pub record Sought (n : ℕ) (found : ℕ → Option Cause) (low : ℕ) : Type 0 
 
 -- some services in ascending order
 pub record Ascend (services : List Service) : Type 0 where
-  pub ordered : (j k : ℕ) → j ≤ k → k < length services → service_at services j ≤ service_at services k
+  pub ordered : (j k : ℕ) → j ≤ k → k < length services
+      → service_at services j ≤ service_at services k

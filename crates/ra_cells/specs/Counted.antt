@@ -7,7 +7,8 @@ pub record AreTallied (counts tallies : List ℕ) (limit : ℕ) : Type 0 where
   pub few : length counts ≤ 50000
   pub one_each : length tallies ≡ limit + 1
   pub within : (s : ℕ) → s < length counts → slice_index counts s ≤ limit
-  pub each : (v : ℕ) → v ≤ limit → slice_index tallies v ≡ count (length counts) (λ s. slice_index counts s == v)
+  pub each : (v : ℕ) → v ≤ limit
+      → slice_index tallies v ≡ count (length counts) (λ s. slice_index counts s == v)
 
 -- and the most is the greatest of them
 pub record AreCounted (counts tallies : List ℕ) (limit most : ℕ) : Type 0 where
@@ -17,4 +18,5 @@ pub record AreCounted (counts tallies : List ℕ) (limit most : ℕ) : Type 0 wh
 -- one count has changed from `left` to `come`
 pub record AreRetallied (old new : List ℕ) (left come : ℕ) : Type 0 where
   pub same_length : length new ≡ length old
-  pub changed : (v : ℕ) → slice_index new v + one_if (left == v) ≡ slice_index old v + one_if (come == v)
+  pub changed : (v : ℕ)
+      → slice_index new v + one_if (left == v) ≡ slice_index old v + one_if (come == v)

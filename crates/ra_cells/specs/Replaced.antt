@@ -10,8 +10,11 @@ counted_after None f s = f s
 counted_after (Some c) f s = if s == c.service.0 then c.after else f s
 
 -- the greatest count, where a move changes those of up to three services
-unfoldable pub greatest_with : List ℕ → Option MovedCount → Option MovedCount → Option MovedCount → ℕ
-greatest_with counts first second third = greatest (length counts) (counted_after third (counted_after second (counted_after first (slice_index counts))))
+unfoldable pub greatest_with : List ℕ → Option MovedCount → Option MovedCount → Option MovedCount
+    → ℕ
+greatest_with counts first second third =
+    greatest (length counts)
+    (counted_after third (counted_after second (counted_after first (slice_index counts))))
 
 -- a change of a service's count: from the count that it has to one within the limit
 pub record IsChange (moved : MovedCounts) (c : MovedCount) : Type 0 where
@@ -38,5 +41,8 @@ after_in None = 0
 after_in (Some c) = c.after
 
 -- no service has count v once up to three counts have changed
-unfoldable pub is_free : List ℕ → Option MovedCount → Option MovedCount → Option MovedCount → ℕ → Bool
-is_free tallies first second third v = (slice_index tallies v + (gained_at first v + gained_at second v + gained_at third v)) == (lost_at first v + lost_at second v + lost_at third v)
+unfoldable pub is_free : List ℕ → Option MovedCount → Option MovedCount → Option MovedCount → ℕ
+    → Bool
+is_free tallies first second third v =
+    (slice_index tallies v + (gained_at first v + gained_at second v + gained_at third v)) ==
+    (lost_at first v + lost_at second v + lost_at third v)

@@ -17,7 +17,8 @@ pub record StandFor (cells : Cells) (i : Tables) (a0 a : List Machine) : Type 0 
   pub on_machines : AreMarks i OnMachine a (service_count i) cells.machines.items
   pub in_locations : AreMarks i InLocation a (service_count i) cells.locations.items
   pub in_neighbourhoods : AreMarks i InNeighbourhood a (service_count i) cells.neighbourhoods.items
-  pub moved : (s : ℕ) → s < service_count i → slice_index cells.greatest.counts s ≡ moved_of i a0 a s
+  pub moved : (s : ℕ) → s < service_count i
+      → slice_index cells.greatest.counts s ≡ moved_of i a0 a s
 
 -- some assignment that cells stand for has process p on machine m
 pub record HavePlaced (cells : Cells) (p m : ℕ) : Type 0 where

@@ -7,5 +7,7 @@ use Rattle.ra_moves.specs.declared.steps.Step.{Step}
 use Rattle.ra_moves.specs.Weighing.{services_moved, count_at}
 
 -- the counts of the different services of the first n steps, and None behind them
-pub record AreCountsOf (i : Tables) (a0 a : List Machine) (steps : List Step) (n : ℕ) (counts : List (Option MovedCount)) : Type 0 where
-  pub each : (k : ℕ) → k < 3 → slice_index_or counts k None ≡ count_at i a0 a steps (services_moved i steps n) k
+pub record AreCountsOf (i : Tables) (a0 a : List Machine) (steps : List Step) (n : ℕ)
+    (counts : List (Option MovedCount)) : Type 0 where
+  pub each : (k : ℕ) → k < 3
+      → slice_index_or counts k None ≡ count_at i a0 a steps (services_moved i steps n) k

@@ -12,4 +12,5 @@ row_cost i a m = machine_load i a m + machine_balance i a m
 
 -- what process p on machine `at` adds to the process cost and to the machine cost
 unfoldable pub place_cost : Tables → List Machine → ℕ → ℕ → ℕ
-place_cost i a0 p at = process_weight_of i * process_share i a0 p at + machine_weight_of i * way_share i a0 p at
+place_cost i a0 p at =
+    process_weight_of i * process_share i a0 p at + machine_weight_of i * way_share i a0 p at

@@ -8,19 +8,25 @@ share_at at m amount = if at == m then amount else 0
 -- each number of a row is more by its amount
 pub record HasMore (old new amounts : List ℕ) : Type 0 where
   pub same_length : length new ≡ length old
-  pub each : (r : ℕ) → r < length old → slice_index new r ≡ slice_index old r + slice_index amounts r
+  pub each : (r : ℕ) → r < length old
+      → slice_index new r ≡ slice_index old r + slice_index amounts r
 
 -- or is so where the row is that of one machine
 pub record HasMoreAt (at m : ℕ) (old new amounts : List ℕ) : Type 0 where
   pub same_length : length new ≡ length old
-  pub each : (r : ℕ) → r < length old → slice_index new r ≡ slice_index old r + share_at at m (slice_index amounts r)
+  pub each : (r : ℕ) → r < length old
+      → slice_index new r ≡ slice_index old r + share_at at m (slice_index amounts r)
 
 -- the amounts have left one machine for another: what the row of machine m has then
 pub record HasFollowed (from to m : ℕ) (old new amounts : List ℕ) : Type 0 where
   pub same_length : length new ≡ length old
-  pub each : (r : ℕ) → r < length old → slice_index new r + share_at from m (slice_index amounts r) ≡ slice_index old r + share_at to m (slice_index amounts r)
+  pub each : (r : ℕ) → r < length old
+      → slice_index new r + share_at from m (slice_index amounts r)
+      ≡ slice_index old r + share_at to m (slice_index amounts r)
 
 -- and so they can: there is room for what comes, and what goes is there
 pub record CanFollow (from to m : ℕ) (row amounts : List ℕ) : Type 0 where
   pub room : (r : ℕ) → r < length row → slice_index row r < 2 ^ 63
-  pub enough : (r : ℕ) → r < length row → share_at from m (slice_index amounts r) ≤ slice_index row r + share_at to m (slice_index amounts r)
+  pub enough : (r : ℕ) → r < length row
+      → share_at from m (slice_index amounts r)
+      ≤ slice_index row r + share_at to m (slice_index amounts r)

@@ -48,17 +48,24 @@ lowered None true m = Some m
 lowered (Some l) true m = if nat_lt m.0 l.0 then Some m else Some l
 
 -- the machine of process k, where the mark of its place isn't the stamp
-unfoldable pub far_seat : List ℕ → ℕ → List Machine → List Machine → List Process → ℕ → Option Machine
-far_seat marks stamp places a processes k = if slice_index_or marks (site_of places a processes k) 0 == stamp then None else Some (record { 0 = seat_of a processes k })
+unfoldable pub far_seat : List ℕ → ℕ → List Machine → List Machine → List Process → ℕ
+    → Option Machine
+far_seat marks stamp places a processes k =
+    if slice_index_or marks (site_of places a processes k) 0 == stamp then None
+    else Some (record { 0 = seat_of a processes k })
 
 -- the stamp is set at each place that passes a test, and all other marks are as they were
 pub record AreSet (old new : List ℕ) (stamp : ℕ) (test : ℕ → Bool) : Type 0 where
   pub one_each : length new ≡ length old
-  pub each : (x : ℕ) → x < length old → slice_index_or new x 0 ≡ (if test x then stamp else slice_index_or old x 0)
+  pub each : (x : ℕ) → x < length old
+      → slice_index_or new x 0 ≡ (if test x then stamp else slice_index_or old x 0)
 
 -- marks of services: a mark u + 1 says that service u has a process at the place, and all places of the service that
 -- was stamped last have its mark
-pub record TellTrue (members : List (List Process)) (places a : List Machine) (size : ℕ) (marks : List ℕ) (last : ℕ) : Type 0 where
+pub record TellTrue (members : List (List Process)) (places a : List Machine) (size : ℕ)
+    (marks : List ℕ) (last : ℕ) : Type 0 where
   pub one_each : length marks ≡ size
-  pub sound : (x u : ℕ) → x < size → slice_index_or marks x 0 ≡ suc u → holds_site places a (members_of members u) x ≡ true
-  pub whole : (x u : ℕ) → x < size → last ≡ suc u → holds_site places a (members_of members u) x ≡ true → slice_index_or marks x 0 ≡ suc u
+  pub sound : (x u : ℕ) → x < size → slice_index_or marks x 0 ≡ suc u
+      → holds_site places a (members_of members u) x ≡ true
+  pub whole : (x u : ℕ) → x < size → last ≡ suc u
+      → holds_site places a (members_of members u) x ≡ true → slice_index_or marks x 0 ≡ suc u

@@ -9,8 +9,9 @@ use Rattle.ra_moves.specs.Weighing.{weighed_of}
 use Rattle.ra_journal.specs.Entries.{words, allowed}
 
 -- a plan of worker w's first proposal, at the start
-pub record IsFirstPlan (i : Tables) (a0 : List Machine) (l : Lots) (w : ℕ) (plan : Plan) : Type 0 where
-  pub place : plan.q ≡ 0
-  pub number : plan.k ≡ 0
-  pub planned : plan.mv ≡ plan_of i a0 a0 (words l w 0) l.drawing (allowed l w 0)
-  pub weighing : plan.weighed ≡ weighed_of i a0 a0 plan.mv.steps
+pub record IsFirstPlan (i : Tables) (a0 : List Machine) (l : Lots) (w : ℕ) (plan : Plan) : Type 0
+  where
+    pub place : plan.q ≡ 0
+    pub number : plan.k ≡ 0
+    pub planned : plan.mv ≡ plan_of i a0 a0 (words l w 0) l.drawing (allowed l w 0)
+    pub weighing : plan.weighed ≡ weighed_of i a0 a0 plan.mv.steps

@@ -9,4 +9,6 @@ use Rattle.ra_moves.specs.Options.{option_count, option_at}
 
 -- the steps of the option that the last of the words x picks among those that they name
 unfoldable pub asked : Tables → List Machine → List ℕ → List Step
-asked i a x = (option_at a x (machine_count i) Two (slice_index x 7 % option_count x (machine_count i) Two)).steps
+asked i a x =
+    (option_at a x (machine_count i) Two
+    (slice_index x 7 % option_count x (machine_count i) Two)).steps

@@ -37,7 +37,9 @@ answered done = record { journal = done.journal; reply = Answer done.reply }
 
 -- worker w hands in its next proposal, planned at place q, unless it is skipped
 unfoldable pub turn : Tables → List Machine → Lots → List Entry → ℕ → ℕ → Turn
-turn i a0 l h w q = if is_skipped l h w q then record { journal = h; reply = Skipped } else answered (committed i a0 l h w q)
+turn i a0 l h w q =
+    if is_skipped l h w q then record { journal = h; reply = Skipped }
+    else answered (committed i a0 l h w q)
 
 -- a core after an event, and the reply
 pub record Stepped : Type 0 where
@@ -48,7 +50,10 @@ pub record Stepped : Type 0 where
 unfoldable pub caught_up : Core → ℕ → Stepped
 caught_up c w =
     let n = min 1024 (length c.journal - place_of c w) in
-    record { after = record { journal = c.journal; places = slice_set c.places w (place_of c w + n) }; reply = Took n }
+    record {
+      after = record { journal = c.journal; places = slice_set c.places w (place_of c w + n) };
+      reply = Took n;
+    }
 
 -- worker w hands in a proposal that is planned at its place, and no place changes
 unfoldable pub handed_in : Tables → List Machine → Lots → Core → ℕ → Stepped
@@ -68,12 +73,16 @@ event_at events n = slice_index_or events n (CatchUp 0)
 -- the core after the first n events
 unfoldable pub core_after : Tables → List Machine → Lots → Core → List CoreEvent → ℕ → Core
 core_after i a0 l c events zero = c
-core_after i a0 l c events (suc n) = (step i a0 l (core_after i a0 l c events n) (event_at events n)).after
+core_after i a0 l c events (suc n) =
+    (step i a0 l (core_after i a0 l c events n) (event_at events n)).after
 
 -- the replies to them
-unfoldable pub replies_to : Tables → List Machine → Lots → Core → List CoreEvent → ℕ → List CoreReply
+unfoldable pub replies_to : Tables → List Machine → Lots → Core → List CoreEvent → ℕ
+    → List CoreReply
 replies_to i a0 l c events zero = []
-replies_to i a0 l c events (suc n) = replies_to i a0 l c events n ++ (step i a0 l (core_after i a0 l c events n) (event_at events n)).reply ∷ []
+replies_to i a0 l c events (suc n) =
+    replies_to i a0 l c events n
+    ++ (step i a0 l (core_after i a0 l c events n) (event_at events n)).reply ∷ []
 
 -- the run of a list of events: the last core, and one reply for each event
 pub record Ran : Type 0 where
@@ -81,7 +90,11 @@ pub record Ran : Type 0 where
   pub replies : List CoreReply
 
 unfoldable pub run : Tables → List Machine → Lots → Core → List CoreEvent → Ran
-run i a0 l c events = record { last = core_after i a0 l c events (length events); replies = replies_to i a0 l c events (length events) }
+run i a0 l c events =
+    record {
+      last = core_after i a0 l c events (length events);
+      replies = replies_to i a0 l c events (length events);
+    }
 
 -- the worker of an event
 unfoldable pub worker_of : CoreEvent → ℕ

@@ -10,14 +10,17 @@ use Rattle.ra_worker.specs.Replicas.{IsAt}
 use Rattle.ra_core.specs.Core.{Core}
 
 -- replica w of a list is the one of worker w, at a state of a journal
-pub record IsAtOf (i : Tables) (a0 : List Machine) (l : Lots) (h : List Entry) (w : ℕ) (r : Replica) : Type 0 where
+pub record IsAtOf (i : Tables) (a0 : List Machine) (l : Lots) (h : List Entry) (w : ℕ) (r : Replica)
+    : Type 0 where
   pub worker : r.proposals.worker ≡ w
   pub at : IsAt i a0 l h r
 
 -- there is one replica for each worker, in order, each at a state of a journal
-pub record AreAt (i : Tables) (a0 : List Machine) (l : Lots) (h : List Entry) (replicas : List Replica) : Type 0 where
+pub record AreAt (i : Tables) (a0 : List Machine) (l : Lots) (h : List Entry)
+    (replicas : List Replica) : Type 0 where
   pub one_each : length replicas ≡ worker_count l
-  pub each : (w : ℕ) (r : Replica) → w < length replicas → slice_index_or replicas w r ≡ r → IsAtOf i a0 l h w r
+  pub each : (w : ℕ) (r : Replica) → w < length replicas → slice_index_or replicas w r ≡ r
+      → IsAtOf i a0 l h w r
 
 -- the core that a journal and the replicas are
 unfoldable pub core_of : List Entry → List Replica → Core

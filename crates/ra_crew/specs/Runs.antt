@@ -17,5 +17,7 @@ pub record IsRun (i : Tables) (a0 : List Machine) (l : Lots) (run : Solved) : Ty
   pub lots : run.journal.lots.now ≡ l
   pub legal : Legal i a0 l run.journal.book.entries.items
   pub whole : Whole l run.journal.book.entries.items
-  pub best : run.best.items ≡ state a0 run.journal.book.entries.items (best_of i a0 run.journal.book.entries.items)
+  pub best :
+      run.best.items ≡ state a0 run.journal.book.entries.items
+      (best_of i a0 run.journal.book.entries.items)
   pub parts : run.parts ≡ parts_of i a0 run.best.items

@@ -17,14 +17,23 @@ use Rattle.ra_crew.specs.declared.worker.Worker.{Worker}
 pub record IsNextPlan (r : Replica) (plan : Plan) : Type 0 where
   pub place : plan.q ≡ r.place
   pub number : plan.k ≡ r.proposals.number
-  pub planned : plan.mv ≡ plan_of r.world.inst.now.tables r.world.start.now.items r.world.kept.assignment.items (words r.proposals.lots.now r.proposals.worker r.proposals.number) r.proposals.lots.now.drawing (allowed r.proposals.lots.now r.proposals.worker r.proposals.number)
-  pub weighed : plan.weighed ≡ weighed_of r.world.inst.now.tables r.world.start.now.items r.world.kept.assignment.items plan.mv.steps
+  pub planned :
+      plan.mv ≡ plan_of r.world.inst.now.tables r.world.start.now.items
+      r.world.kept.assignment.items
+      (words r.proposals.lots.now r.proposals.worker r.proposals.number)
+      r.proposals.lots.now.drawing
+      (allowed r.proposals.lots.now r.proposals.worker r.proposals.number)
+  pub weighed :
+      plan.weighed ≡ weighed_of r.world.inst.now.tables r.world.start.now.items
+      r.world.kept.assignment.items plan.mv.steps
 
 -- a worker that has no turn: its pass is at rest, and its replica is the same worker's, at a state of what that has seen
 pub record IsAtWork (s : Shared) (w : Worker) : Type 0 where
   pub rest : IsAtRest s w.pass
   pub same : w.replica.proposals.worker ≡ w.pass.number
-  pub at : IsAt (start_of s).inst.tables (start_of s).a0.items (start_of s).lots (seen_by w.pass) w.replica
+  pub at :
+      IsAt (start_of s).inst.tables (start_of s).a0.items (start_of s).lots (seen_by w.pass)
+      w.replica
 
 -- it has taken in all that it has made
 pub record HasOwn (w : Worker) : Type 0 where
@@ -48,7 +57,8 @@ pub record HasTurned (before after : Worker) : Type 0 where
 -- of the same worker: it has taken a turn, and twice as many turns at most as its place was brought on
 pub record HasMoved (before after : Worker) : Type 0 where
   pub number : after.pass.number ≡ before.pass.number
-  pub turns : before.pass.left + 2 * before.replica.place ≤ after.pass.left + 2 * after.replica.place
+  pub turns :
+      before.pass.left + 2 * before.replica.place ≤ after.pass.left + 2 * after.replica.place
   pub fewer : after.pass.left < before.pass.left
 
 -- the place of the entry that an answer shows

@@ -24,7 +24,8 @@ allowance_of slack lots w k = allowance slack (budget_of lots w) k
 
 -- a written lot has eight words for each of its proposals
 pub record IsFitting (lot : Lot) : Type 0 where
-  pub eight_each : (words : Listed ℕ) → lot.source ≡ Written words → length words.items ≡ 8 * lot.budget
+  pub eight_each : (words : Listed ℕ) → lot.source ≡ Written words
+      → length words.items ≡ 8 * lot.budget
 
 -- 1 to 16 lots, budgets of at most 1,000,000 together, and written lots of the right length
 pub record IsLots (lots : List Lot) : Type 0 where

@@ -27,7 +27,9 @@ source_word (Written words) n = slice_index words.items n
 
 -- the eight words from word n on
 unfoldable pub eight_from : (ℕ → ℕ) → ℕ → List ℕ
-eight_from word n = word n ∷ word (n + 1) ∷ word (n + 2) ∷ word (n + 3) ∷ word (n + 4) ∷ word (n + 5) ∷ word (n + 6) ∷ word (n + 7) ∷ []
+eight_from word n =
+    word n ∷ word (n + 1) ∷ word (n + 2) ∷ word (n + 3) ∷ word (n + 4) ∷ word (n + 5) ∷ word (n + 6)
+    ∷ word (n + 7) ∷ []
 
 -- the words of proposal k
 unfoldable pub proposal_words : Source → ℕ → List ℕ

@@ -30,4 +30,11 @@ instance_of d = with_processes d.origin d.rows d.requirements
 
 -- the draft of an instance and two lists
 abbrev pub draft_of : Tables → List Machine → List Machine → Drafted
-draft_of i a0 a = record { origin = i; rows = i.raw.processes.items; requirements = i.raw.requirements.items; initial = a0; current = a }
+draft_of i a0 a =
+    record {
+      origin = i;
+      rows = i.raw.processes.items;
+      requirements = i.raw.requirements.items;
+      initial = a0;
+      current = a;
+    }

@@ -14,7 +14,12 @@ use Rattle.ra_edit.specs.Drafts.{Drafted}
 
 -- a process of a service with a move cost. A number of a file is below 2^32, and the remainder says so here
 unfoldable pub process_of : Service → ℕ → ProcessRow
-process_of service cost = record { service = service; move_cost = cost % 2 ^ 32; small = mod_below cost (2 ^ 32) (lit< tt) }
+process_of service cost =
+    record {
+      service = service;
+      move_cost = cost % 2 ^ 32;
+      small = mod_below cost (2 ^ 32) (lit< tt);
+    }
 
 -- a table of rows of this width with another row p
 unfoldable pub put_row : ℕ → List ℕ → ℕ → List ℕ → List ℕ
@@ -22,7 +27,8 @@ put_row width table p row = take (p * width) table ++ (row ++ drop (p * width + 
 
 -- a table of n rows of this width without row p: the last row takes its place
 unfoldable pub drop_row : ℕ → List ℕ → ℕ → ℕ → List ℕ
-drop_row width table n p = take ((n - 1) * width) (put_row width table p (row_of width table (n - 1)))
+drop_row width table n p =
+    take ((n - 1) * width) (put_row width table p (row_of width table (n - 1)))
 
 -- a process more, which stands on its machine at first and now
 unfoldable pub added : Drafted → Service → Machine → ℕ → List ℕ → Drafted
@@ -44,7 +50,8 @@ retired d p = record d {
 
 -- other requirements of a process
 unfoldable pub resized : Drafted → ℕ → List ℕ → Drafted
-resized d p requirements = record d { requirements = put_row (resource_count d.origin) d.requirements p requirements }
+resized d p requirements =
+    record d { requirements = put_row (resource_count d.origin) d.requirements p requirements }
 
 -- what an edit makes of a draft, with the requirements that it gives
 unfoldable pub edited : Drafted → Edit → List ℕ → Drafted

@@ -13,7 +13,14 @@ use Rattle.ra_edit.specs.Replies.{broken_in}
 
 -- the draft of an instance's other lists and the lists of its processes
 abbrev pub drafted : Tables → Lists → Drafted
-drafted i l = record { origin = i; rows = l.rows.items; requirements = l.requirements.items; initial = l.initial.items; current = l.current.items }
+drafted i l =
+    record {
+      origin = i;
+      rows = l.rows.items;
+      requirements = l.requirements.items;
+      initial = l.initial.items;
+      current = l.current.items;
+    }
 
 -- an instance within the limits, and two lists that fit it
 pub record IsSound (d : Drafted) : Type 0 where
@@ -30,4 +37,5 @@ pub record IsKept (d : Drafted) (parts : Parts) : Type 0 where
 -- what is found of a draft: its first broken constraint, or the parts of its cost
 abbrev pub IsJudged : Drafted → Judged → Type 0
 IsJudged d (Refused cause) = broken_in d ≡ Some cause
-IsJudged d (Fine parts) = (broken_in d ≡ None) × (parts ≡ parts_of (instance_of d) d.initial d.current)
+IsJudged d (Fine parts) =
+    (broken_in d ≡ None) × (parts ≡ parts_of (instance_of d) d.initial d.current)

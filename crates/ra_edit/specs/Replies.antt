@@ -27,7 +27,8 @@ judged None cost = Done cost
 -- it is the last one
 unfoldable pub barred : ℕ → Edit → Option EditReply
 barred count (Add service machine cost) = if count == 50000 then Some Full else None
-barred count (Retire p) = if nat_lt p count then (if count == 1 then Some Last else None) else Some (NoProcess p)
+barred count (Retire p) =
+    if nat_lt p count then (if count == 1 then Some Last else None) else Some (NoProcess p)
 barred count (Resize p) = if nat_lt p count then None else Some (NoProcess p)
 
 unfoldable pub answer : Option EditReply → Drafted → EditReply
@@ -35,7 +36,9 @@ answer (Some reply) after = reply
 answer None after = judged (broken_in after) (cost_in after)
 
 unfoldable pub edit_answer : Drafted → EditLists → ℕ → EditReply
-edit_answer d e k = answer (barred (length d.rows) (edit_at e k)) (edited d (edit_at e k) (row_of e.width e.requirements k))
+edit_answer d e k =
+    answer (barred (length d.rows) (edit_at e k))
+    (edited d (edit_at e k) (row_of e.width e.requirements k))
 
 -- an edit that isn't done changes nothing
 unfoldable pub kept : EditReply → Drafted → Drafted → Drafted
@@ -46,7 +49,8 @@ kept Last before after = before
 kept (Broken cause) before after = before
 
 unfoldable pub after_edit : Drafted → EditLists → ℕ → Drafted
-after_edit d e k = kept (edit_answer d e k) d (edited d (edit_at e k) (row_of e.width e.requirements k))
+after_edit d e k =
+    kept (edit_answer d e k) d (edited d (edit_at e k) (row_of e.width e.requirements k))
 
 -- the draft after the first n edits, and the reply to edit number k among them
 unfoldable pub after_edits : Drafted → EditLists → ℕ → Drafted

@@ -47,7 +47,9 @@ model_part i = joined (codes "model\n" ∷ []) ++ model_text i
 -- all lines
 unfoldable pub edited_lines : Parts → List Machine → List Machine → List EditReply → Tables → List ℕ
 edited_lines parts a0 a replies i =
-    parts_text parts ++ (initial_line a0 ++ (assignment_line a ++ (edits_text replies (length replies) ++ model_part i)))
+    parts_text parts
+    ++ (initial_line a0
+    ++ (assignment_line a ++ (edits_text replies (length replies) ++ model_part i)))
 
 -- the output of edits with these answers that leave this instance and these lists
 unfoldable pub edited_text : Tables → List Machine → List Machine → List EditReply → List ℕ

@@ -31,17 +31,21 @@ left_of i a0 a e = after_edits (draft_of i a0 a) e (length e.edits)
 
 -- the text of the run of edits on a draft: the edited instance and lists, and the answer to each edit
 unfoldable pub text_left : Drafted → Drafted → EditLists → List ℕ
-text_left start left e = edited_text (instance_of left) left.initial left.current (replies_to start e (length e.edits))
+text_left start left e =
+    edited_text (instance_of left) left.initial left.current (replies_to start e (length e.edits))
 
 unfoldable pub edits_output : Tables → List Machine → List Machine → EditLists → List ℕ
 edits_output i a0 a e = text_left (draft_of i a0 a) (left_of i a0 a e) e
 
 -- both lists are feasible, the edited current list is feasible from the edited initial list, and the text of the run of edits
 -- went this way
-pub record IsEdited (i : Tables) (a0 a : List Machine) (e : EditLists) (way : List ℕ → Type 0) : Type 0 where
+pub record IsEdited (i : Tables) (a0 a : List Machine) (e : EditLists) (way : List ℕ → Type 0) :
+    Type 0 where
   pub start : Feasible i a0 a0
   pub current : Feasible i a0 a
-  pub left : Feasible (instance_of (left_of i a0 a e)) (left_of i a0 a e).initial (left_of i a0 a e).current
+  pub left :
+      Feasible (instance_of (left_of i a0 a e)) (left_of i a0 a e).initial
+      (left_of i a0 a e).current
   pub text : way (edits_output i a0 a e)
 
 -- the told bytes of the edits file mean these edits
@@ -49,7 +53,8 @@ abbrev pub EditsAre : Held → Names → Tables → EditLists → Type 0
 EditsAre held names i e = IfSome (held (name_of names file.Edits)) (λ bytes. AreEditsOf bytes i e)
 
 -- the model, the closed list and the lists are accepted, and the edits file means these edits of the instance
-pub record IsTaken (held : Held) (names : Names) (i : Tables) (a0 a : List Machine) (e : EditLists) : Type 0 where
+pub record IsTaken (held : Held) (names : Names) (i : Tables) (a0 a : List Machine) (e : EditLists)
+    : Type 0 where
   pub accepts : Accepts held names i a0 a
   pub initial : IsAssignment i a0
   pub current : IsAssignment i a
@@ -73,7 +78,8 @@ pub record EditsRefused (held : Held) (names : Names) (fault : EditsFault) : Typ
   pub accepts : Accepts held names tables a0 a
   pub named : IsSome names.edits
   pub in_file : IsInEdits fault
-  pub refused : IfSome (held (name_of names file.Edits)) (λ bytes. edits_refusal bytes tables ≡ Some fault)
+  pub refused :
+      IfSome (held (name_of names file.Edits)) (λ bytes. edits_refusal bytes tables ≡ Some fault)
 
 -- nothing is wrong with the edits file
 pub record EditsAccepted (held : Held) (names : Names) : Type 0 where
@@ -86,22 +92,30 @@ pub record EditsAccepted (held : Held) (names : Names) : Type 0 where
 -- its own refusals
 abbrev pub EditOwn : Held → Names → Type 0 → Refusal → Type 0
 EditOwn held names written (Edits fault) = EditsRefused held names fault
-EditOwn held names written (InitialBroken cause) = EditsAccepted held names × InitialBreaks held names cause
-EditOwn held names written (ChangedBroken cause) = EditsAccepted held names × ChangedBreaks held names cause
+EditOwn held names written (InitialBroken cause) =
+    EditsAccepted held names × InitialBreaks held names cause
+EditOwn held names written (ChangedBroken cause) =
+    EditsAccepted held names × ChangedBreaks held names cause
 EditOwn held names written Write = written
 EditOwn held names written refusal = ⊥
 
 -- where each of its own statuses comes: all lists are accepted and the edits file is refused; or that is accepted too, and a
 -- list breaks a constraint
-pub record EditComes (held : Held) (names : Names) (before now : Faults) (status : Status) : Type 0 where
-  pub bad_edits : Exactly status BadEdits (KnownTo held names before now file.Edits) ((fault : EditsFault) × EditsRefused held names fault)
-  pub infeasible : Exactly status Infeasible (KnownTo held names before now file.Edits)
-      (EditsAccepted held names × ((cause : Cause) × (InitialBreaks held names cause ⊎ ChangedBreaks held names cause)))
+pub record EditComes (held : Held) (names : Names) (before now : Faults) (status : Status) : Type 0
+  where
+    pub bad_edits :
+        Exactly status BadEdits (KnownTo held names before now file.Edits)
+        ((fault : EditsFault) × EditsRefused held names fault)
+    pub infeasible : Exactly status Infeasible (KnownTo held names before now file.Edits)
+        (EditsAccepted held names
+        × ((cause : Cause) × (InitialBreaks held names cause ⊎ ChangedBreaks held names cause)))
 
 -- its files are valid: besides the lists, nothing is wrong with the told edits file
 pub record AreEditable (held : Held) (names : Names) : Type 0 where
   pub valid : AreValid held names
-  pub edits : (i : Tables) (a0 a : List Machine) → Accepts held names i a0 a → (bytes : List ℕ) × (held (name_of names file.Edits) ≡ Some bytes) × (edits_refusal bytes i ≡ None)
+  pub edits : (i : Tables) (a0 a : List Machine) → Accepts held names i a0 a
+      → (bytes : List ℕ) × (held (name_of names file.Edits) ≡ Some bytes)
+      × (edits_refusal bytes i ≡ None)
 
 -- ---- the stages
 
@@ -113,7 +127,8 @@ edits_as fault = Edits fault
 
 abbrev pub EditsSay : Held → List ℕ → Tables → Faults → Faults → Refusal → Type 0
 EditsSay held name i before now (Read file.Edits) = Rose (before name) (now name)
-EditsSay held name i before now (Edits fault) = IsInEdits fault × IfSome (held name) (λ bytes. edits_refusal bytes i ≡ Some fault)
+EditsSay held name i before now (Edits fault) =
+    IsInEdits fault × IfSome (held name) (λ bytes. edits_refusal bytes i ≡ Some fault)
 EditsSay held name i before now Memory = Unit {0}
 EditsSay held name i before now refusal = ⊥
 
@@ -125,7 +140,8 @@ pub record HasEdits (held : Held) (name : List ℕ) (i : Tables) (e : EditLists)
 -- what a refusal of the run says
 abbrev pub EditSays : Tables → List Machine → List Machine → Type 0 → Refusal → Type 0
 EditSays i a0 a written (InitialBroken cause) = first_broken i a0 a0 ≡ Some cause
-EditSays i a0 a written (ChangedBroken cause) = Feasible i a0 a0 × (first_broken i a0 a ≡ Some cause)
+EditSays i a0 a written (ChangedBroken cause) =
+    Feasible i a0 a0 × (first_broken i a0 a ≡ Some cause)
 EditSays i a0 a written Write = written
 EditSays i a0 a written Memory = Unit {0}
 EditSays i a0 a written refusal = ⊥

@@ -22,7 +22,8 @@ row_of width table k = take width (drop (k * width) table)
 
 -- the service and the machine of an added process exist
 abbrev pub FitsInstance : Tables → Edit → Type 0
-FitsInstance i (Add service machine move_cost) = (service.0 < service_count i) × (machine.0 < machine_count i)
+FitsInstance i (Add service machine move_cost) =
+    (service.0 < service_count i) × (machine.0 < machine_count i)
 FitsInstance i (Retire process) = Unit {0}
 FitsInstance i (Resize process) = Unit {0}
 

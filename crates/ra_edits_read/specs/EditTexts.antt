@@ -28,12 +28,15 @@ numbers_behind R kind = if kind == 1 then R + 3 else if kind == 2 then 1 else R 
 -- the token that is the kind of edit k
 unfoldable pub kind_place : ℕ → List ℕ → ℕ → ℕ
 kind_place R bytes zero = 0
-kind_place R bytes (suc k) = kind_place R bytes k + suc (numbers_behind R (value_at bytes (kind_place R bytes k)))
+kind_place R bytes (suc k) =
+    kind_place R bytes k + suc (numbers_behind R (value_at bytes (kind_place R bytes k)))
 
 -- the edit of a kind whose numbers begin with token n, and its requirements
 unfoldable pub edit_from : ℕ → List ℕ → ℕ → ℕ → Edit
 edit_from R bytes kind n =
-    if kind == 1 then Add (record { 0 = value_at bytes n }) (record { 0 = value_at bytes (n + 1) }) (value_at bytes (n + 2 + R))
+    if kind == 1
+    then Add (record { 0 = value_at bytes n }) (record { 0 = value_at bytes (n + 1) })
+    (value_at bytes (n + 2 + R))
     else if kind == 2 then Retire (value_at bytes n)
     else Resize (value_at bytes n)
 
@@ -46,11 +49,16 @@ requirements_from R bytes kind n =
 -- the first k edits, and the rows of their requirements
 unfoldable pub edits_to : ℕ → List ℕ → ℕ → List Edit
 edits_to R bytes zero = []
-edits_to R bytes (suc k) = edits_to R bytes k ++ edit_from R bytes (value_at bytes (kind_place R bytes k)) (suc (kind_place R bytes k)) ∷ []
+edits_to R bytes (suc k) =
+    edits_to R bytes k
+    ++ edit_from R bytes (value_at bytes (kind_place R bytes k)) (suc (kind_place R bytes k)) ∷ []
 
 unfoldable pub requirements_to : ℕ → List ℕ → ℕ → List ℕ
 requirements_to R bytes zero = []
-requirements_to R bytes (suc k) = requirements_to R bytes k ++ requirements_from R bytes (value_at bytes (kind_place R bytes k)) (suc (kind_place R bytes k))
+requirements_to R bytes (suc k) =
+    requirements_to R bytes k
+    ++ requirements_from R bytes (value_at bytes (kind_place R bytes k))
+    (suc (kind_place R bytes k))
 
 -- a token's fault, as one of edits
 unfoldable pub edits_fault : TokenFault → EditsFault
@@ -72,7 +80,8 @@ any_test fault k (Some t) = None
 
 unfoldable pub below_test : Option TokenFault → ℕ → ℕ → Option Token → Option EditsFault
 below_test fault k count None = Some (none_left fault k)
-below_test fault k count (Some t) = if nat_lt t.value count then None else Some (Range t.at t.value 0 (count - 1))
+below_test fault k count (Some t) =
+    if nat_lt t.value count then None else Some (Range t.at t.value 0 (count - 1))
 
 -- the same of token n of a file, and of R numbers from token n on
 unfoldable pub any_at : List ℕ → ℕ → ℕ → Option EditsFault
@@ -104,7 +113,8 @@ numbers_test bytes i k kind n =
 -- what is wrong with the kind of edit k: there may be no such edit, and a kind is 1, 2 or 3
 unfoldable pub kind_test : ℕ → Token → Option EditsFault
 kind_test k t =
-    if nat_lt k MOST_EDITS then (if nat_lt 0 t.value && nat_lt t.value 4 then None else Some (Range t.at t.value 1 3))
+    if nat_lt k MOST_EDITS
+    then (if nat_lt 0 t.value && nat_lt t.value 4 then None else Some (Range t.at t.value 1 3))
     else Some (TooMany t.at)
 
 -- what is wrong with edit k, whose kind is token n where there is one; where there is none, the file has ended
@@ -113,7 +123,9 @@ found_test bytes i k n None = None
 found_test bytes i k n (Some t) = or_else (kind_test k t) (numbers_test bytes i k t.value (suc n))
 
 unfoldable pub edit_test : List ℕ → Tables → ℕ → Option EditsFault
-edit_test bytes i k = found_test bytes i k (kind_place (resource_count i) bytes k) (slice_get (tokens bytes) (kind_place (resource_count i) bytes k))
+edit_test bytes i k =
+    found_test bytes i k (kind_place (resource_count i) bytes k)
+    (slice_get (tokens bytes) (kind_place (resource_count i) bytes k))
 
 -- the first fault of the file
 unfoldable pub file_fault : Option TokenFault → Option EditsFault
@@ -122,7 +134,8 @@ file_fault (Some fault) = Some (edits_fault fault)
 
 -- the first refusal of a file of edits
 unfoldable pub edits_refusal : List ℕ → Tables → Option EditsFault
-edits_refusal bytes i = or_else (first (suc MOST_EDITS) (edit_test bytes i)) (file_fault (first_fault bytes))
+edits_refusal bytes i =
+    or_else (first (suc MOST_EDITS) (edit_test bytes i)) (file_fault (first_fault bytes))
 
 -- the bytes mean these edits: nothing is refused, and they are all edits of the file in their order
 pub record AreEditsOf (bytes : List ℕ) (i : Tables) (e : EditLists) : Type 0 where

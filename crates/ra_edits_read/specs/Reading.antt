@@ -25,26 +25,41 @@ pub record TakesValues (bytes : List ℕ) (before after n : ℕ) (old new : List
   pub next : tokens_before bytes after ≡ tokens_before bytes before + n
 
 -- the numbers behind the kind of edit k were taken
-pub record TakesEdit (bytes : List ℕ) (i : Tables) (k kind before after : ℕ) (old new : List ℕ) (edit : Edit) : Type 0 where
+pub record TakesEdit (bytes : List ℕ) (i : Tables) (k kind before after : ℕ) (old new : List ℕ)
+    (edit : Edit) : Type 0 where
   pub sound : numbers_test bytes i k kind (tokens_before bytes before) ≡ None
   pub edit_is : edit ≡ edit_from (resource_count i) bytes kind (tokens_before bytes before)
-  pub rows : new ≡ old ++ requirements_from (resource_count i) bytes kind (tokens_before bytes before)
-  pub next : tokens_before bytes after ≡ tokens_before bytes before + numbers_behind (resource_count i) kind
+  pub rows :
+      new ≡ old ++ requirements_from (resource_count i) bytes kind (tokens_before bytes before)
+  pub next :
+      tokens_before bytes after ≡ tokens_before bytes before + numbers_behind (resource_count i)
+      kind
 
 -- edit k was taken, with its kind
-pub record HasEdit (bytes : List ℕ) (i : Tables) (k before after : ℕ) (old new : List ℕ) (edit : Edit) : Type 0 where
-  pub sound : found_test bytes i k (tokens_before bytes before) (slice_get (tokens bytes) (tokens_before bytes before)) ≡ None
-  pub edit_is : edit ≡ edit_from (resource_count i) bytes (value_at bytes (tokens_before bytes before)) (suc (tokens_before bytes before))
-  pub rows : new ≡ old ++ requirements_from (resource_count i) bytes (value_at bytes (tokens_before bytes before)) (suc (tokens_before bytes before))
-  pub next : tokens_before bytes after ≡ tokens_before bytes before + suc (numbers_behind (resource_count i) (value_at bytes (tokens_before bytes before)))
+pub record HasEdit (bytes : List ℕ) (i : Tables) (k before after : ℕ) (old new : List ℕ)
+    (edit : Edit) : Type 0 where
+  pub sound :
+      found_test bytes i k (tokens_before bytes before)
+      (slice_get (tokens bytes) (tokens_before bytes before)) ≡ None
+  pub edit_is :
+      edit ≡ edit_from (resource_count i) bytes (value_at bytes (tokens_before bytes before))
+      (suc (tokens_before bytes before))
+  pub rows :
+      new ≡ old ++ requirements_from (resource_count i) bytes
+      (value_at bytes (tokens_before bytes before)) (suc (tokens_before bytes before))
+  pub next :
+      tokens_before bytes after ≡ tokens_before bytes before + suc
+      (numbers_behind (resource_count i) (value_at bytes (tokens_before bytes before)))
 
 -- the next edit, or the end of the file
 abbrev pub NextEdit : List ℕ → Tables → ℕ → ℕ → ℕ → List ℕ → List ℕ → Option Edit → Type 0
-NextEdit bytes i k before after old new None = IsAnswer bytes (tokens_before bytes before) (Ok None) × (new ≡ old)
+NextEdit bytes i k before after old new None =
+    IsAnswer bytes (tokens_before bytes before) (Ok None) × (new ≡ old)
 NextEdit bytes i k before after old new (Some edit) = HasEdit bytes i k before after old new edit
 
 -- the first k edits were taken
-pub record HasEdits (bytes : List ℕ) (i : Tables) (place k : ℕ) (edits : List Edit) (requirements : List ℕ) : Type 0 where
+pub record HasEdits (bytes : List ℕ) (i : Tables) (place k : ℕ) (edits : List Edit)
+    (requirements : List ℕ) : Type 0 where
   pub given : tokens_before bytes place ≡ kind_place (resource_count i) bytes k
   pub sound : first k (edit_test bytes i) ≡ None
   pub edits_are : edits ≡ edits_to (resource_count i) bytes k
@@ -52,12 +67,17 @@ pub record HasEdits (bytes : List ℕ) (i : Tables) (place k : ℕ) (edits : Lis
 
 -- the fault is the refusal of the file, where the edits before edit k were sound and its kind is due here
 abbrev pub EditStop : List ℕ → Tables → ℕ → ℕ → EditsFault → Type 0
-EditStop bytes i k before fault = tokens_before bytes before ≡ kind_place (resource_count i) bytes k → first k (edit_test bytes i) ≡ None → IsEditsRefusal bytes i fault
+EditStop bytes i k before fault =
+    tokens_before bytes before ≡ kind_place (resource_count i) bytes k
+    → first k (edit_test bytes i) ≡ None → IsEditsRefusal bytes i fault
 
 -- no token and no fault is left
 pub record HasEnded (bytes : List ℕ) (place : ℕ) : Type 0 where
   pub answer : IsAnswer bytes (tokens_before bytes place) (Ok None)
 
 -- the lists are all edits of the bytes, whatever their type
-pub record IsWhole (bytes : List ℕ) (i : Tables) (edits : List Edit) (requirements : List ℕ) : Type 0 where
-  pub lists : AreEditsOf bytes i (record { width = resource_count i; edits = edits; requirements = requirements })
+pub record IsWhole (bytes : List ℕ) (i : Tables) (edits : List Edit) (requirements : List ℕ) : Type
+    0 where
+  pub lists :
+      AreEditsOf bytes i
+      (record { width = resource_count i; edits = edits; requirements = requirements })

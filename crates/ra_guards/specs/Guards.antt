@@ -34,4 +34,6 @@ pub record AreWithin (i : Tables) (steps : List Step) : Type 0 where
 
 -- a step of another move leaves or enters a machine that is a guard, or moves a process of a service that is one
 unfoldable pub meets_step : Tables → List Step → Step → Bool
-meets_step i steps other = ends_at steps other.from.0 || ends_at steps other.to.0 || guards_service i steps (service_of i other.process.0)
+meets_step i steps other =
+    ends_at steps other.from.0 || ends_at steps other.to.0 || guards_service i steps
+    (service_of i other.process.0)

@@ -31,7 +31,8 @@ pub record IsTableOf (i : Tables) (v : VersionTable) : Type 0 where
   pub services : length v.services ≡ service_count i
 
 -- a table has the versions after the first n entries
-pub record AreVersions (i : Tables) (made : List (Option (List Step))) (n : ℕ) (v : VersionTable) : Type 0 where
+pub record AreVersions (i : Tables) (made : List (Option (List Step))) (n : ℕ) (v : VersionTable) :
+    Type 0 where
   pub sized : IsTableOf i v
   pub each : (g : Guard) → IsKnown i g → version_in v g ≡ version i made n g
 
@@ -42,8 +43,9 @@ pub record IsSet (before after : VersionTable) (guard : Guard) (version : ℕ) :
   pub set : version_in after guard ≡ version
   pub kept : (g : Guard) → g ≢ guard → version_in after g ≡ version_in before g
 
-pub record IsTouched (before after : VersionTable) (guards : List Guard) (version : ℕ) : Type 0 where
-  pub machines : length after.machines ≡ length before.machines
-  pub services : length after.services ≡ length before.services
-  pub touched : (g : Guard) → Contains guards g → version_in after g ≡ version
-  pub kept : (g : Guard) → (Contains guards g → ⊥) → version_in after g ≡ version_in before g
+pub record IsTouched (before after : VersionTable) (guards : List Guard) (version : ℕ) : Type 0
+  where
+    pub machines : length after.machines ≡ length before.machines
+    pub services : length after.services ≡ length before.services
+    pub touched : (g : Guard) → Contains guards g → version_in after g ≡ version
+    pub kept : (g : Guard) → (Contains guards g → ⊥) → version_in after g ≡ version_in before g

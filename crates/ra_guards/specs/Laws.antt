@@ -17,19 +17,40 @@ use Rattle.ra_guards.specs.Made.{made_state, AreSound, MadeStand, IsRightLater}
 -- what the first newer guard is
 pub record NewestIsRight : Type 0 where
   -- the first in a table of the versions is the first by the versions
-  pub in_table : (i : Tables) (made : List (Option (List Step))) (n : ℕ) (steps : List Step) (v : VersionTable) (q : ℕ) → AreVersions i made n v → first_newer i steps (version_in v) q ≡ first_newer i steps (version i made n) q
-  pub read_in_table : (i : Tables) (made : List (Option (List Step))) (n : ℕ) (steps : List Step) (v : VersionTable) (q : ℕ) → AreVersions i made n v → first_newer_read i steps (version_in v) q ≡ first_newer_read i steps (version i made n) q
+  pub in_table :
+      (i : Tables) (made : List (Option (List Step))) (n : ℕ) (steps : List Step) (v : VersionTable)
+      (q : ℕ)
+      → AreVersions i made n v
+      → first_newer i steps (version_in v) q ≡ first_newer i steps (version i made n) q
+  pub read_in_table :
+      (i : Tables) (made : List (Option (List Step))) (n : ℕ) (steps : List Step) (v : VersionTable)
+      (q : ℕ)
+      → AreVersions i made n v
+      → first_newer_read i steps (version_in v) q ≡ first_newer_read i steps (version i made n) q
   -- there is none exactly where the move is untouched
-  pub none : (i : Tables) (made : List (Option (List Step))) (q n : ℕ) (steps : List Step) → WellFormed i → AreWithin i steps → (first_newer i steps (version i made n) q ≡ None) ↔ Untouched i made q n steps
+  pub none : (i : Tables) (made : List (Option (List Step))) (q n : ℕ) (steps : List Step)
+      → WellFormed i → AreWithin i steps
+      → (first_newer i steps (version i made n) q ≡ None) ↔ Untouched i made q n steps
   -- where no write guard is newer, the first newer guard isn't a write guard
-  pub held : (i : Tables) (steps : List Step) (v : Guard → ℕ) (q : ℕ) → ((g : Guard) → writes i steps g ≡ true → v g ≤ q) → first_newer i steps v q ≡ first_newer_read i steps v q
+  pub held : (i : Tables) (steps : List Step) (v : Guard → ℕ) (q : ℕ)
+      → ((g : Guard) → writes i steps g ≡ true → v g ≤ q)
+      → first_newer i steps v q ≡ first_newer_read i steps v q
 
 -- guards that aren't written keep their residents: each machine among them holds the same processes, and each process of
 -- a service among them has the same machine
 abbrev pub GuardsKeepResidents : Type 0
-GuardsKeepResidents = (i : Tables) (a0 : List Machine) (made : List (Option (List Step))) (q n : ℕ) (steps : List Step) → q ≤ n → MadeStand i a0 made n → ApartSince i made q n steps → HeldAlike i steps (made_state a0 made q) (made_state a0 made n)
+GuardsKeepResidents =
+    (i : Tables) (a0 : List Machine) (made : List (Option (List Step))) (q n : ℕ)
+    (steps : List Step)
+    → q ≤ n → MadeStand i a0 made n → ApartSince i made q n steps
+    → HeldAlike i steps (made_state a0 made q) (made_state a0 made n)
 
 -- untouched guards keep the verdict: what was planned at place q, and has had no guard touched since, is weighed at place
 -- n as it was at q
 abbrev pub UntouchedIsRight : Type 0
-UntouchedIsRight = (i : Tables) (a0 : List Machine) (made : List (Option (List Step))) (q n : ℕ) (steps : List Step) → WellFormed i → AreSound i a0 made n → MadeStand i a0 made n → q ≤ n → IsOffered i (made_state a0 made q) steps → Untouched i made q n steps → IsRightLater i a0 made q n steps
+UntouchedIsRight =
+    (i : Tables) (a0 : List Machine) (made : List (Option (List Step))) (q n : ℕ)
+    (steps : List Step)
+    → WellFormed i → AreSound i a0 made n → MadeStand i a0 made n → q ≤ n
+    → IsOffered i (made_state a0 made q) steps → Untouched i made q n steps
+    → IsRightLater i a0 made q n steps

@@ -17,15 +17,19 @@ use Rattle.ra_guards.specs.Order.{IsKnown, number_in, guard_of}
 -- guards where there is none
 pub record IsFirstNumber (i : Tables) (test : Guard → Bool) (v : Guard → ℕ) (q n : ℕ) : Type 0 where
   pub within : n ≤ machine_count i + service_count i
-  pub least : (g : Guard) → IsKnown i g → test g ≡ true → q < v g → n ≤ number_in (machine_count i) g
+  pub least : (g : Guard) → IsKnown i g → test g ≡ true → q < v g
+      → n ≤ number_in (machine_count i) g
   pub passes : n < machine_count i + service_count i → test (guard_of (machine_count i) n) ≡ true
   pub newer : n < machine_count i + service_count i → q < v (guard_of (machine_count i) n)
 
 -- a number is the least of one before and the numbers of some guards, those with a version above q
-pub record IsLower (i : Tables) (v : Guard → ℕ) (q : ℕ) (among : Guard → Type 0) (before n : ℕ) : Type 0 where
+pub record IsLower (i : Tables) (v : Guard → ℕ) (q : ℕ) (among : Guard → Type 0) (before n : ℕ) :
+    Type 0 where
   pub below : n ≤ before
   pub each : (g : Guard) → among g → q < v g → n ≤ number_in (machine_count i) g
-  pub from : (n ≡ before) ⊎ ((g : Guard) × among g × IsKnown i g × (q < v g) × (n ≡ number_in (machine_count i) g))
+  pub from :
+      (n ≡ before) ⊎
+      ((g : Guard) × among g × IsKnown i g × (q < v g) × (n ≡ number_in (machine_count i) g))
 
 -- the less of two numbers, where the version of the second is above q
 unfoldable pub lowered : ℕ → ℕ → ℕ → ℕ → ℕ
@@ -41,7 +45,8 @@ IsReadIn i steps services n g = (k : ℕ) × (k < n) × IsReadOf i steps (servic
 
 -- it is a service that is joined with service s, and no write guard
 abbrev pub IsReadBy : Tables → List Step → ℕ → Guard → Type 0
-IsReadBy i steps s g = (u : ℕ) × (u < service_count i) × (are_joined i s u ≡ true) × IsReadOf i steps u g
+IsReadBy i steps s g =
+    (u : ℕ) × (u < service_count i) × (are_joined i s u ≡ true) × IsReadOf i steps u g
 
 -- it is joined with the service of one of the first n steps, and no write guard
 abbrev pub IsReadBelow : Tables → List Step → ℕ → Guard → Type 0
@@ -49,7 +54,10 @@ IsReadBelow i steps n g = (k : ℕ) × (k < n) × IsReadBy i steps (service_in i
 
 -- step k writes it
 abbrev pub IsWrittenBy : Tables → List Step → ℕ → Guard → Type 0
-IsWrittenBy i steps k g = (g ≡ guard.Machine (record { 0 = from_in steps k })) ⊎ ((g ≡ guard.Machine (record { 0 = to_in steps k })) ⊎ (g ≡ guard.Service (record { 0 = service_in i steps k })))
+IsWrittenBy i steps k g =
+    (g ≡ guard.Machine (record { 0 = from_in steps k }))
+    ⊎ ((g ≡ guard.Machine (record { 0 = to_in steps k }))
+    ⊎ (g ≡ guard.Service (record { 0 = service_in i steps k })))
 
 -- one of the first n steps writes it
 abbrev pub IsWrittenBelow : Tables → List Step → ℕ → Guard → Type 0

@@ -24,7 +24,8 @@ made_state a0 made zero = a0
 made_state a0 made (suc n) = after_made (made_state a0 made n) (made_at made n)
 
 -- each state up to place n is an assignment that breaks nothing
-pub record AreSound (i : Tables) (a0 : List Machine) (made : List (Option (List Step))) (n : ℕ) : Type 0 where
+pub record AreSound (i : Tables) (a0 : List Machine) (made : List (Option (List Step))) (n : ℕ) :
+    Type 0 where
   pub fits : (j : ℕ) → j ≤ n → IsAssignment i (made_state a0 made j)
   pub unbroken : (j : ℕ) → j ≤ n → first_broken i a0 (made_state a0 made j) ≡ None
 
@@ -36,12 +37,16 @@ pub record StandsHere (i : Tables) (a : List Machine) (steps : List Step) : Type
   pub reaches : (j : ℕ) → j < length steps → to_in steps j < machine_count i
 
 -- each move that the first n entries make is one of the state before it
-pub record MadeStand (i : Tables) (a0 : List Machine) (made : List (Option (List Step))) (n : ℕ) : Type 0 where
-  pub each : (j : ℕ) (steps : List Step) → j < n → made_at made j ≡ Some steps → StandsHere i (made_state a0 made j) steps
+pub record MadeStand (i : Tables) (a0 : List Machine) (made : List (Option (List Step))) (n : ℕ) :
+    Type 0 where
+  pub each : (j : ℕ) (steps : List Step) → j < n → made_at made j ≡ Some steps
+      → StandsHere i (made_state a0 made j) steps
 
 -- what was right of a move at place q is right at place n: its machines hold the same processes, and the processes of
 -- its services have the same machines; it can be weighed; and its weighing is the same
-pub record IsRightLater (i : Tables) (a0 : List Machine) (made : List (Option (List Step))) (q n : ℕ) (steps : List Step) : Type 0 where
+pub record IsRightLater (i : Tables) (a0 : List Machine) (made : List (Option (List Step)))
+    (q n : ℕ) (steps : List Step) : Type 0 where
   pub alike : HeldAlike i steps (made_state a0 made q) (made_state a0 made n)
   pub offered : IsOffered i (made_state a0 made n) steps
-  pub weighed : weighed_of i a0 (made_state a0 made q) steps ≡ weighed_of i a0 (made_state a0 made n) steps
+  pub weighed :
+      weighed_of i a0 (made_state a0 made q) steps ≡ weighed_of i a0 (made_state a0 made n) steps

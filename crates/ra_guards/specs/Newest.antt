@@ -12,11 +12,14 @@ use Rattle.ra_guards.specs.declared.newest.Newer.{Newer}
 
 -- a guard with a version above q, and the place of the entry that gave it this version
 unfoldable pub newer_at : (Guard → Bool) → (Guard → ℕ) → ℕ → Guard → Option Newer
-newer_at test v q g = if test g && nat_lt q (v g) then Some (record { guard = g; at = v g - 1 }) else None
+newer_at test v q g =
+    if test g && nat_lt q (v g) then Some (record { guard = g; at = v g - 1 }) else None
 
 -- the first guard of the instance that passes a test and has a version above q
 unfoldable pub first_that : Tables → (Guard → Bool) → (Guard → ℕ) → ℕ → Option Newer
-first_that i test v q = or_else (first (machine_count i) (λ m. newer_at test v q (guard.Machine (record { 0 = m })))) (first (service_count i) (λ s. newer_at test v q (guard.Service (record { 0 = s }))))
+first_that i test v q =
+    or_else (first (machine_count i) (λ m. newer_at test v q (guard.Machine (record { 0 = m }))))
+    (first (service_count i) (λ s. newer_at test v q (guard.Service (record { 0 = s }))))
 
 -- the first guard of a move with a version above q
 unfoldable pub first_newer : Tables → List Step → (Guard → ℕ) → ℕ → Option Newer
@@ -32,4 +35,8 @@ first_newer_read i steps v q = first_that i (reads_only i steps) v q
 
 -- the guard of a number, with the place before its version; past the guards of the instance there is none
 unfoldable pub newer_of : Tables → (Guard → ℕ) → ℕ → Option Newer
-newer_of i v n = if nat_lt n (machine_count i + service_count i) then Some (record { guard = guard_of (machine_count i) n; at = v (guard_of (machine_count i) n) - 1 }) else None
+newer_of i v n =
+    if nat_lt n (machine_count i + service_count i)
+    then Some
+    (record { guard = guard_of (machine_count i) n; at = v (guard_of (machine_count i) n) - 1 })
+    else None

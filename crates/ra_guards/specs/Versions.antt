@@ -26,7 +26,8 @@ unfoldable pub version : Tables → List (Option (List Step)) → ℕ → Guard 
 version i made n g = greatest n (stamp i made g)
 
 -- no guard of a move has been touched from place q on, among the first n entries
-pub record Untouched (i : Tables) (made : List (Option (List Step))) (q n : ℕ) (steps : List Step) : Type 0 where
+pub record Untouched (i : Tables) (made : List (Option (List Step))) (q n : ℕ) (steps : List Step) :
+    Type 0 where
   pub each : (g : Guard) → is_guard i steps g ≡ true → version i made n g ≤ q
 
 -- no guard of the first steps is written by the others
@@ -34,5 +35,7 @@ pub record Apart (i : Tables) (steps others : List Step) : Type 0 where
   pub each : (g : Guard) → is_guard i steps g ≡ true → writes i others g ≡ false
 
 -- no guard of a move is written by the entries at the places from q on, among the first n
-pub record ApartSince (i : Tables) (made : List (Option (List Step))) (q n : ℕ) (steps : List Step) : Type 0 where
-  pub each : (j : ℕ) (others : List Step) → q ≤ j → j < n → made_at made j ≡ Some others → Apart i steps others
+pub record ApartSince (i : Tables) (made : List (Option (List Step))) (q n : ℕ) (steps : List Step)
+    : Type 0 where
+  pub each : (j : ℕ) (others : List Step) → q ≤ j → j < n → made_at made j ≡ Some others
+      → Apart i steps others

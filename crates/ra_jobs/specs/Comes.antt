@@ -16,16 +16,29 @@ use Rattle.ra_jobs.specs.Refusals.{ReadFailed, ModelRefused, ClosedRefused, Init
 
 -- where a job has this file, its bytes are told, and no fault of it was counted
 abbrev pub IsKnown : Held → Names → Faults → Faults → File → Type 0
-IsKnown held names before now f = IsNamed names f → IsSome (held (name_of names f)) × (Rose (before (name_of names f)) (now (name_of names f)) → ⊥)
+IsKnown held names before now f =
+    IsNamed names f
+    → IsSome (held (name_of names f))
+    × (Rose (before (name_of names f)) (now (name_of names f)) → ⊥)
 
 -- so it is with all files that are read up to this one
 abbrev pub KnownTo : Held → Names → Faults → Faults → File → Type 0
 KnownTo held names before now file.Model = IsKnown held names before now file.Model
-KnownTo held names before now file.Closed = IsKnown held names before now file.Model × IsKnown held names before now file.Closed
-KnownTo held names before now file.Initial = IsKnown held names before now file.Model × IsKnown held names before now file.Closed × IsKnown held names before now file.Initial
-KnownTo held names before now file.Changed = IsKnown held names before now file.Model × IsKnown held names before now file.Closed × IsKnown held names before now file.Initial × IsKnown held names before now file.Changed
-KnownTo held names before now file.Edits = IsKnown held names before now file.Model × IsKnown held names before now file.Closed × IsKnown held names before now file.Initial × IsKnown held names before now file.Changed × IsKnown held names before now file.Edits
-KnownTo held names before now file.Report = IsKnown held names before now file.Model × IsKnown held names before now file.Closed × IsKnown held names before now file.Initial × IsKnown held names before now file.Report
+KnownTo held names before now file.Closed =
+    IsKnown held names before now file.Model × IsKnown held names before now file.Closed
+KnownTo held names before now file.Initial =
+    IsKnown held names before now file.Model × IsKnown held names before now file.Closed
+    × IsKnown held names before now file.Initial
+KnownTo held names before now file.Changed =
+    IsKnown held names before now file.Model × IsKnown held names before now file.Closed
+    × IsKnown held names before now file.Initial × IsKnown held names before now file.Changed
+KnownTo held names before now file.Edits =
+    IsKnown held names before now file.Model × IsKnown held names before now file.Closed
+    × IsKnown held names before now file.Initial × IsKnown held names before now file.Changed
+    × IsKnown held names before now file.Edits
+KnownTo held names before now file.Report =
+    IsKnown held names before now file.Model × IsKnown held names before now file.Closed
+    × IsKnown held names before now file.Initial × IsKnown held names before now file.Report
 
 -- a status comes only where its cause stands; and where that stands, over files that are known, no other status comes
 -- but that of refused memory
@@ -35,23 +48,32 @@ pub record Exactly (status this : Status) (known cause : Type 0) : Type 0 where
 
 -- the model file is refused
 abbrev pub BadModelComes : Held → Names → Faults → Faults → Status → Type 0
-BadModelComes held names before now status = Exactly status BadModel (KnownTo held names before now file.Model)
+BadModelComes held names before now status =
+    Exactly status BadModel (KnownTo held names before now file.Model)
     ((fault : ModelFault) × ModelRefused held names.model fault)
 
 -- the model file is accepted, and the closed list is refused
 abbrev pub BadClosedComes : Held → Names → Faults → Faults → Status → Type 0
-BadClosedComes held names before now status = Exactly status BadClosed (KnownTo held names before now file.Closed)
+BadClosedComes held names before now status =
+    Exactly status BadClosed (KnownTo held names before now file.Closed)
     ((fault : ClosedFault) × ClosedRefused held names.model names.closed fault)
 
 -- the instance was read, and the initial list is refused; or that was read too, and the new list is refused
-pub record BadAssignmentComes (held : Held) (names : Names) (before now : Faults) (status : Status) : Type 0 where
-  pub only : status ≡ BadAssignment → (fault : AssignFault) × (InitialRefused held names fault ⊎ ChangedRefused held names fault)
-  pub initial : KnownTo held names before now file.Initial → ((fault : AssignFault) × InitialRefused held names fault) → (status ≡ BadAssignment) ⊎ (status ≡ NoMemory)
-  pub changed : KnownTo held names before now file.Changed → ((fault : AssignFault) × ChangedRefused held names fault) → (status ≡ BadAssignment) ⊎ (status ≡ NoMemory)
+pub record BadAssignmentComes (held : Held) (names : Names) (before now : Faults) (status : Status)
+    : Type 0 where
+  pub only : status ≡ BadAssignment
+      → (fault : AssignFault) × (InitialRefused held names fault ⊎ ChangedRefused held names fault)
+  pub initial : KnownTo held names before now file.Initial
+      → ((fault : AssignFault) × InitialRefused held names fault)
+      → (status ≡ BadAssignment) ⊎ (status ≡ NoMemory)
+  pub changed : KnownTo held names before now file.Changed
+      → ((fault : AssignFault) × ChangedRefused held names fault)
+      → (status ≡ BadAssignment) ⊎ (status ≡ NoMemory)
 
 -- each status of a refused job that any job may have, and where it comes. The status of refused memory is free, but nothing
 -- was written then
-pub record Comes (held : Held) (names : Names) (before now : Faults) (own : Refusal → Type 0) (out_same : Type 0) (status : Status) : Type 0 where
+pub record Comes (held : Held) (names : Names) (before now : Faults) (own : Refusal → Type 0)
+    (out_same : Type 0) (status : Status) : Type 0 where
   pub read_fault : status ≡ ReadFault → (f : File) × ReadFailed held names before now f
   pub bad_model : BadModelComes held names before now status
   pub bad_closed : BadClosedComes held names before now status
@@ -62,5 +84,6 @@ pub record Comes (held : Held) (names : Names) (before now : Faults) (own : Refu
 -- of a job whose lists have to be feasible: all files before the report are accepted, and the initial list breaks a
 -- constraint; or that is feasible, and the new list breaks one
 abbrev pub InfeasibleComes : Held → Names → Faults → Faults → Status → Type 0
-InfeasibleComes held names before now status = Exactly status Infeasible (KnownTo held names before now file.Edits)
+InfeasibleComes held names before now status =
+    Exactly status Infeasible (KnownTo held names before now file.Edits)
     ((cause : Cause) × (InitialBreaks held names cause ⊎ ChangedBreaks held names cause))

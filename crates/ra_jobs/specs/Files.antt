@@ -25,19 +25,59 @@ pub record Names : Type 0 where
 
 -- those of `check`, of `solve`, of `bound`, of `verify` and of `edit`
 abbrev pub check_names : List ℕ → Option (List ℕ) → List ℕ → List ℕ → Names
-check_names model closed initial changed = record { model = model; closed = closed; initial = Some initial; changed = Some changed; report = None; edits = None }
+check_names model closed initial changed =
+    record {
+      model = model;
+      closed = closed;
+      initial = Some initial;
+      changed = Some changed;
+      report = None;
+      edits = None;
+    }
 
 abbrev pub solve_names : List ℕ → Option (List ℕ) → List ℕ → Names
-solve_names model closed initial = record { model = model; closed = closed; initial = Some initial; changed = None; report = None; edits = None }
+solve_names model closed initial =
+    record {
+      model = model;
+      closed = closed;
+      initial = Some initial;
+      changed = None;
+      report = None;
+      edits = None;
+    }
 
 abbrev pub bound_names : List ℕ → Option (List ℕ) → Option (List ℕ) → Names
-bound_names model closed initial = record { model = model; closed = closed; initial = initial; changed = None; report = None; edits = None }
+bound_names model closed initial =
+    record {
+      model = model;
+      closed = closed;
+      initial = initial;
+      changed = None;
+      report = None;
+      edits = None;
+    }
 
 abbrev pub verify_names : List ℕ → Option (List ℕ) → List ℕ → List ℕ → Names
-verify_names model closed initial report = record { model = model; closed = closed; initial = Some initial; changed = None; report = Some report; edits = None }
+verify_names model closed initial report =
+    record {
+      model = model;
+      closed = closed;
+      initial = Some initial;
+      changed = None;
+      report = Some report;
+      edits = None;
+    }
 
 abbrev pub edit_names : List ℕ → Option (List ℕ) → List ℕ → List ℕ → List ℕ → Names
-edit_names model closed initial current edits = record { model = model; closed = closed; initial = Some initial; changed = Some current; report = None; edits = Some edits }
+edit_names model closed initial current edits =
+    record {
+      model = model;
+      closed = closed;
+      initial = Some initial;
+      changed = Some current;
+      report = None;
+      edits = Some edits;
+    }
 
 -- those that are lent
 abbrev pub names_of : JobFiles → Names
@@ -83,10 +123,13 @@ ModelIs held name i = IfSome (held name) (λ bytes. IsModel bytes i)
 -- the same with the machines of a closed list closed, where one is named
 abbrev pub CloseIs : Held → Option (List ℕ) → Tables → Tables → Type 0
 CloseIs held None model i = i ≡ model
-CloseIs held (Some name) model i = (flags : Listed Bool) × (i ≡ with_closed model flags) × IfSome (held name) (λ bytes. IsClosedOf bytes model flags.items)
+CloseIs held (Some name) model i =
+    (flags : Listed Bool) × (i ≡ with_closed model flags)
+    × IfSome (held name) (λ bytes. IsClosedOf bytes model flags.items)
 
 -- a model file and a closed list, where one is named, mean the instance of these tables
-pub record InstanceIs (held : Held) (name : List ℕ) (closed_name : Option (List ℕ)) (i : Tables) : Type 0 where
+pub record InstanceIs (held : Held) (name : List ℕ) (closed_name : Option (List ℕ)) (i : Tables) :
+    Type 0 where
   pub model : Tables
   pub read : ModelIs held name model
   pub closed : CloseIs held closed_name model i

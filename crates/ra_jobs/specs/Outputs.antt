@@ -22,7 +22,8 @@ pub record Printed (held : Held) (names : Names) (way : List ℕ → Type 0) : T
 -- the bound of an instance; where an initial list is named, that of both, which counts the load of the pinned processes
 abbrev pub BoundIs : Held → Option (List ℕ) → Tables → Bound → Type 0
 BoundIs held None i bound = bound ≡ bound_of i
-BoundIs held (Some name) i bound = (a0 : List Machine) × ListIs held name i a0 × IsAssignment i a0 × (bound ≡ pinned_bound_of i a0)
+BoundIs held (Some name) i bound =
+    (a0 : List Machine) × ListIs held name i a0 × IsAssignment i a0 × (bound ≡ pinned_bound_of i a0)
 
 -- the files of `bound` mean an instance and an initial list, where one is named, and this is their bound
 pub record BoundRead (held : Held) (names : Names) (bound : Bound) : Type 0 where

@@ -25,9 +25,12 @@ abbrev pub ReadBefore : Held → Names → File → Type 0
 ReadBefore held names file.Model = Unit {0}
 ReadBefore held names file.Closed = (i : Tables) × ModelIs held names.model i
 ReadBefore held names file.Initial = (i : Tables) × InstanceIs held names.model names.closed i
-ReadBefore held names file.Changed = (i : Tables) × (a0 : List Machine) × InstanceIs held names.model names.closed i × NamedListIs held names.initial i a0
+ReadBefore held names file.Changed =
+    (i : Tables) × (a0 : List Machine) × InstanceIs held names.model names.closed i
+    × NamedListIs held names.initial i a0
 ReadBefore held names file.Report = (i : Tables) × (a0 : List Machine) × Passes held names i a0 a0
-ReadBefore held names file.Edits = (i : Tables) × (a0 : List Machine) × (a : List Machine) × Accepts held names i a0 a
+ReadBefore held names file.Edits =
+    (i : Tables) × (a0 : List Machine) × (a : List Machine) × Accepts held names i a0 a
 
 -- all before it was read, reading a file of the job failed, and its count of faults rose
 pub record ReadFailed (held : Held) (names : Names) (before now : Faults) (f : File) : Type 0 where
@@ -41,12 +44,14 @@ pub record ModelRefused (held : Held) (name : List ℕ) (fault : ModelFault) : T
   pub refused : IfSome (held name) (λ bytes. model_refusal bytes ≡ Some fault)
 
 -- a list is refused as this
-pub record ListRefused (held : Held) (name : List ℕ) (i : Tables) (fault : AssignFault) : Type 0 where
-  pub in_file : IsInList fault
-  pub refused : IfSome (held name) (λ bytes. assign_refusal bytes i ≡ Some fault)
+pub record ListRefused (held : Held) (name : List ℕ) (i : Tables) (fault : AssignFault) : Type 0
+  where
+    pub in_file : IsInList fault
+    pub refused : IfSome (held name) (λ bytes. assign_refusal bytes i ≡ Some fault)
 
 -- the closed list is refused as this, for the instance of the model file
-pub record ClosedRefused (held : Held) (model_name : List ℕ) (closed_name : Option (List ℕ)) (fault : ClosedFault) : Type 0 where
+pub record ClosedRefused (held : Held) (model_name : List ℕ) (closed_name : Option (List ℕ))
+    (fault : ClosedFault) : Type 0 where
   pub model : Tables
   pub read : ModelIs held model_name model
   pub name : List ℕ

@@ -19,14 +19,16 @@ use Rattle.ra_jobs.specs.Files.{Held, Faults, Names, Accepts}
 
 -- the run of tries from a list: its last list breaks this constraint first, or none, and its text went this way. A list that
 -- breaks none is feasible, and before one that breaks some the whole budget was tried
-pub record IsTried (i : Tables) (a0 : List Machine) (lot : Lot) (broken : Option Cause) (way : List ℕ → Type 0) : Type 0 where
+pub record IsTried (i : Tables) (a0 : List Machine) (lot : Lot) (broken : Option Cause)
+    (way : List ℕ → Type 0) : Type 0 where
   pub is : first_broken i a0 (repair_run i a0 lot).assignment ≡ broken
   pub feasible : broken ≡ None → Feasible i a0 (repair_run i a0 lot).assignment
   pub tried : broken ≢ None → length (repair_run i a0 lot).tries ≡ lot.budget
   pub text : way (repair_lines broken (repair_run i a0 lot).assignment (repair_run i a0 lot).tries)
 
 -- the files are accepted, and so it is with the run of the one lot from the initial list
-pub record Tried (held : Held) (names : Names) (l : Lots) (broken : Option Cause) (way : List ℕ → Type 0) : Type 0 where
+pub record Tried (held : Held) (names : Names) (l : Lots) (broken : Option Cause)
+    (way : List ℕ → Type 0) : Type 0 where
   pub tables : Tables
   pub a0 : List Machine
   pub accepts : Accepts held names tables a0 a0
@@ -35,27 +37,39 @@ pub record Tried (held : Held) (names : Names) (l : Lots) (broken : Option Cause
   pub run : IsTried tables a0 lot broken way
 
 -- its own refusals: the whole text of a run whose last list breaks a constraint was put; or a part of a text was
-abbrev pub RepairOwn : Held → Names → Lots → (List ℕ → Type 0) → (List ℕ → Type 0) → Refusal → Type 0
+abbrev pub RepairOwn : Held → Names → Lots → (List ℕ → Type 0) → (List ℕ → Type 0) → Refusal
+    → Type 0
 RepairOwn held names l prints breaks (Left cause) = Tried held names l (Some cause) prints
-RepairOwn held names l prints breaks Write = (broken : Option Cause) × Tried held names l broken breaks
+RepairOwn held names l prints breaks Write =
+    (broken : Option Cause) × Tried held names l broken breaks
 RepairOwn held names l prints breaks refusal = ⊥
 
 -- the last list of the run of the one lot breaks this constraint first, or none
 abbrev pub LeavesBroken : Tables → List Machine → Lots → Option Cause → Type 0
-LeavesBroken i a0 l broken = (lot : Lot) → l.lots.items ≡ lot ∷ [] → first_broken i a0 (repair_run i a0 lot).assignment ≡ broken
+LeavesBroken i a0 l broken =
+    (lot : Lot) → l.lots.items ≡ lot ∷ []
+    → first_broken i a0 (repair_run i a0 lot).assignment ≡ broken
 
 -- of a job with such lots: where each of its own statuses comes. No list has to be feasible. Any instance that the files
 -- mean will do: by `told_files_mean_one` and `alike_run_alike` of `ra_laws` the run is the same from each
-pub record RepairComes (held : Held) (names : Names) (are : Lots → Type 0) (before now : Faults) (status : Status) : Type 0 where
+pub record RepairComes (held : Held) (names : Names) (are : Lots → Type 0) (before now : Faults)
+    (status : Status) : Type 0 where
   pub never_infeasible : status ≢ Infeasible
-  pub unrepaired : status ≡ Unrepaired → (l : Lots) × are l × ((cause : Cause) × Tried held names l (Some cause) (λ text. Unit {0}))
-  pub stays : (i : Tables) (a0 : List Machine) → Accepts held names i a0 a0 → KnownTo held names before now file.Initial → (cause : Cause) → ((l : Lots) → are l → LeavesBroken i a0 l (Some cause)) → (status ≡ Unrepaired) ⊎ ((status ≡ WriteFault) ⊎ (status ≡ NoMemory))
-  pub is_repaired : (i : Tables) (a0 : List Machine) → Accepts held names i a0 a0 → KnownTo held names before now file.Initial → ((l : Lots) → are l → LeavesBroken i a0 l None) → (status ≡ Done) ⊎ ((status ≡ WriteFault) ⊎ (status ≡ NoMemory))
+  pub unrepaired : status ≡ Unrepaired
+      → (l : Lots) × are l × ((cause : Cause) × Tried held names l (Some cause) (λ text. Unit {0}))
+  pub stays : (i : Tables) (a0 : List Machine) → Accepts held names i a0 a0
+      → KnownTo held names before now file.Initial → (cause : Cause)
+      → ((l : Lots) → are l → LeavesBroken i a0 l (Some cause))
+      → (status ≡ Unrepaired) ⊎ ((status ≡ WriteFault) ⊎ (status ≡ NoMemory))
+  pub is_repaired : (i : Tables) (a0 : List Machine) → Accepts held names i a0 a0
+      → KnownTo held names before now file.Initial → ((l : Lots) → are l → LeavesBroken i a0 l None)
+      → (status ≡ Done) ⊎ ((status ≡ WriteFault) ⊎ (status ≡ NoMemory))
 
 -- ---- the stages
 
 -- what a refusal of the tries says
-abbrev pub TrySays : Tables → List Machine → Lot → (List ℕ → Type 0) → (List ℕ → Type 0) → Refusal → Type 0
+abbrev pub TrySays : Tables → List Machine → Lot → (List ℕ → Type 0) → (List ℕ → Type 0) → Refusal
+    → Type 0
 TrySays i a0 lot prints breaks (Left cause) = IsTried i a0 lot (Some cause) prints
 TrySays i a0 lot prints breaks Write = (broken : Option Cause) × IsTried i a0 lot broken breaks
 TrySays i a0 lot prints breaks Memory = Unit {0}

@@ -53,12 +53,14 @@ closed_as fault = Closed fault
 
 abbrev pub ClosedSays : Held → List ℕ → Tables → Faults → Faults → Refusal → Type 0
 ClosedSays held name i before now (Read file.Closed) = Rose (before name) (now name)
-ClosedSays held name i before now (Closed fault) = IsInClosed fault × IfSome (held name) (λ bytes. closed_refusal bytes i ≡ Some fault)
+ClosedSays held name i before now (Closed fault) =
+    IsInClosed fault × IfSome (held name) (λ bytes. closed_refusal bytes i ≡ Some fault)
 ClosedSays held name i before now Memory = Unit {0}
 ClosedSays held name i before now refusal = ⊥
 
 -- the model was read, and reading the closed list failed
-pub record ClosedFailed (held : Held) (model : List ℕ) (closed : Option (List ℕ)) (before now : Faults) : Type 0 where
+pub record ClosedFailed (held : Held) (model : List ℕ) (closed : Option (List ℕ))
+    (before now : Faults) : Type 0 where
   pub tables : Tables
   pub read : ModelIs held model tables
   pub name : List ℕ
@@ -68,7 +70,8 @@ pub record ClosedFailed (held : Held) (model : List ℕ) (closed : Option (List 
 -- the model file and the closed list
 abbrev pub SourceSays : Held → List ℕ → Option (List ℕ) → Faults → Faults → Refusal → Type 0
 SourceSays held model closed before now (Read file.Model) = Rose (before model) (now model)
-SourceSays held model closed before now (Read file.Closed) = ClosedFailed held model closed before now
+SourceSays held model closed before now (Read file.Closed) =
+    ClosedFailed held model closed before now
 SourceSays held model closed before now (Model fault) = ModelRefused held model fault
 SourceSays held model closed before now (Closed fault) = ClosedRefused held model closed fault
 SourceSays held model closed before now Memory = Unit {0}
@@ -124,7 +127,8 @@ pub record IsStart (held : Held) (names : Names) (i : Tables) (a0 : List Machine
   pub fits : IsAssignment i a0
 
 -- the two lists were read
-pub record ReadsLists (held : Held) (first second : List ℕ) (i : Tables) (a0 a : List Machine) : Type 0 where
+pub record ReadsLists (held : Held) (first second : List ℕ) (i : Tables) (a0 a : List Machine) :
+    Type 0 where
   pub initial : ListIs held first i a0
   pub initial_fits : IsAssignment i a0
   pub changed : ListIs held second i a
@@ -132,9 +136,11 @@ pub record ReadsLists (held : Held) (first second : List ℕ) (i : Tables) (a0 a
 
 abbrev pub ListsSay : Held → List ℕ → List ℕ → Tables → Faults → Faults → Refusal → Type 0
 ListsSay held first second i before now (Read file.Initial) = Rose (before first) (now first)
-ListsSay held first second i before now (Read file.Changed) = (a0 : List Machine) × ListIs held first i a0 × Rose (before second) (now second)
+ListsSay held first second i before now (Read file.Changed) =
+    (a0 : List Machine) × ListIs held first i a0 × Rose (before second) (now second)
 ListsSay held first second i before now (Initial fault) = ListRefused held first i fault
-ListsSay held first second i before now (Changed fault) = (a0 : List Machine) × ListIs held first i a0 × ListRefused held second i fault
+ListsSay held first second i before now (Changed fault) =
+    (a0 : List Machine) × ListIs held first i a0 × ListRefused held second i fault
 ListsSay held first second i before now Memory = Unit {0}
 ListsSay held first second i before now refusal = ⊥
 

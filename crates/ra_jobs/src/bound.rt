@@ -60,7 +60,8 @@ pub fn bound_run<'n, F: Files, O: Sink, E: Sink>(
     // Over accepted files, and where no fault of them or of the output was counted, the bound is printed.
     ensures complete { let names = bound_names model.now
         (option_copied closed.entry) (option_copied initial.entry) in
-        AreAccepted (F.held files.old) names → NoFault names (F.faults files.old) (F.faults files.new)
+        AreAccepted (F.held files.old) names
+        → NoFault names (F.faults files.old) (F.faults files.new)
         → (Rose (O.faults out.old) (O.faults out.new) → ⊥)
         → (result ≡ Status.Done) ⊎ (result ≡ Status.NoMemory) }
     ensures kept { (other : List ℕ) → F.held files.new other ≡ F.held files.old other }

@@ -75,8 +75,8 @@ pub fn read_lists<F: Files>(
     changed: &Name,
     inst: &Instance,
 ) -> Result<Lists, Refusal>
-    ensures read { IfOk result (λ l. ReadsLists
-        (F.held files.old) initial.now changed.now inst.now.tables l.initial.items l.changed.items) }
+    ensures read { IfOk result (λ l. ReadsLists (F.held files.old) initial.now changed.now
+        inst.now.tables l.initial.items l.changed.items) }
     ensures refused { IfErr result (ListsSay
         (F.held files.old) initial.now changed.now inst.now.tables (F.faults files.old)
         (F.faults files.new)) }

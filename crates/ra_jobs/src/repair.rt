@@ -56,13 +56,15 @@ pub fn repair_run<'n, F: Files, O: Sink, E: Sink>(
         (RepairOwn (F.held files.old) names lots.now (Appends (O.taken out.old) (O.taken out.new))
         (Breaks (O.taken out.old) (O.taken out.new) (O.faults out.old) (O.faults out.new)))
         (out.new ≡ out.old) result }
-    ensures own_comes { let names = solve_names model.now (option_copied closed.entry) initial.now in
+    ensures own_comes { let names = solve_names model.now
+        (option_copied closed.entry) initial.now in
         RepairComes (F.held files.old) names (λ l. l ≡ lots.now) (F.faults files.old)
         (F.faults files.new) result }
 
     // Over accepted files, and where no fault of a file of the job or of the output was counted, the tries are told.
     ensures complete { let names = solve_names model.now (option_copied closed.entry) initial.now in
-        AreAccepted (F.held files.old) names → NoFault names (F.faults files.old) (F.faults files.new)
+        AreAccepted (F.held files.old) names
+        → NoFault names (F.faults files.old) (F.faults files.new)
         → (Rose (O.faults out.old) (O.faults out.new) → ⊥)
         → (result ≡ Status.Done) ⊎ ((result ≡ Status.Unrepaired) ⊎ (result ≡ Status.NoMemory)) }
     ensures kept { (other : List ℕ) → F.held files.new other ≡ F.held files.old other }

@@ -27,14 +27,21 @@ next_number h w = entries_of h (length h) w
 
 -- its move, planned at the state of place q
 unfoldable pub next_move : Tables → List Machine → Lots → List Entry → ℕ → ℕ → MoveSteps
-next_move i a0 l h w q = let k = next_number h w in plan_of i a0 (state a0 h q) (words l w k) l.drawing (allowed l w k)
+next_move i a0 l h w q =
+    let k = next_number h w in plan_of i a0 (state a0 h q) (words l w k) l.drawing (allowed l w k)
 
 -- its entry, judged at the end of the journal
 unfoldable pub next_entry : Tables → List Machine → Lots → List Entry → ℕ → ℕ → Entry
 next_entry i a0 l h w q =
     let k = next_number h w in
     let mv = next_move i a0 l h w q in
-    record { worker = w; k = k; q = q; mv = mv; verdict = judge i a0 (state a0 h (length h)) mv.steps (allowed l w k) }
+    record {
+      worker = w;
+      k = k;
+      q = q;
+      mv = mv;
+      verdict = judge i a0 (state a0 h (length h)) mv.steps (allowed l w k);
+    }
 
 -- the first guard of a move that the journal has touched since place q, with the place of the last entry that touched it
 unfoldable pub newer_since : Tables → List Entry → ℕ → List Step → Option Newer
@@ -52,17 +59,20 @@ committed_by None h e = record { journal = h ++ e ∷ []; reply = Recorded (leng
 
 -- worker w hands in its next proposal, planned at the state of place q
 unfoldable pub committed : Tables → List Machine → Lots → List Entry → ℕ → ℕ → Committed
-committed i a0 l h w q = committed_by (newer_since i h q (next_move i a0 l h w q).steps) h (next_entry i a0 l h w q)
+committed i a0 l h w q =
+    committed_by (newer_since i h q (next_move i a0 l h w q).steps) h (next_entry i a0 l h w q)
 
 -- worker w may hand in this plan: it exists and has some of its budget left, the plan is of its next proposal, was made
 -- at a place of the journal behind all its entries, and is the plan with its weighing at the state there
-pub record IsCommit (i : Tables) (a0 : List Machine) (l : Lots) (h : List Entry) (w : ℕ) (plan : Plan) : Type 0 where
+pub record IsCommit (i : Tables) (a0 : List Machine) (l : Lots) (h : List Entry) (w : ℕ)
+    (plan : Plan) : Type 0 where
   pub worker : w < worker_count l
   pub number : plan.k ≡ next_number h w
   pub within : plan.k < budget l w
   pub place : plan.q ≤ length h
   pub seen : (j : ℕ) → j < length h → (entry_at h j).worker ≡ w → j < plan.q
-  pub planned : plan.mv ≡ plan_of i a0 (state a0 h plan.q) (words l w plan.k) l.drawing (allowed l w plan.k)
+  pub planned :
+      plan.mv ≡ plan_of i a0 (state a0 h plan.q) (words l w plan.k) l.drawing (allowed l w plan.k)
   pub weighed : plan.weighed ≡ weighed_of i a0 (state a0 h plan.q) plan.mv.steps
 
 -- no write guard of a move was touched since place q

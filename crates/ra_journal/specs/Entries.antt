@@ -12,7 +12,15 @@ use Rattle.ra_journal.specs.declared.entries.Entry.{Entry}
 
 -- the entry at place j; past the end there is a refused one without steps, which nothing looks at
 unfoldable pub entry_at : List Entry → ℕ → Entry
-entry_at h j = slice_index_or h j (record { worker = 0; k = 0; q = 0; mv = record { kind = Shift; steps = [] }; verdict = Refused (Repeat (record { 0 = 0 })) })
+entry_at h j =
+    slice_index_or h j
+    (record {
+      worker = 0;
+      k = 0;
+      q = 0;
+      mv = record { kind = Shift; steps = [] };
+      verdict = Refused (Repeat (record { 0 = 0 }));
+    })
 
 -- the steps that a verdict makes of a move: all where it is done, and none where it is refused
 unfoldable pub steps_made : Verdict → List Step → Option (List Step)

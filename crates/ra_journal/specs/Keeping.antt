@@ -30,8 +30,10 @@ pub record AreMadeBy (l : Lots) (h : List Entry) (made : List ℕ) : Type 0 wher
 pub record IsKept (i : Tables) (a0 : List Machine) (l : Lots) (book : Book) : Type 0 where
   pub legal : Legal i a0 l book.entries.items
   pub room : book.entries.room ≡ proposal_count l
-  pub versions : AreVersions i (made_in book.entries.items) (length book.entries.items) book.versions
-  pub moved : AreMovedOf i a0 (state a0 book.entries.items (length book.entries.items)) book.greatest
+  pub versions :
+      AreVersions i (made_in book.entries.items) (length book.entries.items) book.versions
+  pub moved :
+      AreMovedOf i a0 (state a0 book.entries.items (length book.entries.items)) book.greatest
   pub made : AreMadeBy l book.entries.items book.made
   pub cost : book.kept ≡ kept_cost i a0 book.entries.items (length book.entries.items)
   pub best_at : book.best_at ≡ best_of i a0 book.entries.items

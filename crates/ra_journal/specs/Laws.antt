@@ -23,16 +23,21 @@ pub record IsSound (i : Tables) (a0 : List Machine) (h : List Entry) (j : ℕ) :
 
 -- where the start is feasible and the journal legal, every state is feasible, and the kept cost is its objective
 abbrev pub LegalIsSound : Type 0
-LegalIsSound = (i : Tables) (a0 : List Machine) (l : Lots) (h : List Entry) → WellFormed i → IsAssignment i a0 → Feasible i a0 a0 → Legal i a0 l h → (j : ℕ) → j ≤ length h → IsSound i a0 h j
+LegalIsSound =
+    (i : Tables) (a0 : List Machine) (l : Lots) (h : List Entry) → WellFormed i → IsAssignment i a0
+    → Feasible i a0 a0 → Legal i a0 l h → (j : ℕ) → j ≤ length h → IsSound i a0 h j
 
 -- what the first n entries make are moves of the states before them: each process is named once, stands on the machine
 -- that its step leaves, and enters a machine of the instance
 pub record MakesMoves (i : Tables) (a0 : List Machine) (h : List Entry) (n : ℕ) : Type 0 where
-  pub each : (j : ℕ) (steps : List Step) → j < n → made_by (entry_at h j) ≡ Some steps → IsMove i (state a0 h j) steps
+  pub each : (j : ℕ) (steps : List Step) → j < n → made_by (entry_at h j) ≡ Some steps
+      → IsMove i (state a0 h j) steps
 
 -- each move that a legal journal makes stands where it is made
 abbrev pub LegalMakesMoves : Type 0
-LegalMakesMoves = (i : Tables) (a0 : List Machine) (l : Lots) (h : List Entry) → WellFormed i → IsAssignment i a0 → Legal i a0 l h → MakesMoves i a0 h (length h)
+LegalMakesMoves =
+    (i : Tables) (a0 : List Machine) (l : Lots) (h : List Entry) → WellFormed i → IsAssignment i a0
+    → Legal i a0 l h → MakesMoves i a0 h (length h)
 
 -- the move of the entry at place j was offered at the state where it was planned, and at that of its own place
 pub record IsOfferedAt (i : Tables) (a0 : List Machine) (h : List Entry) (j : ℕ) : Type 0 where
@@ -41,11 +46,15 @@ pub record IsOfferedAt (i : Tables) (a0 : List Machine) (h : List Entry) (j : �
 
 -- each entry of a legal journal was offered
 abbrev pub LegalIsOffered : Type 0
-LegalIsOffered = (i : Tables) (a0 : List Machine) (l : Lots) (h : List Entry) → WellFormed i → IsAssignment i a0 → Legal i a0 l h → (j : ℕ) → j < length h → IsOfferedAt i a0 h j
+LegalIsOffered =
+    (i : Tables) (a0 : List Machine) (l : Lots) (h : List Entry) → WellFormed i → IsAssignment i a0
+    → Legal i a0 l h → (j : ℕ) → j < length h → IsOfferedAt i a0 h j
 
 -- a legal next entry keeps a journal legal
 abbrev pub NextKeepsLegal : Type 0
-NextKeepsLegal = (i : Tables) (a0 : List Machine) (l : Lots) (h : List Entry) (e : Entry) → Legal i a0 l h → IsLegalAt i a0 l h (length h) e → Legal i a0 l (h ++ e ∷ [])
+NextKeepsLegal =
+    (i : Tables) (a0 : List Machine) (l : Lots) (h : List Entry) (e : Entry) → Legal i a0 l h
+    → IsLegalAt i a0 l h (length h) e → Legal i a0 l (h ++ e ∷ [])
 
 -- worker w may hand in a proposal that it has planned at place q: it has some of its budget left, and q is a place of
 -- the journal behind all its entries
@@ -57,7 +66,10 @@ pub record MayCommit (l : Lots) (h : List Entry) (w q : ℕ) : Type 0 where
 
 -- what a journal is after an answer is legal
 abbrev pub CommittedIsLegal : Type 0
-CommittedIsLegal = (i : Tables) (a0 : List Machine) (l : Lots) (h : List Entry) (w q : ℕ) → WellFormed i → IsAssignment i a0 → Feasible i a0 a0 → Legal i a0 l h → MayCommit l h w q → Legal i a0 l (committed i a0 l h w q).journal
+CommittedIsLegal =
+    (i : Tables) (a0 : List Machine) (l : Lots) (h : List Entry) (w q : ℕ) → WellFormed i
+    → IsAssignment i a0 → Feasible i a0 a0 → Legal i a0 l h → MayCommit l h w q
+    → Legal i a0 l (committed i a0 l h w q).journal
 
 -- a legal whole journal of one lot
 pub record IsSoloRun (i : Tables) (a0 : List Machine) (l : Lots) (h : List Entry) : Type 0 where
@@ -70,4 +82,5 @@ pub record OneLotIsSolo (i : Tables) (a0 : List Machine) (l : Lots) : Type 0 whe
   pub no_other : (h : List Entry) → IsSoloRun i a0 l h → h ≡ solo i a0 l
 
 abbrev pub OneLotsJournal : Type 0
-OneLotsJournal = (i : Tables) (a0 : List Machine) (l : Lots) → worker_count l ≡ 1 → OneLotIsSolo i a0 l
+OneLotsJournal =
+    (i : Tables) (a0 : List Machine) (l : Lots) → worker_count l ≡ 1 → OneLotIsSolo i a0 l

@@ -23,11 +23,14 @@ unfoldable pub verdict_in : Outcome → Verdict
 verdict_in (outcome.Done cost) = verdict.Done cost
 verdict_in (outcome.Repeat process) = verdict.Refused (cause.Repeat process)
 verdict_in (outcome.Same process) = verdict.Refused (cause.Same process)
-verdict_in (outcome.Capacity machine resource used cap) = verdict.Refused (cause.Capacity machine resource used cap)
-verdict_in (outcome.Transient machine resource used cap) = verdict.Refused (cause.Transient machine resource used cap)
+verdict_in (outcome.Capacity machine resource used cap) =
+    verdict.Refused (cause.Capacity machine resource used cap)
+verdict_in (outcome.Transient machine resource used cap) =
+    verdict.Refused (cause.Transient machine resource used cap)
 verdict_in (outcome.Conflict service machine) = verdict.Refused (cause.Conflict service machine)
 verdict_in (outcome.Spread service has wants) = verdict.Refused (cause.Spread service has wants)
-verdict_in (outcome.Dependency service needs neighbourhood) = verdict.Refused (cause.Dependency service needs neighbourhood)
+verdict_in (outcome.Dependency service needs neighbourhood) =
+    verdict.Refused (cause.Dependency service needs neighbourhood)
 verdict_in (outcome.Rise allowed before after) = verdict.Refused (cause.Rise allowed before after)
 verdict_in (outcome.Closed process machine) = verdict.Refused (cause.Closed process machine)
 

@@ -42,20 +42,29 @@ pub record AreChangesOf (moved : MovedCounts) (weighed : Weighed) : Type 0 where
 
 -- where these steps break nothing in an assignment that has the moved counts, those after the steps are the assignment's
 -- after them
-pub record AreChangedBy (i : Tables) (steps : List Step) (weighed : Weighed) (before after : MovedCounts) : Type 0 where
-  pub each : (a0 a : List Machine) → IsMove i a steps → broken_by i a0 a steps ≡ None → weighed ≡ weighed_of i a0 a steps → AreMovedOf i a0 a before → AreMovedOf i a0 (applied a steps) after
+pub record AreChangedBy (i : Tables) (steps : List Step) (weighed : Weighed)
+    (before after : MovedCounts) : Type 0 where
+  pub each : (a0 a : List Machine) → IsMove i a steps → broken_by i a0 a steps ≡ None
+      → weighed ≡ weighed_of i a0 a steps → AreMovedOf i a0 a before
+      → AreMovedOf i a0 (applied a steps) after
 
 -- the guards that are touched have a version, and the others keep theirs
-pub record AreTouched (i : Tables) (made : Option (List Step)) (number : ℕ) (before after : VersionTable) : Type 0 where
+pub record AreTouched (i : Tables) (made : Option (List Step)) (number : ℕ)
+    (before after : VersionTable) : Type 0 where
   pub sized : IsTableOf i after
-  pub each : (g : Guard) → version_in after g ≡ (if touches i made g then number else version_in before g)
+  pub each : (g : Guard)
+      → version_in after g ≡ (if touches i made g then number else version_in before g)
 
 -- the last entry of a book, which has these steps and this verdict, is taken into its versions, moved counts and cost
-pub record IsTakenIn (i : Tables) (steps : List Step) (weighed : Weighed) (verdict : Verdict) (before after : Book) : Type 0 where
+pub record IsTakenIn (i : Tables) (steps : List Step) (weighed : Weighed) (verdict : Verdict)
+    (before after : Book) : Type 0 where
   pub entries : after.entries ≡ before.entries
   pub made : after.made ≡ before.made
-  pub versions : AreTouched i (steps_made verdict steps) (length before.entries.items) before.versions after.versions
-  pub done : (cost : ℕ) → verdict ≡ Done cost → AreChangedBy i steps weighed before.greatest after.greatest
+  pub versions :
+      AreTouched i (steps_made verdict steps) (length before.entries.items) before.versions
+      after.versions
+  pub done : (cost : ℕ) → verdict ≡ Done cost
+      → AreChangedBy i steps weighed before.greatest after.greatest
   pub refused : (cause : Cause) → verdict ≡ Refused cause → after.greatest ≡ before.greatest
   pub kept : after.kept ≡ cost_then before.kept verdict
   pub best_at : after.best_at ≡ before.best_at
@@ -68,5 +77,9 @@ pub record IsBestKept (before after : Book) : Type 0 where
   pub versions : after.versions ≡ before.versions
   pub greatest : after.greatest ≡ before.greatest
   pub kept : after.kept ≡ before.kept
-  pub best_at : after.best_at ≡ (if nat_lt before.kept before.best_cost then length before.entries.items else before.best_at)
-  pub best_cost : after.best_cost ≡ (if nat_lt before.kept before.best_cost then before.kept else before.best_cost)
+  pub best_at :
+      after.best_at ≡
+      (if nat_lt before.kept before.best_cost then length before.entries.items else before.best_at)
+  pub best_cost :
+      after.best_cost ≡
+      (if nat_lt before.kept before.best_cost then before.kept else before.best_cost)

@@ -19,7 +19,8 @@ solo_entry i a0 l h k =
 -- its first n proposals
 unfoldable pub solo_entries : Tables → List Machine → Lots → ℕ → List Entry
 solo_entries i a0 l zero = []
-solo_entries i a0 l (suc n) = solo_entries i a0 l n ++ solo_entry i a0 l (solo_entries i a0 l n) n ∷ []
+solo_entries i a0 l (suc n) =
+    solo_entries i a0 l n ++ solo_entry i a0 l (solo_entries i a0 l n) n ∷ []
 
 -- all proposals of its budget
 unfoldable pub solo : Tables → List Machine → Lots → List Entry

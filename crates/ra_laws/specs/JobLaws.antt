@@ -50,12 +50,17 @@ pub record RunAlike (i j : Tables) : Type 0 where
   pub broken : (a0 a : List Machine) → first_broken i a0 a ≡ first_broken j a0 a
   pub bound : bound_of i ≡ bound_of j
   pub pinned_bound : (a0 : List Machine) → pinned_bound_of i a0 ≡ pinned_bound_of j a0
-  pub planned : (a0 a : List Machine) (x : List ℕ) (drawing : Drawing) (allowed : ℕ) → plan_of i a0 a x drawing allowed ≡ plan_of j a0 a x drawing allowed
-  pub judged : (a0 a : List Machine) (steps : List Step) (allowed : ℕ) → judge i a0 a steps allowed ≡ judge j a0 a steps allowed
+  pub planned : (a0 a : List Machine) (x : List ℕ) (drawing : Drawing) (allowed : ℕ)
+      → plan_of i a0 a x drawing allowed ≡ plan_of j a0 a x drawing allowed
+  pub judged : (a0 a : List Machine) (steps : List Step) (allowed : ℕ)
+      → judge i a0 a steps allowed ≡ judge j a0 a steps allowed
   pub legal : (a0 : List Machine) (l : Lots) (h : List Entry) → Legal i a0 l h → Legal j a0 l h
-  pub report : (a0 : List Machine) (l : Lots) (h : List Entry) → report_text i a0 l h ≡ report_text j a0 l h
-  pub is_report : (a0 : List Machine) (l : Lots) (bytes : List ℕ) (n : ℕ) → IsReport i a0 l bytes n → IsReport j a0 l bytes n
-  pub first_wrong : (a0 : List Machine) (l : Lots) (bytes : List ℕ) (line : Option ℕ) → IsFirstWrong i a0 l bytes line → IsFirstWrong j a0 l bytes line
+  pub report : (a0 : List Machine) (l : Lots) (h : List Entry)
+      → report_text i a0 l h ≡ report_text j a0 l h
+  pub is_report : (a0 : List Machine) (l : Lots) (bytes : List ℕ) (n : ℕ) → IsReport i a0 l bytes n
+      → IsReport j a0 l bytes n
+  pub first_wrong : (a0 : List Machine) (l : Lots) (bytes : List ℕ) (line : Option ℕ)
+      → IsFirstWrong i a0 l bytes line → IsFirstWrong j a0 l bytes line
   pub alone : (a0 : List Machine) (l k : Lots) → AreAlikeLots l k → solo i a0 l ≡ solo j a0 k
   pub summary : (a0 : List Machine) (h : List Entry) → summary_text i a0 h ≡ summary_text j a0 h
   pub repaired : (a0 : List Machine) (lot : Lot) → repair_run i a0 lot ≡ repair_run j a0 lot
@@ -76,13 +81,20 @@ pub record MeanAlike (names : Names) (i j : Tables) (a0 b0 a b : List Machine) :
 
 -- told files mean one instance, but for the rooms of its lists, and one assignment each
 abbrev pub ToldFilesMeanOne : Type 0
-ToldFilesMeanOne = (held : Held) (names : Names) (i j : Tables) (a0 b0 a b : List Machine) → AreTold held names → Accepts held names i a0 a → Accepts held names j b0 b → MeanAlike names i j a0 b0 a b
+ToldFilesMeanOne =
+    (held : Held) (names : Names) (i j : Tables) (a0 b0 a b : List Machine) → AreTold held names
+    → Accepts held names i a0 a → Accepts held names j b0 b → MeanAlike names i j a0 b0 a b
 
 -- the text of a trial is one, whatever rooms the lists of its instance and of its lots have: it rests on the number alone
 abbrev pub TrialsHaveOneText : Type 0
-TrialsHaveOneText = (number : ℕ) (i j : Tables) (l k : Lots) → IsTrial (trial_word number) i → IsTrial (trial_word number) j → IsTrialLots number l → IsTrialLots number k
-    → summary_text i start_list (solo i start_list l) ≡ summary_text j start_list (solo j start_list k)
+TrialsHaveOneText =
+    (number : ℕ) (i j : Tables) (l k : Lots) → IsTrial (trial_word number) i
+    → IsTrial (trial_word number) j → IsTrialLots number l → IsTrialLots number k
+    → summary_text i start_list (solo i start_list l)
+    ≡ summary_text j start_list (solo j start_list k)
 
 -- so what two trials of a number print is the same
 abbrev pub TrialsPrintOneText : Type 0
-TrialsPrintOneText = (number : ℕ) (one other : List ℕ) → TrialPrinted number (λ text. one ≡ text) → TrialPrinted number (λ text. other ≡ text) → one ≡ other
+TrialsPrintOneText =
+    (number : ℕ) (one other : List ℕ) → TrialPrinted number (λ text. one ≡ text)
+    → TrialPrinted number (λ text. other ≡ text) → one ≡ other

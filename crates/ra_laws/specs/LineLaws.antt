@@ -17,4 +17,5 @@ pub record IsWhole (bytes : List ℕ) (n : ℕ) (line : List ℕ) : Type 0 where
   pub ended : suc n < length (lines_of bytes) → ends_line line ≡ true
 
 abbrev pub LinesAreWhole : Type 0
-LinesAreWhole = (bytes : List ℕ) (n : ℕ) (line : List ℕ) → line_at n bytes ≡ Some line → IsWhole bytes n line
+LinesAreWhole =
+    (bytes : List ℕ) (n : ℕ) (line : List ℕ) → line_at n bytes ≡ Some line → IsWhole bytes n line

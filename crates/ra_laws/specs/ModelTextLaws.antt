@@ -13,7 +13,8 @@ pub record IsOpened (i opened : Tables) : Type 0 where
 
 -- the text means the instance with no machine closed, and no other
 abbrev pub ModelTextsAreModels : Type 0
-ModelTextsAreModels = (i opened : Tables) → WellFormed i → Small i → IsModel (model_text i) opened ↔ IsOpened i opened
+ModelTextsAreModels =
+    (i opened : Tables) → WellFormed i → Small i → IsModel (model_text i) opened ↔ IsOpened i opened
 
 -- and nothing is wrong with it
 abbrev pub ModelTextsAreAccepted : Type 0

@@ -7,4 +7,6 @@ use Rattle.ra_pins.specs.Pinned.{rounds, is_pinned}
 
 -- further rounds pin nothing more: what any number of rounds flags, as many rounds flag as there are processes
 abbrev pub RoundsEnd : Type 0
-RoundsEnd = (i : Tables) (a0 : List Machine) (n p : ℕ) → p < process_count i → rounds i a0 n p ≡ true → is_pinned i a0 p ≡ true
+RoundsEnd =
+    (i : Tables) (a0 : List Machine) (n p : ℕ) → p < process_count i → rounds i a0 n p ≡ true
+    → is_pinned i a0 p ≡ true

@@ -17,27 +17,38 @@ NumbersAreDecimal = (n : ℕ) → n < 2 ^ 128 → number_text n ≡ decimal n
 
 -- two journals with the same entry lines are equal
 abbrev pub SameLinesSameJournal : Type 0
-SameLinesSameJournal = (h k : List Entry) → entries_text h (length h) ≡ entries_text k (length k) → h ≡ k
+SameLinesSameJournal =
+    (h k : List Entry) → entries_text h (length h) ≡ entries_text k (length k) → h ≡ k
 
 -- no bytes tell two journals
 abbrev pub OneJournalOfBytes : Type 0
-OneJournalOfBytes = (bytes : List ℕ) (h k : List Entry) → IsJournalOf bytes h → IsJournalOf bytes k → h ≡ k
+OneJournalOfBytes =
+    (bytes : List ℕ) (h k : List Entry) → IsJournalOf bytes h → IsJournalOf bytes k → h ≡ k
 
 -- what is written of a journal tells it, whatever the ten lines before its entries say
 abbrev pub WrittenTellsItsJournal : Type 0
-WrittenTellsItsJournal = (parts : Parts) (bound_total best_at : ℕ) (a : List Machine) (drawing : Drawing) (h : List Entry) → IsJournalOf (report_lines parts bound_total best_at a drawing h) h
+WrittenTellsItsJournal =
+    (parts : Parts) (bound_total best_at : ℕ) (a : List Machine) (drawing : Drawing)
+    (h : List Entry)
+    → IsJournalOf (report_lines parts bound_total best_at a drawing h) h
 
 -- the report of a journal tells that journal
 abbrev pub ReportTellsItsJournal : Type 0
-ReportTellsItsJournal = (i : Tables) (a0 : List Machine) (l : Lots) (h : List Entry) → IsJournalOf (report_text i a0 l h) h
+ReportTellsItsJournal =
+    (i : Tables) (a0 : List Machine) (l : Lots) (h : List Entry)
+    → IsJournalOf (report_text i a0 l h) h
 
 -- two entries whose lines stand at one place at the front of the same bytes are equal, and so is what follows
 abbrev pub SameLineSameEntry : Type 0
-SameLineSameEntry = (j : ℕ) (e f : Entry) (x y : List ℕ) → entry_line j e ++ x ≡ entry_line j f ++ y → (e ≡ f) × (x ≡ y)
+SameLineSameEntry =
+    (j : ℕ) (e f : Entry) (x y : List ℕ) → entry_line j e ++ x ≡ entry_line j f ++ y
+    → (e ≡ f) × (x ≡ y)
 
 -- the line of an entry is one line, whatever follows
 abbrev pub EntryLineIsOneLine : Type 0
-EntryLineIsOneLine = (j : ℕ) (e : Entry) (rest : List ℕ) → lines_of (entry_line j e ++ rest) ≡ entry_line j e ∷ lines_of rest
+EntryLineIsOneLine =
+    (j : ℕ) (e : Entry) (rest : List ℕ)
+    → lines_of (entry_line j e ++ rest) ≡ entry_line j e ∷ lines_of rest
 
 -- a report is its head and the lines of its entries, and the head has ten lines, whatever follows
 pub record HasTenLines (head : List ℕ) : Type 0 where
@@ -45,11 +56,18 @@ pub record HasTenLines (head : List ℕ) : Type 0 where
   pub before : (rest : List ℕ) → lines_of (head ++ rest) ≡ lines_of head ++ lines_of rest
 
 abbrev pub ReportIsHeadAndEntries : Type 0
-ReportIsHeadAndEntries = (i : Tables) (a0 : List Machine) (l : Lots) (h : List Entry) → (report_text i a0 l h ≡ report_head i a0 l h ++ entries_text h (length h)) × HasTenLines (report_head i a0 l h)
+ReportIsHeadAndEntries =
+    (i : Tables) (a0 : List Machine) (l : Lots) (h : List Entry)
+    → (report_text i a0 l h ≡ report_head i a0 l h ++ entries_text h (length h))
+    × HasTenLines (report_head i a0 l h)
 
 abbrev pub EntriesAreLines : Type 0
-EntriesAreLines = (h : List Entry) (n : ℕ) (rest : List ℕ) → lines_of (entries_text h n ++ rest) ≡ entry_lines h n ++ lines_of rest
+EntriesAreLines =
+    (h : List Entry) (n : ℕ) (rest : List ℕ)
+    → lines_of (entries_text h n ++ rest) ≡ entry_lines h n ++ lines_of rest
 
 -- the lines of what comes behind the first n lines are the others
 abbrev pub LinesBehind : Type 0
-LinesBehind = (n : ℕ) (bytes rest : List ℕ) → lines_left n (Some bytes) ≡ Some rest → lines_of rest ≡ drop n (lines_of bytes)
+LinesBehind =
+    (n : ℕ) (bytes rest : List ℕ) → lines_left n (Some bytes) ≡ Some rest
+    → lines_of rest ≡ drop n (lines_of bytes)

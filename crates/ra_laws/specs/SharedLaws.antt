@@ -10,5 +10,8 @@ use Rattle.ra_shared.specs.Numbers.{number_of, touches_number}
 
 -- the lock's version of a guard's number in a history is the guard's version, the greatest of its stamps; `makes` is what an entry makes
 abbrev pub VersionsAgree : Type 0 → Type 0
-VersionsAgree N = (i : Tables) (makes : N → Option (List Step)) (history : List N) (g : Guard) (v : ℕ) → IsKnown i g
-    → IsVersion (λ x. touches_number i (makes x) (number_of i g)) history v → v ≡ version i (map makes history) (length history) g
+VersionsAgree N =
+    (i : Tables) (makes : N → Option (List Step)) (history : List N) (g : Guard) (v : ℕ)
+    → IsKnown i g
+    → IsVersion (λ x. touches_number i (makes x) (number_of i g)) history v
+    → v ≡ version i (map makes history) (length history) g

@@ -22,7 +22,9 @@ ModelTextsAreAccepted = (g : ℕ → ℕ) → model_refusal (text_over g) ≡ No
 
 -- the text of the start means the start and no other assignment
 abbrev pub StartTextsAreStarts : Type 0
-StartTextsAreStarts = (g : ℕ → ℕ) (i : Tables) (a : List Machine) → IsTrial g i → IsAssignmentOf start_text i a ↔ (a ≡ start_list)
+StartTextsAreStarts =
+    (g : ℕ → ℕ) (i : Tables) (a : List Machine) → IsTrial g i
+    → IsAssignmentOf start_text i a ↔ (a ≡ start_list)
 
 -- the instance has the trial's numbers, by the names that an instance gives them
 abbrev pub TrialsHaveNumbers : Type 0

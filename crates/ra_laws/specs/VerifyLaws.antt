@@ -9,8 +9,13 @@ use Rattle.ra_verify.specs.WrongLines.{IsFirstWrong, IsReport}
 
 -- the entries so far, the worker and the place of a plan tell the one entry that may follow
 abbrev pub OneNextEntry : Type 0
-OneNextEntry = (i : Tables) (a0 : List Machine) (l : Lots) (h : List Entry) (e f : Entry) → Legal i a0 l (h ++ e ∷ []) → Legal i a0 l (h ++ f ∷ []) → e.worker ≡ f.worker → e.q ≡ f.q → e ≡ f
+OneNextEntry =
+    (i : Tables) (a0 : List Machine) (l : Lots) (h : List Entry) (e f : Entry)
+    → Legal i a0 l (h ++ e ∷ []) → Legal i a0 l (h ++ f ∷ []) → e.worker ≡ f.worker → e.q ≡ f.q
+    → e ≡ f
 
 -- where no line is wrong, the bytes are the report of a legal whole journal
 abbrev pub NoneWrongIsReport : Type 0
-NoneWrongIsReport = (i : Tables) (a0 : List Machine) (l : Lots) (bytes : List ℕ) → IsFirstWrong i a0 l bytes None → (n : ℕ) × IsReport i a0 l bytes n
+NoneWrongIsReport =
+    (i : Tables) (a0 : List Machine) (l : Lots) (bytes : List ℕ) → IsFirstWrong i a0 l bytes None
+    → (n : ℕ) × IsReport i a0 l bytes n

@@ -8,7 +8,8 @@ use Rattle.ra_journal.specs.Entries.{entry_at}
 use Rattle.ra_journal.specs.Legal.{IsLegalAt, IsLegal}
 
 -- there is an entry at place j, all before it are legal, and it isn't
-pub record IsFirstIllegal (i : Tables) (a0 : List Machine) (l : Lots) (h : List Entry) (j : ℕ) : Type 0 where
+pub record IsFirstIllegal (i : Tables) (a0 : List Machine) (l : Lots) (h : List Entry) (j : ℕ) :
+    Type 0 where
   pub there : j < length h
   pub before : IsLegal i a0 l h j
   pub illegal : IsLegalAt i a0 l h j (entry_at h j) → ⊥

@@ -25,4 +25,6 @@ taken_of expected agreed other = opened expected ++ given_of expected agreed oth
 
 -- a text was given to a sink that expects these bytes: it was taken whole, or a front of it was and a fault was counted
 abbrev pub WasGiven : List ℕ → List ℕ → ℕ → List ℕ → Type 0
-WasGiven expected taken faults text = (taken ≡ opened expected ++ text) ⊎ ((n : ℕ) × (taken ≡ opened expected ++ take n text) × (0 < faults))
+WasGiven expected taken faults text =
+    (taken ≡ opened expected ++ text)
+    ⊎ ((n : ℕ) × (taken ≡ opened expected ++ take n text) × (0 < faults))

@@ -9,7 +9,8 @@ onto_first byte (line ∷ lines) = (byte ∷ line) ∷ lines
 -- the lines of some bytes: each ends behind its LF, and a last piece without LF is a line too
 unfoldable pub lines_of : List ℕ → List (List ℕ)
 lines_of [] = []
-lines_of (byte ∷ bytes) = if byte == 10 then (byte ∷ []) ∷ lines_of bytes else onto_first byte (lines_of bytes)
+lines_of (byte ∷ bytes) =
+    if byte == 10 then (byte ∷ []) ∷ lines_of bytes else onto_first byte (lines_of bytes)
 
 -- line number n, counted from 0
 unfoldable pub line_at : ℕ → List ℕ → Option (List ℕ)

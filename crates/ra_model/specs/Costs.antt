@@ -59,8 +59,18 @@ machine_cost i a0 a = machine_weight_of i * tally (process_count i) (way_share i
 
 -- the objective: the sum of the five parts
 unfoldable pub objective : Tables → List Machine → List Machine → ℕ
-objective i a0 a = load_cost i a + balance_cost i a + process_cost i a0 a + service_cost i a0 a + machine_cost i a0 a
+objective i a0 a =
+    load_cost i a + balance_cost i a + process_cost i a0 a + service_cost i a0 a + machine_cost i a0
+    a
 
 -- the five parts with their total
 unfoldable pub parts_of : Tables → List Machine → List Machine → Parts
-parts_of i a0 a = record { load = load_cost i a; balance = balance_cost i a; process = process_cost i a0 a; service = service_cost i a0 a; machine = machine_cost i a0 a; total = objective i a0 a }
+parts_of i a0 a =
+    record {
+      load = load_cost i a;
+      balance = balance_cost i a;
+      process = process_cost i a0 a;
+      service = service_cost i a0 a;
+      machine = machine_cost i a0 a;
+      total = objective i a0 a;
+    }

@@ -12,7 +12,8 @@ use Rattle.ra_model.specs.Costs.{load_cost, balance_cost, process_cost, service_
 
 -- what is named as broken is a constraint
 abbrev pub BrokenNamesConstraints : Type 0
-BrokenNamesConstraints = (i : Tables) (a0 a : List Machine) → IfSome (first_broken i a0 a) IsConstraint
+BrokenNamesConstraints =
+    (i : Tables) (a0 a : List Machine) → IfSome (first_broken i a0 a) IsConstraint
 
 -- how large the sums of an instance are at most
 pub record SumsFit (i : Tables) (a0 a : List Machine) : Type 0 where

@@ -23,7 +23,8 @@ pub record WellFormed (i : Tables) : Type 0 where
   pub in_order : (s : ℕ) → s < service_count i → dependency_start i s ≤ dependency_end i s
   pub within : (s : ℕ) → s < service_count i → dependency_end i s ≤ length i.raw.dependencies.items
   pub all_owned : dependency_start i (service_count i) ≡ length i.raw.dependencies.items
-  pub needs : (place : ℕ) → place < length i.raw.dependencies.items → need_at i place < service_count i
+  pub needs : (place : ℕ) → place < length i.raw.dependencies.items
+      → need_at i place < service_count i
   pub services : (p : ℕ) → p < process_count i → service_of i p < service_count i
   pub firsts : (b : ℕ) → b < balance_count i → first_of i b < resource_count i
   pub seconds : (b : ℕ) → b < balance_count i → second_of i b < resource_count i

@@ -24,7 +24,9 @@ row_left i m u r = capacity_of i m r - u r
 
 -- the weight of objective b times max(0, target * what is left of its first resource - what is left of its second)
 unfoldable pub balance_share : Tables → ℕ → (ℕ → ℕ) → ℕ → ℕ
-balance_share i m u b = balance_weight_of i b * (target_of i b * row_left i m u (first_of i b) - row_left i m u (second_of i b))
+balance_share i m u b =
+    balance_weight_of i b *
+    (target_of i b * row_left i m u (first_of i b) - row_left i m u (second_of i b))
 
 -- the balance cost of a machine with this use: the sum over the objectives
 unfoldable pub row_balance : Tables → ℕ → (ℕ → ℕ) → ℕ
@@ -39,11 +41,14 @@ machine_balance i a m = row_balance i m (use_of i a m)
 
 -- the load cost is the sum over the machines
 abbrev pub LoadIsByMachine : Type 0
-LoadIsByMachine = (i : Tables) (a : List Machine) → load_cost i a ≡ total (machine_count i) (machine_load i a)
+LoadIsByMachine =
+    (i : Tables) (a : List Machine) → load_cost i a ≡ total (machine_count i) (machine_load i a)
 
 -- and so is the balance cost
 abbrev pub BalanceIsByMachine : Type 0
-BalanceIsByMachine = (i : Tables) (a : List Machine) → balance_cost i a ≡ total (machine_count i) (machine_balance i a)
+BalanceIsByMachine =
+    (i : Tables) (a : List Machine)
+    → balance_cost i a ≡ total (machine_count i) (machine_balance i a)
 
 -- how large the costs of a machine are at most
 pub record MachineCostsFit (i : Tables) (a : List Machine) (m : ℕ) : Type 0 where
@@ -51,4 +56,5 @@ pub record MachineCostsFit (i : Tables) (a : List Machine) (m : ℕ) : Type 0 wh
   pub balance : machine_balance i a m < 2 ^ 100
 
 abbrev pub AllMachineCostsFit : Type 0
-AllMachineCostsFit = (i : Tables) (a : List Machine) (m : ℕ) → WellFormed i → Small i → MachineCostsFit i a m
+AllMachineCostsFit =
+    (i : Tables) (a : List Machine) (m : ℕ) → WellFormed i → Small i → MachineCostsFit i a m

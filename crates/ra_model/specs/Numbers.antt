@@ -14,19 +14,41 @@ use Rattle.ra_model.specs.declared.raw.Tables.{Tables}
 
 -- the row of a resource, a machine, a service, a process, a balance objective
 unfoldable pub resource_row : Tables → ℕ → ResourceRow
-resource_row i r = slice_index_or i.raw.resources.items r (record { transient = false; load_weight = 0; small = lit< tt })
+resource_row i r =
+    slice_index_or i.raw.resources.items r
+    (record { transient = false; load_weight = 0; small = lit< tt })
 
 unfoldable pub machine_row : Tables → ℕ → MachineRow
-machine_row i m = slice_index_or i.raw.machines.items m (record { neighbourhood = 0; location = 0; small_neighbourhood = lit< tt; small_location = lit< tt })
+machine_row i m =
+    slice_index_or i.raw.machines.items m
+    (record {
+      neighbourhood = 0;
+      location = 0;
+      small_neighbourhood = lit< tt;
+      small_location = lit< tt;
+    })
 
 unfoldable pub service_row : Tables → ℕ → ServiceRow
-service_row i s = slice_index_or i.raw.services.items s (record { spread_min = 0; dependency_end = 0; small_spread = lit< tt; small_end = lit< tt })
+service_row i s =
+    slice_index_or i.raw.services.items s
+    (record { spread_min = 0; dependency_end = 0; small_spread = lit< tt; small_end = lit< tt })
 
 unfoldable pub process_row : Tables → ℕ → ProcessRow
-process_row i p = slice_index_or i.raw.processes.items p (record { service = record { 0 = 0 }; move_cost = 0; small = lit< tt })
+process_row i p =
+    slice_index_or i.raw.processes.items p
+    (record { service = record { 0 = 0 }; move_cost = 0; small = lit< tt })
 
 unfoldable pub balance_row : Tables → ℕ → BalanceRow
-balance_row i b = slice_index_or i.raw.balances.items b (record { first = record { 0 = 0 }; second = record { 0 = 0 }; target = 0; weight = 0; small_target = lit< tt; small_weight = lit< tt })
+balance_row i b =
+    slice_index_or i.raw.balances.items b
+    (record {
+      first = record { 0 = 0 };
+      second = record { 0 = 0 };
+      target = 0;
+      weight = 0;
+      small_target = lit< tt;
+      small_weight = lit< tt;
+    })
 
 -- how many there are of each
 unfoldable pub resource_count : Tables → ℕ

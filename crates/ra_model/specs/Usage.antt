@@ -15,7 +15,8 @@ use_of i a m r = tally (process_count i) (use_share i m r) a
 
 -- what process p, which was on its machine of a0 and is on machine `at`, uses of resource r of machine m in between
 unfoldable pub transient_share : Tables → List Machine → ℕ → ℕ → ℕ → ℕ → ℕ
-transient_share i a0 m r p at = if (machine_at a0 p == m) || (at == m) then requirement_of i p r else 0
+transient_share i a0 m r p at =
+    if (machine_at a0 p == m) || (at == m) then requirement_of i p r else 0
 
 -- T(m, r): the sum of R(p, r) over the processes p with A0(p) = m or A(p) = m, each counted once
 unfoldable pub transient_of : Tables → List Machine → List Machine → ℕ → ℕ → ℕ

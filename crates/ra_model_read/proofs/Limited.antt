@@ -5,7 +5,8 @@ use Rattle.ra_model_read.specs.declared.faults.Field.{Field}
 use Rattle.ra_model_read.specs.declared.faults.ModelFault.{ModelFault}
 use Rattle.ra_model_read.specs.declared.faults.ModelFault.TheVariants.{Range, Flag}
 use Rattle.ra_model_read.specs.Formats.{pure, refuse, limited, flag_value}
-use Rattle.ra_model_read.specs.Reading.{Here, Stands, Refuses}
+use Rattle.ra_token.specs.Moments.{Here, Stands}
+use Rattle.ra_model_read.specs.Reading.{Refuses}
 use Rattle.ra_model_read.proofs.Steps.{refuses_here}
 
 pub limited_fits : (what : Field) (least most : ℕ) (t : Token) → least ≤ t.value → t.value ≤ most → limited what least most t ≡ pure t.value

@@ -16,7 +16,8 @@ use Rattle.ra_model_read.specs.Texts.{ModelIsItsNumbers}
 use Rattle.ra_model_read.proofs.ModelLimits.{model_well_formed}
 use Rattle.ra_model_read.proofs.TextAccepted.{text_accepted}
 use Rattle.ra_model_read.proofs.TextTakenParts.{text_taken}
-use Rattle.ra_model_read.specs.Reading.{Here, left_from, left_of, Gives, Refuses, is_by_content}
+use Rattle.ra_token.specs.Moments.{Here}
+use Rattle.ra_model_read.specs.Reading.{left_from, left_of, Gives, Refuses, is_by_content}
 
 all_left : (place : ℕ) (bytes : List ℕ) → tokens_before bytes place ≡ 0 → left_from place bytes ≡ all_of bytes
 unfolding left_from all_of

@@ -14,7 +14,8 @@ use Rattle.ra_model_read.specs.declared.faults.Field.{Field}
 use Rattle.ra_model_read.specs.declared.faults.ModelFault.{ModelFault}
 use Rattle.ra_model_read.specs.declared.faults.ModelFault.TheVariants.{Missing}
 use Rattle.ra_model_read.specs.Formats.{Left, Read, Refused, pure, go_on, ◌>>=◌, next_token, take_token, token_fault, any, along, number_more, numbers}
-use Rattle.ra_model_read.specs.Reading.{Here, left_from, left_of, Goes, Gives, Refuses}
+use Rattle.ra_token.specs.Moments.{Here, Goes}
+use Rattle.ra_model_read.specs.Reading.{left_from, left_of, Gives, Refuses}
 use Rattle.ra_model_read.proofs.Outcomes.{bind_read, bind_refused}
 use Rattle.ra_model_read.proofs.NextToken.{told_read, told_refused, if_both, if_one, same_file, token_missing, no_fault, by_content_read, content_not_read, shown_fault}
 

@@ -13,7 +13,8 @@ use Rattle.ra_model_read.specs.declared.faults.Field.{Field}
 use Rattle.ra_model_read.specs.declared.faults.ModelFault.{ModelFault}
 use Rattle.ra_model_read.specs.declared.faults.ModelFault.TheVariants.{Missing, Extra, ReadFault}
 use Rattle.ra_model_read.specs.Formats.{Read, Refused, Format, next_token, take_token, fault_or, token_fault, take_end, ends}
-use Rattle.ra_model_read.specs.Reading.{Here, left_from, left_of, Goes, Gives, Refuses, is_by_content}
+use Rattle.ra_token.specs.Moments.{Here, Goes}
+use Rattle.ra_model_read.specs.Reading.{left_from, left_of, Gives, Refuses, is_by_content}
 
 -- a token is the first of those left, and the others come after it
 drop_from : {X : Type 0} → (xs : List X) (n : ℕ) (x : X) → slice_get xs n ≡ Some x → drop n xs ≡ x ∷ drop (suc n) xs

@@ -6,7 +6,8 @@ use Rattle.ra_io.specs.Faults.{Rose}
 use Rattle.ra_model_read.specs.declared.faults.ModelFault.{ModelFault}
 use Rattle.ra_model_read.specs.declared.faults.ModelFault.TheVariants.{NoMemory, ReadFault}
 use Rattle.ra_model_read.specs.Formats.{Left, Read, Refused, Format, pure, refuse, ◌>>=◌, along}
-use Rattle.ra_model_read.specs.Reading.{Here, Stands, left_of, Goes, Gives, Refuses, is_by_content}
+use Rattle.ra_token.specs.Moments.{Here, Stands, Goes}
+use Rattle.ra_model_read.specs.Reading.{left_of, Gives, Refuses, is_by_content}
 use Rattle.ra_model_read.proofs.Outcomes.{told_bind, told_refused_first, told_refused_next}
 
 pub goes_on : {a b c : Here} → Goes a b → Goes b c → Goes a c

@@ -30,10 +30,12 @@ machine_numbers i m =
     ++ row_of (machine_count i) (way_cost_of i m)))
 
 unfoldable pub service_numbers : Tables → ℕ → List ℕ
-service_numbers i s = spread_of i s ∷ dependency_count i s ∷ row_of (dependency_count i s) (need_of i s)
+service_numbers i s =
+    spread_of i s ∷ dependency_count i s ∷ row_of (dependency_count i s) (need_of i s)
 
 unfoldable pub process_numbers : Tables → ℕ → List ℕ
-process_numbers i p = service_of i p ∷ (row_of (resource_count i) (requirement_of i p) ++ process_cost_of i p ∷ [])
+process_numbers i p =
+    service_of i p ∷ (row_of (resource_count i) (requirement_of i p) ++ process_cost_of i p ∷ [])
 
 unfoldable pub balance_numbers : Tables → ℕ → List ℕ
 balance_numbers i b = first_of i b ∷ second_of i b ∷ target_of i b ∷ balance_weight_of i b ∷ []

@@ -65,7 +65,9 @@ any what item = next_token what item >>= λ t. pure t.value
 
 -- a value that has to be from least to most
 unfoldable pub limited : Field → ℕ → ℕ → Token → Format ℕ
-limited what least most t = if nat_le least t.value && nat_le t.value most then pure t.value else refuse (Range what t.at t.value least most)
+limited what least most t =
+    if nat_le least t.value && nat_le t.value most then pure t.value
+    else refuse (Range what t.at t.value least most)
 
 unfoldable pub field : Field → ℕ → ℕ → ℕ → Format ℕ
 field what item least most = next_token what item >>= limited what least most

@@ -80,7 +80,8 @@ abbrev pub of_process : ProcessRow → ProcessNumbers
 of_process row = record { service = row.service; move_cost = row.move_cost }
 
 abbrev pub of_balance : BalanceRow → BalanceNumbers
-of_balance row = record { first = row.first; second = row.second; target = row.target; weight = row.weight }
+of_balance row =
+    record { first = row.first; second = row.second; target = row.target; weight = row.weight }
 
 -- the lists of an instance
 abbrev pub lists_of : RawInstance → Lists
@@ -92,8 +93,14 @@ lists_of raw = record {
     safeties = raw.safeties.items;
     move_costs = raw.move_costs.items;
   };
-  services = record { rows = map of_service raw.services.items; dependencies = raw.dependencies.items };
-  processes = record { rows = map of_process raw.processes.items; requirements = raw.requirements.items };
+  services =
+      record { rows = map of_service raw.services.items; dependencies = raw.dependencies.items };
+  processes =
+      record { rows = map of_process raw.processes.items; requirements = raw.requirements.items };
   balances = map of_balance raw.balances.items;
-  weights = record { process = raw.process_weight; service = raw.service_weight; machine = raw.machine_weight };
+  weights = record {
+    process = raw.process_weight;
+    service = raw.service_weight;
+    machine = raw.machine_weight;
+  };
 }

@@ -41,7 +41,8 @@ machine R M m so_far = do
 unfoldable pub machines : ℕ → Format MachineLists
 machines R = do
   count ← field MachineCount 0 1 5000
-  along count (machine R count) (record { rows = []; capacities = []; safeties = []; move_costs = [] })
+  along count (machine R count)
+      (record { rows = []; capacities = []; safeties = []; move_costs = [] })
 
 -- dependency `place` of all, on one of S services
 unfoldable pub dependency : ℕ → ℕ → ℕ → List Service → Format (List Service)
@@ -56,7 +57,8 @@ service S s so_far = do
   count ← field DependencyCount s 0 (100000 - length so_far.dependencies)
   dependencies ← along count (dependency S (length so_far.dependencies)) so_far.dependencies
   pure (record {
-    rows = so_far.rows ++ record { spread_min = spread_min; dependency_end = length dependencies } ∷ [];
+    rows = so_far.rows
+        ++ record { spread_min = spread_min; dependency_end = length dependencies } ∷ [];
     dependencies = dependencies;
   })
 
@@ -72,7 +74,8 @@ process S R p so_far = do
   requirements ← numbers Requirement (p * R) R so_far.requirements
   move_cost ← any ProcessCost p
   pure (record {
-    rows = so_far.rows ++ record { service = record { 0 = its_service }; move_cost = move_cost } ∷ [];
+    rows = so_far.rows
+        ++ record { service = record { 0 = its_service }; move_cost = move_cost } ∷ [];
     requirements = requirements;
   })
 
@@ -88,7 +91,13 @@ balance R b so_far = do
   second ← field BalanceSecond b 0 (R - 1)
   target ← any BalanceTarget b
   weight ← any BalanceWeight b
-  pure (so_far ++ record { first = record { 0 = first }; second = record { 0 = second }; target = target; weight = weight } ∷ [])
+  pure
+      (so_far ++ record {
+        first = record { 0 = first };
+        second = record { 0 = second };
+        target = target;
+        weight = weight;
+      } ∷ [])
 
 unfoldable pub balances : ℕ → Format (List BalanceNumbers)
 balances R = do
@@ -118,7 +127,14 @@ model = do
   machines ← machines (length resources)
   services ← services
   rest ← rest (length services.rows) (length resources)
-  pure (record { resources = resources; machines = machines; services = services; processes = rest.processes; balances = rest.balances; weights = rest.weights })
+  pure (record {
+    resources = resources;
+    machines = machines;
+    services = services;
+    processes = rest.processes;
+    balances = rest.balances;
+    weights = rest.weights;
+  })
 
 -- the tokens of the bytes, and their fault
 unfoldable pub all_of : List ℕ → Left

@@ -2,40 +2,20 @@
 use Rattle.std.specs.Prelude.{◌≡◌, ℕ, ◌≤◌, Bool, true, false, IsTrue, List, drop, Option, option_map}
 use Rattle.ra_io.specs.Faults.{Rose}
 use Rattle.ra_token.specs.Faults.{first_fault}
-use Rattle.ra_token.specs.Reads.{Reads}
-use Rattle.ra_token.specs.Standing.{Standing}
+use Rattle.ra_token.specs.Moments.{Here, Goes}
 use Rattle.ra_token.specs.TokenList.{tokens, tokens_before}
 use Rattle.ra_model_read.specs.declared.faults.ModelFault.{ModelFault}
 use Rattle.ra_model_read.specs.declared.faults.ModelFault.TheVariants.{ReadFault, BadByte, TooLarge, TooLong, Missing, Range, Flag, Extra, NoMemory}
 use Rattle.ra_model_read.specs.Formats.{Left, Read, Refused, Format}
 
--- the files and a reader at one moment
-pub record Here : Type 0 where
-  pub held : List ℕ → Option (List ℕ)
-  pub faults : List ℕ → ℕ
-  pub tokens : Standing
-
-abbrev pub here : (List ℕ → Option (List ℕ)) → (List ℕ → ℕ) → Standing → Here
-here held faults tokens = record { held = held; faults = faults; tokens = tokens }
-
--- the reader stands in the bytes of its file, where they are told
-abbrev pub Stands : Here → Type 0
-Stands a = Reads (a.held a.tokens.name) a.tokens
-
 -- what is left of bytes for a reader at a place
 unfoldable pub left_from : ℕ → List ℕ → Left
-left_from place bytes = record { tokens = drop (tokens_before bytes place) (tokens bytes); fault = first_fault bytes }
+left_from place bytes =
+    record { tokens = drop (tokens_before bytes place) (tokens bytes); fault = first_fault bytes }
 
 -- what is left, where the bytes are told
 unfoldable pub left_of : Here → Option Left
 left_of a = option_map (left_from a.tokens.place) (a.held a.tokens.name)
-
--- what every call leaves: the reader of the same file, all that is held, and no count that fell
-pub record Goes (a b : Here) : Type 0 where
-  pub name : b.tokens.name ≡ a.tokens.name
-  pub stands : Stands b
-  pub kept : (other : List ℕ) → b.held other ≡ a.held other
-  pub never_fall : (other : List ℕ) → a.faults other ≤ b.faults other
 
 -- the format gives this value, and what is left then is left for the reader
 pub record Gives {X : Type 0} (f : Format X) (a b : Here) (x : X) : Type 0 where
@@ -58,4 +38,5 @@ is_by_content NoMemory = false
 pub record Refuses {X : Type 0} (f : Format X) (a b : Here) (fault : ModelFault) : Type 0 where
   pub goes : Goes a b
   pub rose : fault ≡ ReadFault → Rose (a.faults a.tokens.name) (b.faults a.tokens.name)
-  pub told : IsTrue (is_by_content fault) → option_map f (left_of a) ≡ option_map (λ _. Refused fault) (left_of a)
+  pub told : IsTrue (is_by_content fault)
+      → option_map f (left_of a) ≡ option_map (λ _. Refused fault) (left_of a)

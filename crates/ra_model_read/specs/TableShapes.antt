@@ -15,7 +15,13 @@ use Rattle.ra_model_read.specs.Lists.{MachineLists, ServiceLists, ProcessLists, 
 -- the lists of tables
 
 abbrev pub machine_lists : MachineTables → MachineLists
-machine_lists t = record { rows = map of_machine t.rows.items; capacities = t.capacities.items; safeties = t.safeties.items; move_costs = t.move_costs.items }
+machine_lists t =
+    record {
+      rows = map of_machine t.rows.items;
+      capacities = t.capacities.items;
+      safeties = t.safeties.items;
+      move_costs = t.move_costs.items;
+    }
 
 abbrev pub service_lists : ServiceTables → ServiceLists
 service_lists t = record { rows = map of_service t.rows.items; dependencies = t.dependencies.items }
@@ -27,7 +33,12 @@ abbrev pub weight_numbers : WeightNumbers → Weights
 weight_numbers w = record { process = w.process; service = w.service; machine = w.machine }
 
 abbrev pub rest_lists : RestTables → Rest
-rest_lists t = record { processes = process_lists t.processes; balances = map of_balance t.balances.items; weights = weight_numbers t.weights }
+rest_lists t =
+    record {
+      processes = process_lists t.processes;
+      balances = map of_balance t.balances.items;
+      weights = weight_numbers t.weights;
+    }
 
 -- m machines of M were read, where there are R resources
 pub record HasMachines (R M m : ℕ) (t : MachineTables) : Type 0 where
@@ -42,7 +53,13 @@ pub record HasMachines (R M m : ℕ) (t : MachineTables) : Type 0 where
 
 -- where the dependencies of service s end, and where they start
 unfoldable pub end_in : List ServiceRow → ℕ → ℕ
-end_in rows s = (slice_index_or rows s (record { spread_min = 0; dependency_end = 0; small_spread = lit< tt; small_end = lit< tt })).dependency_end
+end_in rows s =
+    (slice_index_or rows s (record {
+      spread_min = 0;
+      dependency_end = 0;
+      small_spread = lit< tt;
+      small_end = lit< tt;
+    })).dependency_end
 
 unfoldable pub start_in : List ServiceRow → ℕ → ℕ
 start_in rows zero = 0
@@ -67,7 +84,9 @@ pub record HasServices (S s : ℕ) (t : ServiceTables) : Type 0 where
   pub needs : AreServices S t.dependencies.items
 
 unfoldable pub service_in : List ProcessRow → ℕ → ℕ
-service_in rows p = (slice_index_or rows p (record { service = record { 0 = 0 }; move_cost = 0; small = lit< tt })).service.0
+service_in rows p =
+    (slice_index_or rows p
+    (record { service = record { 0 = 0 }; move_cost = 0; small = lit< tt })).service.0
 
 -- p processes of P were read, of S services, where there are R resources
 pub record HasProcesses (S R P p : ℕ) (t : ProcessTables) : Type 0 where
@@ -78,10 +97,26 @@ pub record HasProcesses (S R P p : ℕ) (t : ProcessTables) : Type 0 where
   pub services : (k : ℕ) → k < p → service_in t.rows.items k < S
 
 unfoldable pub first_in : List BalanceRow → ℕ → ℕ
-first_in rows b = (slice_index_or rows b (record { first = record { 0 = 0 }; second = record { 0 = 0 }; target = 0; weight = 0; small_target = lit< tt; small_weight = lit< tt })).first.0
+first_in rows b =
+    (slice_index_or rows b (record {
+      first = record { 0 = 0 };
+      second = record { 0 = 0 };
+      target = 0;
+      weight = 0;
+      small_target = lit< tt;
+      small_weight = lit< tt;
+    })).first.0
 
 unfoldable pub second_in : List BalanceRow → ℕ → ℕ
-second_in rows b = (slice_index_or rows b (record { first = record { 0 = 0 }; second = record { 0 = 0 }; target = 0; weight = 0; small_target = lit< tt; small_weight = lit< tt })).second.0
+second_in rows b =
+    (slice_index_or rows b (record {
+      first = record { 0 = 0 };
+      second = record { 0 = 0 };
+      target = 0;
+      weight = 0;
+      small_target = lit< tt;
+      small_weight = lit< tt;
+    })).second.0
 
 -- both resources of each objective are among R
 pub record AreBalances (R : ℕ) (rows : List BalanceRow) : Type 0 where

@@ -8,4 +8,5 @@ use Rattle.ra_model_read.specs.ModelText.{IsModel}
 -- the bytes mean an instance exactly where it is within the limits, no machine of it is closed, and the bytes are the
 -- text of it
 abbrev pub ModelIsItsNumbers : List ℕ → Type 0
-ModelIsItsNumbers bytes = (i : Tables) → IsModel bytes i ↔ (WellFormed i × (i.closed ≡ None) × IsTextOf bytes i)
+ModelIsItsNumbers bytes =
+    (i : Tables) → IsModel bytes i ↔ (WellFormed i × (i.closed ≡ None) × IsTextOf bytes i)

@@ -1,7 +1,8 @@
 ghost use Rattle.std.specs.Prelude.{◌≡◌, ◌+◌, ◌<◌, ◌≤◌, length, map, IfOk, IfErr, OnOk};
 ghost use Rattle.ra_model_read.specs.Lists.{of_balance};
 ghost use Rattle.ra_model_read.specs.ModelText.{balance, balances};
-ghost use Rattle.ra_model_read.specs.Reading.{here, Stands, Gives, Refuses};
+ghost use Rattle.ra_token.specs.Moments.{here, Stands};
+ghost use Rattle.ra_model_read.specs.Reading.{Gives, Refuses};
 ghost use Rattle.ra_model_read.specs.TableShapes.{AreBalances};
 
 use crate::faults::{Field, ModelFault};

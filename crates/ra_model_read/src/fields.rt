@@ -1,6 +1,7 @@
 ghost use Rattle.std.specs.Prelude.{◌≡◌, ◌+◌, ◌^◌, ◌<◌, ◌≤◌, length, IfOk, IfErr, OnOk};
 ghost use Rattle.ra_model_read.specs.Formats.{next_token, token_fault, any, field, flag, numbers, ends};
-ghost use Rattle.ra_model_read.specs.Reading.{here, Stands, Gives, Refuses};
+ghost use Rattle.ra_token.specs.Moments.{here, Stands};
+ghost use Rattle.ra_model_read.specs.Reading.{Gives, Refuses};
 
 use crate::faults::{Field, ModelFault};
 use ra_base::Fixed;

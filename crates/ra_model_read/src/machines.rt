@@ -1,6 +1,7 @@
 ghost use Rattle.std.specs.Prelude.{◌≡◌, ◌+◌, ◌<◌, ◌≤◌, IfOk, IfErr, OnOk};
 ghost use Rattle.ra_model_read.specs.ModelText.{machine, machines};
-ghost use Rattle.ra_model_read.specs.Reading.{here, Stands, Gives, Refuses};
+ghost use Rattle.ra_token.specs.Moments.{here, Stands};
+ghost use Rattle.ra_model_read.specs.Reading.{Gives, Refuses};
 ghost use Rattle.ra_model_read.specs.TableShapes.{machine_lists, HasMachines, IsMachines};
 
 use crate::faults::{Field, ModelFault};

@@ -1,6 +1,7 @@
 ghost use Rattle.std.specs.Prelude.{◌≡◌, ◌+◌, ◌<◌, ◌≤◌, IfOk, IfErr, OnOk};
 ghost use Rattle.ra_model_read.specs.ModelText.{process, processes};
-ghost use Rattle.ra_model_read.specs.Reading.{here, Stands, Gives, Refuses};
+ghost use Rattle.ra_token.specs.Moments.{here, Stands};
+ghost use Rattle.ra_model_read.specs.Reading.{Gives, Refuses};
 ghost use Rattle.ra_model_read.specs.TableShapes.{process_lists, HasProcesses, IsProcesses};
 
 use crate::faults::{Field, ModelFault};

@@ -5,7 +5,8 @@ ghost use Rattle.ra_model.specs.Numbers.{all_open};
 ghost use Rattle.ra_model_read.specs.FieldOrder.{IsTextOf};
 ghost use Rattle.ra_model_read.specs.Lists.{lists_of};
 ghost use Rattle.ra_model_read.specs.ModelText.{weights, rest, model, IsModel, model_refusal};
-ghost use Rattle.ra_model_read.specs.Reading.{here, Stands, Gives, Refuses, is_by_content};
+ghost use Rattle.ra_token.specs.Moments.{here, Stands};
+ghost use Rattle.ra_model_read.specs.Reading.{Gives, Refuses, is_by_content};
 ghost use Rattle.ra_model_read.specs.TableShapes.{IsRest, rest_lists, weight_numbers};
 ghost use Rattle.ra_model_read.specs.Texts.{ModelIsItsNumbers};
 

@@ -1,7 +1,8 @@
 ghost use Rattle.std.specs.Prelude.{◌≡◌, ◌+◌, ◌<◌, ◌≤◌, length, map, IfOk, IfErr, OnOk};
 ghost use Rattle.ra_model_read.specs.Lists.{of_resource};
 ghost use Rattle.ra_model_read.specs.ModelText.{resource, resources};
-ghost use Rattle.ra_model_read.specs.Reading.{here, Stands, Gives, Refuses};
+ghost use Rattle.ra_token.specs.Moments.{here, Stands};
+ghost use Rattle.ra_model_read.specs.Reading.{Gives, Refuses};
 
 use crate::faults::{Field, ModelFault};
 use crate::fields::{read_any, read_field, read_flag};

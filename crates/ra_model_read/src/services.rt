@@ -1,7 +1,8 @@
 ghost use Rattle.std.specs.Prelude.{◌≡◌, ◌+◌, ◌<◌, ◌≤◌, length, IfOk, IfErr, OnOk};
 ghost use Rattle.ra_model_read.specs.Formats.{along};
 ghost use Rattle.ra_model_read.specs.ModelText.{dependency, service, services};
-ghost use Rattle.ra_model_read.specs.Reading.{here, Stands, Gives, Refuses};
+ghost use Rattle.ra_token.specs.Moments.{here, Stands};
+ghost use Rattle.ra_model_read.specs.Reading.{Gives, Refuses};
 ghost use Rattle.ra_model_read.specs.TableShapes.{service_lists, AreServices, HasServices, IsServices};
 
 use crate::faults::{Field, ModelFault};

@@ -17,25 +17,30 @@ use Rattle.ra_moves.specs.Replacing.{applied}
 
 -- step j names a process of an earlier step
 unfoldable pub repeat_test : List Step → ℕ → Option Cause
-repeat_test steps j = cause_if (is_named j (process_in steps) (process_in steps j)) (Repeat (record { 0 = process_in steps j }))
+repeat_test steps j =
+    cause_if (is_named j (process_in steps) (process_in steps j))
+    (Repeat (record { 0 = process_in steps j }))
 
 unfoldable pub repeat_of : List Step → Option Cause
 repeat_of steps = first (length steps) (repeat_test steps)
 
 -- step j leaves its process where it is
 unfoldable pub same_test : List Step → ℕ → Option Cause
-same_test steps j = cause_if (from_in steps j == to_in steps j) (Same (record { 0 = process_in steps j }))
+same_test steps j =
+    cause_if (from_in steps j == to_in steps j) (Same (record { 0 = process_in steps j }))
 
 unfoldable pub same_of : List Step → Option Cause
 same_of steps = first (length steps) (same_test steps)
 
 -- the cause other than Rise for which a move of assignment a, reached from a0, is refused
 unfoldable pub broken_by : Tables → List Machine → List Machine → List Step → Option Cause
-broken_by i a0 a steps = or_else (repeat_of steps) (or_else (same_of steps) (first_broken i a0 (applied a steps)))
+broken_by i a0 a steps =
+    or_else (repeat_of steps) (or_else (same_of steps) (first_broken i a0 (applied a steps)))
 
 -- the cost rises from before to after, which is by more than is allowed
 unfoldable pub rise_test : ℕ → ℕ → ℕ → Option Cause
-rise_test before after allowed = cause_if (nat_lt (before + allowed) after) (Rise allowed before after)
+rise_test before after allowed =
+    cause_if (nat_lt (before + allowed) after) (Rise allowed before after)
 
 -- refused for a cause that is there, else done with a cost
 unfoldable pub verdict_of : Option Cause → ℕ → Verdict

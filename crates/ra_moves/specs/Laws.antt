@@ -26,19 +26,28 @@ pub record AreLocal (i : Tables) (a0 b : List Machine) (steps : List Step) : Typ
   pub transient : OnlyWhere (machine_count i) (ends_at steps) (row_transient i a0 b)
   -- conflict, for a service that moves, on such a machine
   pub conflict : OnlyWhere (service_count i) (moves_service i steps) (service_conflict i b)
-  pub conflict_at : (s : ℕ) → s < service_count i → OnlyWhere (machine_count i) (ends_at steps) (conflict_test i b s)
+  pub conflict_at : (s : ℕ) → s < service_count i
+      → OnlyWhere (machine_count i) (ends_at steps) (conflict_test i b s)
   -- spread, for a service that moves
   pub spread : OnlyWhere (service_count i) (moves_service i steps) (spread_test i b)
   -- dependency, for a service that moves or is joined with one, and where one of the two services moves
   pub dependency : OnlyWhere (service_count i) (guards_service i steps) (service_dependency i b)
-  pub pair : (s k : ℕ) → s < service_count i → k < dependency_count i s → moves_service i steps s ≡ false → moves_service i steps (need_of i s k) ≡ false → pair_dependency i b s k ≡ None
+  pub pair : (s k : ℕ) → s < service_count i → k < dependency_count i s
+      → moves_service i steps s ≡ false → moves_service i steps (need_of i s k) ≡ false
+      → pair_dependency i b s k ≡ None
   -- a closed machine, for a process that moves
-  pub closed : OnlyWhere (process_count i) (is_named (length steps) (process_in steps)) (closed_test i a0 b)
+  pub closed :
+      OnlyWhere (process_count i) (is_named (length steps) (process_in steps)) (closed_test i a0 b)
 
 -- a move of an assignment that breaks nothing breaks only what it touches
 abbrev pub FailuresAreLocal : Type 0
-FailuresAreLocal = (i : Tables) (a0 a : List Machine) (steps : List Step) → WellFormed i → IsMove i a steps → first_broken i a0 a ≡ None → AreLocal i a0 (applied a steps) steps
+FailuresAreLocal =
+    (i : Tables) (a0 a : List Machine) (steps : List Step) → WellFormed i → IsMove i a steps
+    → first_broken i a0 a ≡ None → AreLocal i a0 (applied a steps) steps
 
 -- in two assignments that break nothing and are alike for a move, its weighing is the same
 abbrev pub WeighingIsDetermined : Type 0
-WeighingIsDetermined = (i : Tables) (a0 a b : List Machine) (steps : List Step) → WellFormed i → IsOffered i a steps → IsOffered i b steps → first_broken i a0 a ≡ None → first_broken i a0 b ≡ None → HeldAlike i steps a b → weighed_of i a0 a steps ≡ weighed_of i a0 b steps
+WeighingIsDetermined =
+    (i : Tables) (a0 a b : List Machine) (steps : List Step) → WellFormed i → IsOffered i a steps
+    → IsOffered i b steps → first_broken i a0 a ≡ None → first_broken i a0 b ≡ None
+    → HeldAlike i steps a b → weighed_of i a0 a steps ≡ weighed_of i a0 b steps

@@ -17,7 +17,9 @@ use Rattle.ra_moves.specs.Judging.{judge}
 
 -- x0 mod 8 gives the kind: 0 to 4 a shift, 5 and 6 a swap, 7 a chain
 unfoldable pub kind_of : List ℕ → MoveKind
-kind_of x = let r = slice_index x 0 % 8 in if nat_lt r 5 then Shift else (if nat_lt r 7 then Swap else Chain)
+kind_of x =
+    let r = slice_index x 0 % 8 in if nat_lt r 5 then Shift
+    else (if nat_lt r 7 then Swap else Chain)
 
 -- how many options there are over m machines
 unfoldable pub count_of : MoveKind → Drawing → ℕ → ℕ
@@ -40,7 +42,12 @@ target Two x m i = (slice_index x 2 % m + i) % m
 
 -- process p leaves its machine of a for machine `to`
 unfoldable pub leaving : List Machine → ℕ → ℕ → Step
-leaving a p to = record { process = record { 0 = p }; from = record { 0 = machine_at a p }; to = record { 0 = to } }
+leaving a p to =
+    record {
+      process = record { 0 = p };
+      from = record { 0 = machine_at a p };
+      to = record { 0 = to };
+    }
 
 -- process p goes to a machine
 unfoldable pub shift_of : List Machine → ℕ → ℕ → MoveSteps
@@ -48,17 +55,23 @@ shift_of a p to = record { kind = Shift; steps = leaving a p to ∷ [] }
 
 -- processes p and q exchange their machines, with the step of p first
 unfoldable pub swap_of : List Machine → ℕ → ℕ → MoveSteps
-swap_of a p q = record { kind = Swap; steps = leaving a p (machine_at a q) ∷ leaving a q (machine_at a p) ∷ [] }
+swap_of a p q =
+    record { kind = Swap; steps = leaving a p (machine_at a q) ∷ leaving a q (machine_at a p) ∷ [] }
 
 -- process p goes to the machine of q, q to the machine of r, and r to a machine, in this order of steps
 unfoldable pub chain_of : List Machine → ℕ → ℕ → ℕ → ℕ → MoveSteps
-chain_of a p q r to = record { kind = Chain; steps = leaving a p (machine_at a q) ∷ leaving a q (machine_at a r) ∷ leaving a r to ∷ [] }
+chain_of a p q r to =
+    record {
+      kind = Chain;
+      steps = leaving a p (machine_at a q) ∷ leaving a q (machine_at a r) ∷ leaving a r to ∷ [];
+    }
 
 -- option i, by kind
 unfoldable pub option_of : MoveKind → List Machine → List ℕ → ℕ → Drawing → ℕ → MoveSteps
 option_of Shift a x m d i = shift_of a (drawn a x 1) (target d x m i)
 option_of Swap a x m d i = swap_of a (drawn a x 1) (drawn a x (2 + i))
-option_of Chain a x m d i = chain_of a (drawn a x 1) (drawn a x 2) (drawn a x 3) (slice_index x 4 % m)
+option_of Chain a x m d i =
+    chain_of a (drawn a x 1) (drawn a x 2) (drawn a x 3) (slice_index x 4 % m)
 
 -- option i of assignment a
 unfoldable pub option_at : List Machine → List ℕ → ℕ → Drawing → ℕ → MoveSteps
@@ -70,12 +83,15 @@ done_cost (Done cost) = Some cost
 done_cost (Refused cause) = None
 
 -- the cost of option k, where it is judged Done
-unfoldable pub option_cost : Tables → List Machine → List Machine → List ℕ → Drawing → ℕ → ℕ → Option ℕ
-option_cost i a0 a x d allowed k = done_cost (judge i a0 a (option_at a x (machine_count i) d k).steps allowed)
+unfoldable pub option_cost : Tables → List Machine → List Machine → List ℕ → Drawing → ℕ → ℕ
+    → Option ℕ
+option_cost i a0 a x d allowed k =
+    done_cost (judge i a0 a (option_at a x (machine_count i) d k).steps allowed)
 
 -- the first option of least cost among those that are judged Done, and option 0 where there is none
 unfoldable pub plan_place : Tables → List Machine → List Machine → List ℕ → Drawing → ℕ → ℕ
-plan_place i a0 a x d allowed = least_place (option_count x (machine_count i) d) (option_cost i a0 a x d allowed)
+plan_place i a0 a x d allowed =
+    least_place (option_count x (machine_count i) d) (option_cost i a0 a x d allowed)
 
 unfoldable pub plan_of : Tables → List Machine → List Machine → List ℕ → Drawing → ℕ → MoveSteps
 plan_of i a0 a x d allowed = option_at a x (machine_count i) d (plan_place i a0 a x d allowed)

@@ -9,12 +9,14 @@ use Rattle.ra_moves.specs.Steps.{step_at, process_in, to_in}
 pub record Applied (steps : List Step) (a b : List Machine) : Type 0 where
   pub same_length : length b ≡ length a
   pub moved : (j : ℕ) → j < length steps → machine_at b (process_in steps j) ≡ to_in steps j
-  pub stayed : (p : ℕ) → ((j : ℕ) → j < length steps → process_in steps j ≢ p) → machine_at b p ≡ machine_at a p
+  pub stayed : (p : ℕ) → ((j : ℕ) → j < length steps → process_in steps j ≢ p)
+      → machine_at b p ≡ machine_at a p
 
 -- one step after another: a after the first n steps
 unfoldable pub after_steps : List Machine → List Step → ℕ → List Machine
 after_steps a steps zero = a
-after_steps a steps (suc n) = slice_set (after_steps a steps n) (process_in steps n) (step_at steps n).to
+after_steps a steps (suc n) =
+    slice_set (after_steps a steps n) (process_in steps n) (step_at steps n).to
 
 -- a after all steps
 unfoldable pub applied : List Machine → List Step → List Machine

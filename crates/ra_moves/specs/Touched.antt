@@ -10,7 +10,8 @@ use Rattle.ra_moves.specs.Steps.{process_in, from_in, to_in}
 
 -- a step leaves or enters machine m
 unfoldable pub ends_at : List Step → ℕ → Bool
-ends_at steps m = is_named (length steps) (from_in steps) m || is_named (length steps) (to_in steps) m
+ends_at steps m =
+    is_named (length steps) (from_in steps) m || is_named (length steps) (to_in steps) m
 
 -- the service of the process of step j
 unfoldable pub service_in : Tables → List Step → ℕ → ℕ
@@ -22,7 +23,8 @@ moves_service i steps s = is_named (length steps) (service_in i steps) s
 
 -- a service that moves depends on service u, or service u on one that moves
 unfoldable pub reads_service : Tables → List Step → ℕ → Bool
-reads_service i steps u = nat_lt 0 (count (length steps) (λ j. are_joined i (service_in i steps j) u))
+reads_service i steps u =
+    nat_lt 0 (count (length steps) (λ j. are_joined i (service_in i steps j) u))
 
 -- service u moves, or is joined with one that moves
 unfoldable pub guards_service : Tables → List Step → ℕ → Bool

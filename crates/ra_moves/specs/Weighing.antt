@@ -24,7 +24,12 @@ local_change i a0 a steps = pos (local_cost i a0 (applied a steps)) -ℤ pos (lo
 
 -- a service with its moved counts before and after a move
 unfoldable pub moved_count : Tables → List Machine → List Machine → List Step → ℕ → MovedCount
-moved_count i a0 a steps s = record { service = record { 0 = s }; before = moved_of i a0 a s; after = moved_of i a0 (applied a steps) s }
+moved_count i a0 a steps s =
+    record {
+      service = record { 0 = s };
+      before = moved_of i a0 a s;
+      after = moved_of i a0 (applied a steps) s;
+    }
 
 -- no step before step j moves its service
 unfoldable pub is_new_service : Tables → List Step → ℕ → Bool
@@ -33,24 +38,31 @@ is_new_service i steps j = not (is_named j (service_in i steps) (service_in i st
 -- the different services of the first n steps, in the order of the steps
 unfoldable pub services_moved : Tables → List Step → ℕ → List ℕ
 services_moved i steps zero = []
-services_moved i steps (suc n) = if is_new_service i steps n then services_moved i steps n ++ service_in i steps n ∷ [] else services_moved i steps n
+services_moved i steps (suc n) =
+    if is_new_service i steps n then services_moved i steps n ++ service_in i steps n ∷ []
+    else services_moved i steps n
 
 -- the moved counts of service k of some, where there are as many
-unfoldable pub count_at : Tables → List Machine → List Machine → List Step → List ℕ → ℕ → Option MovedCount
+unfoldable pub count_at : Tables → List Machine → List Machine → List Step → List ℕ → ℕ
+    → Option MovedCount
 count_at i a0 a steps [] k = None
 count_at i a0 a steps (s ∷ rest) zero = Some (moved_count i a0 a steps s)
 count_at i a0 a steps (s ∷ rest) (suc k) = count_at i a0 a steps rest k
 
 -- the moved counts of the different services of a move, in the order of its steps
-unfoldable pub changed_count : Tables → List Machine → List Machine → List Step → ℕ → Option MovedCount
+unfoldable pub changed_count : Tables → List Machine → List Machine → List Step → ℕ
+    → Option MovedCount
 changed_count i a0 a steps k = count_at i a0 a steps (services_moved i steps (length steps)) k
 
 -- where a cause is there nothing else is told
 unfoldable pub weighed_by : Option Cause → ℤ → (ℕ → Option MovedCount) → Weighed
-weighed_by None local counts = record { broken = None; local = local; first = counts 0; second = counts 1; third = counts 2 }
-weighed_by (Some cause) local counts = record { broken = Some cause; local = pos 0; first = None; second = None; third = None }
+weighed_by None local counts =
+    record { broken = None; local = local; first = counts 0; second = counts 1; third = counts 2 }
+weighed_by (Some cause) local counts =
+    record { broken = Some cause; local = pos 0; first = None; second = None; third = None }
 
 -- the weighing of a move of assignment a, reached from a0: the cause other than Rise for which it is refused; else the
 -- change of load, balance, process and machine cost together, and the moved counts of the different services
 unfoldable pub weighed_of : Tables → List Machine → List Machine → List Step → Weighed
-weighed_of i a0 a steps = weighed_by (broken_by i a0 a steps) (local_change i a0 a steps) (changed_count i a0 a steps)
+weighed_of i a0 a steps =
+    weighed_by (broken_by i a0 a steps) (local_change i a0 a steps) (changed_count i a0 a steps)

@@ -26,7 +26,9 @@ row_share i columns m r p at = if at == m then amount_in i columns p r else 0
 
 -- in every cell that has come
 pub record AddsRow (i : Tables) (columns : Columns) (p at : ℕ) (old new : List ℕ) : Type 0 where
-  pub each : (m r : ℕ) → r < resource_count i → cell (resource_count i) new m r ≡ cell (resource_count i) old m r + row_share i columns m r p at
+  pub each : (m r : ℕ) → r < resource_count i
+      → cell (resource_count i) new m r
+      ≡ cell (resource_count i) old m r + row_share i columns m r p at
   pub same_length : length new ≡ length old
 
 -- each cell is below a bound
@@ -34,9 +36,11 @@ pub record IsBelow (i : Tables) (bound : ℕ) (table : List ℕ) : Type 0 where
   pub each : (m r : ℕ) → r < resource_count i → cell (resource_count i) table m r < bound
 
 -- each cell is the sum over the first n processes of their shares of its machine and resource
-pub record IsTally (i : Tables) (n : ℕ) (share : ℕ → ℕ → ℕ → ℕ → ℕ) (a : List Machine) (table : List ℕ) : Type 0 where
+pub record IsTally (i : Tables) (n : ℕ) (share : ℕ → ℕ → ℕ → ℕ → ℕ) (a : List Machine)
+    (table : List ℕ) : Type 0 where
   pub grid : length table ≡ machine_count i * resource_count i
-  pub each : (m r : ℕ) → r < resource_count i → cell (resource_count i) table m r ≡ tally n (share m r) a
+  pub each : (m r : ℕ) → r < resource_count i
+      → cell (resource_count i) table m r ≡ tally n (share m r) a
 
 -- what of resource r of machine m is used at all times: by all that start there where it is transient, else by those
 -- that are flagged
@@ -46,4 +50,5 @@ kept_use i a0 x m r = if transient_at i r then use_of i a0 m r else flagged_use 
 -- each cell of a table is that
 pub record AreKept (i : Tables) (a0 : List Machine) (x : ℕ → Bool) (kept : List ℕ) : Type 0 where
   pub grid : length kept ≡ machine_count i * resource_count i
-  pub each : (m r : ℕ) → r < resource_count i → cell (resource_count i) kept m r ≡ kept_use i a0 x m r
+  pub each : (m r : ℕ) → r < resource_count i
+      → cell (resource_count i) kept m r ≡ kept_use i a0 x m r

@@ -12,23 +12,30 @@ use Rattle.ra_pins.specs.PinLists.{flag_at}
 -- a service that has a flagged process is touched
 pub record AreTouched (i : Tables) (flags touched : List Bool) : Type 0 where
   pub one_each : length touched ≡ service_count i
-  pub each : (z : ℕ) → z < process_count i → flag_at flags z ≡ true → flag_at touched (service_of i z) ≡ true
+  pub each : (z : ℕ) → z < process_count i → flag_at flags z ≡ true
+      → flag_at touched (service_of i z) ≡ true
 
 -- a mark s + 1 says that a flagged process of service s starts on the machine
-pub record AreMarked (i : Tables) (a0 : List Machine) (flags : List Bool) (marks : List ℕ) : Type 0 where
-  pub one_each : length marks ≡ machine_count i
-  pub each : (m s : ℕ) → m < machine_count i → slice_index_or marks m 0 ≡ suc s → taken i a0 (flag_at flags) s m ≡ true
+pub record AreMarked (i : Tables) (a0 : List Machine) (flags : List Bool) (marks : List ℕ) : Type 0
+  where
+    pub one_each : length marks ≡ machine_count i
+    pub each : (m s : ℕ) → m < machine_count i → slice_index_or marks m 0 ≡ suc s
+        → taken i a0 (flag_at flags) s m ≡ true
 
 -- and each machine on which a flagged process of service s starts has the mark
-pub record AreStamped (i : Tables) (a0 : List Machine) (flags : List Bool) (s : ℕ) (marks : List ℕ) : Type 0 where
-  pub each : (m : ℕ) → m < machine_count i → (slice_index_or marks m 0 == suc s) ≡ taken i a0 (flag_at flags) s m
+pub record AreStamped (i : Tables) (a0 : List Machine) (flags : List Bool) (s : ℕ) (marks : List ℕ)
+    : Type 0 where
+  pub each : (m : ℕ) → m < machine_count i
+      → (slice_index_or marks m 0 == suc s) ≡ taken i a0 (flag_at flags) s m
 
 -- process k of some is flagged and starts on machine m
 unfoldable pub is_seat : List Machine → List Bool → List Process → ℕ → ℕ → Bool
-is_seat a0 flags processes m k = flag_at flags (member_at processes k) && (machine_at a0 (member_at processes k) == m)
+is_seat a0 flags processes m k =
+    flag_at flags (member_at processes k) && (machine_at a0 (member_at processes k) == m)
 
 -- each of the processes has a flag, and a machine below a size
-pub record AreSeated (a0 : List Machine) (flags : List Bool) (processes : List Process) (size : ℕ) : Type 0 where
+pub record AreSeated (a0 : List Machine) (flags : List Bool) (processes : List Process) (size : ℕ) :
+    Type 0 where
   pub flagged : (k : ℕ) → k < length processes → member_at processes k < length flags
   pub placed : (k : ℕ) → k < length processes → member_at processes k < length a0
   pub within : (k : ℕ) → k < length processes → machine_at a0 (member_at processes k) < size
@@ -36,4 +43,5 @@ pub record AreSeated (a0 : List Machine) (flags : List Bool) (processes : List P
 -- the stamp is set at each place m for which one of the first n passes, and all other marks are as they were
 pub record IsSet (test : ℕ → ℕ → Bool) (n stamp : ℕ) (old new : List ℕ) : Type 0 where
   pub one_each : length new ≡ length old
-  pub each : (m : ℕ) → m < length old → slice_index_or new m 0 ≡ (if some_of n (test m) then stamp else slice_index_or old m 0)
+  pub each : (m : ℕ) → m < length old
+      → slice_index_or new m 0 ≡ (if some_of n (test m) then stamp else slice_index_or old m 0)

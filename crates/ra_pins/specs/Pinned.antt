@@ -28,7 +28,8 @@ lacks i a0 x p m r = nat_lt (capacity_of i m r) (flagged_use i a0 x m r + requir
 
 -- resource r is transient, and beside all processes that start on machine m it is too little for process p
 unfoldable pub lacks_between : Tables → List Machine → ℕ → ℕ → ℕ → Bool
-lacks_between i a0 p m r = transient_at i r && nat_lt (capacity_of i m r) (use_of i a0 m r + requirement_of i p r)
+lacks_between i a0 p m r =
+    transient_at i r && nat_lt (capacity_of i m r) (use_of i a0 m r + requirement_of i p r)
 
 -- process z is flagged, is one of service s and starts on machine m
 unfoldable pub holds : Tables → List Machine → (ℕ → Bool) → ℕ → ℕ → ℕ → Bool

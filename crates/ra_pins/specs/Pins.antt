@@ -20,7 +20,8 @@ pub record ArePins (pins : PinLists) (i : Tables) (a0 : List Machine) : Type 0 w
   pub pinned : AreExact i a0 pins.flags
   pub machines : pins.machines ≡ machine_count i
   pub resources : pins.resources ≡ resource_count i
-  pub loads : (m r : ℕ) → m < machine_count i → r < resource_count i → cell (resource_count i) pins.loads m r ≡ pinned_load i a0 m r
+  pub loads : (m r : ℕ) → m < machine_count i → r < resource_count i
+      → cell (resource_count i) pins.loads m r ≡ pinned_load i a0 m r
 
 -- pins of an instance and some start
 pub record ArePinsOf (pins : PinLists) (i : Tables) : Type 0 where

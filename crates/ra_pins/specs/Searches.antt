@@ -34,8 +34,12 @@ looks_at i a0 places p = spot (machine_count i) (machine_at a0 p) (slice_index_o
 -- process p may rest: it is flagged, or a process of the machine that it looks at was flagged in pass t or later, or it
 -- isn't blocked from that machine
 pub record Rests (i : Tables) (a0 : List Machine) (s : Search) (t p : ℕ) : Type 0 where
-  pub within : flag_at s.flags.items p ≡ false → slice_index_or s.fuller.items (looks_at i a0 s.places.items p) 0 < t → slice_index_or s.places.items p 0 < machine_count i
-  pub free : flag_at s.flags.items p ≡ false → slice_index_or s.fuller.items (looks_at i a0 s.places.items p) 0 < t → blocked_at i a0 s.flags.items p (slice_index_or s.places.items p 0) ≡ false
+  pub within : flag_at s.flags.items p ≡ false
+      → slice_index_or s.fuller.items (looks_at i a0 s.places.items p) 0 < t
+      → slice_index_or s.places.items p 0 < machine_count i
+  pub free : flag_at s.flags.items p ≡ false
+      → slice_index_or s.fuller.items (looks_at i a0 s.places.items p) 0 < t
+      → blocked_at i a0 s.flags.items p (slice_index_or s.places.items p 0) ≡ false
 
 -- no process was flagged in pass t or later
 pub record IsBefore (i : Tables) (s : Search) (t : ℕ) : Type 0 where
@@ -53,12 +57,13 @@ pub record IsBetween (i : Tables) (a0 : List Machine) (s : Search) (t : ℕ) : T
   pub rests : (p : ℕ) → p < process_count i → Rests i a0 s t p
 
 -- process p has gone on to a place
-pub record HasWalked (i : Tables) (a0 : List Machine) (old new : Search) (p place : ℕ) : Type 0 where
-  pub search : IsSearch i a0 new
-  pub walk : IsWalk i a0 old.flags.items p (slice_index_or old.places.items p 0) place
-  pub flags : new.flags ≡ old.flags
-  pub fuller : new.fuller ≡ old.fuller
-  pub places : new.places.items ≡ slice_set old.places.items p place
+pub record HasWalked (i : Tables) (a0 : List Machine) (old new : Search) (p place : ℕ) : Type 0
+  where
+    pub search : IsSearch i a0 new
+    pub walk : IsWalk i a0 old.flags.items p (slice_index_or old.places.items p 0) place
+    pub flags : new.flags ≡ old.flags
+    pub fuller : new.fuller ≡ old.fuller
+    pub places : new.places.items ≡ slice_set old.places.items p place
 
 -- process p, which starts on machine `home`, was flagged in a pass
 pub record IsFlagged (i : Tables) (old new : Search) (p home pass : ℕ) : Type 0 where
@@ -70,17 +75,20 @@ pub record IsFlagged (i : Tables) (old new : Search) (p home pass : ℕ) : Type 
   pub marks : new.marks ≡ old.marks
 
 -- process p has looked again in pass t + 1, and was flagged or not
-pub record HasLooked (i : Tables) (a0 : List Machine) (old new : Search) (t p : ℕ) (flagged : Bool) : Type 0 where
+pub record HasLooked (i : Tables) (a0 : List Machine) (old new : Search) (t p : ℕ) (flagged : Bool)
+    : Type 0 where
   pub search : IsSearch i a0 new
   pub before : IsBefore i old (t + 2) → IsBefore i new (t + 2)
-  pub others : (u q : ℕ) → u ≤ t + 1 → q < process_count i → q ≢ p → Rests i a0 old u q → Rests i a0 new u q
+  pub others : (u q : ℕ) → u ≤ t + 1 → q < process_count i → q ≢ p → Rests i a0 old u q
+      → Rests i a0 new u q
   pub rests : Rests i a0 old t p → Rests i a0 new (t + 1) p
   pub more : flagged ≡ true → flag_count i new ≡ flag_count i old + 1
   pub same : flagged ≡ false → flag_count i new ≡ flag_count i old
   pub quiet : flagged ≡ false → new.fuller ≡ old.fuller
 
 -- the first n processes have looked in pass t + 1, and some was flagged or not
-pub record IsWithin (i : Tables) (a0 : List Machine) (old new : Search) (t n : ℕ) (flagged : Bool) : Type 0 where
+pub record IsWithin (i : Tables) (a0 : List Machine) (old new : Search) (t n : ℕ) (flagged : Bool) :
+    Type 0 where
   pub search : IsSearch i a0 new
   pub before : IsBefore i new (t + 2)
   pub done : (q : ℕ) → q < process_count i → q < n → Rests i a0 new (t + 1) q

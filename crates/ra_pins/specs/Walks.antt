@@ -11,15 +11,18 @@ use Rattle.ra_pins.specs.PinLists.{flag_at}
 
 -- the machine that is so many places after machine `home`, of so many in a circle
 unfoldable pub spot : ℕ → ℕ → ℕ → ℕ
-spot machines home place = if nat_lt (home + place) machines then home + place else (home + place) - machines
+spot machines home place =
+    if nat_lt (home + place) machines then home + place else (home + place) - machines
 
 -- beside what a table keeps for machine m, resource r is too little for process p
 unfoldable pub overfull : Tables → List ℕ → ℕ → ℕ → ℕ → Bool
-overfull i kept p m r = nat_lt (capacity_of i m r) (cell (resource_count i) kept m r + requirement_of i p r)
+overfull i kept p m r =
+    nat_lt (capacity_of i m r) (cell (resource_count i) kept m r + requirement_of i p r)
 
 -- whether process p is blocked from the machine that is so many places after its own
 unfoldable pub blocked_at : Tables → List Machine → List Bool → ℕ → ℕ → Bool
-blocked_at i a0 flags p place = blocked i a0 (flag_at flags) p (spot (machine_count i) (machine_at a0 p) place)
+blocked_at i a0 flags p place =
+    blocked i a0 (flag_at flags) p (spot (machine_count i) (machine_at a0 p) place)
 
 -- process p has come to a place: it is blocked from the machine of each place before it
 pub record HasCome (i : Tables) (a0 : List Machine) (flags : List Bool) (p place : ℕ) : Type 0 where
@@ -28,13 +31,15 @@ pub record HasCome (i : Tables) (a0 : List Machine) (flags : List Bool) (p place
   pub behind : (j : ℕ) → 1 ≤ j → j < place → blocked_at i a0 flags p j ≡ true
 
 -- each process has come to its place
-pub record AreWalked (i : Tables) (a0 : List Machine) (flags : List Bool) (places : List ℕ) : Type 0 where
-  pub one_each : length places ≡ process_count i
-  pub each : (p : ℕ) → p < process_count i → HasCome i a0 flags p (slice_index_or places p 0)
+pub record AreWalked (i : Tables) (a0 : List Machine) (flags : List Bool) (places : List ℕ) : Type 0
+  where
+    pub one_each : length places ≡ process_count i
+    pub each : (p : ℕ) → p < process_count i → HasCome i a0 flags p (slice_index_or places p 0)
 
 -- a place is the next one, from one on, whose machine isn't blocked, or the end of the circle
-pub record IsWalk (i : Tables) (a0 : List Machine) (flags : List Bool) (p from to : ℕ) : Type 0 where
-  pub onward : from ≤ to
-  pub within : to ≤ machine_count i
-  pub behind : (j : ℕ) → from ≤ j → j < to → blocked_at i a0 flags p j ≡ true
-  pub free : to < machine_count i → blocked_at i a0 flags p to ≡ false
+pub record IsWalk (i : Tables) (a0 : List Machine) (flags : List Bool) (p from to : ℕ) : Type 0
+  where
+    pub onward : from ≤ to
+    pub within : to ≤ machine_count i
+    pub behind : (j : ℕ) → from ≤ j → j < to → blocked_at i a0 flags p j ≡ true
+    pub free : to < machine_count i → blocked_at i a0 flags p to ≡ false

@@ -12,7 +12,8 @@ use Rattle.ra_plan.specs.declared.best.Best.{Best}
 
 -- the cost of option k, where it is judged Done on the assignment of a world
 unfoldable pub cost_in : World → List ℕ → Drawing → ℕ → ℕ → Option ℕ
-cost_in w x d allowed k = option_cost w.inst.now.tables w.start.now.items w.kept.assignment.items x d allowed k
+cost_in w x d allowed k =
+    option_cost w.inst.now.tables w.start.now.items w.kept.assignment.items x d allowed k
 
 -- its steps
 unfoldable pub steps_in : World → List ℕ → Drawing → ℕ → List Step
@@ -20,10 +21,12 @@ steps_in w x d k = (option_at w.kept.assignment.items x (machine_count w.inst.no
 
 -- and its weighing
 unfoldable pub weighed_in : World → List ℕ → Drawing → ℕ → Weighed
-weighed_in w x d k = weighed_of w.inst.now.tables w.start.now.items w.kept.assignment.items (steps_in w x d k)
+weighed_in w x d k =
+    weighed_of w.inst.now.tables w.start.now.items w.kept.assignment.items (steps_in w x d k)
 
 -- the first of least cost among the first n options that are judged Done, with its cost and its weighing
-pub record IsBest (w : World) (x : List ℕ) (d : Drawing) (allowed n : ℕ) (best : Best) : Type 0 where
-  pub cost : best.cost ≡ least n (cost_in w x d allowed)
-  pub option : best.option ≡ least_place n (cost_in w x d allowed)
-  pub weighed : (cost : ℕ) → best.cost ≡ Some cost → best.weighed ≡ weighed_in w x d best.option
+pub record IsBest (w : World) (x : List ℕ) (d : Drawing) (allowed n : ℕ) (best : Best) : Type 0
+  where
+    pub cost : best.cost ≡ least n (cost_in w x d allowed)
+    pub option : best.option ≡ least_place n (cost_in w x d allowed)
+    pub weighed : (cost : ℕ) → best.cost ≡ Some cost → best.weighed ≡ weighed_in w x d best.option

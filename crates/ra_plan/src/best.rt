@@ -40,7 +40,8 @@ impl Best {
     /// Takes the next option, with its verdict and its weighing, where it is done at a lower cost.
     #[inline(always)]
     pub(crate) fn consider(self, option: u32, verdict: &Verdict, weighed: &Weighed) -> Best
-        ensures { (w : World) (x : List ℕ) (d : Drawing) (allowed : ℕ) → IsBest w x d allowed option self
+        ensures { (w : World) (x : List ℕ) (d : Drawing) (allowed : ℕ)
+            → IsBest w x d allowed option self
             → verdict.now ≡ judge w.inst.now.tables w.start.now.items w.kept.assignment.items
             (steps_in w x d option) allowed
             → weighed.now ≡ weighed_in w x d option

@@ -13,8 +13,13 @@ use Rattle.ra_core.specs.Core.{Core, AreWithin, step, worker_of}
 
 -- over a feasible start a step of an existing worker keeps a legal journal legal
 abbrev pub StepKeepsLegal : Type 0
-StepKeepsLegal = (i : Tables) (a0 : List Machine) (l : Lots) (c : Core) (e : CoreEvent) → WellFormed i → IsAssignment i a0 → Feasible i a0 a0 → Legal i a0 l c.journal → AreWithin l c → worker_of e < worker_count l → Legal i a0 l (step i a0 l c e).after.journal
+StepKeepsLegal =
+    (i : Tables) (a0 : List Machine) (l : Lots) (c : Core) (e : CoreEvent) → WellFormed i
+    → IsAssignment i a0 → Feasible i a0 a0 → Legal i a0 l c.journal → AreWithin l c
+    → worker_of e < worker_count l → Legal i a0 l (step i a0 l c e).after.journal
 
 -- and it keeps the places within the length
 abbrev pub StepKeepsPlaces : Type 0
-StepKeepsPlaces = (i : Tables) (a0 : List Machine) (l : Lots) (c : Core) (e : CoreEvent) → AreWithin l c → worker_of e < worker_count l → AreWithin l (step i a0 l c e).after
+StepKeepsPlaces =
+    (i : Tables) (a0 : List Machine) (l : Lots) (c : Core) (e : CoreEvent) → AreWithin l c
+    → worker_of e < worker_count l → AreWithin l (step i a0 l c e).after

@@ -83,7 +83,10 @@ pub(crate) fn play_event<'a, L: Ledger>(
     requires named { worker_of event < worker_count journal.old.lots.now }
     ensures step { step journal.old.inst.now.tables journal.old.a0.now.items journal.old.lots.now
         (core_of journal.old.book.entries.items replicas.old.items) event ≡
-        record { after = core_of journal.new.book.entries.items replicas.new.items; reply = result } }
+        record {
+          after = core_of journal.new.book.entries.items replicas.new.items;
+          reply = result;
+        } }
     ensures at { AreAt journal.old.inst.now.tables journal.old.a0.now.items journal.old.lots.now
         journal.new.book.entries.items replicas.new.items }
     ensures instance { journal.new.inst.now ≡ journal.old.inst.now }

@@ -11,8 +11,12 @@ use Rattle.ra_repair.specs.Runs.{repair_run}
 
 -- the penalty is 0 exactly where all constraints are met
 abbrev pub ZeroIsFeasible : Type 0
-ZeroIsFeasible = (i : Tables) (a0 a : List Machine) → WellFormed i → IsAssignment i a → (penalty i a0 a ≡ 0) ↔ Feasible i a0 a
+ZeroIsFeasible =
+    (i : Tables) (a0 a : List Machine) → WellFormed i → IsAssignment i a
+    → (penalty i a0 a ≡ 0) ↔ Feasible i a0 a
 
 -- a run whose last assignment has a penalty has used its whole budget
 abbrev pub UsesItsBudget : Type 0
-UsesItsBudget = (i : Tables) (a0 : List Machine) (lot : Lot) → penalty i a0 (repair_run i a0 lot).assignment ≢ 0 → length (repair_run i a0 lot).tries ≡ lot.budget
+UsesItsBudget =
+    (i : Tables) (a0 : List Machine) (lot : Lot) → penalty i a0 (repair_run i a0 lot).assignment ≢ 0
+    → length (repair_run i a0 lot).tries ≡ lot.budget

@@ -23,7 +23,8 @@ capacity_penalty i a = total (machine_count i) (row_above i a)
 
 -- max(0, T(m, r) - C(m, r)) for a transient resource r
 unfoldable pub transient_above : Tables → List Machine → List Machine → ℕ → ℕ → ℕ
-transient_above i a0 a m r = if transient_at i r then transient_of i a0 a m r - capacity_of i m r else 0
+transient_above i a0 a m r =
+    if transient_at i r then transient_of i a0 a m r - capacity_of i m r else 0
 
 unfoldable pub row_transient_above : Tables → List Machine → List Machine → ℕ → ℕ
 row_transient_above i a0 a m = total (resource_count i) (transient_above i a0 a m)
@@ -72,4 +73,6 @@ closed_penalty i a0 a = tally (process_count i) (closed_share i a0) a
 
 -- all six together
 unfoldable pub penalty : Tables → List Machine → List Machine → ℕ
-penalty i a0 a = capacity_penalty i a + transient_penalty i a0 a + conflict_penalty i a + spread_penalty i a + dependency_penalty i a + closed_penalty i a0 a
+penalty i a0 a =
+    capacity_penalty i a + transient_penalty i a0 a + conflict_penalty i a + spread_penalty i a +
+    dependency_penalty i a + closed_penalty i a0 a

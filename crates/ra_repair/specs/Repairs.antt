@@ -7,7 +7,15 @@ use Rattle.ra_repair.specs.Runs.{repair_run}
 
 -- try number k of some; past their end there is one without a move, which nothing looks at
 unfoldable pub try_in : List Try → ℕ → Try
-try_in tries k = slice_index_or tries k (record { k = 0; mv = record { kind = Shift; steps = [] }; taken = false; before = 0; after = 0 })
+try_in tries k =
+    slice_index_or tries k
+    (record {
+      k = 0;
+      mv = record { kind = Shift; steps = [] };
+      taken = false;
+      before = 0;
+      after = 0;
+    })
 
 -- no try was made yet, and the assignment is the initial one
 pub record IsFresh (repair : Repair) : Type 0 where
@@ -16,4 +24,6 @@ pub record IsFresh (repair : Repair) : Type 0 where
 
 -- the tries and the assignment are those of the run of its lot
 pub record IsRepaired (repair : Repair) : Type 0 where
-  pub run : (record { assignment = repair.kept.assignment.items; tries = repair.tries.items }) ≡ repair_run repair.inst.now.tables repair.start.now.items repair.lot.now
+  pub run :
+      (record { assignment = repair.kept.assignment.items; tries = repair.tries.items }) ≡
+      repair_run repair.inst.now.tables repair.start.now.items repair.lot.now

@@ -32,7 +32,8 @@ try_option i a x k = option_at a x (machine_count i) Two k
 
 -- the penalty after a move of assignment a, unless the judge calls the move Repeat or Same
 unfoldable pub penalty_by : Tables → List Machine → List Machine → List Step → Option ℕ
-penalty_by i a0 a steps = unless (or_else (repeat_of steps) (same_of steps)) (penalty i a0 (applied a steps))
+penalty_by i a0 a steps =
+    unless (or_else (repeat_of steps) (same_of steps)) (penalty i a0 (applied a steps))
 
 -- the penalty after option k, where that is left
 unfoldable pub option_penalty : Tables → List Machine → List Machine → List ℕ → ℕ → Option ℕ
@@ -56,7 +57,13 @@ unfoldable pub try_with : Tables → List Machine → List Machine → List ℕ 
 try_with i a0 a x k =
     let before = penalty i a0 a in
     let least = least_after i a0 a x in
-    record { k = k; mv = chosen i a0 a x; taken = is_taken before least; before = before; after = unwrap_or least before }
+    record {
+      k = k;
+      mv = chosen i a0 a x;
+      taken = is_taken before least;
+      before = before;
+      after = unwrap_or least before;
+    }
 
 -- try k at assignment a
 unfoldable pub try_at : Tables → List Machine → List Machine → Lot → ℕ → Try
@@ -75,7 +82,8 @@ pub record Repaired : Type 0 where
 unfoldable pub next_try : Tables → List Machine → Lot → ℕ → Repaired → Repaired
 next_try i a0 lot k r =
     let t = try_at i a0 r.assignment lot k in
-    if penalty i a0 r.assignment == 0 then r else (record { assignment = after_try r.assignment t; tries = r.tries ++ t ∷ [] })
+    if penalty i a0 r.assignment == 0 then r
+    else (record { assignment = after_try r.assignment t; tries = r.tries ++ t ∷ [] })
 
 -- the run from a0 up to try k: tries 0, 1 .. are made in turn, and none any more once the penalty is 0
 unfoldable pub repaired_by : Tables → List Machine → Lot → ℕ → Repaired

@@ -48,7 +48,8 @@ field_text field.MachineWeight = codes "machine move weight"
 
 -- a byte that is neither a digit nor a blank; a number that is too large; a number too many
 abbrev pub bad_byte : ℕ → ℕ → List ℕ
-bad_byte at byte = joined (codes "bad byte " ∷ number_text byte ∷ codes " at " ∷ number_text at ∷ [])
+bad_byte at byte =
+    joined (codes "bad byte " ∷ number_text byte ∷ codes " at " ∷ number_text at ∷ [])
 
 abbrev pub too_large : ℕ → List ℕ
 too_large at = joined (codes "number too large at " ∷ number_text at ∷ [])
@@ -62,10 +63,15 @@ model_detail model.ReadFault = []
 model_detail (model.BadByte at byte) = bad_byte at byte
 model_detail (model.TooLarge at) = too_large at
 model_detail model.TooLong = joined (codes "file too long" ∷ [])
-model_detail (model.Missing what item) = joined (codes "missing " ∷ field_text what ∷ space ∷ number_text item ∷ [])
+model_detail (model.Missing what item) =
+    joined (codes "missing " ∷ field_text what ∷ space ∷ number_text item ∷ [])
 model_detail (model.Range what at value least most) =
-    joined (codes "range " ∷ field_text what ∷ codes " at " ∷ number_text at ∷ codes ": " ∷ number_text value ∷ codes " not in " ∷ number_text least ∷ codes " to " ∷ number_text most ∷ [])
-model_detail (model.Flag at value) = joined (codes "flag at " ∷ number_text at ∷ codes ": " ∷ number_text value ∷ [])
+    joined
+    (codes "range " ∷ field_text what ∷ codes " at " ∷ number_text at ∷ codes ": "
+    ∷ number_text value ∷ codes " not in " ∷ number_text least ∷ codes " to " ∷ number_text most
+    ∷ [])
+model_detail (model.Flag at value) =
+    joined (codes "flag at " ∷ number_text at ∷ codes ": " ∷ number_text value ∷ [])
 model_detail (model.Extra at) = extra at
 model_detail model.NoMemory = []
 
@@ -75,8 +81,12 @@ assign_detail assign.ReadFault = []
 assign_detail (assign.BadByte at byte) = bad_byte at byte
 assign_detail (assign.TooLarge at) = too_large at
 assign_detail assign.TooLong = joined (codes "file too long" ∷ [])
-assign_detail (assign.Missing process) = joined (codes "missing process " ∷ number_text process.0 ∷ [])
-assign_detail (assign.NoMachine process value) = joined (codes "no machine for process " ∷ number_text process.0 ∷ codes ", value " ∷ number_text value ∷ [])
+assign_detail (assign.Missing process) =
+    joined (codes "missing process " ∷ number_text process.0 ∷ [])
+assign_detail (assign.NoMachine process value) =
+    joined
+    (codes "no machine for process " ∷ number_text process.0 ∷ codes ", value "
+    ∷ number_text value ∷ [])
 assign_detail (assign.Extra at) = extra at
 assign_detail assign.NoMemory = []
 
@@ -86,7 +96,8 @@ closed_detail closed.ReadFault = []
 closed_detail (closed.BadByte at byte) = bad_byte at byte
 closed_detail (closed.TooLarge at) = too_large at
 closed_detail closed.TooLong = joined (codes "file too long" ∷ [])
-closed_detail (closed.NoMachine at value) = joined (codes "no machine at " ∷ number_text at ∷ codes ", value " ∷ number_text value ∷ [])
+closed_detail (closed.NoMachine at value) =
+    joined (codes "no machine at " ∷ number_text at ∷ codes ", value " ∷ number_text value ∷ [])
 closed_detail closed.NoMemory = []
 
 -- what is wrong with a file of edits
@@ -97,12 +108,16 @@ edits_detail (edits.TooLarge at) = too_large at
 edits_detail edits.TooLong = joined (codes "file too long" ∷ [])
 edits_detail (edits.Missing edit) = joined (codes "missing edit " ∷ number_text edit ∷ [])
 edits_detail (edits.Range at value least most) =
-    joined (codes "range at " ∷ number_text at ∷ codes ": " ∷ number_text value ∷ codes " not in " ∷ number_text least ∷ codes " to " ∷ number_text most ∷ [])
+    joined
+    (codes "range at " ∷ number_text at ∷ codes ": " ∷ number_text value ∷ codes " not in "
+    ∷ number_text least ∷ codes " to " ∷ number_text most ∷ [])
 edits_detail (edits.TooMany at) = joined (codes "too many edits at " ∷ number_text at ∷ [])
 edits_detail edits.NoMemory = []
 
 abbrev pub usage_line : List ℕ
-usage_line = codes "usage: reassign check MODEL INITIAL NEW [--closed FILE] | bound MODEL [INITIAL [--closed FILE]] | solve MODEL INITIAL [--slack N] [--closed FILE] [--draws 1|2] LOT ... | trial N | verify MODEL INITIAL REPORT [--slack N] [--closed FILE] [--draws 1|2] LOT ... | repair MODEL INITIAL [--closed FILE] LOT | edit MODEL INITIAL CURRENT EDITS [--closed FILE]"
+usage_line =
+    codes
+    "usage: reassign check MODEL INITIAL NEW [--closed FILE] | bound MODEL [INITIAL [--closed FILE]] | solve MODEL INITIAL [--slack N] [--closed FILE] [--draws 1|2] LOT ... | trial N | verify MODEL INITIAL REPORT [--slack N] [--closed FILE] [--draws 1|2] LOT ... | repair MODEL INITIAL [--closed FILE] LOT | edit MODEL INITIAL CURRENT EDITS [--closed FILE]"
 
 -- a line: some words, what is wrong, and the end of the line
 abbrev pub line_of : List ℕ → List ℕ → List ℕ
@@ -114,7 +129,8 @@ about words name detail = joined (words ∷ name ∷ codes ": " ∷ detail ∷ l
 
 -- what is told of a fault: its words, its name and what stands behind that, its note, and the end of the line
 abbrev pub line_said : FaultLine → List ℕ
-line_said line = joined (line.words.now ∷ line.name.now ∷ line.behind.now ∷ note_text line.note ∷ line_end ∷ [])
+line_said line =
+    joined (line.words.now ∷ line.name.now ∷ line.behind.now ∷ note_text line.note ∷ line_end ∷ [])
 
 abbrev pub read_fault_line : List ℕ → List ℕ
 read_fault_line name = joined (codes "read fault: " ∷ name ∷ line_end ∷ [])

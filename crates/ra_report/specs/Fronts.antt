@@ -21,7 +21,9 @@ pub record IsSmallFront (j : ℕ) (e : Entry) : Type 0 where
 
 -- four numbers with a space behind each, and what follows
 abbrev pub four_numbers : ℕ → ℕ → ℕ → ℕ → List ℕ → List ℕ
-four_numbers j w k q rest = number_text j ++ 32 ∷ (number_text w ++ 32 ∷ (number_text k ++ 32 ∷ (number_text q ++ 32 ∷ rest)))
+four_numbers j w k q rest =
+    number_text j ++ 32
+    ∷ (number_text w ++ 32 ∷ (number_text k ++ 32 ∷ (number_text q ++ 32 ∷ rest)))
 
 -- a place was found, and what follows from there on is the rest
 pub record IsBehind (bytes rest : List ℕ) (found : Option ℕ) : Type 0 where

@@ -37,7 +37,8 @@ kind_text Chain = codes "chain"
 
 -- a step as `p:from>to`
 unfoldable pub step_text : Step → List ℕ
-step_text s = number_text s.process.0 ++ codes ":" ++ number_text s.from.0 ++ codes ">" ++ number_text s.to.0
+step_text s =
+    number_text s.process.0 ++ codes ":" ++ number_text s.from.0 ++ codes ">" ++ number_text s.to.0
 
 -- the words of steps, a space behind each
 abbrev pub step_word : Step → List ℕ
@@ -49,7 +50,8 @@ steps_text steps = flat_map step_word steps
 -- the words of the entry at place j before its steps, a space behind each
 unfoldable pub entry_front : ℕ → Entry → List ℕ
 entry_front j e =
-    number_text j ++ space ++ number_text e.worker ++ space ++ number_text e.k ++ space ++ number_text e.q ++ space ++ kind_text e.mv.kind ++ space
+    number_text j ++ space ++ number_text e.worker ++ space ++ number_text e.k ++ space
+    ++ number_text e.q ++ space ++ kind_text e.mv.kind ++ space
 
 -- the line of the entry at place j, its LF included
 unfoldable pub entry_line : ℕ → Entry → List ℕ
@@ -75,15 +77,19 @@ drawing_line drawing = number_line (codes "draws") (drawing_number drawing)
 
 -- the eight lines of what came out of a run: the parts, the total of the bound, a place
 abbrev pub outcome_text : Parts → ℕ → ℕ → List ℕ
-outcome_text parts bound_total best_at = parts_text parts ++ number_line (codes "bound") bound_total ++ number_line (codes "best_at") best_at
+outcome_text parts bound_total best_at =
+    parts_text parts ++ number_line (codes "bound") bound_total
+    ++ number_line (codes "best_at") best_at
 
 -- the ten lines before the entries: these eight, the assignment at that place, the drawing
 unfoldable pub head_text : Parts → ℕ → ℕ → List Machine → Drawing → List ℕ
-head_text parts bound_total best_at a drawing = outcome_text parts bound_total best_at ++ assignment_line a ++ drawing_line drawing
+head_text parts bound_total best_at a drawing =
+    outcome_text parts bound_total best_at ++ assignment_line a ++ drawing_line drawing
 
 -- a report of these ten lines and of all entries of a journal
 unfoldable pub report_lines : Parts → ℕ → ℕ → List Machine → Drawing → List Entry → List ℕ
-report_lines parts bound_total best_at a drawing h = head_text parts bound_total best_at a drawing ++ entries_text h (length h)
+report_lines parts bound_total best_at a drawing h =
+    head_text parts bound_total best_at a drawing ++ entries_text h (length h)
 
 -- the report of journal h from start a0: it tells the best state, and the total of the bound of the
 -- instance and the start
@@ -102,7 +108,9 @@ report_head i a0 l h =
 
 -- the best state of a journal, its report, and the ten lines before the entries
 unfoldable pub best_state : Journal → List Machine
-best_state j = state j.a0.now.items j.book.entries.items (best_of j.inst.now.tables j.a0.now.items j.book.entries.items)
+best_state j =
+    state j.a0.now.items j.book.entries.items
+    (best_of j.inst.now.tables j.a0.now.items j.book.entries.items)
 
 unfoldable pub text_of : Journal → List ℕ
 text_of j = report_text j.inst.now.tables j.a0.now.items j.lots.now j.book.entries.items
@@ -116,7 +124,9 @@ accepted_line entries = number_line (codes "accepted") entries
 
 -- the three lines of a bound: its total, its load and its balance
 unfoldable pub bound_text : Bound → List ℕ
-bound_text b = number_line (codes "bound") b.total ++ number_line (codes "load") b.load ++ number_line (codes "balance") b.balance
+bound_text b =
+    number_line (codes "bound") b.total ++ number_line (codes "load") b.load
+    ++ number_line (codes "balance") b.balance
 
 -- what comes behind the first line, where there is a line
 unfoldable pub after_line : List ℕ → Option (List ℕ)

@@ -32,7 +32,10 @@ unfoldable pub try_front : Try → List ℕ
 try_front t = joined (number_text t.k ∷ space ∷ kind_text t.mv.kind ∷ space ∷ [])
 
 unfoldable pub try_back : Try → List ℕ
-try_back t = joined (taken_text t.taken ∷ space ∷ number_text t.before ∷ space ∷ number_text t.after ∷ line_end ∷ [])
+try_back t =
+    joined
+    (taken_text t.taken ∷ space ∷ number_text t.before ∷ space ∷ number_text t.after ∷ line_end
+    ∷ [])
 
 -- the line of a try: its number, the kind of its move, the steps as in an entry, whether it was taken, and the penalty
 -- before and after it
@@ -46,11 +49,14 @@ tries_text tries (suc n) = tries_text tries n ++ try_line (try_in tries n)
 
 -- all lines
 unfoldable pub repair_lines : Option Cause → List Machine → List Try → List ℕ
-repair_lines broken a tries = state_line broken ++ (assignment_line a ++ tries_text tries (length tries))
+repair_lines broken a tries =
+    state_line broken ++ (assignment_line a ++ tries_text tries (length tries))
 
 -- the output of a repair
 unfoldable pub text_of_repair : Repair → List ℕ
-text_of_repair r = repair_lines (first_broken r.inst.now.tables r.start.now.items r.kept.assignment.items) r.kept.assignment.items r.tries.items
+text_of_repair r =
+    repair_lines (first_broken r.inst.now.tables r.start.now.items r.kept.assignment.items)
+    r.kept.assignment.items r.tries.items
 
 -- the output of the run of a lot from a0
 unfoldable pub repair_text : Tables → List Machine → Lot → List ℕ

@@ -29,7 +29,8 @@ refused_count h = count_by (λ e. not (is_done e.verdict)) h
 -- the ten lines: the parts, the total of a bound, a place, and the two counts of a journal
 unfoldable pub summary_lines : Parts → ℕ → ℕ → List Entry → List ℕ
 summary_lines parts bound_total best_at h =
-    outcome_text parts bound_total best_at ++ number_line (codes "done") (done_count h) ++ number_line (codes "refused") (refused_count h)
+    outcome_text parts bound_total best_at ++ number_line (codes "done") (done_count h)
+    ++ number_line (codes "refused") (refused_count h)
 
 -- the summary of journal h from start a0: it tells the parts of the best state and its place, and the total of the
 -- bound of the instance and the start

@@ -27,8 +27,10 @@ pub record Moves (width column : ℕ) (left come : ℕ → ℕ) (old new : List 
   pub same_length : length new ≡ length old
 
 -- in every cell the share of process p on machine `from` has left, and its share on machine `to` has come
-pub record Shifts (width : ℕ) (share : ℕ → ℕ → ℕ → ℕ → ℕ) (p from to : ℕ) (old new : List ℕ) : Type 0 where
-  pub each : (m r : ℕ) → r < width → cell width new m r + share m r p from ≡ cell width old m r + share m r p to
+pub record Shifts (width : ℕ) (share : ℕ → ℕ → ℕ → ℕ → ℕ) (p from to : ℕ) (old new : List ℕ) : Type
+    0 where
+  pub each : (m r : ℕ) → r < width
+      → cell width new m r + share m r p from ≡ cell width old m r + share m r p to
   pub same_length : length new ≡ length old
 
 -- the share of process p on machine `at` has come in every cell
@@ -37,9 +39,11 @@ pub record Adds (width : ℕ) (share : ℕ → ℕ → ℕ → ℕ → ℕ) (p a
   pub same_length : length new ≡ length old
 
 -- each cell is the sum over the first n processes of their shares of its machine and resource
-pub record IsTally (width n : ℕ) (share : ℕ → ℕ → ℕ → ℕ → ℕ) (a : List Machine) (table : List ℕ) : Type 0 where
+pub record IsTally (width n : ℕ) (share : ℕ → ℕ → ℕ → ℕ → ℕ) (a : List Machine) (table : List ℕ) :
+    Type 0 where
   pub each : (m r : ℕ) → r < width → cell width table m r ≡ tally n (share m r) a
 
 -- row `at` has at least what process p requires of each resource
 pub record HasRoomFor (i : Tables) (p at : ℕ) (table : List ℕ) : Type 0 where
-  pub each : (r : ℕ) → r < resource_count i → requirement_of i p r ≤ cell (resource_count i) table at r
+  pub each : (r : ℕ) → r < resource_count i
+      → requirement_of i p r ≤ cell (resource_count i) table at r

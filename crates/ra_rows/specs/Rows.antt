@@ -11,8 +11,11 @@ use Rattle.ra_rows.specs.RowTables.{RowTables}
 -- rows stand for an assignment: they have the use and the transient use of each resource of each machine
 pub record StandFor (rows : RowTables) (a : List Machine) : Type 0 where
   pub fits : IsAssignment rows.tables a
-  pub usage : (m r : ℕ) → r < resource_count rows.tables → cell (resource_count rows.tables) rows.used m r ≡ use_of rows.tables a m r
-  pub transient : (m r : ℕ) → r < resource_count rows.tables → cell (resource_count rows.tables) rows.between m r ≡ transient_of rows.tables rows.start a m r
+  pub usage : (m r : ℕ) → r < resource_count rows.tables
+      → cell (resource_count rows.tables) rows.used m r ≡ use_of rows.tables a m r
+  pub transient : (m r : ℕ) → r < resource_count rows.tables
+      → cell (resource_count rows.tables) rows.between m r
+      ≡ transient_of rows.tables rows.start a m r
 
 -- rows stand for some assignment that has process p on machine `from`
 pub record HasAt (rows : RowTables) (p from : ℕ) : Type 0 where

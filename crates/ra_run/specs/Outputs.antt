@@ -50,6 +50,9 @@ pub record Solved (held : Held) (names : Names) (l : Lots) (way : List ℕ → T
   -- the state and the drawing, and then the journal
   pub best_at : ℕ
   pub best : IsFirstLeast tables a0 journal best_at
-  pub lines : bytes ≡ report_lines (parts_of tables a0 (state a0 journal best_at)) (pinned_bound_of tables a0).total best_at (state a0 journal best_at) l.drawing journal
+  pub lines :
+      bytes ≡ report_lines (parts_of tables a0 (state a0 journal best_at))
+      (pinned_bound_of tables a0).total best_at (state a0 journal best_at) l.drawing journal
   -- no assignment that is feasible with respect to the start costs less than the bound
-  pub least : (a : List Machine) → IsAssignment tables a → Feasible tables a0 a → (pinned_bound_of tables a0).total ≤ objective tables a0 a
+  pub least : (a : List Machine) → IsAssignment tables a → Feasible tables a0 a
+      → (pinned_bound_of tables a0).total ≤ objective tables a0 a

@@ -12,12 +12,13 @@ use Rattle.ra_jobs.specs.declared.refusals.Refusal.{Refusal}
 use Rattle.ra_jobs.specs.declared.refusals.Refusal.TheVariants.{InitialBroken, Write, Memory}
 
 -- the initial list is feasible, and the report of a legal whole journal from it went this way
-pub record IsReported (i : Tables) (a0 : List Machine) (l : Lots) (way : List ℕ → Type 0) : Type 0 where
-  pub start : Feasible i a0 a0
-  pub journal : List Entry
-  pub legal : Legal i a0 l journal
-  pub whole : Whole l journal
-  pub text : way (report_text i a0 l journal)
+pub record IsReported (i : Tables) (a0 : List Machine) (l : Lots) (way : List ℕ → Type 0) : Type 0
+  where
+    pub start : Feasible i a0 a0
+    pub journal : List Entry
+    pub legal : Legal i a0 l journal
+    pub whole : Whole l journal
+    pub text : way (report_text i a0 l journal)
 
 -- what a refusal of a run says, where a part of its report was written
 abbrev pub RunSays : Tables → List Machine → Type 0 → Refusal → Type 0

@@ -60,7 +60,8 @@ TrialSays written Memory = Unit {0}
 
 -- a trial ends: it is done, its summary was printed and the error sink took nothing; or writing failed behind a part of
 -- the summary; or memory was refused and the output took nothing. Its refusal is told, and there is no other one
-pub record TrialEnds (number : ℕ) (prints breaks tells : List ℕ → Type 0) (out_same err_same : Type 0) (status : Status) : Type 0 where
+pub record TrialEnds (number : ℕ) (prints breaks tells : List ℕ → Type 0)
+    (out_same err_same : Type 0) (status : Status) : Type 0 where
   pub only : (status ≡ Done) ⊎ ((status ≡ WriteFault) ⊎ (status ≡ NoMemory))
   pub printed : status ≡ Done → TrialPrinted number prints
   pub quiet : status ≡ Done → err_same

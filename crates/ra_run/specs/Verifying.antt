@@ -21,10 +21,11 @@ use Rattle.ra_jobs.specs.Refusals.{InitialBreaks}
 use Rattle.ra_run.specs.Outputs.{Solved}
 
 -- the bytes are a report of `solve`, the headline, whose journal has so many entries; none of its lines is wrong
-pub record IsSolved (held : Held) (names : Names) (l : Lots) (entries : ℕ) (bytes : List ℕ) : Type 0 where
-  pub solved : Solved held names l (λ text. text ≡ bytes)
-  pub number : length solved.journal ≡ entries
-  pub none_wrong : IsFirstWrong solved.tables solved.a0 l bytes None
+pub record IsSolved (held : Held) (names : Names) (l : Lots) (entries : ℕ) (bytes : List ℕ) : Type 0
+  where
+    pub solved : Solved held names l (λ text. text ≡ bytes)
+    pub number : length solved.journal ≡ entries
+    pub none_wrong : IsFirstWrong solved.tables solved.a0 l bytes None
 
 -- the other files pass, and the told bytes of the report are one of `solve`
 pub record IsRead (held : Held) (names : Names) (l : Lots) (entries : ℕ) : Type 0 where
@@ -40,7 +41,8 @@ pub record Verified (held : Held) (names : Names) (l : Lots) (way : List ℕ →
   pub text : way (accepted_line entries)
 
 -- these bytes have this line as their first wrong one, so that they are no report of a legal whole journal
-pub record IsWrongAt (i : Tables) (a0 : List Machine) (l : Lots) (line : ℕ) (bytes : List ℕ) : Type 0 where
+pub record IsWrongAt (i : Tables) (a0 : List Machine) (l : Lots) (line : ℕ) (bytes : List ℕ) : Type
+    0 where
   pub first : IsFirstWrong i a0 l bytes (Some line)
   pub no_report : (n : ℕ) → IsReport i a0 l bytes n → ⊥
 
@@ -60,37 +62,51 @@ VerifyOwn held names l written refusal = ⊥
 
 -- this line of the told report is its first wrong one
 abbrev pub IsWrongReport : Held → Names → Tables → List Machine → Lots → ℕ → Type 0
-IsWrongReport held names i a0 l line = IfSome (held (name_of names file.Report)) (λ bytes. IsFirstWrong i a0 l bytes (Some line))
+IsWrongReport held names i a0 l line =
+    IfSome (held (name_of names file.Report)) (λ bytes. IsFirstWrong i a0 l bytes (Some line))
 
 -- it is the report of a legal whole journal
 abbrev pub IsRightReport : Held → Names → Tables → List Machine → Lots → Type 0
-IsRightReport held names i a0 l = IfSome (held (name_of names file.Report)) (λ bytes. (n : ℕ) × IsReport i a0 l bytes n)
+IsRightReport held names i a0 l =
+    IfSome (held (name_of names file.Report)) (λ bytes. (n : ℕ) × IsReport i a0 l bytes n)
 
 -- of a job with such lots: the status tells a wrong report, and over known files that pass a wrong report is told, and one
 -- that is right is accepted. Any instance that the other files mean will do: by `told_files_mean_one` and
 -- `alike_run_alike` of `ra_laws` a report is wrong for one of them exactly where it is for each
-pub record VerdictComes (held : Held) (names : Names) (are : Lots → Type 0) (before now : Faults) (status : Status) : Type 0 where
+pub record VerdictComes (held : Held) (names : Names) (are : Lots → Type 0) (before now : Faults)
+    (status : Status) : Type 0 where
   pub wrong : status ≡ Wrong → (l : Lots) × are l × ((line : ℕ) × ReportWrong held names l line)
-  pub is_wrong : (i : Tables) (a0 : List Machine) → Passes held names i a0 a0 → KnownTo held names before now file.Report → (line : ℕ) → ((l : Lots) → are l → IsWrongReport held names i a0 l line) → (status ≡ Wrong) ⊎ (status ≡ NoMemory)
-  pub is_right : (i : Tables) (a0 : List Machine) → Passes held names i a0 a0 → KnownTo held names before now file.Report → ((l : Lots) → are l → IsRightReport held names i a0 l) → (status ≡ Done) ⊎ ((status ≡ WriteFault) ⊎ (status ≡ NoMemory))
+  pub is_wrong : (i : Tables) (a0 : List Machine) → Passes held names i a0 a0
+      → KnownTo held names before now file.Report → (line : ℕ)
+      → ((l : Lots) → are l → IsWrongReport held names i a0 l line)
+      → (status ≡ Wrong) ⊎ (status ≡ NoMemory)
+  pub is_right : (i : Tables) (a0 : List Machine) → Passes held names i a0 a0
+      → KnownTo held names before now file.Report
+      → ((l : Lots) → are l → IsRightReport held names i a0 l)
+      → (status ≡ Done) ⊎ ((status ≡ WriteFault) ⊎ (status ≡ NoMemory))
 
 -- ---- the stages
 
 -- these bytes are the report of a legal whole journal of so many entries, and none of their lines is wrong
-pub record IsRightAt (i : Tables) (a0 : List Machine) (l : Lots) (entries : ℕ) (bytes : List ℕ) : Type 0 where
+pub record IsRightAt (i : Tables) (a0 : List Machine) (l : Lots) (entries : ℕ) (bytes : List ℕ) :
+    Type 0 where
   pub report : IsReport i a0 l bytes entries
   pub none_wrong : IsFirstWrong i a0 l bytes None
 
 -- the initial list is feasible, and the told report is that of a legal whole journal of so many entries
-pub record IsCounted (held : Held) (name : List ℕ) (i : Tables) (a0 : List Machine) (l : Lots) (entries : ℕ) : Type 0 where
+pub record IsCounted (held : Held) (name : List ℕ) (i : Tables) (a0 : List Machine) (l : Lots)
+    (entries : ℕ) : Type 0 where
   pub start : Feasible i a0 a0
   pub report : IfSome (held name) (IsRightAt i a0 l entries)
 
 -- what a refusal of the report says
-abbrev pub CountSays : Held → List ℕ → Tables → List Machine → Lots → Faults → Faults → Refusal → Type 0
+abbrev pub CountSays : Held → List ℕ → Tables → List Machine → Lots → Faults → Faults → Refusal
+    → Type 0
 CountSays held name i a0 l before now (InitialBroken cause) = first_broken i a0 a0 ≡ Some cause
-CountSays held name i a0 l before now (Read file.Report) = Feasible i a0 a0 × Rose (before name) (now name)
-CountSays held name i a0 l before now (WrongLine line) = Feasible i a0 a0 × IfSome (held name) (IsWrongAt i a0 l line)
+CountSays held name i a0 l before now (Read file.Report) =
+    Feasible i a0 a0 × Rose (before name) (now name)
+CountSays held name i a0 l before now (WrongLine line) =
+    Feasible i a0 a0 × IfSome (held name) (IsWrongAt i a0 l line)
 CountSays held name i a0 l before now Memory = Unit {0}
 CountSays held name i a0 l before now refusal = ⊥
 

@@ -154,8 +154,8 @@ fn trial_files(alloc: Global, number: u64) -> Result<SteadyFiles, NoMemory>
 
 /// Two texts as files.
 fn hold(alloc: Global, text: &TrialText) -> Result<SteadyFiles, NoMemory>
-    ensures { IfOk result (λ files.
-        HoldsTexts (⟦<SteadyFiles as Files>⟧.held files) text.now.model.items text.now.start.items) }
+    ensures { IfOk result (λ files. HoldsTexts (⟦<SteadyFiles as Files>⟧.held files)
+        text.now.model.items text.now.start.items) }
 {
     let mut files = SteadyFiles::make(alloc)?;
     files.add(alloc, "model", text.model.as_slice())?;
@@ -178,8 +178,8 @@ fn trial_from<R: Threads + Wait + Sync, O: Sink, G: Gate>(
     requires one { worker_count lots.now ≡ 1 }
     ensures printed { OnOk result (IsSummarized inst.now.tables initial.now.items lots.now
         (Appends (O.taken out.old) (O.taken out.new))) }
-    ensures refused { IfErr result (TrialSays (IsSummarized inst.now.tables initial.now.items lots.now
-        (Breaks (O.taken out.old) (O.taken out.new) (O.faults out.old) (O.faults out.new)))) }
+    ensures refused { IfErr result (TrialSays (IsSummarized inst.now.tables initial.now.items
+        lots.now (Breaks (O.taken out.old) (O.taken out.new) (O.faults out.old) (O.faults out.new)))) }
     ensures untouched { IfErr result (λ fault. fault ≢ TrialFault.Write → out.new ≡ out.old) }
     ensures never_falls { O.faults out.old ≤ O.faults out.new }
 {
@@ -219,8 +219,8 @@ fn trial_over<R: Threads + Wait + Sync, O: Sink, G: Gate>(
     requires made { IsMadeFor scratch.old inst.now.tables }
     ensures printed { OnOk result (IsSummarized inst.now.tables initial.now.items lots.now
         (Appends (O.taken out.old) (O.taken out.new))) }
-    ensures refused { IfErr result (TrialSays (IsSummarized inst.now.tables initial.now.items lots.now
-        (Breaks (O.taken out.old) (O.taken out.new) (O.faults out.old) (O.faults out.new)))) }
+    ensures refused { IfErr result (TrialSays (IsSummarized inst.now.tables initial.now.items
+        lots.now (Breaks (O.taken out.old) (O.taken out.new) (O.faults out.old) (O.faults out.new)))) }
     ensures untouched { IfErr result (λ fault. fault ≢ TrialFault.Write → out.new ≡ out.old) }
     ensures never_falls { O.faults out.old ≤ O.faults out.new }
 {

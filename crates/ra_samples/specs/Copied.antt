@@ -11,9 +11,11 @@ IsCopy raw lists =
     (raw.resources.items ≡ lists.resources.now) × (raw.machines.items ≡ lists.machines.now)
     × (raw.capacities.items ≡ lists.capacities.now) × (raw.safeties.items ≡ lists.safeties.now)
     × (raw.move_costs.items ≡ lists.move_costs.now) × (raw.services.items ≡ lists.services.now)
-    × (raw.dependencies.items ≡ lists.dependencies.now) × (raw.processes.items ≡ lists.processes.now)
+    × (raw.dependencies.items ≡ lists.dependencies.now)
+    × (raw.processes.items ≡ lists.processes.now)
     × (raw.requirements.items ≡ lists.requirements.now) × (raw.balances.items ≡ lists.balances.now)
-    × (raw.process_weight ≡ slice_index lists.weights 0) × (raw.service_weight ≡ slice_index lists.weights 1)
+    × (raw.process_weight ≡ slice_index lists.weights 0)
+    × (raw.service_weight ≡ slice_index lists.weights 1)
     × (raw.machine_weight ≡ slice_index lists.weights 2)
 
 -- each list of the machines is that of the slices

@@ -20,7 +20,8 @@ pub record AreMovedOf (i : Tables) (a0 a : List Machine) (moved : MovedCounts) :
   pub limit : moved.limit ≡ process_count i
 
 -- moved counts and cost are those of assignment a, reached from a0, and the weighing is that of a move of a
-pub record IsSettling (i : Tables) (a0 a : List Machine) (steps : List Step) (moved : MovedCounts) (kept : ℕ) (weighed : Weighed) : Type 0 where
+pub record IsSettling (i : Tables) (a0 a : List Machine) (steps : List Step) (moved : MovedCounts)
+    (kept : ℕ) (weighed : Weighed) : Type 0 where
   pub start : IsAssignment i a0
   pub fits : IsAssignment i a
   pub moves : IsOffered i a steps
@@ -29,11 +30,12 @@ pub record IsSettling (i : Tables) (a0 a : List Machine) (steps : List Step) (mo
   pub weighing : weighed ≡ weighed_of i a0 a steps
 
 -- they are so for some move of some assignment
-pub record HasSettling (i : Tables) (moved : MovedCounts) (kept : ℕ) (weighed : Weighed) : Type 0 where
-  pub initial : List Machine
-  pub assignment : List Machine
-  pub steps : List Step
-  pub settling : IsSettling i initial assignment steps moved kept weighed
+pub record HasSettling (i : Tables) (moved : MovedCounts) (kept : ℕ) (weighed : Weighed) : Type 0
+  where
+    pub initial : List Machine
+    pub assignment : List Machine
+    pub steps : List Step
+    pub settling : IsSettling i initial assignment steps moved kept weighed
 
 -- the counts have room for a change: its service is there, and its new count within the limit
 pub record IsRoomFor (moved : MovedCounts) (c : MovedCount) : Type 0 where

@@ -27,14 +27,17 @@ abbrev pub number_at : Tables → List Guard → ℕ → ℕ
 number_at i guards k = number_of i (guard_at guards k)
 
 -- the first k guards of a list are held, each at a version of at most q, and all guards that are held come before the rest
-pub record HoldsFirst (i : Tables) (guards : List Guard) (q k : ℕ) (grips : List Grip) : Type 0 where
-  pub count : length grips ≡ k
-  pub held : (j : ℕ) → j < k → (v : ℕ) × (v ≤ q) × Contains grips (grip (number_at i guards j) v)
-  pub below : (j : ℕ) → k ≤ j → j < length guards → All (λ g. g.guard < number_at i guards j) grips
+pub record HoldsFirst (i : Tables) (guards : List Guard) (q k : ℕ) (grips : List Grip) : Type 0
+  where
+    pub count : length grips ≡ k
+    pub held : (j : ℕ) → j < k → (v : ℕ) × (v ≤ q) × Contains grips (grip (number_at i guards j) v)
+    pub below : (j : ℕ) → k ≤ j → j < length guards
+        → All (λ g. g.guard < number_at i guards j) grips
 
 -- each write guard of a move is held, at a version of at most q
 pub record HoldsWrites (i : Tables) (steps : List Step) (q : ℕ) (grips : List Grip) : Type 0 where
-  pub each : (g : Guard) → writes i steps g ≡ true → (v : ℕ) × (v ≤ q) × Contains grips (grip (number_of i g) v)
+  pub each : (g : Guard) → writes i steps g ≡ true
+      → (v : ℕ) × (v ≤ q) × Contains grips (grip (number_of i g) v)
 
 -- the version of a write guard of a move behind an answer: the number of entries where the move was done, and else what it was before
 unfoldable pub then_version : Option Reply → ℕ → ℕ → ℕ
@@ -50,13 +53,16 @@ module _ {g : Ghosts Book Entry Opening} where
     pub commit : IsCommitOf (start_of s) (seen_by p) p.number plan
 
   -- the pass p, now q, has handed in the plan in one turn, and holds what it held
-  pub record IsHandedIn (s : Shared) (plan : Plan) (p q : Pass Book Entry Opening g) (reply : Reply) : Type 0 where
+  pub record IsHandedIn (s : Shared) (plan : Plan) (p q : Pass Book Entry Opening g) (reply : Reply)
+      : Type 0 where
     pub ready : IsReady s.turn q
     pub number : q.number ≡ p.number
     pub left : q.left + 1 ≡ p.left
     pub grips : grips_of q ≡ grips_of p
     pub legal : IsLegalSeen (start_of s) (seen_by q)
-    pub committed : IsCommitted (start_of s) p.number plan.q (seen_by p) (made_by p) (seen_by q) (made_by q) reply
+    pub committed :
+        IsCommitted (start_of s) p.number plan.q (seen_by p) (made_by p) (seen_by q) (made_by q)
+        reply
 
   -- The next turn of the pass shows an entry at place plan.q or later that touched a write guard of the plan's move
   pub record IsNewer (i : Tables) (plan : Plan) (p : Pass Book Entry Opening g) : Type 0 where

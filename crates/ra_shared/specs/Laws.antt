@@ -18,14 +18,19 @@ use Rattle.ra_shared.specs.Shares.{IsCommitted}
 
 -- what an entry makes touches a guard exactly where it touches its number
 abbrev pub TouchesAgree : Type 0
-TouchesAgree = (i : Tables) (made : Option (List Step)) (g : Guard) → IsKnown i g → touches_number i made (number_of i g) ≡ touches i made g
+TouchesAgree =
+    (i : Tables) (made : Option (List Step)) (g : Guard) → IsKnown i g
+    → touches_number i made (number_of i g) ≡ touches i made g
 
 -- from the guard count on no number is touched
 abbrev pub NoneAbove : Type 0
-NoneAbove = (i : Tables) (made : Option (List Step)) (n : ℕ) → guard_count i ≤ n → touches_number i made n ≡ false
+NoneAbove =
+    (i : Tables) (made : Option (List Step)) (n : ℕ) → guard_count i ≤ n
+    → touches_number i made n ≡ false
 
 -- the plan is recorded at place j with this verdict: its entry is the last that the worker has now seen, and it has made this entry besides
-pub record IsRecorded (w : ℕ) (plan : Plan) (mine seen' mine' : List Entry) (j : ℕ) (verdict : Verdict) : Type 0 where
+pub record IsRecorded (w : ℕ) (plan : Plan) (mine seen' mine' : List Entry) (j : ℕ)
+    (verdict : Verdict) : Type 0 where
   pub last : length seen' ≡ j + 1
   pub worker : (entry_at seen' j).worker ≡ w
   pub k : (entry_at seen' j).k ≡ plan.k
@@ -35,7 +40,8 @@ pub record IsRecorded (w : ℕ) (plan : Plan) (mine seen' mine' : List Entry) (j
   pub made : mine' ≡ mine ++ entry_at seen' j ∷ []
 
 -- the plan is stale by the guard, one of its move, which another worker's entry at this place has touched since it was planned; nothing was made
-pub record IsStale (o : Opening) (w : ℕ) (plan : Plan) (mine seen' mine' : List Entry) (guard : Guard) (at : ℕ) : Type 0 where
+pub record IsStale (o : Opening) (w : ℕ) (plan : Plan) (mine seen' mine' : List Entry)
+    (guard : Guard) (at : ℕ) : Type 0 where
   pub made : mine' ≡ mine
   pub guarded : is_guard o.inst.tables plan.mv.steps guard ≡ true
   pub from : plan.q ≤ at
@@ -45,10 +51,18 @@ pub record IsStale (o : Opening) (w : ℕ) (plan : Plan) (mine seen' mine' : Lis
 
 -- what a worker knows where it is answered Recorded
 abbrev pub RecordedStands : Type 0
-RecordedStands = (o : Opening) (w : ℕ) (plan : Plan) (seen mine seen' mine' : List Entry) (j : ℕ) (verdict : Verdict) → KnowsOwn w seen mine → IsCommitOf o seen w plan
-    → IsCommitted o w plan.q seen mine seen' mine' (Recorded j verdict) → IsRecorded w plan mine seen' mine' j verdict
+RecordedStands =
+    (o : Opening) (w : ℕ) (plan : Plan) (seen mine seen' mine' : List Entry) (j : ℕ)
+    (verdict : Verdict)
+    → KnowsOwn w seen mine → IsCommitOf o seen w plan
+    → IsCommitted o w plan.q seen mine seen' mine' (Recorded j verdict)
+    → IsRecorded w plan mine seen' mine' j verdict
 
 -- and where it is answered Stale
 abbrev pub StaleStands : Type 0
-StaleStands = (o : Opening) (w : ℕ) (plan : Plan) (seen mine seen' mine' : List Entry) (guard : Guard) (at : ℕ) → KnowsOwn w seen mine → IsCommitOf o seen w plan
-    → IsCommitted o w plan.q seen mine seen' mine' (Stale guard at) → IsStale o w plan mine seen' mine' guard at
+StaleStands =
+    (o : Opening) (w : ℕ) (plan : Plan) (seen mine seen' mine' : List Entry) (guard : Guard)
+    (at : ℕ)
+    → KnowsOwn w seen mine → IsCommitOf o seen w plan
+    → IsCommitted o w plan.q seen mine seen' mine' (Stale guard at)
+    → IsStale o w plan mine seen' mine' guard at

@@ -20,5 +20,6 @@ number_of i (guard.Service s) = machine_count i + s.0
 unfoldable pub touches_number : Tables → Option (List Step) → ℕ → Bool
 touches_number i made n =
     if nat_lt n (machine_count i) then touches i made (guard.Machine (record { 0 = n }))
-    else if nat_lt n (guard_count i) then touches i made (guard.Service (record { 0 = n - machine_count i }))
+    else if nat_lt n (guard_count i)
+    then touches i made (guard.Service (record { 0 = n - machine_count i }))
     else false

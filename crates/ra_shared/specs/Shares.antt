@@ -38,7 +38,8 @@ module _ {g : Ghosts Book Entry Opening} where
 
 -- Worker w, which had seen and made these entries, has handed in its next proposal, planned at place q: there was a history in which all that it had made stood,
 -- and this is what it answered. The worker has now seen what the history became, and has made what was added
-pub record IsCommitted (o : Opening) (w q : ℕ) (seen mine seen' mine' : List Entry) (reply : Reply) : Type 0 where
+pub record IsCommitted (o : Opening) (w q : ℕ) (seen mine seen' mine' : List Entry) (reply : Reply)
+    : Type 0 where
   pub history : List Entry
   pub later : IsPrefix seen history
   pub own : KnowsOwn w history mine

@@ -15,19 +15,26 @@ shifted a p to = slice_set a p (record { 0 = to })
 
 -- `to` has room for what p requires
 pub record HasRoom (i : Tables) (a : List Machine) (p to : ℕ) : Type 0 where
-  pub each : (r : ℕ) → r < resource_count i → use_of i a to r + requirement_of i p r ≤ capacity_of i to r
+  pub each : (r : ℕ) → r < resource_count i
+      → use_of i a to r + requirement_of i p r ≤ capacity_of i to r
 
 -- and has it while p moves, unless `to` is the initial machine of p, where p is counted already
 pub record HasRoomBetween (i : Tables) (a0 a : List Machine) (p to : ℕ) : Type 0 where
-  pub each : (r : ℕ) → r < resource_count i → IsTrue (transient_at i r) → machine_at a0 p ≢ to → transient_of i a0 a to r + requirement_of i p r ≤ capacity_of i to r
+  pub each : (r : ℕ) → r < resource_count i → IsTrue (transient_at i r) → machine_at a0 p ≢ to
+      → transient_of i a0 a to r + requirement_of i p r ≤ capacity_of i to r
 
 -- each service that p's service needs is in the neighbourhood of `to`, where p brings its own
 pub record FindsNeeds (i : Tables) (a : List Machine) (p to : ℕ) : Type 0 where
-  pub each : (k : ℕ) → k < dependency_count i (service_of i p) → need_of i (service_of i p) k ≢ service_of i p → 0 < in_neighbourhood i a (need_of i (service_of i p) k) (neighbourhood_of i to)
+  pub each : (k : ℕ) → k < dependency_count i (service_of i p)
+      → need_of i (service_of i p) k ≢ service_of i p
+      → 0 < in_neighbourhood i a (need_of i (service_of i p) k) (neighbourhood_of i to)
 
 -- p isn't the last of its service in its neighbourhood, or no other service there depends on it
 pub record MayLeave (i : Tables) (a : List Machine) (p : ℕ) : Type 0 where
-  pub each : (d : ℕ) → d < service_count i → depends i d (service_of i p) ≡ true → d ≢ service_of i p → in_neighbourhood i a (service_of i p) (neighbourhood_of i (machine_at a p)) ≤ 1 → in_neighbourhood i a d (neighbourhood_of i (machine_at a p)) ≡ 0
+  pub each : (d : ℕ) → d < service_count i → depends i d (service_of i p) ≡ true
+      → d ≢ service_of i p
+      → in_neighbourhood i a (service_of i p) (neighbourhood_of i (machine_at a p)) ≤ 1
+      → in_neighbourhood i a d (neighbourhood_of i (machine_at a p)) ≡ 0
 
 -- p may go to machine `to`
 pub record Allows (i : Tables) (a0 a : List Machine) (p to : ℕ) : Type 0 where

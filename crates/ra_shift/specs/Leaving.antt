@@ -30,8 +30,12 @@ MayGo w p = MayLeave w.inst.now.tables w.kept.assignment.items p
 
 -- the load and balance cost of its machine without it
 abbrev pub cost_left : World → ℕ → ℕ
-cost_left w p = row_cost w.inst.now.tables (machine_left w p) (use_without w.inst.now.tables w.kept.assignment.items p)
+cost_left w p =
+    row_cost w.inst.now.tables (machine_left w p)
+    (use_without w.inst.now.tables w.kept.assignment.items p)
 
 -- the same with it, and what its own way costs so far
 abbrev pub cost_before : World → ℕ → ℕ
-cost_before w p = cost_of w.inst.now.tables w.kept.assignment.items (machine_left w p) + way_cost w.inst.now.tables w.start.now.items p (machine_left w p)
+cost_before w p =
+    cost_of w.inst.now.tables w.kept.assignment.items (machine_left w p) + way_cost
+    w.inst.now.tables w.start.now.items p (machine_left w p)

@@ -31,8 +31,11 @@ cost_of i a m = machine_load i a m + machine_balance i a m
 
 -- the process cost and the machine cost of p on machine `at`, with their weights
 unfoldable pub way_cost : Tables → List Machine → ℕ → ℕ → ℕ
-way_cost i a0 p at = process_weight_of i * process_share i a0 p at + machine_weight_of i * way_share i a0 p at
+way_cost i a0 p at =
+    process_weight_of i * process_share i a0 p at + machine_weight_of i * way_share i a0 p at
 
 -- in how many locations there is another process of p's service
 unfoldable pub locations_without : Tables → List Machine → ℕ → ℕ
-locations_without i a p = locations_of i a (service_of i p) - one_if (in_location i a (service_of i p) (location_of i (machine_at a p)) == 1)
+locations_without i a p =
+    locations_of i a (service_of i p) - one_if
+    (in_location i a (service_of i p) (location_of i (machine_at a p)) == 1)

@@ -10,8 +10,11 @@ unfoldable pub note_text : Note → List ℕ
 note_text Nothing = []
 note_text (Words words) = words.now
 note_text (Number words n) = joined (words.now ∷ number_text n ∷ [])
-note_text (Numbers words a between b) = joined (words.now ∷ number_text a ∷ between.now ∷ number_text b ∷ [])
+note_text (Numbers words a between b) =
+    joined (words.now ∷ number_text a ∷ between.now ∷ number_text b ∷ [])
 note_text (Field words field n) = joined (words.now ∷ field.now ∷ space ∷ number_text n ∷ [])
 note_text (Range words field at value least most) =
-    joined (words.now ∷ field.now ∷ codes " at " ∷ number_text at ∷ codes ": " ∷ number_text value ∷ codes " not in " ∷ number_text least ∷ codes " to " ∷ number_text most ∷ [])
+    joined
+    (words.now ∷ field.now ∷ codes " at " ∷ number_text at ∷ codes ": " ∷ number_text value
+    ∷ codes " not in " ∷ number_text least ∷ codes " to " ∷ number_text most ∷ [])
 note_text (Cause words cause) = words.now ++ cause_text cause

@@ -49,11 +49,14 @@ with_four word a b c d = with_three word a b c ++ space ++ number_text d
 unfoldable pub cause_text : Cause → List ℕ
 cause_text (Repeat process) = with_one (codes "repeat") process.0
 cause_text (Same process) = with_one (codes "same") process.0
-cause_text (Capacity machine resource used cap) = with_four (codes "capacity") machine.0 resource.0 used cap
-cause_text (Transient machine resource used cap) = with_four (codes "transient") machine.0 resource.0 used cap
+cause_text (Capacity machine resource used cap) =
+    with_four (codes "capacity") machine.0 resource.0 used cap
+cause_text (Transient machine resource used cap) =
+    with_four (codes "transient") machine.0 resource.0 used cap
 cause_text (Conflict service machine) = with_two (codes "conflict") service.0 machine.0
 cause_text (Spread service has wants) = with_three (codes "spread") service.0 has wants
-cause_text (Dependency service needs neighbourhood) = with_three (codes "dependency") service.0 needs.0 neighbourhood
+cause_text (Dependency service needs neighbourhood) =
+    with_three (codes "dependency") service.0 needs.0 neighbourhood
 cause_text (Rise allowed before after) = with_three (codes "rise") before after allowed
 cause_text (Closed process machine) = with_two (codes "closed") process.0 machine.0
 

@@ -8,11 +8,13 @@ use Rattle.ra_token.specs.Runs.{digit_at, is_blank, worth, run_start}
 
 -- a digit with which its run is worth too much
 unfoldable pub digit_fault : List ℕ → ℕ → Option TokenFault
-digit_fault bytes k = if nat_lt LARGEST (worth bytes (suc k)) then Some (TooLarge (run_start bytes k)) else None
+digit_fault bytes k =
+    if nat_lt LARGEST (worth bytes (suc k)) then Some (TooLarge (run_start bytes k)) else None
 
 -- a byte that is no digit, where it is no blank either
 unfoldable pub other_fault : List ℕ → ℕ → Option TokenFault
-other_fault bytes k = if is_blank (slice_index bytes k) then None else Some (BadByte k (slice_index bytes k))
+other_fault bytes k =
+    if is_blank (slice_index bytes k) then None else Some (BadByte k (slice_index bytes k))
 
 -- the fault that shows at a place of the bytes
 unfoldable pub fault_at : List ℕ → ℕ → Option TokenFault

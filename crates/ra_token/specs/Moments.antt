@@ -33,7 +33,8 @@ pub record Went (means : List ℕ → ℕ → ℕ → Type 0) (a b : Here) : Typ
   pub told : IfSome (a.held a.tokens.name) (λ bytes. means bytes a.tokens.place b.tokens.place)
 
 -- a refusal: a failed fetch was counted, and this holds of the bytes and the place before, where the bytes are told
-pub record Refuses {E : Type 0} (read : E) (means : List ℕ → ℕ → Type 0) (a b : Here) (fault : E) : Type 0 where
+pub record Refuses {E : Type 0} (read : E) (means : List ℕ → ℕ → Type 0) (a b : Here) (fault : E) :
+    Type 0 where
   pub goes : Goes a b
   pub rose : fault ≡ read → Rose (a.faults a.tokens.name) (b.faults a.tokens.name)
   pub told : IfSome (a.held a.tokens.name) (λ bytes. means bytes a.tokens.place)
@@ -44,7 +45,8 @@ pub record HasNext (bytes : List ℕ) (before after : ℕ) (next : Option Token)
   pub one_more : OnSome next (tokens_before bytes after ≡ tokens_before bytes before + 1)
 
 -- a fault of the tokens, under another name
-pub record HasFault {E : Type 0} (renamed : TokenFault → E) (bytes : List ℕ) (place : ℕ) (fault : E) : Type 0 where
+pub record HasFault {E : Type 0} (renamed : TokenFault → E) (bytes : List ℕ) (place : ℕ) (fault : E)
+    : Type 0 where
   pub token_fault : TokenFault
   pub same : fault ≡ renamed token_fault
   pub answer : IsAnswer bytes (tokens_before bytes place) (Err token_fault)

@@ -13,7 +13,8 @@ is_blank byte = byte == 32 || byte == 9 || byte == 13 || byte == 10
 -- what the digits are worth that stand directly before a place
 unfoldable pub worth : List ℕ → ℕ → ℕ
 worth bytes zero = 0
-worth bytes (suc k) = if digit_at bytes k then worth bytes k * 10 + (slice_index bytes k - 48) else 0
+worth bytes (suc k) =
+    if digit_at bytes k then worth bytes k * 10 + (slice_index bytes k - 48) else 0
 
 -- where the digits begin that stand directly before a place
 unfoldable pub run_start : List ℕ → ℕ → ℕ

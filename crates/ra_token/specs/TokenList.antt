@@ -27,4 +27,5 @@ GaveAll bytes n = n ≡ length (tokens bytes)
 abbrev pub IsAnswer : List ℕ → ℕ → Result (Option Token) TokenFault → Type 0
 IsAnswer bytes n (Ok (Some token)) = slice_get (tokens bytes) n ≡ Some token
 IsAnswer bytes n (Ok None) = GaveAll bytes n × (first_fault bytes ≡ None)
-IsAnswer bytes n (Err fault) = (fault ≡ ReadFault) ⊎ (GaveAll bytes n × (first_fault bytes ≡ Some fault))
+IsAnswer bytes n (Err fault) =
+    (fault ≡ ReadFault) ⊎ (GaveAll bytes n × (first_fault bytes ≡ Some fault))

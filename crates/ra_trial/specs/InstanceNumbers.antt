@@ -22,7 +22,8 @@ pub record HasNumbers (g : ℕ → ℕ) (i : Tables) : Type 0 where
   pub spread : (s : ℕ) → s < 250 → model.spread_of i s ≡ spread_of g s
   -- each fifth service depends on one other, the service 25 numbers on
   pub dependencies : (s : ℕ) → s < 250 → model.dependency_count i s ≡ (if s % 5 == 0 then 1 else 0)
-  pub need : (s k : ℕ) → s < 250 → k < model.dependency_count i s → model.need_of i s k ≡ (s + 25) % 250
+  pub need : (s k : ℕ) → s < 250 → k < model.dependency_count i s
+      → model.need_of i s k ≡ (s + 25) % 250
   -- four processes have one service
   pub service : (p : ℕ) → p < 1000 → model.service_of i p ≡ p / 4
   pub requirement : (p r : ℕ) → p < 1000 → r < 4 → model.requirement_of i p r ≡ requirement_of g p r

@@ -37,18 +37,24 @@ unfoldable pub trial_need : ℕ → Service
 trial_need k = record { 0 = (5 * k + 25) % 250 }
 
 unfoldable pub trial_services : (ℕ → ℕ) → ServiceLists
-trial_services g = record { rows = listed 250 (trial_service g); dependencies = listed 50 trial_need }
+trial_services g =
+    record { rows = listed 250 (trial_service g); dependencies = listed 50 trial_need }
 
 -- a process: its service, of four processes, and its move cost
 unfoldable pub trial_process : (ℕ → ℕ) → ℕ → ProcessNumbers
 trial_process g p = record { service = record { 0 = p / 4 }; move_cost = process_cost_of g p }
 
 unfoldable pub trial_processes : (ℕ → ℕ) → ProcessLists
-trial_processes g = record { rows = listed 1000 (trial_process g); requirements = table_of 1000 4 (requirement_of g) }
+trial_processes g =
+    record {
+      rows = listed 1000 (trial_process g);
+      requirements = table_of 1000 4 (requirement_of g);
+    }
 
 -- the one balance objective: resources 0 and 1, target 2, weight 10
 unfoldable pub trial_balance : BalanceNumbers
-trial_balance = record { first = record { 0 = 0 }; second = record { 0 = 1 }; target = 2; weight = 10 }
+trial_balance =
+    record { first = record { 0 = 0 }; second = record { 0 = 1 }; target = 2; weight = 10 }
 
 -- all lists of the trial of words g
 unfoldable pub trial_lists : (ℕ → ℕ) → Lists

@@ -28,7 +28,9 @@ process_text i p = line_text (process_numbers i p)
 
 -- a balance objective: its two resources and its target, and its weight on the next line
 unfoldable pub balance_text : Tables → ℕ → List ℕ
-balance_text i b = line_text (first_of i b ∷ second_of i b ∷ target_of i b ∷ []) ++ line_text (balance_weight_of i b ∷ [])
+balance_text i b =
+    line_text (first_of i b ∷ second_of i b ∷ target_of i b ∷ [])
+    ++ line_text (balance_weight_of i b ∷ [])
 
 -- the weights of moves
 unfoldable pub weights_text : Tables → List ℕ

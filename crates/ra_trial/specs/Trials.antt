@@ -19,7 +19,8 @@ machine_line g m = machine_front g m ++ listed 100 (move_cost_of m)
 
 -- a service: its spread, and each fifth one depends on the service 25 numbers on
 unfoldable pub service_line : (ℕ → ℕ) → ℕ → List ℕ
-service_line g s = if s % 5 == 0 then spread_of g s ∷ 1 ∷ (s + 25) % 250 ∷ [] else spread_of g s ∷ 0 ∷ []
+service_line g s =
+    if s % 5 == 0 then spread_of g s ∷ 1 ∷ (s + 25) % 250 ∷ [] else spread_of g s ∷ 0 ∷ []
 
 -- a process: its service, of four processes, its requirements and its move cost
 unfoldable pub process_line : (ℕ → ℕ) → ℕ → List ℕ

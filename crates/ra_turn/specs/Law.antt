@@ -25,7 +25,8 @@ abbrev pub left_of : {N O : Type 0} → Sight N O → ℕ
 left_of v = v.left
 
 -- What the seat i knows of a number: its `seen` begins the history, and its notes are those of the history by the number
-pub record Fits {N : Type 0} (author : N → ℕ) (history : List N) (given : ℕ) (owner : ℕ → ℕ) (i : ℕ) (p : Part N) : Type 0 where
+pub record Fits {N : Type 0} (author : N → ℕ) (history : List N) (given : ℕ) (owner : ℕ → ℕ) (i : ℕ)
+    (p : Part N) : Type 0 where
   pub below : p.number < given
   pub owned : owner p.number ≡ i
   pub seen : IsPrefix p.seen history
@@ -48,7 +49,8 @@ pub record IsMakers {N O : Type 0} (passes turns given i t : ℕ) (v : Sight N O
   pub left : v.left + given * t ≡ passes * t
 
 -- What the seat i knows, where its view is v
-pub record Knows {V N O : Type 0} (author : N → ℕ) (passes turns : ℕ) (o : O) (c : Scene N) (homes : List (maybe.Option (Option V))) (i : ℕ) (v : Sight N O) : Type 0 where
+pub record Knows {V N O : Type 0} (author : N → ℕ) (passes turns : ℕ) (o : O) (c : Scene N)
+    (homes : List (maybe.Option (Option V))) (i : ℕ) (v : Sight N O) : Type 0 where
   -- where it is the maker's seat
   pub maker : (t : ℕ) → v.stage ≡ Maker t → IsMakers passes turns c.given i t v
   pub opened : IsLive v.stage → v.opened ≡ Some o
@@ -60,39 +62,50 @@ pub record Knows {V N O : Type 0} (author : N → ℕ) (passes turns : ℕ) (o :
   pub away : HasSlot v.stage → homes ≡ none ∷ []
 
 -- the slot has a value that stands for the history, and there are at most as many notes as turns that have ended
-pub record AtHome {V N O : Type 0} (opening : V → O) (notes : V → List N) (o : O) (history : List N) (serving : ℕ) (homes : List (maybe.Option (Option V))) (x : V) : Type 0 where
+pub record AtHome {V N O : Type 0} (opening : V → O) (notes : V → List N) (o : O) (history : List N)
+    (serving : ℕ) (homes : List (maybe.Option (Option V))) (x : V) : Type 0 where
   pub here : homes ≡ some (Some x) ∷ []
   pub same : notes x ≡ history
   pub opened : opening x ≡ o
   pub few : length history ≤ serving
 
 -- the slot is out with the seat j, whose ticket is served. It may have counted one note more
-pub record OutWith {V N O : Type 0} (history : List N) (serving : ℕ) (homes : List (maybe.Option (Option V))) (views : List (Sight N O)) (j : ℕ) (v : Sight N O) : Type 0 where
+pub record OutWith {V N O : Type 0} (history : List N) (serving : ℕ)
+    (homes : List (maybe.Option (Option V))) (views : List (Sight N O)) (j : ℕ) (v : Sight N O) :
+    Type 0 where
   pub out : homes ≡ none ∷ []
   pub seat : get_elem? views j ≡ some v
   pub has : HasSlot v.stage
   pub few : length history ≤ serving + counted_by v.stage
 
-module _ {V N O : Type 0} (opening : V → O) (notes : V → List N) (author : N → ℕ) (passes turns : ℕ) (o : O) where
+module _ {V N O : Type 0} (opening : V → O) (notes : V → List N) (author : N → ℕ) (passes turns : ℕ)
+    (o : O) where
   abbrev pub Slot : List N → ℕ → List (maybe.Option (Option V)) → List (Sight N O) → Type 0
-  Slot history serving homes views = ((x : V) × AtHome opening notes o history serving homes x) ⊎ ((j : ℕ) × (v : Sight N O) × OutWith history serving homes views j v)
+  Slot history serving homes views =
+      ((x : V) × AtHome opening notes o history serving homes x)
+      ⊎ ((j : ℕ) × (v : Sight N O) × OutWith history serving homes views j v)
 
   -- The words stand for the scene, and behind them stand the guards' words
-  pub record Kept (c : Scene N) (guard_words : List ℕ) (s : State (Option V) (Sight N O)) : Type 0 where
-    pub words : s.words ≡ c.ticket ∷ c.serving ∷ length c.history ∷ guard_words
-    pub order : c.serving ≤ c.ticket
-    pub turns_left : c.ticket + sum_by left_of s.views ≤ passes * turns
-    -- each ticket from the serving word to the ticket word less one stands in the view of its seat, so no ticket is lost before the next one is served
-    pub waits : (t : ℕ) → c.serving ≤ t → t < c.ticket → (v : Sight N O) × AtTicket t v × (get_elem? s.views (c.queue t) ≡ some v)
-    pub numbers : c.given ≤ passes
-    -- each number that was given stands in the view of its seat
-    pub given_out : (n : ℕ) → n < c.given → (v : Sight N O) × HasNumber n v × (get_elem? s.views (c.owner n) ≡ some v)
-    -- no note by a number that wasn't given
-    pub unheard : (n : ℕ) → c.given ≤ n → by author n c.history ≡ []
-    pub slot : Slot c.history c.serving s.homes s.views
-    pub each : (i : ℕ) (v : Sight N O) → get_elem? s.views i ≡ some v → Knows author passes turns o c s.homes i v
+  pub record Kept (c : Scene N) (guard_words : List ℕ) (s : State (Option V) (Sight N O)) : Type 0
+    where
+      pub words : s.words ≡ c.ticket ∷ c.serving ∷ length c.history ∷ guard_words
+      pub order : c.serving ≤ c.ticket
+      pub turns_left : c.ticket + sum_by left_of s.views ≤ passes * turns
+      -- each ticket from the serving word to the ticket word less one stands in the view of its seat, so no ticket is lost before the next one is served
+      pub waits : (t : ℕ) → c.serving ≤ t → t < c.ticket
+          → (v : Sight N O) × AtTicket t v × (get_elem? s.views (c.queue t) ≡ some v)
+      pub numbers : c.given ≤ passes
+      -- each number that was given stands in the view of its seat
+      pub given_out : (n : ℕ) → n < c.given
+          → (v : Sight N O) × HasNumber n v × (get_elem? s.views (c.owner n) ≡ some v)
+      -- no note by a number that wasn't given
+      pub unheard : (n : ℕ) → c.given ≤ n → by author n c.history ≡ []
+      pub slot : Slot c.history c.serving s.homes s.views
+      pub each : (i : ℕ) (v : Sight N O) → get_elem? s.views i ≡ some v
+          → Knows author passes turns o c s.homes i v
 
-module _ {V N O : Type 0} (opening : V → O) (notes : V → List N) (author : N → ℕ) (touches : O → N → ℕ → Bool) (passes turns guards : ℕ) (o : O) where
+module _ {V N O : Type 0} (opening : V → O) (notes : V → List N) (author : N → ℕ)
+    (touches : O → N → ℕ → Bool) (passes turns guards : ℕ) (o : O) where
   -- The rule: there is one history, and the guards' words stand for it
   pub record Ruled (s : State (Option V) (Sight N O)) : Type 0 where
     pub scene : Scene N
@@ -105,4 +118,14 @@ nothing n = record { number = n; seen = []; mine = [] }
 
 -- the view of the maker's seat at the start
 abbrev pub maker : {N O : Type 0} → ℕ → ℕ → O → Sight N O
-maker passes turns o = record { opened = Some o; stage = Maker turns; at = 0; left = passes * turns; own = nothing 0; joined = []; grips = []; news = [] }
+maker passes turns o =
+    record {
+      opened = Some o;
+      stage = Maker turns;
+      at = 0;
+      left = passes * turns;
+      own = nothing 0;
+      joined = [];
+      grips = [];
+      news = [];
+    }

@@ -9,7 +9,8 @@ use Rattle.ra_turn.specs.Passes.{seen_by, made_by, HoldsSame, IsGripped, HasVers
 
 -- a guard has one version in a history
 abbrev pub VersionIsOne : {N : Type 0} → (N → Bool) → Type 0
-VersionIsOne {N} touched = (xs : List N) (v w : ℕ) → IsVersion touched xs v → IsVersion touched xs w → v ≡ w
+VersionIsOne {N} touched =
+    (xs : List N) (v w : ℕ) → IsVersion touched xs v → IsVersion touched xs w → v ≡ w
 
 module _ {V N O : Type 0} {g : Ghosts V N O} where
   -- the pass p has become q by a take
@@ -24,4 +25,6 @@ module _ {V N O : Type 0} {g : Ghosts V N O} where
 
 -- at the take after Held, the version told is the guard's in the whole history as it is then
 abbrev pub VersionAtTake : {V N O : Type 0} → Ghosts V N O → Turn V N O → Type 0
-VersionAtTake {V} {N} {O} g t = (p q r : Pass V N O g) (guard asked at : ℕ) → IsGripped t p q guard asked at → IsTake t q r → HasVersion t r guard at
+VersionAtTake {V} {N} {O} g t =
+    (p q r : Pass V N O g) (guard asked at : ℕ) → IsGripped t p q guard asked at → IsTake t q r
+    → HasVersion t r guard at

@@ -27,7 +27,12 @@ module _ {N O : Type 0} (author : N → ℕ) (touches : O → N → ℕ → Bool
   pub record Locks (history : List N) (words : List ℕ) (views : List (Sight N O)) : Type 0 where
     pub latch : ℕ → Latch
     pub count : length words ≡ guards
-    pub shows : (guard : ℕ) → guard < guards → Latched (touching touches o guard) author history (slice_index words guard) (latch guard)
-    pub grips : (i : ℕ) (v : Sight N O) → get_elem? views i ≡ some v → All (λ k. (k.guard < guards) × (latch k.guard ≡ taken i v.own.number k.version)) v.grips
-    pub holder : (guard seat number version : ℕ) → guard < guards → latch guard ≡ taken seat number version → (v : Sight N O) × HasGrip guard version v × (get_elem? views seat ≡ some v)
-    pub news : (i : ℕ) (v : Sight N O) → get_elem? views i ≡ some v → All (IsNews touches o history) v.news
+    pub shows : (guard : ℕ) → guard < guards
+        → Latched (touching touches o guard) author history (slice_index words guard) (latch guard)
+    pub grips : (i : ℕ) (v : Sight N O) → get_elem? views i ≡ some v
+        → All (λ k. (k.guard < guards) × (latch k.guard ≡ taken i v.own.number k.version)) v.grips
+    pub holder : (guard seat number version : ℕ) → guard < guards
+        → latch guard ≡ taken seat number version
+        → (v : Sight N O) × HasGrip guard version v × (get_elem? views seat ≡ some v)
+    pub news : (i : ℕ) (v : Sight N O) → get_elem? views i ≡ some v
+        → All (IsNews touches o history) v.news

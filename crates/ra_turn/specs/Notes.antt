@@ -36,7 +36,8 @@ module _ {N : Type 0} (touched : N → Bool) where
 
   -- each note from the place v on that touches the guard is by the number
   abbrev pub OnlyBy : (N → ℕ) → ℕ → List N → ℕ → Type 0
-  OnlyBy author number xs v = (k : ℕ) (x : N) → v ≤ k → slice_get xs k ≡ Some x → touched x ≡ true → author x ≡ number
+  OnlyBy author number xs v =
+      (k : ℕ) (x : N) → v ≤ k → slice_get xs k ≡ Some x → touched x ≡ true → author x ≡ number
 
   -- the guard's version: one more than the place of the last note that touches it, or 0
   pub record IsVersion (xs : List N) (v : ℕ) : Type 0 where
@@ -51,8 +52,10 @@ module _ {N O : Type 0} (touches : O → N → ℕ → Bool) (o : O) where
 
   -- each guard that the note touches is held
   abbrev pub HoldsAll : List Grip → N → Type 0
-  HoldsAll grips n = (guard : ℕ) → touches o n guard ≡ true → (v : ℕ) × Contains grips (grip guard v)
+  HoldsAll grips n =
+      (guard : ℕ) → touches o n guard ≡ true → (v : ℕ) × Contains grips (grip guard v)
 
   -- while a pass of the number holds these guards, no note of another touches one of them from the version on at which it was taken
   abbrev pub ShutBy : (N → ℕ) → ℕ → List N → List Grip → Type 0
-  ShutBy author number xs grips = All (λ k. OnlyBy (touching touches o k.guard) author number xs k.version) grips
+  ShutBy author number xs grips =
+      All (λ k. OnlyBy (touching touches o k.guard) author number xs k.version) grips

@@ -34,8 +34,11 @@ abbrev pub guards_of : {V N O : Type 0} → Turn V N O → ℕ
 guards_of t = t.table.shared.key.guards
 
 -- the seat from which n passes were cut
-abbrev pub IsMaker : {V N O : Type 0} → (V → O) → Turn V N O → ℕ → ℕ → Seat (Option V) (Sight N O) → Type 0
-IsMaker opening t turns n s = (s.table_id ≡ t.table.shared.table_id) × ((view s.me).stage ≡ Maker turns) × ((view s.me).at ≡ n) × ((view s.me).opened ≡ Some (opening_of opening t))
+abbrev pub IsMaker : {V N O : Type 0} → (V → O) → Turn V N O → ℕ → ℕ → Seat (Option V) (Sight N O)
+    → Type 0
+IsMaker opening t turns n s =
+    (s.table_id ≡ t.table.shared.table_id) × ((view s.me).stage ≡ Maker turns)
+    × ((view s.me).at ≡ n) × ((view s.me).opened ≡ Some (opening_of opening t))
 
 module _ {V N O : Type 0} {g : Ghosts V N O} where
   -- the notes that the pass has seen
@@ -56,7 +59,9 @@ module _ {V N O : Type 0} {g : Ghosts V N O} where
 
   -- the pass is one of this lock
   abbrev pub IsPassOf : Turn V N O → Pass V N O g → Type 0
-  IsPassOf t p = (p.seat.table_id ≡ t.table.shared.table_id) × ((view p.seat.me).opened ≡ Some (opening_of g.opening t))
+  IsPassOf t p =
+      (p.seat.table_id ≡ t.table.shared.table_id)
+      × ((view p.seat.me).opened ≡ Some (opening_of g.opening t))
 
   -- the pass has no turn
   abbrev pub IsIdle : Pass V N O g → Type 0
@@ -82,7 +87,10 @@ module _ {V N O : Type 0} {g : Ghosts V N O} where
 
   -- The notes xs are those that the pass has seen, or these and one more by its number, of which it holds each guard that it touches
   abbrev pub MayFollow : O → Pass V N O g → List N → Type 0
-  MayFollow o p xs = (xs ≡ seen_by p) ⊎ ((n : N) × (xs ≡ seen_by p ++ n ∷ []) × (g.author n ≡ p.number) × HoldsAll g.touches o (grips_of p) n)
+  MayFollow o p xs =
+      (xs ≡ seen_by p)
+      ⊎ ((n : N) × (xs ≡ seen_by p ++ n ∷ []) × (g.author n ≡ p.number)
+      × HoldsAll g.touches o (grips_of p) n)
 
   -- Of the guards that the pass holds, no note of another pass that it has seen touches one, from the version on at which it was taken
   abbrev pub Shut : Turn V N O → Pass V N O g → Type 0
@@ -94,11 +102,14 @@ module _ {V N O : Type 0} {g : Ghosts V N O} where
 
   -- what the pass was told that it will see stands in what it has seen
   abbrev pub SeesNews : Turn V N O → Pass V N O g → Type 0
-  SeesNews t p = (guard version : ℕ) → WillSee p guard version → IsNews g.touches (opening_of g.opening t) (seen_by p) (grip guard version)
+  SeesNews t p =
+      (guard version : ℕ) → WillSee p guard version
+      → IsNews g.touches (opening_of g.opening t) (seen_by p) (grip guard version)
 
   -- the guard has this version in what the pass has seen
   abbrev pub HasVersion : Turn V N O → Pass V N O g → ℕ → ℕ → Type 0
-  HasVersion t p guard version = IsVersion (touching g.touches (opening_of g.opening t) guard) (seen_by p) version
+  HasVersion t p guard version =
+      IsVersion (touching g.touches (opening_of g.opening t) guard) (seen_by p) version
 
   -- it holds the same guards, and was told the same
   abbrev pub HoldsSame : Pass V N O g → Pass V N O g → Type 0
@@ -110,7 +121,9 @@ module _ {V N O : Type 0} {g : Ghosts V N O} where
 
   -- the same pass of the same lock
   abbrev pub IsSamePass : Pass V N O g → Pass V N O g → Type 0
-  IsSamePass p q = (q.seat.table_id ≡ p.seat.table_id) × (q.seat.id ≡ p.seat.id) × (q.number ≡ p.number) × ((view q.seat.me).opened ≡ (view p.seat.me).opened)
+  IsSamePass p q =
+      (q.seat.table_id ≡ p.seat.table_id) × (q.seat.id ≡ p.seat.id) × (q.number ≡ p.number)
+      × ((view q.seat.me).opened ≡ (view p.seat.me).opened)
 
   -- as `Turn::close` wants the pass n
   pub record IsDone (t : Turn V N O) (n : ℕ) (p : Pass V N O g) : Type 0 where
@@ -124,11 +137,16 @@ module _ {V N O : Type 0} {g : Ghosts V N O} where
   IsPartOf xs p = IsPrefix (seen_by p) xs × (by g.author p.number xs ≡ made_by p)
 
   -- the seat of a pass, to which the passes ps were joined
-  pub record IsJoined (t : Turn V N O) (ps : List (Pass V N O g)) (s : Seat (Option V) (Sight N O)) : Type 0 where
+  pub record IsJoined (t : Turn V N O) (ps : List (Pass V N O g)) (s : Seat (Option V) (Sight N O))
+      : Type 0 where
     pub table : s.table_id ≡ t.table.shared.table_id
     pub idle : (view s.me).stage ≡ Idle
     pub empty : (view s.me).grips ≡ []
-    pub parts : All (λ (p : Pass V N O g). Contains ((view s.me).own ∷ (view s.me).joined) (view p.seat.me).own) ps
+    pub parts :
+        All
+        (λ (p : Pass V N O g).
+        Contains ((view s.me).own ∷ (view s.me).joined) (view p.seat.me).own)
+        ps
 
   -- Where `Turn::hold` answers Held: the pass holds the guard besides, at a version of at most the one asked for. It is the guard's version in what the pass
   -- has seen, where that reaches so far, and the next take shows the note before it

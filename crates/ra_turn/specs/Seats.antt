@@ -8,7 +8,9 @@ use Rattle.ra_turn.specs.declared.sight.Sight.{Sight}
 
 -- three words and one for each guard, one slot, and turns that no word overflows by
 abbrev pub IsSized : {V : Type 0} → TableId → Key V → Type 0
-IsSized z key = (z.words ≡ 3 + key.guards) × (z.slots ≡ 1) × (key.passes * key.turns < 2 ^ 62) × (1 ≤ key.passes)
+IsSized z key =
+    (z.words ≡ 3 + key.guards) × (z.slots ≡ 1) × (key.passes * key.turns < 2 ^ 62)
+    × (1 ≤ key.passes)
 
 -- it is still the same seat of the same table
 abbrev pub IsSameSeat : {S V : Type 0} → Seat S V → Seat S V → Type 0

@@ -30,7 +30,11 @@ module _ {N O : Type 0} where
 
   -- the pass has seen these notes
   abbrev pub with_seen : (N → ℕ) → Sight N O → Stage → List N → Sight N O
-  with_seen author v stage xs = record v { stage = stage; own = record { number = v.own.number; seen = xs; mine = by author v.own.number xs } }
+  with_seen author v stage xs =
+      record v {
+        stage = stage;
+        own = record { number = v.own.number; seen = xs; mine = by author v.own.number xs };
+      }
 
   -- a ticket of its own, and a turn less
   abbrev pub with_ticket : Sight N O → ℕ → Sight N O
@@ -44,11 +48,14 @@ module _ {N O : Type 0} where
 
   -- of the guards that the view holds, no other's note that it has seen touches one
   abbrev pub IsShut : (N → ℕ) → (O → N → ℕ → Bool) → Sight N O → Type 0
-  IsShut author touches v = (o : O) → v.opened ≡ Some o → ShutBy touches o author v.own.number v.own.seen v.grips
+  IsShut author touches v =
+      (o : O) → v.opened ≡ Some o → ShutBy touches o author v.own.number v.own.seen v.grips
 
   -- a version within what the view has seen is the guard's version there
   abbrev pub IsCurrent : (O → N → ℕ → Bool) → Sight N O → ℕ → ℕ → Type 0
-  IsCurrent touches v guard version = (o : O) → v.opened ≡ Some o → version ≤ length v.own.seen → IsVersion (touching touches o guard) v.own.seen version
+  IsCurrent touches v guard version =
+      (o : O) → v.opened ≡ Some o → version ≤ length v.own.seen
+      → IsVersion (touching touches o guard) v.own.seen version
 
   -- what the view was told of stands in what it has seen
   abbrev pub IsTold : (O → N → ℕ → Bool) → Sight N O → Type 0
@@ -59,51 +66,89 @@ module _ {N O : Type 0} where
   cut_left v = record v { at = v.at + 1; left = v.left - turns_of v.stage }
 
   abbrev pub cut_right : Sight N O → Sight N O
-  cut_right v = record { opened = v.opened; stage = Idle; at = 0; left = turns_of v.stage; own = nothing v.at; joined = []; grips = []; news = [] }
+  cut_right v =
+      record {
+        opened = v.opened;
+        stage = Idle;
+        at = 0;
+        left = turns_of v.stage;
+        own = nothing v.at;
+        joined = [];
+        grips = [];
+        news = [];
+      }
 
   -- two passes as one, and what the second is left with
   abbrev pub joined : Sight N O → Sight N O → Sight N O
   joined v w = record v { left = v.left + w.left; joined = v.joined ++ w.own ∷ w.joined }
 
   abbrev pub spent : Sight N O
-  spent = record { opened = None; stage = Spent; at = 0; left = 0; own = nothing 0; joined = []; grips = []; news = [] }
+  spent =
+      record {
+        opened = None;
+        stage = Spent;
+        at = 0;
+        left = 0;
+        own = nothing 0;
+        joined = [];
+        grips = [];
+        news = [];
+      }
 
 module _ {V N O : Type 0} where
   -- the seat is told how far the turns are, and nothing changes
-  abbrev pub peeked : Step (Option V) → Me (Option V) (Sight N O) → ℕ → Me (Option V) (Sight N O) → Type 0
+  abbrev pub peeked : Step (Option V) → Me (Option V) (Sight N O) → ℕ → Me (Option V) (Sight N O)
+      → Type 0
   peeked s m n m' = (m' ≡ m) × (n < 2 ^ 62)
 
   -- a ticket is drawn exactly where the word was as expected, and is the word that was found
-  abbrev pub drawn : Step (Option V) → Me (Option V) (Sight N O) → ℕ → Me (Option V) (Sight N O) → Type 0
+  abbrev pub drawn : Step (Option V) → Me (Option V) (Sight N O) → ℕ → Me (Option V) (Sight N O)
+      → Type 0
   drawn s m n m' = MatchBool (n == s.first) (m' ≡ (with_ticket (view m) n, slots m)) (m' ≡ m)
 
   -- it is its turn exactly where the word is its ticket
-  abbrev pub looked : Step (Option V) → Me (Option V) (Sight N O) → ℕ → Me (Option V) (Sight N O) → Type 0
-  looked s m n m' = MatchBool (n == (view m).at) (m' ≡ (with_stage (view m) Called, slots m)) (m' ≡ m)
+  abbrev pub looked : Step (Option V) → Me (Option V) (Sight N O) → ℕ → Me (Option V) (Sight N O)
+      → Type 0
+  looked s m n m' =
+      MatchBool (n == (view m).at) (m' ≡ (with_stage (view m) Called, slots m)) (m' ≡ m)
 
-  abbrev pub served : (N → ℕ) → (O → N → ℕ → Bool) → Step (Option V) → Me (Option V) (Sight N O) → ℕ → Me (Option V) (Sight N O) → Type 0
-  served author touches s m n m' = (m' ≡ (with_stage (view m) Idle, [])) × IsShut author touches (view m)
+  abbrev pub served : (N → ℕ) → (O → N → ℕ → Bool) → Step (Option V) → Me (Option V) (Sight N O) → ℕ
+      → Me (Option V) (Sight N O) → Type 0
+  served author touches s m n m' =
+      (m' ≡ (with_stage (view m) Idle, [])) × IsShut author touches (view m)
 
   -- an even word is twice the version of a free guard
-  abbrev pub glanced : Step (Option V) → Me (Option V) (Sight N O) → ℕ → Me (Option V) (Sight N O) → Type 0
-  glanced s m n m' = (guard : ℕ) → s.word ≡ 3 + guard → m' ≡ (with_news (view m) (heard guard n (view m).news), slots m)
+  abbrev pub glanced : Step (Option V) → Me (Option V) (Sight N O) → ℕ → Me (Option V) (Sight N O)
+      → Type 0
+  glanced s m n m' =
+      (guard : ℕ) → s.word ≡ 3 + guard
+      → m' ≡ (with_news (view m) (heard guard n (view m).news), slots m)
 
   -- the seat holds the guard at the version besides
-  abbrev pub Took : (N → ℕ) → (O → N → ℕ → Bool) → Me (Option V) (Sight N O) → Me (Option V) (Sight N O) → ℕ → ℕ → Type 0
-  Took author touches m m' guard v = (m' ≡ (with_grips (view m) ((view m).grips ++ grip guard v ∷ []), slots m)) × IsShut author touches (view m') × IsCurrent touches (view m') guard v
+  abbrev pub Took : (N → ℕ) → (O → N → ℕ → Bool) → Me (Option V) (Sight N O)
+      → Me (Option V) (Sight N O) → ℕ → ℕ → Type 0
+  Took author touches m m' guard v =
+      (m' ≡ (with_grips (view m) ((view m).grips ++ grip guard v ∷ []), slots m))
+      × IsShut author touches (view m') × IsCurrent touches (view m') guard v
 
   -- the guard is taken exactly where the word was as expected, which is twice its version
-  abbrev pub gripped : (N → ℕ) → (O → N → ℕ → Bool) → Step (Option V) → Me (Option V) (Sight N O) → ℕ → Me (Option V) (Sight N O) → Type 0
+  abbrev pub gripped : (N → ℕ) → (O → N → ℕ → Bool) → Step (Option V) → Me (Option V) (Sight N O)
+      → ℕ → Me (Option V) (Sight N O) → Type 0
   gripped author touches s m n m' = MatchBool (n == s.first)
       ((guard v : ℕ) → s.word ≡ 3 + guard → s.first ≡ 2 * v → Took author touches m m' guard v)
       (m' ≡ m)
 
   -- the seat holds the guard no more
-  abbrev pub Gave : (N → ℕ) → (O → N → ℕ → Bool) → Me (Option V) (Sight N O) → Me (Option V) (Sight N O) → ℕ → Type 0
-  Gave author touches m m' guard = (m' ≡ (with_grips (view m) (without guard (view m).grips), slots m)) × IsShut author touches (view m')
+  abbrev pub Gave : (N → ℕ) → (O → N → ℕ → Bool) → Me (Option V) (Sight N O)
+      → Me (Option V) (Sight N O) → ℕ → Type 0
+  Gave author touches m m' guard =
+      (m' ≡ (with_grips (view m) (without guard (view m).grips), slots m))
+      × IsShut author touches (view m')
 
-  abbrev pub released : (N → ℕ) → (O → N → ℕ → Bool) → Step (Option V) → Me (Option V) (Sight N O) → ℕ → Me (Option V) (Sight N O) → Type 0
-  released author touches s m n m' = (guard : ℕ) → s.word ≡ 3 + guard → Gave author touches m m' guard
+  abbrev pub released : (N → ℕ) → (O → N → ℕ → Bool) → Step (Option V) → Me (Option V) (Sight N O)
+      → ℕ → Me (Option V) (Sight N O) → Type 0
+  released author touches s m n m' =
+      (guard : ℕ) → s.word ≡ 3 + guard → Gave author touches m m' guard
 
 module _ {V N O : Type 0} (opening : V → O) (notes : V → List N) (author : N → ℕ) where
   -- the value in the slot: its opening, and its notes, which begin with those seen and have of the pass's own just those that it made
@@ -114,12 +159,22 @@ module _ {V N O : Type 0} (opening : V → O) (notes : V → List N) (author : N
     pub count : n ≡ length (notes x)
     pub small : n < 2 ^ 62
 
-module _ {V N O : Type 0} (opening : V → O) (notes : V → List N) (author : N → ℕ) (touches : O → N → ℕ → Bool) where
+module _ {V N O : Type 0} (opening : V → O) (notes : V → List N) (author : N → ℕ)
+    (touches : O → N → ℕ → Bool) where
   -- the history is that of the value in the slot, which the pass has then
-  abbrev pub saw : Step (Option V) → Me (Option V) (Sight N O) → ℕ → Me (Option V) (Sight N O) → Type 0
-  saw s m n m' = (x : V) × Shows opening notes author (view m) n x × (m' ≡ (with_seen author (view m) InTurn (notes x), (0, Some x) ∷ slots m)) × IsShut author touches (view m') × IsTold touches (view m')
+  abbrev pub saw : Step (Option V) → Me (Option V) (Sight N O) → ℕ → Me (Option V) (Sight N O)
+      → Type 0
+  saw s m n m' =
+      (x : V) × Shows opening notes author (view m) n x
+      × (m' ≡ (with_seen author (view m) InTurn (notes x), (0, Some x) ∷ slots m))
+      × IsShut author touches (view m') × IsTold touches (view m')
 
 module _ {V N O : Type 0} (notes : V → List N) (author : N → ℕ) where
   -- the announced value's notes are the history, and all notes that the pass had made were among those that it had seen
-  abbrev pub noted : Step (Option V) → Me (Option V) (Sight N O) → ℕ → Me (Option V) (Sight N O) → Type 0
-  noted s m n m' = (by author (view m).own.number (view m).own.seen ≡ (view m).own.mine) × ((x : V) → s.said ≡ some (Some x) → (m' ≡ (with_seen author (view m) Counted (notes x), slots m)) × (length (notes x) < 2 ^ 62))
+  abbrev pub noted : Step (Option V) → Me (Option V) (Sight N O) → ℕ → Me (Option V) (Sight N O)
+      → Type 0
+  noted s m n m' =
+      (by author (view m).own.number (view m).own.seen ≡ (view m).own.mine)
+      × ((x : V) → s.said ≡ some (Some x)
+      → (m' ≡ (with_seen author (view m) Counted (notes x), slots m))
+      × (length (notes x) < 2 ^ 62))

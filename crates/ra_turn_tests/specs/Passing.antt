@@ -20,7 +20,8 @@ module _ {V N O : Type 0} {g : Ghosts V N O} where
 
   -- a pass after one turn, in which it neither took nor gave back a guard
   abbrev pub HasTakenTurn : Turn V N O → Pass V N O g → Pass V N O g → Type 0
-  HasTakenTurn t p q = IsReady t q × (q.number ≡ p.number) × (q.left + 1 ≡ p.left) × (grips_of q ≡ grips_of p)
+  HasTakenTurn t p q =
+      IsReady t q × (q.number ≡ p.number) × (q.left + 1 ≡ p.left) × (grips_of q ≡ grips_of p)
 
   -- a pass after one turn, behind which it holds no guard
   abbrev pub HasLetGo : Turn V N O → Pass V N O g → Pass V N O g → Type 0

@@ -33,7 +33,9 @@ IsOpen c = NoneIsPast c.journal.lots.now (entries_in c) (core_in c)
 
 -- entry e may follow the entries of a checker
 abbrev pub MayFollow : Checker → Entry → Type 0
-MayFollow c e = Legal c.journal.inst.now.tables c.journal.a0.now.items c.journal.lots.now (entries_in c ++ e ∷ [])
+MayFollow c e =
+    Legal c.journal.inst.now.tables c.journal.a0.now.items c.journal.lots.now
+    (entries_in c ++ e ∷ [])
 
 -- a checker has taken in an entry that may follow, and can take in the next
 pub record HasTaken (before after : Checker) (e : Entry) : Type 0 where

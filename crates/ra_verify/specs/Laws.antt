@@ -10,8 +10,13 @@ use Rattle.ra_verify.specs.WrongLines.{IsFirstWrong, IsReport}
 
 -- bytes have one first wrong line, or none
 abbrev pub OneFirstWrong : Type 0
-OneFirstWrong = (i : Tables) (a0 : List Machine) (l : Lots) (bytes : List ℕ) (one other : Option ℕ) → IsFirstWrong i a0 l bytes one → IsFirstWrong i a0 l bytes other → one ≡ other
+OneFirstWrong =
+    (i : Tables) (a0 : List Machine) (l : Lots) (bytes : List ℕ) (one other : Option ℕ)
+    → IsFirstWrong i a0 l bytes one → IsFirstWrong i a0 l bytes other → one ≡ other
 
 -- and in such a report no line is wrong
 abbrev pub ReportHasNoneWrong : Type 0
-ReportHasNoneWrong = (i : Tables) (a0 : List Machine) (l : Lots) (bytes : List ℕ) (n : ℕ) → WellFormed i → Small i → IsAssignment i a0 → Feasible i a0 a0 → IsReport i a0 l bytes n → IsFirstWrong i a0 l bytes None
+ReportHasNoneWrong =
+    (i : Tables) (a0 : List Machine) (l : Lots) (bytes : List ℕ) (n : ℕ) → WellFormed i → Small i
+    → IsAssignment i a0 → Feasible i a0 a0 → IsReport i a0 l bytes n
+    → IsFirstWrong i a0 l bytes None

@@ -27,13 +27,16 @@ pub record IsHead (bytes : List ℕ) (place n : ℕ) (head : List ℕ) : Type 0 
   pub short : (k : ℕ) → k < 10 → over_long bytes k ≡ None
 
 -- the bytes up to a place are the head and the lines of the entries of a legal journal
-pub record AreRead (i : Tables) (a0 : List Machine) (l : Lots) (bytes : List ℕ) (place : ℕ) (h : List Entry) : Type 0 where
+pub record AreRead (i : Tables) (a0 : List Machine) (l : Lots) (bytes : List ℕ) (place : ℕ)
+    (h : List Entry) : Type 0 where
   pub given : AreLines bytes place (10 + length h)
   pub right : AreRight i a0 l bytes h
 
 -- behind the lines of a journal's entries, line n is there and is the line of no entry that may follow
-pub record IsWrongNext (i : Tables) (a0 : List Machine) (l : Lots) (bytes : List ℕ) (h : List Entry) (n : ℕ) : Type 0 where
+pub record IsWrongNext (i : Tables) (a0 : List Machine) (l : Lots) (bytes : List ℕ) (h : List Entry)
+    (n : ℕ) : Type 0 where
   pub right : AreRight i a0 l bytes h
   pub there : 10 + length h < length (lines_of bytes)
-  pub wrong : (e : Entry) → Legal i a0 l (h ++ e ∷ []) → line_at (10 + length h) bytes ≢ Some (entry_line (length h) e)
+  pub wrong : (e : Entry) → Legal i a0 l (h ++ e ∷ [])
+      → line_at (10 + length h) bytes ≢ Some (entry_line (length h) e)
   pub number : n ≡ 11 + length h

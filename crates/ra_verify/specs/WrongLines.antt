@@ -18,7 +18,8 @@ most_bytes n = if n == 8 then 600000 else 64
 -- the number of line n + 1, where it is there and over long
 unfoldable pub if_over_long : ℕ → Option (List ℕ) → Option ℕ
 if_over_long n None = None
-if_over_long n (Some line) = if nat_lt (most_bytes n) (length (body_of line)) then Some (n + 1) else None
+if_over_long n (Some line) =
+    if nat_lt (most_bytes n) (length (body_of line)) then Some (n + 1) else None
 
 unfoldable pub over_long : List ℕ → ℕ → Option ℕ
 over_long bytes n = if_over_long n (line_at n bytes)
@@ -28,43 +29,49 @@ unfoldable pub first_over_long : List ℕ → Option ℕ
 first_over_long bytes = first 10 (over_long bytes)
 
 -- the first entry lines are right: they are the lines of a legal journal, one for each entry
-pub record AreRight (i : Tables) (a0 : List Machine) (l : Lots) (bytes : List ℕ) (h : List Entry) : Type 0 where
+pub record AreRight (i : Tables) (a0 : List Machine) (l : Lots) (bytes : List ℕ) (h : List Entry) :
+    Type 0 where
   pub legal : Legal i a0 l h
   pub lines : (j : ℕ) → j < length h → line_at (10 + j) bytes ≡ Some (entry_line j (entry_at h j))
 
 -- they are all entry lines
-pub record AreAllRight (i : Tables) (a0 : List Machine) (l : Lots) (bytes : List ℕ) (h : List Entry) : Type 0 where
+pub record AreAllRight (i : Tables) (a0 : List Machine) (l : Lots) (bytes : List ℕ) (h : List Entry)
+    : Type 0 where
   pub right : AreRight i a0 l bytes h
   pub all : length (lines_of bytes) ≤ 10 + length h
 
 -- behind right entry lines, line n is there and isn't right: it is the line of no entry that may follow their entries
-pub record IsWrongEntry (i : Tables) (a0 : List Machine) (l : Lots) (bytes : List ℕ) (n : ℕ) : Type 0 where
+pub record IsWrongEntry (i : Tables) (a0 : List Machine) (l : Lots) (bytes : List ℕ) (n : ℕ) : Type
+    0 where
   pub short : first_over_long bytes ≡ None
   pub journal : List Entry
   pub right : AreRight i a0 l bytes journal
   pub there : 10 + length journal < length (lines_of bytes)
-  pub wrong : (e : Entry) → Legal i a0 l (journal ++ e ∷ []) → line_at (10 + length journal) bytes ≢ Some (entry_line (length journal) e)
+  pub wrong : (e : Entry) → Legal i a0 l (journal ++ e ∷ [])
+      → line_at (10 + length journal) bytes ≢ Some (entry_line (length journal) e)
   pub number : n ≡ 11 + length journal
 
 -- all entry lines are right, and their journal isn't whole: an entry is missing behind the last line
-pub record IsCutOff (i : Tables) (a0 : List Machine) (l : Lots) (bytes : List ℕ) (n : ℕ) : Type 0 where
-  pub short : first_over_long bytes ≡ None
-  pub journal : List Entry
-  pub right : AreAllRight i a0 l bytes journal
-  pub not_whole : Whole l journal → ⊥
-  pub number : n ≡ length (lines_of bytes) + 1
+pub record IsCutOff (i : Tables) (a0 : List Machine) (l : Lots) (bytes : List ℕ) (n : ℕ) : Type 0
+  where
+    pub short : first_over_long bytes ≡ None
+    pub journal : List Entry
+    pub right : AreAllRight i a0 l bytes journal
+    pub not_whole : Whole l journal → ⊥
+    pub number : n ≡ length (lines_of bytes) + 1
 
 -- all entry lines are right and their journal is whole, and line n is the first of lines 1 to 10 that isn't there or isn't
 -- that line of the journal's report
-pub record IsWrongHead (i : Tables) (a0 : List Machine) (l : Lots) (bytes : List ℕ) (n : ℕ) : Type 0 where
-  pub short : first_over_long bytes ≡ None
-  pub journal : List Entry
-  pub right : AreAllRight i a0 l bytes journal
-  pub whole : Whole l journal
-  pub place : ℕ
-  pub within : place < 10
-  pub unlike : FirstUnlike bytes (report_text i a0 l journal) place
-  pub number : n ≡ place + 1
+pub record IsWrongHead (i : Tables) (a0 : List Machine) (l : Lots) (bytes : List ℕ) (n : ℕ) : Type 0
+  where
+    pub short : first_over_long bytes ≡ None
+    pub journal : List Entry
+    pub right : AreAllRight i a0 l bytes journal
+    pub whole : Whole l journal
+    pub place : ℕ
+    pub within : place < 10
+    pub unlike : FirstUnlike bytes (report_text i a0 l journal) place
+    pub number : n ≡ place + 1
 
 -- no line is wrong: none is over long among the first ten, all entry lines are right, their journal is whole, and lines 1
 -- to 10 are those of its report
@@ -78,13 +85,16 @@ pub record NoneIsWrong (i : Tables) (a0 : List Machine) (l : Lots) (bytes : List
 -- the first wrong line of a report's bytes, by what applies first: an over long line among lines 1 to 10, an entry line
 -- that isn't right, the line behind the last where the journal isn't whole, a line of the head; and None else
 abbrev pub IsFirstWrong : Tables → List Machine → Lots → List ℕ → Option ℕ → Type 0
-IsFirstWrong i a0 l bytes (Some n) = (first_over_long bytes ≡ Some n) ⊎ (IsWrongEntry i a0 l bytes n ⊎ (IsCutOff i a0 l bytes n ⊎ IsWrongHead i a0 l bytes n))
+IsFirstWrong i a0 l bytes (Some n) =
+    (first_over_long bytes ≡ Some n)
+    ⊎ (IsWrongEntry i a0 l bytes n ⊎ (IsCutOff i a0 l bytes n ⊎ IsWrongHead i a0 l bytes n))
 IsFirstWrong i a0 l bytes None = NoneIsWrong i a0 l bytes
 
 -- bytes are the report of a journal of n entries that is legal and whole
-pub record IsReport (i : Tables) (a0 : List Machine) (l : Lots) (bytes : List ℕ) (n : ℕ) : Type 0 where
-  pub journal : List Entry
-  pub legal : Legal i a0 l journal
-  pub whole : Whole l journal
-  pub text : bytes ≡ report_text i a0 l journal
-  pub number : length journal ≡ n
+pub record IsReport (i : Tables) (a0 : List Machine) (l : Lots) (bytes : List ℕ) (n : ℕ) : Type 0
+  where
+    pub journal : List Entry
+    pub legal : Legal i a0 l journal
+    pub whole : Whole l journal
+    pub text : bytes ≡ report_text i a0 l journal
+    pub number : length journal ≡ n

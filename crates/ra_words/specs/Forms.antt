@@ -25,17 +25,22 @@ form_of words =
     else None
 
 abbrev pub found_check : Found → JobSays
-found_check found = Checks (word_at (plain_of found) 0) (word_at (plain_of found) 1) (word_at (plain_of found) 2) (first_value found (codes "closed"))
+found_check found =
+    Checks (word_at (plain_of found) 0) (word_at (plain_of found) 1) (word_at (plain_of found) 2)
+    (first_value found (codes "closed"))
 
 abbrev pub found_bound : Found → JobSays
 found_bound found = Bounds (word_at (plain_of found) 0) None None
 
 abbrev pub found_bound_from : Found → JobSays
-found_bound_from found = Bounds (word_at (plain_of found) 0) (Some (word_at (plain_of found) 1)) (first_value found (codes "closed"))
+found_bound_from found =
+    Bounds (word_at (plain_of found) 0) (Some (word_at (plain_of found) 1))
+    (first_value found (codes "closed"))
 
 abbrev pub found_solve : Found → JobSays
 found_solve found =
-    Solves (word_at (plain_of found) 0) (word_at (plain_of found) 1) (first_value found (codes "closed")) (slack_says (first_value found (codes "slack")))
+    Solves (word_at (plain_of found) 0) (word_at (plain_of found) 1)
+    (first_value found (codes "closed")) (slack_says (first_value found (codes "slack")))
     (drawing_says (first_value found (codes "draws"))) (map lot_says (drop 2 (plain_of found)))
 
 abbrev pub found_trial : Found → JobSays
@@ -43,14 +48,19 @@ found_trial found = Trials (worth (word_at (plain_of found) 0))
 
 abbrev pub found_verify : Found → JobSays
 found_verify found =
-    Verifies (word_at (plain_of found) 0) (word_at (plain_of found) 1) (word_at (plain_of found) 2) (first_value found (codes "closed")) (slack_says (first_value found (codes "slack")))
+    Verifies (word_at (plain_of found) 0) (word_at (plain_of found) 1) (word_at (plain_of found) 2)
+    (first_value found (codes "closed")) (slack_says (first_value found (codes "slack")))
     (drawing_says (first_value found (codes "draws"))) (map lot_says (drop 3 (plain_of found)))
 
 abbrev pub found_repair : Found → JobSays
-found_repair found = Repairs (word_at (plain_of found) 0) (word_at (plain_of found) 1) (first_value found (codes "closed")) 0 Two (map lot_says (drop 2 (plain_of found)))
+found_repair found =
+    Repairs (word_at (plain_of found) 0) (word_at (plain_of found) 1)
+    (first_value found (codes "closed")) 0 Two (map lot_says (drop 2 (plain_of found)))
 
 abbrev pub found_edit : Found → JobSays
-found_edit found = Edits (word_at (plain_of found) 0) (word_at (plain_of found) 1) (word_at (plain_of found) 2) (word_at (plain_of found) 3) (first_value found (codes "closed"))
+found_edit found =
+    Edits (word_at (plain_of found) 0) (word_at (plain_of found) 1) (word_at (plain_of found) 2)
+    (word_at (plain_of found) 3) (first_value found (codes "closed"))
 
 -- what is found says, at each form
 abbrev pub found_says : Form → Found → JobSays

@@ -11,10 +11,19 @@ use Rattle.ra_words.specs.LotTexts.{LotSays, lot_says, are_lots}
 pub data JobSays : Type 0 where
   Checks : (model initial changed : List ℕ) (closed : Option (List ℕ)) → JobSays
   Bounds : (model : List ℕ) (initial closed : Option (List ℕ)) → JobSays
-  Solves : (model initial : List ℕ) (closed : Option (List ℕ)) (slack : ℕ) (drawing : Drawing) (lots : List LotSays) → JobSays
+  Solves :
+      (model initial : List ℕ) (closed : Option (List ℕ)) (slack : ℕ) (drawing : Drawing)
+      (lots : List LotSays)
+      → JobSays
   Trials : (number : ℕ) → JobSays
-  Verifies : (model initial report : List ℕ) (closed : Option (List ℕ)) (slack : ℕ) (drawing : Drawing) (lots : List LotSays) → JobSays
-  Repairs : (model initial : List ℕ) (closed : Option (List ℕ)) (slack : ℕ) (drawing : Drawing) (lots : List LotSays) → JobSays
+  Verifies :
+      (model initial report : List ℕ) (closed : Option (List ℕ)) (slack : ℕ) (drawing : Drawing)
+      (lots : List LotSays)
+      → JobSays
+  Repairs :
+      (model initial : List ℕ) (closed : Option (List ℕ)) (slack : ℕ) (drawing : Drawing)
+      (lots : List LotSays)
+      → JobSays
   Edits : (model initial current edits : List ℕ) (closed : Option (List ℕ)) → JobSays
 
 -- the value of `--closed`, where it is given, is a file name
@@ -24,21 +33,27 @@ is_closed (Some text) = is_name text
 
 -- from a place on: `--closed` and a file name, or nothing, and no more words
 unfoldable pub ends_closed : List (List ℕ) → ℕ → Bool
-ends_closed words place = is_closed (value_at (codes "--closed") words place) && length words == behind (codes "--closed") words place
+ends_closed words place =
+    is_closed (value_at (codes "--closed") words place) && length words == behind (codes "--closed")
+    words place
 
 -- the word `check` and three file names, then `--closed` and a file name, or nothing
 unfoldable pub is_check : List (List ℕ) → Bool
 is_check words =
-    bytes_eq (word_at words 0) (codes "check") && is_name (word_at words 1) && is_name (word_at words 2) && is_name (word_at words 3)
+    bytes_eq (word_at words 0) (codes "check") && is_name (word_at words 1) && is_name
+    (word_at words 2) && is_name (word_at words 3)
     && ends_closed words 4
 
 -- what a check says: its files
 unfoldable pub check_says : List (List ℕ) → JobSays
-check_says words = Checks (word_at words 1) (word_at words 2) (word_at words 3) (value_at (codes "--closed") words 4)
+check_says words =
+    Checks (word_at words 1) (word_at words 2) (word_at words 3)
+    (value_at (codes "--closed") words 4)
 
 -- the word `bound` and a file name
 unfoldable pub is_bound : List (List ℕ) → Bool
-is_bound words = length words == 2 && bytes_eq (word_at words 0) (codes "bound") && is_name (word_at words 1)
+is_bound words =
+    length words == 2 && bytes_eq (word_at words 0) (codes "bound") && is_name (word_at words 1)
 
 -- what a bound says: its file
 unfoldable pub bound_says : List (List ℕ) → JobSays
@@ -46,11 +61,14 @@ bound_says words = Bounds (word_at words 1) None None
 
 -- the word `bound` and two file names, then `--closed` and a file name, or nothing
 unfoldable pub is_bound_from : List (List ℕ) → Bool
-is_bound_from words = bytes_eq (word_at words 0) (codes "bound") && is_name (word_at words 1) && is_name (word_at words 2) && ends_closed words 3
+is_bound_from words =
+    bytes_eq (word_at words 0) (codes "bound") && is_name (word_at words 1) && is_name
+    (word_at words 2) && ends_closed words 3
 
 -- what a bound from a start says: its files
 unfoldable pub bound_from_says : List (List ℕ) → JobSays
-bound_from_says words = Bounds (word_at words 1) (Some (word_at words 2)) (value_at (codes "--closed") words 3)
+bound_from_says words =
+    Bounds (word_at words 1) (Some (word_at words 2)) (value_at (codes "--closed") words 3)
 
 -- the value of `--slack`, where it is given, is a number
 abbrev pub is_slack : Option (List ℕ) → Bool
@@ -103,20 +121,26 @@ lot_words words place = drop (lots_place words place) words
 -- from a place on: the options in their order, then lots
 unfoldable pub ends_in_lots : List (List ℕ) → ℕ → Bool
 ends_in_lots words place =
-    is_slack (slack_text words place) && is_closed (closed_text words place) && is_drawing (draws_text words place) && are_lots (lot_words words place)
+    is_slack (slack_text words place) && is_closed (closed_text words place) && is_drawing
+    (draws_text words place) && are_lots (lot_words words place)
 
 -- the word `solve` and two file names, then the options in their order, then lots
 unfoldable pub is_solve : List (List ℕ) → Bool
-is_solve words = bytes_eq (word_at words 0) (codes "solve") && is_name (word_at words 1) && is_name (word_at words 2) && ends_in_lots words 3
+is_solve words =
+    bytes_eq (word_at words 0) (codes "solve") && is_name (word_at words 1) && is_name
+    (word_at words 2) && ends_in_lots words 3
 
 -- what a run of the solver says: its files, slack, drawing and lots
 unfoldable pub solve_says : List (List ℕ) → JobSays
 solve_says words =
-    Solves (word_at words 1) (word_at words 2) (closed_text words 3) (slack_says (slack_text words 3)) (drawing_says (draws_text words 3)) (map lot_says (lot_words words 3))
+    Solves (word_at words 1) (word_at words 2) (closed_text words 3)
+    (slack_says (slack_text words 3)) (drawing_says (draws_text words 3))
+    (map lot_says (lot_words words 3))
 
 -- the word `trial` and a number
 unfoldable pub is_trial : List (List ℕ) → Bool
-is_trial words = length words == 2 && bytes_eq (word_at words 0) (codes "trial") && is_number (word_at words 1)
+is_trial words =
+    length words == 2 && bytes_eq (word_at words 0) (codes "trial") && is_number (word_at words 1)
 
 -- what a trial says: its number
 unfoldable pub trial_says : List (List ℕ) → JobSays
@@ -125,13 +149,16 @@ trial_says words = Trials (worth (word_at words 1))
 -- the word `verify` and three file names, then the options in their order, then lots
 unfoldable pub is_verify : List (List ℕ) → Bool
 is_verify words =
-    bytes_eq (word_at words 0) (codes "verify") && is_name (word_at words 1) && is_name (word_at words 2) && is_name (word_at words 3)
+    bytes_eq (word_at words 0) (codes "verify") && is_name (word_at words 1) && is_name
+    (word_at words 2) && is_name (word_at words 3)
     && ends_in_lots words 4
 
 -- what the checking of a report says: its files, slack, drawing and lots
 unfoldable pub verify_says : List (List ℕ) → JobSays
 verify_says words =
-    Verifies (word_at words 1) (word_at words 2) (word_at words 3) (closed_text words 4) (slack_says (slack_text words 4)) (drawing_says (draws_text words 4)) (map lot_says (lot_words words 4))
+    Verifies (word_at words 1) (word_at words 2) (word_at words 3) (closed_text words 4)
+    (slack_says (slack_text words 4)) (drawing_says (draws_text words 4))
+    (map lot_says (lot_words words 4))
 
 -- behind `repair` and two file names `--closed` may stand, and behind it the lot
 unfoldable pub lot_place : List (List ℕ) → ℕ
@@ -140,12 +167,16 @@ lot_place words = behind (codes "--closed") words 3
 -- the word `repair` and two file names, then `--closed` and a file name, or nothing, then one lot
 unfoldable pub is_repair : List (List ℕ) → Bool
 is_repair words =
-    bytes_eq (word_at words 0) (codes "repair") && is_name (word_at words 1) && is_name (word_at words 2)
-    && is_closed (value_at (codes "--closed") words 3) && length words == lot_place words + 1 && are_lots (drop (lot_place words) words)
+    bytes_eq (word_at words 0) (codes "repair") && is_name (word_at words 1) && is_name
+    (word_at words 2)
+    && is_closed (value_at (codes "--closed") words 3) && length words == lot_place words + 1
+    && are_lots (drop (lot_place words) words)
 
 -- what a repair says: its files and its lot, without slack, and with the second drawing
 unfoldable pub repair_says : List (List ℕ) → JobSays
-repair_says words = Repairs (word_at words 1) (word_at words 2) (value_at (codes "--closed") words 3) 0 Two (map lot_says (drop (lot_place words) words))
+repair_says words =
+    Repairs (word_at words 1) (word_at words 2) (value_at (codes "--closed") words 3) 0 Two
+    (map lot_says (drop (lot_place words) words))
 
 -- a repair has one lot
 abbrev pub HasOneLot : JobSays → Type 0
@@ -155,12 +186,15 @@ HasOneLot says = Unit {0}
 -- the word `edit` and four file names, then `--closed` and a file name, or nothing
 unfoldable pub is_edit : List (List ℕ) → Bool
 is_edit words =
-    bytes_eq (word_at words 0) (codes "edit") && is_name (word_at words 1) && is_name (word_at words 2) && is_name (word_at words 3)
+    bytes_eq (word_at words 0) (codes "edit") && is_name (word_at words 1) && is_name
+    (word_at words 2) && is_name (word_at words 3)
     && is_name (word_at words 4) && ends_closed words 5
 
 -- what the edits of a model and its lists say: their files
 unfoldable pub edit_says : List (List ℕ) → JobSays
-edit_says words = Edits (word_at words 1) (word_at words 2) (word_at words 3) (word_at words 4) (value_at (codes "--closed") words 5)
+edit_says words =
+    Edits (word_at words 1) (word_at words 2) (word_at words 3) (word_at words 4)
+    (value_at (codes "--closed") words 5)
 
 -- what the words say, and nothing where they are no job
 unfoldable pub job_of : List (List ℕ) → Option JobSays

@@ -25,7 +25,8 @@ option_words option (Some text) = option ∷ text ∷ []
 unfoldable pub words_of : Line → List (List ℕ)
 words_of line =
     line.command ∷ (line.files ++ (option_words (codes "--slack") line.slack
-    ++ (option_words (codes "--closed") line.closed ++ (option_words (codes "--draws") line.draws ++ line.behind))))
+    ++ (option_words (codes "--closed") line.closed
+    ++ (option_words (codes "--draws") line.draws ++ line.behind))))
 
 -- the words are those of the line, and none behind the command is taken for an option
 pub record Spells (line : Line) (words : List (List ℕ)) : Type 0 where
@@ -48,7 +49,8 @@ plain_rule = record (new_rule (codes "plain")) { action = Some Append }
 abbrev pub line_app : App
 line_app =
     with_rule (with_rule (with_rule (with_rule (new_app (codes "reassign"))
-    (option_rule (codes "slack"))) (option_rule (codes "closed"))) (option_rule (codes "draws"))) plain_rule
+    (option_rule (codes "slack"))) (option_rule (codes "closed"))) (option_rule (codes "draws")))
+    plain_rule
 
 -- the plain words that were found
 abbrev pub plain_of : Found → List (List ℕ)

@@ -17,7 +17,8 @@ pub record LotSays : Type 0 where
 -- the place of the first separator, and the length of the text where there is none
 unfoldable pub first_place : ℕ → List ℕ → ℕ
 first_place separator [] = 0
-first_place separator (byte ∷ bytes) = if byte == separator then 0 else suc (first_place separator bytes)
+first_place separator (byte ∷ bytes) =
+    if byte == separator then 0 else suc (first_place separator bytes)
 
 -- the text before its first colon
 unfoldable pub seed_text : List ℕ → List ℕ
@@ -29,7 +30,9 @@ budget_text word = drop (suc (first_place 58 word)) word
 
 -- a number, a colon, and a number of proposals, at most 1,000,000
 unfoldable pub is_seed_lot : List ℕ → Bool
-is_seed_lot word = is_number (seed_text word) && is_number (budget_text word) && nat_le (worth (budget_text word)) 1000000
+is_seed_lot word =
+    is_number (seed_text word) && is_number (budget_text word) && nat_le (worth (budget_text word))
+    1000000
 
 -- a byte in front of the first piece
 unfoldable pub in_front : ℕ → List (List ℕ) → List (List ℕ)
@@ -55,7 +58,8 @@ written_pieces word = pieces (drop 2 word)
 
 -- numbers, eight for each proposal
 unfoldable pub is_written_lot : List ℕ → Bool
-is_written_lot word = list_all is_number (written_pieces word) && length (written_pieces word) % 8 == 0
+is_written_lot word =
+    list_all is_number (written_pieces word) && length (written_pieces word) % 8 == 0
 
 -- a lot in one of its two forms
 unfoldable pub is_lot : List ℕ → Bool
@@ -63,11 +67,14 @@ is_lot word = if is_written word then is_written_lot word else is_seed_lot word
 
 -- the words of a written lot, or the seed
 unfoldable pub source_says : List ℕ → SourceSays
-source_says word = if is_written word then FromWords (map worth (written_pieces word)) else FromSeed (worth (seed_text word))
+source_says word =
+    if is_written word then FromWords (map worth (written_pieces word))
+    else FromSeed (worth (seed_text word))
 
 -- how many proposals a lot makes: one for each eight words, or as many as it says
 unfoldable pub budget_says : List ℕ → ℕ
-budget_says word = if is_written word then length (written_pieces word) / 8 else worth (budget_text word)
+budget_says word =
+    if is_written word then length (written_pieces word) / 8 else worth (budget_text word)
 
 -- what a lot says
 unfoldable pub lot_says : List ℕ → LotSays
@@ -75,4 +82,6 @@ lot_says word = record { source = source_says word; budget = budget_says word }
 
 -- the lots of a run: 1 to 16 of them, with at most 1,000,000 proposals together
 unfoldable pub are_lots : List (List ℕ) → Bool
-are_lots words = nat_lt 0 (length words) && nat_le (length words) 16 && list_all is_lot words && nat_le (sum_by budget_says words) 1000000
+are_lots words =
+    nat_lt 0 (length words) && nat_le (length words) 16 && list_all is_lot words && nat_le
+    (sum_by budget_says words) 1000000

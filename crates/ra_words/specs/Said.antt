@@ -21,8 +21,11 @@ said_lot lot = record { source = said_source lot.source; budget = lot.budget }
 abbrev pub said : Job → JobSays
 said (Check model initial changed closed) = Checks model initial changed closed
 said (Bound model initial closed) = Bounds model initial closed
-said (Solve model initial closed lots) = Solves model initial closed lots.slack lots.drawing (map said_lot lots.lots.items)
+said (Solve model initial closed lots) =
+    Solves model initial closed lots.slack lots.drawing (map said_lot lots.lots.items)
 said (Trial number) = Trials number
-said (Verify model initial report closed lots) = Verifies model initial report closed lots.slack lots.drawing (map said_lot lots.lots.items)
-said (Repair model initial closed lots) = Repairs model initial closed lots.slack lots.drawing (map said_lot lots.lots.items)
+said (Verify model initial report closed lots) =
+    Verifies model initial report closed lots.slack lots.drawing (map said_lot lots.lots.items)
+said (Repair model initial closed lots) =
+    Repairs model initial closed lots.slack lots.drawing (map said_lot lots.lots.items)
 said (Edit model initial current edits closed) = Edits model initial current edits closed

@@ -23,7 +23,8 @@ has_option option words place = bytes_eq (word_at words place) option
 
 -- the value of an option that may stand at a place: the word behind it
 unfoldable pub value_at : List ℕ → List (List ℕ) → ℕ → Option (List ℕ)
-value_at option words place = if has_option option words place then Some (word_at words (place + 1)) else None
+value_at option words place =
+    if has_option option words place then Some (word_at words (place + 1)) else None
 
 -- the place behind an option that may stand at a place, and behind its value
 unfoldable pub behind : List ℕ → List (List ℕ) → ℕ → ℕ

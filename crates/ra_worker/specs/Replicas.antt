@@ -11,13 +11,14 @@ use Rattle.ra_worker.specs.declared.replica.Replica.{Replica}
 
 -- a replica is at a state of a journal: it is of the same instance, initial assignment and lots, its assignment is the
 -- state at its place, and its worker has made as many proposals as it has entries before that
-pub record IsAt (i : Tables) (a0 : List Machine) (l : Lots) (h : List Entry) (r : Replica) : Type 0 where
-  pub instance : r.world.inst.now.tables ≡ i
-  pub initial : r.world.start.now.items ≡ a0
-  pub lots : r.proposals.lots.now ≡ l
-  pub place : r.place ≤ length h
-  pub state : r.world.kept.assignment.items ≡ state a0 h r.place
-  pub number : r.proposals.number ≡ entries_of h r.place r.proposals.worker
+pub record IsAt (i : Tables) (a0 : List Machine) (l : Lots) (h : List Entry) (r : Replica) : Type 0
+  where
+    pub instance : r.world.inst.now.tables ≡ i
+    pub initial : r.world.start.now.items ≡ a0
+    pub lots : r.proposals.lots.now ≡ l
+    pub place : r.place ≤ length h
+    pub state : r.world.kept.assignment.items ≡ state a0 h r.place
+    pub number : r.proposals.number ≡ entries_of h r.place r.proposals.worker
 
 -- entries are those of a journal from a place on, one after another
 pub record ArePartOf (h : List Entry) (at : ℕ) (entries : List Entry) : Type 0 where
@@ -43,4 +44,6 @@ pub record HasTaken (before after : Replica) (entries : List Entry) (n : ℕ) : 
   pub lots : after.proposals.lots.now ≡ before.proposals.lots.now
   pub worker : after.proposals.worker ≡ before.proposals.worker
   pub place : after.place ≡ before.place + n
-  pub at : (h : List Entry) → AreNext before entries h → IsAt before.world.inst.now.tables before.world.start.now.items before.proposals.lots.now h after
+  pub at : (h : List Entry) → AreNext before entries h
+      → IsAt before.world.inst.now.tables before.world.start.now.items before.proposals.lots.now h
+      after

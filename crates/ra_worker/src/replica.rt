@@ -123,7 +123,8 @@ impl<'a> Replica<'a> {
             self.now.world.start.now.items self.now.world.kept.assignment.items
             (words self.now.proposals.lots.now self.now.proposals.worker self.now.proposals.number)
             self.now.proposals.lots.now.drawing
-            (allowed self.now.proposals.lots.now self.now.proposals.worker self.now.proposals.number) }
+            (allowed self.now.proposals.lots.now self.now.proposals.worker
+            self.now.proposals.number) }
         ensures weighed { result.weighed ≡ weighed_of self.now.world.inst.now.tables
             self.now.world.start.now.items self.now.world.kept.assignment.items result.mv.steps }
         ensures counted_one { self.now.proposals.lots.now.drawing ≡ One →

@@ -23,5 +23,6 @@ pub record Stand (kept : Kept) (i : Tables) (a0 a : List Machine) : Type 0 where
 pub record Keeps (kept : Kept) (i : Tables) (a0 : List Machine) : Type 0 where
   pub stand : Stand kept i a0 kept.assignment.items
   pub loads : AreCosts kept.loads.items (machine_count i) (machine_load i kept.assignment.items)
-  pub balances : AreCosts kept.balances.items (machine_count i) (machine_balance i kept.assignment.items)
+  pub balances :
+      AreCosts kept.balances.items (machine_count i) (machine_balance i kept.assignment.items)
   pub parts : kept.parts ≡ parts_of i a0 kept.assignment.items

@@ -8,7 +8,8 @@ use Rattle.ra_moves.specs.Steps.{process_in}
 
 -- row j has what the process of step j requires, for each of the first n steps
 pub record AreRequired (i : Tables) (steps : List Step) (n : ℕ) (table : List ℕ) : Type 0 where
-  pub each : (j r : ℕ) → j < n → r < resource_count i → cell 20 table j r ≡ requirement_of i (process_in steps j) r
+  pub each : (j r : ℕ) → j < n → r < resource_count i
+      → cell 20 table j r ≡ requirement_of i (process_in steps j) r
 
 -- row j has the first n requirements of process p, and all other rows are as they were
 pub record ReadTo (i : Tables) (p j n : ℕ) (old new : List ℕ) : Type 0 where

@@ -3,7 +3,8 @@ use Rattle.ra_model_read.specs.Formats.{along}
 use Rattle.ra_model_read.specs.Lists.{of_balance}
 use Rattle.ra_model_read.specs.ModelText.{balance}
 use Rattle.ra_model_read.specs.TableShapes.{AreBalances}
-use Rattle.ra_model_read.specs.Reading.{here, Gives}
+use Rattle.ra_token.specs.Moments.{here}
+use Rattle.ra_model_read.specs.Reading.{Gives}
 use Rattle.ra_model_read.proofs.balances.read_balances.Given as goal
 
 abbrev pub invariant-loop-b : goal.invariant-loop-b

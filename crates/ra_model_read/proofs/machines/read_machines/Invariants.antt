@@ -2,7 +2,8 @@ use Rattle.std.proofs.Common.{[]}
 use Rattle.ra_model_read.specs.Formats.{along}
 use Rattle.ra_model_read.specs.ModelText.{machine}
 use Rattle.ra_model_read.specs.TableShapes.{machine_lists, HasMachines}
-use Rattle.ra_model_read.specs.Reading.{here, Gives}
+use Rattle.ra_token.specs.Moments.{here}
+use Rattle.ra_model_read.specs.Reading.{Gives}
 use Rattle.ra_model_read.proofs.machines.read_machines.Given as goal
 
 abbrev pub invariant-loop-m : goal.invariant-loop-m

@@ -2,7 +2,8 @@ use Rattle.std.proofs.Common.{[]}
 use Rattle.ra_model_read.specs.Formats.{along}
 use Rattle.ra_model_read.specs.ModelText.{process}
 use Rattle.ra_model_read.specs.TableShapes.{process_lists, HasProcesses}
-use Rattle.ra_model_read.specs.Reading.{here, Gives}
+use Rattle.ra_token.specs.Moments.{here}
+use Rattle.ra_model_read.specs.Reading.{Gives}
 use Rattle.ra_model_read.proofs.processes.read_processes.Given as goal
 
 abbrev pub invariant-loop-p : goal.invariant-loop-p

@@ -2,7 +2,8 @@ use Rattle.std.proofs.Common.{◌≡◌, [], length, map}
 use Rattle.ra_model_read.specs.Formats.{along}
 use Rattle.ra_model_read.specs.Lists.{of_resource}
 use Rattle.ra_model_read.specs.ModelText.{resource}
-use Rattle.ra_model_read.specs.Reading.{here, Gives}
+use Rattle.ra_token.specs.Moments.{here}
+use Rattle.ra_model_read.specs.Reading.{Gives}
 use Rattle.ra_model_read.proofs.resources.read_resources.Given as goal
 
 abbrev pub invariant-loop-r : goal.invariant-loop-r

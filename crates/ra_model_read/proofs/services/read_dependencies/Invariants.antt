@@ -2,7 +2,8 @@ use Rattle.std.proofs.Common.{◌≡◌, ◌+◌, length}
 use Rattle.ra_model_read.specs.Formats.{along}
 use Rattle.ra_model_read.specs.ModelText.{dependency}
 use Rattle.ra_model_read.specs.TableShapes.{AreServices}
-use Rattle.ra_model_read.specs.Reading.{here, Gives}
+use Rattle.ra_token.specs.Moments.{here}
+use Rattle.ra_model_read.specs.Reading.{Gives}
 use Rattle.ra_model_read.proofs.services.read_dependencies.Given as goal
 
 abbrev pub invariant-loop-k : goal.invariant-loop-k

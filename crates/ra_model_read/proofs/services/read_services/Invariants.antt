@@ -2,7 +2,8 @@ use Rattle.std.proofs.Common.{[]}
 use Rattle.ra_model_read.specs.Formats.{along}
 use Rattle.ra_model_read.specs.ModelText.{service}
 use Rattle.ra_model_read.specs.TableShapes.{service_lists, HasServices}
-use Rattle.ra_model_read.specs.Reading.{here, Gives}
+use Rattle.ra_token.specs.Moments.{here}
+use Rattle.ra_model_read.specs.Reading.{Gives}
 use Rattle.ra_model_read.proofs.services.read_services.Given as goal
 
 abbrev pub invariant-loop-s : goal.invariant-loop-s
