@@ -1,7 +1,8 @@
-//! Instances that the tests of other crates stand on, each made of the same few slices, and the lists and assignments
-//! that such tests write.
+//! Instances that the tests of other crates stand on, each made of the same few slices, the lists and assignments that
+//! such tests write, and the plain counts that they compare with.
 #![tactic(auto)]
 
+pub mod counts;
 mod example;
 mod instances;
 mod lists;

@@ -1,13 +1,12 @@
 //! Cells beside plain counts.
 mod mirror;
-mod plain;
 mod samples;
 
 use crate::common::same;
 use mirror::Mirror;
-use plain::{in_location, in_neighbourhood, locations, moved, on_machine};
 use ra_base::{Assignment, Machine, Service};
 use ra_model::Instance;
+use ra_samples::counts::{in_location, in_neighbourhood, locations, moved, on_machine};
 use ra_samples::{assignment, sample};
 use samples::{crowd, large, mixed};
 use std::alloc::Global;

@@ -3,7 +3,6 @@ ghost use Rattle.std.specs.Prelude.{◌<◌};
 
 mod comparing;
 mod costs;
-mod plain;
 
 use super::plans::{is_done, is_done_at};
 use super::walking::words_from;

@@ -1,8 +1,10 @@
 //! What a world tells, compared with plain sums and counts.
 use super::costs::{balance_of, load_of};
-use super::plain::{between, in_location, in_neighbourhood, locations, moved, on_machine, used};
 use ra_base::{Machine, Resource, Service, Steps};
 use ra_compare::Beside;
+use ra_samples::counts::{
+    between, in_location, in_neighbourhood, locations, moved, on_machine, used,
+};
 use ra_world::World;
 use std::sync::ledger::Ledger;
 

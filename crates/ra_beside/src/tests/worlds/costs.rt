@@ -1,7 +1,7 @@
 //! What a machine costs, by the plain use of its resources.
-use super::plain::used;
 use ra_base::{Assignment, Machine, Resource, Steps};
 use ra_model::Instance;
+use ra_samples::counts::used;
 use std::sync::ledger::Ledger;
 
 /// The load cost of one resource of a machine.

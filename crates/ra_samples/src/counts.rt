@@ -34,7 +34,7 @@ fn hood_of(inst: &Instance, a: &Assignment, p: u32) -> Option<u32> {
 }
 
 /// How many processes of service `s` are on machine `m`.
-pub(super) fn on_machine(inst: &Instance, a: &Assignment, s: u32, m: u32) -> u32 {
+pub fn on_machine(inst: &Instance, a: &Assignment, s: u32, m: u32) -> u32 {
     let mut count = 0u32;
     for p in 0..inst.processes() {
         if is_of(inst, s, p) && machine_of(a, p) == Some(Machine(m)) {
@@ -45,7 +45,7 @@ pub(super) fn on_machine(inst: &Instance, a: &Assignment, s: u32, m: u32) -> u32
 }
 
 /// How many processes of service `s` are in a location.
-pub(super) fn in_location(inst: &Instance, a: &Assignment, s: u32, label: u32) -> u32 {
+pub fn in_location(inst: &Instance, a: &Assignment, s: u32, label: u32) -> u32 {
     let mut count = 0u32;
     for p in 0..inst.processes() {
         if is_of(inst, s, p) && place_of(inst, a, p) == Some(label) {
@@ -56,7 +56,7 @@ pub(super) fn in_location(inst: &Instance, a: &Assignment, s: u32, label: u32) -
 }
 
 /// How many processes of service `s` are in a neighbourhood.
-pub(super) fn in_neighbourhood(inst: &Instance, a: &Assignment, s: u32, label: u32) -> u32 {
+pub fn in_neighbourhood(inst: &Instance, a: &Assignment, s: u32, label: u32) -> u32 {
     let mut count = 0u32;
     for p in 0..inst.processes() {
         if is_of(inst, s, p) && hood_of(inst, a, p) == Some(label) {
@@ -67,7 +67,7 @@ pub(super) fn in_neighbourhood(inst: &Instance, a: &Assignment, s: u32, label: u
 }
 
 /// In how many locations service `s` is: those of the processes that are in none of an earlier one.
-pub(super) fn locations(inst: &Instance, a: &Assignment, s: u32) -> u32 {
+pub fn locations(inst: &Instance, a: &Assignment, s: u32) -> u32 {
     let mut count = 0u32;
     for p in 0..inst.processes() {
         if is_of(inst, s, p) && is_first(inst, a, s, p) {
@@ -88,7 +88,7 @@ fn is_first(inst: &Instance, a: &Assignment, s: u32, p: u32) -> bool {
 }
 
 /// How many processes of service `s` aren't on their initial machine.
-pub(super) fn moved(inst: &Instance, start: &Assignment, a: &Assignment, s: u32) -> u32 {
+pub fn moved(inst: &Instance, start: &Assignment, a: &Assignment, s: u32) -> u32 {
     let mut count = 0u32;
     for p in 0..inst.processes() {
         if is_of(inst, s, p) && machine_of(start, p) != machine_of(a, p) {
@@ -108,7 +108,7 @@ fn required<L: Ledger>(inst: &Instance, p: u32, r: u32, steps: &mut Steps<L>) ->
 }
 
 /// The use of resource `r` on machine `m`.
-pub(super) fn used<L: Ledger>(
+pub fn used<L: Ledger>(
     inst: &Instance,
     a: &Assignment,
     m: u32,
@@ -125,7 +125,7 @@ pub(super) fn used<L: Ledger>(
 }
 
 /// The use of resource `r` by the processes that are on machine `m` or were there at first.
-pub(super) fn between<L: Ledger>(
+pub fn between<L: Ledger>(
     inst: &Instance,
     start: &Assignment,
     a: &Assignment,
