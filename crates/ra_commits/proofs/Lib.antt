@@ -1,4 +1,3 @@
 mod FirstLemmas
-mod LotLaws
 mod PassLemmas
 mod TurnLemmas

@@ -7,18 +7,16 @@ ghost use Rattle.ra_topology.specs.Fits.{IsTopologyOf};
 ghost use Rattle.ra_commits.specs.FirstPlans.{IsFirstPlan};
 
 mod first;
-mod lots;
 mod passes;
 mod turns;
 
 use first::{first_plan, hand_in, start_parts};
-use lots::{double_proposals, single_proposals};
 use ra_base::{Assignment, Cause, Guard, Machine, Parts, Process, Service, Steps};
 use ra_draws::Lots;
 use ra_journal::{Journal, Reply};
 use ra_model::Instance;
 use ra_moves::{Plan, Verdict};
-use ra_samples::{assignment, eight_machines, sample};
+use ra_samples::{assignment, eight_machines, sample, two_lots};
 use ra_topology::Topology;
 use ra_world::World;
 use std::alloc::Global;
@@ -108,7 +106,7 @@ fn replies_on_sample(
     first: &[u64; 8],
     second: &[u64; 8],
 ) -> [Reply; 2] {
-    let lots = single_proposals(rt, alloc, first, second).expect(rt, "no memory");
+    let lots = two_lots(alloc, 0, 1, first, second).expect(rt, "no memory");
     replies_on(rt, alloc, inst, &[0, 3, 0], &lots)
 }
 
@@ -164,7 +162,7 @@ fn two_workers_on_the_sample(rt: HostRuntime) {
 fn moves_that_share_nothing_are_recorded(rt: &impl Abort, alloc: Global, inst: &Instance) {
     let first = [0, 0, 6, 6, 6, 6, 0, 0, 0, 0, 6, 6, 6, 6, 0, 0];
     let second = [0, 3, 7, 7, 7, 7, 0, 0, 0, 3, 7, 7, 7, 7, 0, 0];
-    let lots = double_proposals(rt, alloc, 8, &first, &second).expect(rt, "no memory");
+    let lots = two_lots(alloc, 8, 2, &first, &second).expect(rt, "no memory");
     let replies = replies_on(rt, alloc, inst, &[0, 1, 2, 3, 4, 5], &lots);
     assert_eq!(rt; replies, [done(0, 2), done(1, 3)]);
 }

@@ -1,14 +1,11 @@
-mod lots;
-
 use super::starts::{demand, start_of};
 use super::verdicts::{done, refused};
-use lots::{one_lot, two_lots};
 use ra_base::{Cause, Machine, Process, Resource};
 use ra_draws::Lots;
 use ra_journal::Entry;
 use ra_legal::first_illegal;
 use ra_moves::{Move, Step, Verdict};
-use ra_samples::sample;
+use ra_samples::{one_lot, sample, two_lots};
 use std::alloc::Global;
 use std::process::Abort;
 
@@ -36,7 +33,7 @@ fn tells_of_three(
     entries: &[Entry],
     want: Option<usize>,
 ) {
-    let lots = one_lot(rt, alloc, slack, &THREE).expect(rt, "no memory");
+    let lots = one_lot(alloc, slack, 3, &THREE).expect(rt, "no memory");
     tells(rt, alloc, &lots, entries, want);
 }
 
@@ -48,7 +45,7 @@ fn tells_of_two(
     entries: &[Entry],
     want: Option<usize>,
 ) {
-    let lots = two_lots(rt, alloc, &words[0], &words[1]).expect(rt, "no memory");
+    let lots = two_lots(alloc, 0, 1, &words[0], &words[1]).expect(rt, "no memory");
     tells(rt, alloc, &lots, entries, want);
 }
 

@@ -5,7 +5,7 @@ ghost use Rattle.ra_draws.specs.Lots.{IsFitting};
 use super::found::same;
 use ra_base::{Drawing, NoMemory};
 use ra_draws::{Draws, Lot, Lots, Source, allow};
-use ra_samples::list;
+use ra_samples::written;
 use std::alloc::Global;
 use std::process::Abort;
 
@@ -17,18 +17,6 @@ fn seeded(seed: u64, budget: u64) -> Lot
     Lot {
         source: Source::Seed(seed),
         budget,
-    }
-}
-
-/// A lot of sixteen written words, for two proposals.
-fn written(rt: &impl Abort, alloc: Global, words: &[u64; 16]) -> Lot
-    ensures fitting { IsFitting result }
-    ensures budget { result.budget ≡ 2 }
-{
-    let words = list(alloc, words).expect(rt, "no memory");
-    Lot {
-        source: Source::Written(words),
-        budget: 2,
     }
 }
 
@@ -151,7 +139,7 @@ fn a_seed_gives_the_words_of_xoshiro256_plus_plus(rt: HostRuntime) {
 #[test]
 fn a_written_lot_gives_its_words_eight_at_a_time(rt: HostRuntime) {
     let words = [9, 8, 7, 6, 5, 4, 3, 2, 10, 11, 12, 13, 14, 15, 16, 17];
-    let lot = written(&rt, rt.alloc(), &words);
+    let lot = written(rt.alloc(), &words, 2).expect(&rt, "no memory");
     demand_words(
         &rt,
         &lot,

@@ -11,14 +11,13 @@ ghost use Rattle.ra_shared.specs.Shares.{start_of, IsNew, IsLast};
 ghost use Rattle.ra_commits.specs.FirstPlans.{IsFirstPlan};
 
 use super::first::start_parts;
-use super::lots::single_proposals;
 use super::{AWAY, done, first_plans, shift, stale};
 use ra_base::{Assignment, Guard, Machine, Parts, Process};
 use ra_draws::Lots;
 use ra_journal::{Batch, Entry, Journal, Reply};
 use ra_model::Instance;
 use ra_moves::{Move, Plan, Step, Verdict};
-use ra_samples::{assignment, sample};
+use ra_samples::{assignment, sample, two_lots};
 use ra_shared::{Shared, WorkerPass};
 use ra_topology::Topology;
 use std::alloc::Global;
@@ -163,7 +162,7 @@ fn answers_over<R: Abort + Wait>(
 
 /// The same on the sample. Worker 0 brings process 1 to machine 2, where worker 1 has planned to bring process 2.
 fn answers_on_sample<R: Abort + Wait>(rt: &R, alloc: Global, inst: &Instance) -> (Answers, u64) {
-    let lots = single_proposals(rt, alloc, &AWAY, &shift(2, 2)).expect(rt, "no memory");
+    let lots = two_lots(alloc, 0, 1, &AWAY, &shift(2, 2)).expect(rt, "no memory");
     let a0 = assignment(alloc, &[0, 3, 0]).expect(rt, "no memory");
     assert!(rt; inst.is_assignment(&a0));
     let topo = Topology::make(alloc, inst).expect(rt, "no memory");

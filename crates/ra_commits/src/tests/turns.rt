@@ -2,7 +2,6 @@
 ghost use Rattle.ra_core.specs.Replicas.{AreAt};
 
 use super::first::start_parts;
-use super::lots::{lone_proposal, single_proposals};
 use super::{AWAY, done, shift, stale};
 use ra_base::{Cause, Fixed, Guard, Machine, Resource};
 use ra_core::{CoreEvent, CoreReply, make_replicas};
@@ -11,7 +10,7 @@ use ra_journal::{Batch, Journal, Reply};
 use ra_model::Instance;
 use ra_moves::Verdict;
 use ra_play::{are_named, play};
-use ra_samples::{assignment, list, sample};
+use ra_samples::{assignment, list, one_lot, sample, two_lots};
 use ra_topology::Topology;
 use ra_worker::Replica;
 use std::alloc::Global;
@@ -76,7 +75,7 @@ fn over_capacity() -> Reply {
 
 /// Worker 0 brings process 1 to machine 2, where worker 1 has planned to bring process 2.
 fn a_stale_worker_catches_up(rt: &impl Abort, alloc: Global, inst: &Instance) {
-    let lots = single_proposals(rt, alloc, &AWAY, &shift(2, 2)).expect(rt, "no memory");
+    let lots = two_lots(alloc, 0, 1, &AWAY, &shift(2, 2)).expect(rt, "no memory");
     let first = CoreEvent::Commit { worker: 0 };
     let second = CoreEvent::Commit { worker: 1 };
     let catch_up = CoreEvent::CatchUp { worker: 1 };
@@ -91,7 +90,7 @@ fn a_stale_worker_catches_up(rt: &impl Abort, alloc: Global, inst: &Instance) {
 }
 
 fn a_worker_without_budget_is_skipped(rt: &impl Abort, alloc: Global, inst: &Instance) {
-    let lots = lone_proposal(rt, alloc, &AWAY).expect(rt, "no memory");
+    let lots = one_lot(alloc, 0, 1, &AWAY).expect(rt, "no memory");
     let catch_up = CoreEvent::CatchUp { worker: 0 };
     let commit = CoreEvent::Commit { worker: 0 };
     let answers = answers_on(rt, alloc, inst, &lots, &[catch_up, commit, commit]);

@@ -1,6 +1,0 @@
-use Rattle.std.proofs.Common.{arith}
-use Rattle.ra_commits.proofs.LotLaws.{one_lot}
-use Rattle.ra_commits.proofs.tests.lots.lone_proposal.Goals as goal
-
-pub of-requires : goal.of-requires
-of-requires g c = one_lot _ _ _ c.new-lots.ensures.items c.in_ok-push.ensures.items c.written.ensures.fitting (omega (arith, c.written.ensures.budget))
