@@ -2,6 +2,7 @@
 use super::found::same;
 use ra_base::Name;
 use ra_draws::{Lot, Lots, Source};
+use ra_samples::strings;
 use ra_words::{Job, read_words};
 use std::alloc::{AllocError, Global};
 use std::process::Abort;
@@ -72,14 +73,6 @@ const JOBS: &[(&[&str], &str)] = &[
         "edit m i n e closed c",
     ),
 ];
-
-fn strings(alloc: Global, words: &[&str]) -> Result<Vec<String>, AllocError> {
-    let mut list = Vec::new(alloc);
-    for word in words {
-        list.push(String::from_str(alloc, word)?)?;
-    }
-    Ok(list)
-}
 
 /// Demands that words are a job, which is told like this.
 fn demand(rt: &impl Abort, alloc: Global, words: &[&str], want: &str) {

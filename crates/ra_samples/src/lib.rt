@@ -1,5 +1,5 @@
-//! Instances that the tests of other crates stand on, each made of the same few slices, the lists and assignments that
-//! such tests write, and the plain counts that they compare with.
+//! Instances that the tests of other crates stand on, each made of the same few slices; the lists, assignments, lots and
+//! command words that such tests write; and the plain counts that they compare with.
 #![tactic(auto)]
 
 pub mod counts;
@@ -12,7 +12,7 @@ mod rows;
 
 pub use example::sample;
 pub use instances::{eight_machines, seven_processes, single};
-pub use lists::{Lists, NotMade, assignment, instance, list};
+pub use lists::{Lists, NotMade, assignment, instance, list, strings};
 pub use lots::{one_lot, two_lots, written};
 pub use pairs::{crossed_pair, pair_at_limits, tight_pair};
 pub use rows::{balance, machine, process, resource, service};

@@ -7,7 +7,7 @@ use ra_base::{Assignment, Fixed, Machine, NoMemory, Service};
 use ra_model::{
     BalanceRow, Instance, MachineRow, ProcessRow, RawInstance, ResourceRow, ServiceRow,
 };
-use std::alloc::Global;
+use std::alloc::{AllocError, Global};
 
 /// Why an instance could not be made.
 #[derive(Clone, Copy, Debug, PartialEq, Eq)]
@@ -56,6 +56,15 @@ pub fn assignment(alloc: Global, machines: &[u32]) -> Result<Assignment, NoMemor
     let mut list = Fixed::make(alloc, machines.len())?;
     for m in machines {
         list.push(Machine(*m));
+    }
+    Ok(list)
+}
+
+/// These command words.
+pub fn strings(alloc: Global, words: &[&str]) -> Result<Vec<String>, AllocError> {
+    let mut list = Vec::new(alloc);
+    for word in words {
+        list.push(String::from_str(alloc, word)?)?;
     }
     Ok(list)
 }

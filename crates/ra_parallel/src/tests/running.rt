@@ -12,10 +12,10 @@ use ra_io::Gate;
 use ra_journal::{Entry, Journal};
 use ra_legal::first_illegal;
 use ra_model::Instance;
-use ra_samples::assignment;
+use ra_samples::{assignment, strings};
 use ra_topology::Topology;
 use ra_words::{Job, read_words};
-use std::alloc::{AllocError, Global};
+use std::alloc::Global;
 use std::marker::Sync;
 use std::process::Abort;
 use std::sync::Wait;
@@ -32,14 +32,6 @@ pub(super) struct Made {
     pub(super) total: u128,
     /// Whether the plain test accepts the journal.
     pub(super) legal: bool,
-}
-
-fn strings(alloc: Global, words: &[&str]) -> Result<Vec<String>, AllocError> {
-    let mut list = Vec::new(alloc);
-    for word in words {
-        list.push(String::from_str(alloc, word)?)?;
-    }
-    Ok(list)
 }
 
 /// The lots of a run's words.

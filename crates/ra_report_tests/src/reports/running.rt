@@ -15,10 +15,10 @@ use ra_io::{MemorySink, NoGate};
 use ra_model::Instance;
 use ra_pins::Pins;
 use ra_report::{WriteFault, write_report, write_summary};
-use ra_samples::assignment;
+use ra_samples::{assignment, strings};
 use ra_topology::Topology;
 use ra_words::{Job, read_words};
-use std::alloc::{AllocError, Global};
+use std::alloc::Global;
 use std::marker::Sync;
 use std::process::Abort;
 use std::sync::Wait;
@@ -29,14 +29,6 @@ use std::thread::Threads;
 pub(super) enum Written {
     Report,
     Summary,
-}
-
-fn strings(alloc: Global, words: &[&str]) -> Result<Vec<String>, AllocError> {
-    let mut list = Vec::new(alloc);
-    for word in words {
-        list.push(String::from_str(alloc, word)?)?;
-    }
-    Ok(list)
 }
 
 /// The lots of a run's words.
