@@ -18,6 +18,7 @@ use Rattle.ra_model.specs.Usage.{use_share, use_of, transient_share, transient_o
 use Rattle.ra_model.specs.Services.{is_of, of_service, members_at, on_machine, in_neighbourhood, in_location, locations_of, moved_of}
 use Rattle.ra_model.specs.Broken.{capacity_test, row_capacity, broken_capacity, transient_test, row_transient, broken_transient, conflict_test, service_conflict, broken_conflict, spread_test, broken_spread, near_of, far_test, dependency_test, pair_dependency, service_dependency, broken_dependency, closed_test, broken_closed, first_broken}
 use Rattle.ra_model.specs.Costs.{excess_on, load_part, load_cost, available, shortfall, balance_part, balance_cost, process_share, process_cost, service_cost, way_share, machine_cost, objective, parts_of}
+use Rattle.ra_model.proofs.InstanceLemmas.{well_formed_with}
 use Rattle.ra_edit.specs.SameLists.{HasLists, AreSameLists}
 use Rattle.ra_edit.proofs.RowLaws.{Small, small_same}
 
@@ -108,56 +109,12 @@ unfolding bare bare_from parts_of objective load_cost load_part excess_on balanc
 parts_bare i a0 a = refl
 
 to_bare : (i : Tables) → WellFormed i → WellFormed (bare i.raw)
-unfolding bare bare_from resource_count machine_count service_count process_count balance_count service_row process_row balance_row dependency_end dependency_start need_at service_of first_of second_of
-to_bare i h = record {
-  some_resource = h.some_resource;
-  few_resources = h.few_resources;
-  some_machine = h.some_machine;
-  few_machines = h.few_machines;
-  some_service = h.some_service;
-  few_services = h.few_services;
-  some_process = h.some_process;
-  few_processes = h.few_processes;
-  few_balances = h.few_balances;
-  few_dependencies = h.few_dependencies;
-  capacities = h.capacities;
-  safeties = h.safeties;
-  way_costs = h.way_costs;
-  requirements = h.requirements;
-  in_order = λ s. h.in_order s;
-  within = h.within;
-  all_owned = h.all_owned;
-  needs = h.needs;
-  services = h.services;
-  firsts = h.firsts;
-  seconds = h.seconds;
-}
+unfolding bare bare_from process_count service_of process_row
+to_bare i h = well_formed_with i (bare i.raw) h h.some_process h.few_processes h.requirements h.services
 
 from_bare : (i : Tables) → WellFormed (bare i.raw) → WellFormed i
-unfolding bare bare_from resource_count machine_count service_count process_count balance_count service_row process_row balance_row dependency_end dependency_start need_at service_of first_of second_of
-from_bare i h = record {
-  some_resource = h.some_resource;
-  few_resources = h.few_resources;
-  some_machine = h.some_machine;
-  few_machines = h.few_machines;
-  some_service = h.some_service;
-  few_services = h.few_services;
-  some_process = h.some_process;
-  few_processes = h.few_processes;
-  few_balances = h.few_balances;
-  few_dependencies = h.few_dependencies;
-  capacities = h.capacities;
-  safeties = h.safeties;
-  way_costs = h.way_costs;
-  requirements = h.requirements;
-  in_order = λ s. h.in_order s;
-  within = h.within;
-  all_owned = h.all_owned;
-  needs = h.needs;
-  services = h.services;
-  firsts = h.firsts;
-  seconds = h.seconds;
-}
+unfolding bare bare_from resource_count service_count process_count service_of process_row
+from_bare i h = well_formed_with (bare i.raw) i h h.some_process h.few_processes h.requirements h.services
 
 -- what holds of one of two instances with the same lists holds of the other
 

@@ -10,8 +10,9 @@ use Rattle.ra_base.specs.declared.ids.Service.{Service}
 use Rattle.ra_model.specs.declared.raw.ProcessRow.{ProcessRow}
 use Rattle.ra_model.specs.declared.raw.Tables.{Tables}
 use Rattle.ra_model.specs.Limits.{WellFormed}
-use Rattle.ra_model.specs.Numbers.{service_row, process_row, balance_row, resource_count, machine_count, service_count, process_count, balance_count, dependency_end, dependency_start, need_at, service_of, first_of, second_of}
+use Rattle.ra_model.specs.Numbers.{process_row, resource_count, machine_count, service_count, process_count, service_of}
 use Rattle.ra_model.specs.Assignments.{IsAssignment, machine_at}
+use Rattle.ra_model.proofs.InstanceLemmas.{well_formed_with}
 use Rattle.ra_edits_read.specs.declared.edits.Edit.{Edit}
 use Rattle.ra_edits_read.specs.declared.edits.Edit.TheVariants.{Add, Retire, Resize}
 use Rattle.ra_edits_read.specs.EditLists.{FitsInstance}
@@ -47,30 +48,10 @@ rows_of i rows requirements h = record {
 }
 
 pub well_with : (i : Tables) (rows after : List ProcessRow) (requirements next : List ℕ) → WellFormed (with_processes i rows requirements) → AreRows i after next → WellFormed (with_processes i after next)
-unfolding with_processes resource_count machine_count service_count process_count balance_count service_row balance_row dependency_end dependency_start need_at first_of second_of
-well_with i rows after requirements next h fits = record {
-  some_resource = h.some_resource;
-  few_resources = h.few_resources;
-  some_machine = h.some_machine;
-  few_machines = h.few_machines;
-  some_service = h.some_service;
-  few_services = h.few_services;
-  some_process = fits.some;
-  few_processes = fits.few;
-  few_balances = h.few_balances;
-  few_dependencies = h.few_dependencies;
-  capacities = h.capacities;
-  safeties = h.safeties;
-  way_costs = h.way_costs;
-  requirements = fits.table;
-  in_order = λ s. h.in_order s;
-  within = h.within;
-  all_owned = h.all_owned;
-  needs = h.needs;
-  services = λ p within. subst (λ s. s < service_count i) (sym (service_here i after next p within)) (fits.services p within);
-  firsts = h.firsts;
-  seconds = h.seconds;
-}
+unfolding with_processes resource_count service_count process_count
+well_with i rows after requirements next h fits =
+    well_formed_with (with_processes i rows requirements) (with_processes i after next) h fits.some fits.few fits.table
+    (λ p within. subst (λ s. s < service_count i) (sym (service_here i after next p within)) (fits.services p within))
 
 -- assignments
 

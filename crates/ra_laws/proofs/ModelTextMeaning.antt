@@ -4,6 +4,7 @@ use Rattle.std.specs.Result.{result_err}
 use Rattle.ra_model.specs.declared.raw.Tables.{Tables}
 use Rattle.ra_model.specs.Limits.{WellFormed, Small}
 use Rattle.ra_model.specs.Numbers.{all_open, resource_row, machine_row, service_row, process_row, balance_row, resource_count, machine_count, service_count, process_count, balance_count, transient_at, load_weight_of, neighbourhood_of, location_of, capacity_of, safety_of, way_cost_of, spread_of, dependency_start, dependency_end, dependency_count, need_at, need_of, service_of, requirement_of, process_cost_of, first_of, second_of, target_of, balance_weight_of, process_weight_of, service_weight_of, machine_weight_of}
+use Rattle.ra_model.proofs.InstanceLemmas.{well_formed_with}
 use Rattle.ra_model_read.specs.declared.faults.ModelFault.{ModelFault}
 use Rattle.ra_model_read.specs.FieldOrder.{resource_numbers, machine_numbers, service_numbers, process_numbers, balance_numbers, numbers_of}
 use Rattle.ra_model_read.specs.Lists.{Lists, lists_of}
@@ -18,30 +19,8 @@ use Rattle.ra_laws.proofs.Telling.{tells_whole}
 -- flags of closed machines are no matter of the limits and of the numbers
 
 fits_open : (i : Tables) → WellFormed i → WellFormed (all_open i.raw)
-unfolding resource_count machine_count service_count process_count balance_count resource_row machine_row service_row process_row balance_row dependency_end dependency_start need_at service_of first_of second_of
-fits_open i h = record {
-  some_resource = h.some_resource;
-  few_resources = h.few_resources;
-  some_machine = h.some_machine;
-  few_machines = h.few_machines;
-  some_service = h.some_service;
-  few_services = h.few_services;
-  some_process = h.some_process;
-  few_processes = h.few_processes;
-  few_balances = h.few_balances;
-  few_dependencies = h.few_dependencies;
-  capacities = h.capacities;
-  safeties = h.safeties;
-  way_costs = h.way_costs;
-  requirements = h.requirements;
-  in_order = λ s. h.in_order s;
-  within = h.within;
-  all_owned = h.all_owned;
-  needs = h.needs;
-  services = h.services;
-  firsts = h.firsts;
-  seconds = h.seconds;
-}
+unfolding process_count service_of process_row
+fits_open i h = well_formed_with i (all_open i.raw) h h.some_process h.few_processes h.requirements h.services
 
 numbers_open : (i : Tables) → numbers_of i ≡ numbers_of (all_open i.raw)
 unfolding numbers_of resource_numbers machine_numbers service_numbers process_numbers balance_numbers resource_count machine_count service_count process_count balance_count resource_row machine_row service_row process_row balance_row transient_at load_weight_of neighbourhood_of location_of capacity_of safety_of way_cost_of spread_of dependency_start dependency_end dependency_count need_at need_of service_of requirement_of process_cost_of first_of second_of target_of balance_weight_of process_weight_of service_weight_of machine_weight_of

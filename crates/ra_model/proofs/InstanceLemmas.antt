@@ -1,8 +1,8 @@
--- The limits of an instance's numbers, by their types and with machines closed.
+-- The limits of an instance's numbers, by their types, with machines closed and with other processes.
 use native.Mathlib.Numerals.{unary_clauses}
 use Rattle.std.proofs.lemmas.List.{get_or_read, get_or-take, get_or-drop}
 use Rattle.std.proofs.Math.ListN.{take, drop}
-use Rattle.std.proofs.Common.{refl, ◌-◌, ◌≡◌, ℕ, zero, suc, ◌<◌, ◌≤◌, length, length-take, length-drop, List, Bool, arith}
+use Rattle.std.proofs.Common.{refl, ◌-◌, ◌*◌, ◌≡◌, ℕ, zero, suc, ◌<◌, ◌≤◌, length, length-take, length-drop, List, Bool, arith}
 use Rattle.std.specs.Prelude.{slice_index_or}
 use Rattle.ra_base.specs.Listed.{Listed}
 use Rattle.ra_base.specs.declared.ids.Service.{Service}
@@ -58,31 +58,51 @@ small_closed i flags h = record {
   machine_weight = h.machine_weight;
 }
 
-pub well_formed_closed : (i : Tables) (flags : Listed Bool) → WellFormed i → WellFormed (with_closed i flags)
-unfolding resource_count machine_count service_count process_count balance_count resource_row machine_row service_row process_row balance_row dependency_end dependency_start need_at service_of first_of second_of
-well_formed_closed i flags h = record {
+-- j with the lists of i, but for the processes and what they require
+abbrev pub with_lists : Tables → Tables → Tables
+with_lists i j = record j {
+  raw = record j.raw {
+    resources = record { items = i.raw.resources.items; room = j.raw.resources.room };
+    machines = record { items = i.raw.machines.items; room = j.raw.machines.room };
+    capacities = record { items = i.raw.capacities.items; room = j.raw.capacities.room };
+    safeties = record { items = i.raw.safeties.items; room = j.raw.safeties.room };
+    move_costs = record { items = i.raw.move_costs.items; room = j.raw.move_costs.room };
+    services = record { items = i.raw.services.items; room = j.raw.services.room };
+    dependencies = record { items = i.raw.dependencies.items; room = j.raw.dependencies.room };
+    balances = record { items = i.raw.balances.items; room = j.raw.balances.room };
+  };
+}
+
+-- j is well formed where its lists are those of i, but for processes that fit
+pub well_formed_with : (i j : Tables) → WellFormed i → 1 ≤ process_count j → process_count j ≤ 50000 → length j.raw.requirements.items ≡ process_count j * resource_count i → ((p : ℕ) → p < process_count j → service_of j p < service_count i) → WellFormed (with_lists i j)
+unfolding resource_count machine_count service_count process_count balance_count service_row process_row balance_row dependency_end dependency_start need_at service_of first_of second_of
+well_formed_with i j h some few table served = record {
   some_resource = h.some_resource;
   few_resources = h.few_resources;
   some_machine = h.some_machine;
   few_machines = h.few_machines;
   some_service = h.some_service;
   few_services = h.few_services;
-  some_process = h.some_process;
-  few_processes = h.few_processes;
+  some_process = some;
+  few_processes = few;
   few_balances = h.few_balances;
   few_dependencies = h.few_dependencies;
   capacities = h.capacities;
   safeties = h.safeties;
   way_costs = h.way_costs;
-  requirements = h.requirements;
+  requirements = table;
   in_order = λ s. h.in_order s;
   within = h.within;
   all_owned = h.all_owned;
   needs = h.needs;
-  services = h.services;
+  services = served;
   firsts = h.firsts;
   seconds = h.seconds;
 }
+
+pub well_formed_closed : (i : Tables) (flags : Listed Bool) → WellFormed i → WellFormed (with_closed i flags)
+unfolding process_count service_of process_row
+well_formed_closed i flags h = well_formed_with i (with_closed i flags) h h.some_process h.few_processes h.requirements h.services
 
 -- what a read of a row gives
 
