@@ -1,28 +1,16 @@
 -- What the numbers that a program reads say of the bound, and how small they are.
-use Rattle.std.proofs.Common.{◌≡◌, ℕ, ◌-◌, ◌^◌, ◌<◌, List, ap, refl, arith, get_or, ℤ}
+use Rattle.std.proofs.Common.{◌≡◌, ℕ, ◌-◌, ◌^◌, ◌<◌, List, refl, arith, get_or, ℤ}
 use Rattle.std.specs.Prelude.{pos, ◌-ℤ◌, ◌*ℤ◌}
 use Rattle.ra_model.specs.declared.raw.BalanceRow.{BalanceRow}
 use Rattle.ra_model.specs.declared.raw.Tables.{Tables}
-use Rattle.ra_model.specs.Numbers.{resource_count, machine_count, process_count, balance_row, capacity_of, requirement_of, first_of, second_of, target_of}
+use Rattle.ra_model.specs.Numbers.{resource_count, machine_count, process_count, balance_row, capacity_of, requirement_of}
 use Rattle.ra_model.specs.Limits.{WellFormed, Small}
+use Rattle.ra_model.proofs.InstanceLemmas.{first_read, second_read, target_read}
 use Rattle.ra_bounds.specs.Bounds.{required, safety, capacity, overload, spare, above_zero, lack}
 use Rattle.ra_bounds.specs.Totals.{AreRequired, AreSafeties, AreCapacities}
 use Rattle.ra_bounds.proofs.TotalLemmas.{total_small}
 
--- the numbers of an objective's row
-
-pub first_read : (i : Tables) (b : ℕ) (row : BalanceRow) → row ≡ balance_row i b → row.first.0 ≡ first_of i b
-unfolding first_of
-first_read i b row read = ap (λ (x : BalanceRow). x.first.0) read
-
-pub second_read : (i : Tables) (b : ℕ) (row : BalanceRow) → row ≡ balance_row i b → row.second.0 ≡ second_of i b
-unfolding second_of
-second_read i b row read = ap (λ (x : BalanceRow). x.second.0) read
-
-pub target_read : (i : Tables) (b : ℕ) (row : BalanceRow) → row ≡ balance_row i b → row.target ≡ target_of i b
-unfolding target_of
-target_read i b row read = ap (λ (x : BalanceRow). x.target) read
-
+-- what an objective lacks
 pub lack_from : (i : Tables) (b : ℕ) (row : BalanceRow) (first second : ℤ) → row ≡ balance_row i b → first ≡ spare i row.first.0 → second ≡ spare i row.second.0 → above_zero (pos row.target *ℤ first -ℤ second) ≡ lack i b
 unfolding lack
 lack_from i b row first second read first_is second_is = rw (first_is, second_is, target_read i b row read, first_read i b row read, second_read i b row read) refl

@@ -1,12 +1,11 @@
 -- What a table of use says of the costs, and bounds of products.
-use Rattle.std.proofs.Common.{◌≡◌, ℕ, ◌+◌, ◌-◌, ◌*◌, ◌^◌, ◌<◌, ◌≤◌, List, true, false, eqb, refl, sym, ap, ◌∙◌, arith, le_trans}
+use Rattle.std.proofs.Common.{◌≡◌, ℕ, ◌+◌, ◌-◌, ◌*◌, ◌^◌, ◌<◌, ◌≤◌, List, true, false, eqb, refl, sym, ◌∙◌, arith, le_trans}
 use Rattle.std.proofs.lemmas.Bool.{cond-true, cond-false}
 use Rattle.std.proofs.lemmas.Nat.{mul-le}
 use Rattle.ra_base.specs.Tables.{cell}
 use Rattle.ra_base.specs.declared.ids.Machine.{Machine}
-use Rattle.ra_model.specs.declared.raw.BalanceRow.{BalanceRow}
 use Rattle.ra_model.specs.declared.raw.Tables.{Tables}
-use Rattle.ra_model.specs.Numbers.{resource_count, capacity_of, safety_of, first_of, second_of, target_of, balance_row, process_cost_of, way_cost_of}
+use Rattle.ra_model.specs.Numbers.{resource_count, capacity_of, safety_of, first_of, second_of, target_of, process_cost_of, way_cost_of}
 use Rattle.ra_model.specs.Assignments.{machine_at}
 use Rattle.ra_model.specs.Usage.{use_of}
 use Rattle.ra_model.specs.Costs.{excess_on, available, shortfall, process_share, way_share}
@@ -32,19 +31,6 @@ available_from i a table width m r used capacity sums wide column read cap = rw 
 pub shortfall_from : (i : Tables) (a : List Machine) (b m first second target : ℕ) → first ≡ available i a m (first_of i b) → second ≡ available i a m (second_of i b) → target ≡ target_of i b → target * first - second ≡ shortfall i a b m
 unfolding shortfall
 shortfall_from i a b m first second target first_is second_is target_is = rw (first_is, second_is, target_is) refl
-
--- the numbers of an objective's row
-pub first_read : (i : Tables) (b : ℕ) (row : BalanceRow) → row ≡ balance_row i b → row.first.0 ≡ first_of i b
-unfolding first_of
-first_read i b row read = ap (λ (x : BalanceRow). x.first.0) read
-
-pub second_read : (i : Tables) (b : ℕ) (row : BalanceRow) → row ≡ balance_row i b → row.second.0 ≡ second_of i b
-unfolding second_of
-second_read i b row read = ap (λ (x : BalanceRow). x.second.0) read
-
-pub target_read : (i : Tables) (b : ℕ) (row : BalanceRow) → row ≡ balance_row i b → row.target ≡ target_of i b
-unfolding target_of
-target_read i b row read = ap (λ (x : BalanceRow). x.target) read
 
 -- a weight times a number of 64 bits
 pub times_small : (weight sum : ℕ) → weight < 2 ^ 32 → sum < 2 ^ 64 → weight * sum ≤ 2 ^ 110

@@ -1,8 +1,8 @@
--- The limits of an instance's numbers, by their types, with machines closed and with other processes.
+-- The limits of an instance's numbers, by their types, with machines closed and with other processes; and what a read of a row gives.
 use native.Mathlib.Numerals.{unary_clauses}
 use Rattle.std.proofs.lemmas.List.{get_or_read, get_or-take, get_or-drop}
 use Rattle.std.proofs.Math.ListN.{take, drop}
-use Rattle.std.proofs.Common.{refl, ◌-◌, ◌*◌, ◌≡◌, ℕ, zero, suc, ◌<◌, ◌≤◌, length, length-take, length-drop, List, Bool, arith}
+use Rattle.std.proofs.Common.{refl, ap, ◌-◌, ◌*◌, ◌≡◌, ℕ, zero, suc, ◌<◌, ◌≤◌, length, length-take, length-drop, List, Bool, arith}
 use Rattle.std.specs.Prelude.{slice_index_or}
 use Rattle.ra_base.specs.Listed.{Listed}
 use Rattle.ra_base.specs.declared.ids.Service.{Service}
@@ -125,6 +125,22 @@ process_read i k row within read = get_or_read i.raw.processes.items k row withi
 pub balance_read : (i : Tables) (k : ℕ) (row : BalanceRow) → k < balance_count i → row ≡ slice_index_or i.raw.balances.items k row → row ≡ balance_row i k
 unfolding balance_count balance_row
 balance_read i k row within read = get_or_read i.raw.balances.items k row within read _
+
+-- the numbers of an objective's row
+
+pub first_read : (i : Tables) (b : ℕ) (row : BalanceRow) → row ≡ balance_row i b → row.first.0 ≡ first_of i b
+unfolding first_of
+first_read i b row read = ap (λ (x : BalanceRow). x.first.0) read
+
+pub second_read : (i : Tables) (b : ℕ) (row : BalanceRow) → row ≡ balance_row i b → row.second.0 ≡ second_of i b
+unfolding second_of
+second_read i b row read = ap (λ (x : BalanceRow). x.second.0) read
+
+pub target_read : (i : Tables) (b : ℕ) (row : BalanceRow) → row ≡ balance_row i b → row.target ≡ target_of i b
+unfolding target_of
+target_read i b row read = ap (λ (x : BalanceRow). x.target) read
+
+-- where the dependencies of a service start
 
 pub start_first : (i : Tables) → dependency_start i 0 ≡ 0
 unfolding dependency_start

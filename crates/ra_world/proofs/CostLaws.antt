@@ -12,6 +12,7 @@ use Rattle.ra_model.specs.Assignments.{IsAssignment, machine_at, tally}
 use Rattle.ra_model.specs.Services.{moved_of}
 use Rattle.ra_model.specs.Costs.{process_share, process_cost, service_cost, way_share, machine_cost}
 use Rattle.ra_model.specs.MachineCosts.{row_left, balance_share}
+use Rattle.ra_model.proofs.InstanceLemmas.{first_read, second_read}
 use Rattle.ra_model.proofs.TallyLemmas.{tally_set, tally_term}
 
 -- a weight times a number of 64 bits, and one of 32
@@ -54,14 +55,6 @@ pub balance_share_from : (i : Tables) (m : ℕ) (u : ℕ → ℕ) (b : ℕ) (row
 unfolding balance_share first_of second_of target_of balance_weight_of
 balance_share_from i m u b row first second target weight is first_is second_is target_is weight_is =
     rw (first_is, second_is, target_is, weight_is, is) refl
-
-first_read : (i : Tables) (b : ℕ) (row : BalanceRow) → row ≡ balance_row i b → row.first.0 ≡ first_of i b
-unfolding first_of
-first_read i b row read = ap (λ (x : BalanceRow). x.first.0) read
-
-second_read : (i : Tables) (b : ℕ) (row : BalanceRow) → row ≡ balance_row i b → row.second.0 ≡ second_of i b
-unfolding second_of
-second_read i b row read = ap (λ (x : BalanceRow). x.second.0) read
 
 -- the resources of an objective are those of the instance
 pub first_within : (i : Tables) (b : ℕ) (row : BalanceRow) → WellFormed i → b < balance_count i → row ≡ balance_row i b → row.first.0 < resource_count i

@@ -1,7 +1,8 @@
 -- The two resources of the objective.
 use Rattle.std.proofs.Common.{arith, ◌∙◌}
+use Rattle.ra_model.proofs.InstanceLemmas.{first_read, second_read}
 use Rattle.ra_bounds.proofs.SignLemmas.{read_back}
-use Rattle.ra_bounds.proofs.ReadLemmas.{first_read, second_read, lack_from}
+use Rattle.ra_bounds.proofs.ReadLemmas.{lack_from}
 use Rattle.ra_bounds.proofs.balance.lack.Goals as goal
 
 pub spare-first-requires-clause-resource : goal.spare-first-requires-clause-resource

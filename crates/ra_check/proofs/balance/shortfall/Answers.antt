@@ -3,7 +3,8 @@ use Rattle.std.proofs.Common.{◌≡◌, ◌∙◌, ap, ◌+◌, ◌-◌, ◌*�
 use Rattle.ra_base.specs.declared.ids.Machine.{Machine}
 use Rattle.ra_model.specs.Costs.{available}
 use Rattle.ra_model.specs.Numbers.{first_of, second_of}
-use Rattle.ra_check.proofs.CostLaws.{shortfall_from, first_read, second_read, target_read}
+use Rattle.ra_model.proofs.InstanceLemmas.{first_read, second_read, target_read}
+use Rattle.ra_check.proofs.CostLaws.{shortfall_from}
 use Rattle.ra_check.proofs.balance.shortfall.Goals as goal
 
 pub available-first-requires-clause-resource : goal.available-first-requires-clause-resource
