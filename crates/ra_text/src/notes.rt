@@ -1,5 +1,5 @@
 ghost use Rattle.ra_text.specs.Gathering.{Adds};
-ghost use Rattle.ra_text.specs.Notes.{note_text};
+ghost use Rattle.ra_text.specs.Notes.{note_text, range_text};
 
 use crate::gathered::Gathered;
 use crate::pieces::{Piece, add_pieces};
@@ -52,24 +52,42 @@ pub fn add_note<O: Sink>(text: &mut Gathered<'_, O>, note: Note<'_>)
                 Piece::Marked(b' ', n),
             ],
         ),
-        Note::Range(words, field, at, value, least, most) => add_pieces(
-            text,
-            &[
-                Piece::Text(words),
-                Piece::Text(field),
-                Piece::Text(" at "),
-                Piece::Number(at as u128),
-                Piece::Text(": "),
-                Piece::Number(value as u128),
-                Piece::Text(" not in "),
-                Piece::Number(least as u128),
-                Piece::Text(" to "),
-                Piece::Number(most as u128),
-            ],
-        ),
+        Note::Range(words, field, at, value, least, most) => {
+            add_range(text, words, field, at, value, least, most)
+        }
         Note::Cause(words, cause) => {
             add_pieces(text, &[Piece::Text(words)]);
             add_cause(text, &cause)
         }
     }
+}
+
+/// Adds what is said of the number of a field that is not within its limits.
+fn add_range<'a, O: Sink>(
+    text: &mut Gathered<'_, O>,
+    words: &'a str,
+    field: &'a str,
+    at: u64,
+    value: u32,
+    least: u32,
+    most: u32,
+)
+    ensures { Adds O.taken O.faults text.old text.new
+        (range_text words.now field.now at value least most) }
+{
+    add_pieces(
+        text,
+        &[
+            Piece::Text(words),
+            Piece::Text(field),
+            Piece::Text(" at "),
+            Piece::Number(at as u128),
+            Piece::Text(": "),
+            Piece::Number(value as u128),
+            Piece::Text(" not in "),
+            Piece::Number(least as u128),
+            Piece::Text(" to "),
+            Piece::Number(most as u128),
+        ],
+    )
 }
