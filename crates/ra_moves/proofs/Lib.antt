@@ -14,3 +14,4 @@ pub mod CauseLemmas
 pub mod ChangeLemmas
 pub mod CountLemmas
 pub mod Determined
+pub mod FollowLemmas

@@ -1,28 +1,21 @@
 -- The steps of a move one after another, and back.
-use Rattle.std.proofs.Common.{◌≡◌, ◌≢◌, ℕ, ◌<◌, eqb, List, length, None, sym, ap, ◌∙◌, arith, eq-eqb}
+use Rattle.std.proofs.Common.{◌≡◌, ℕ, ◌<◌, List, length, None, sym, ap, ◌∙◌, arith}
 use Rattle.std.proofs.Math.ListN.{get_or-map}
 use Rattle.std.proofs.lemmas.List.{length-map}
-use Rattle.std.proofs.lemmas.Bool.{both_ways}
 use Rattle.ra_base.specs.declared.ids.Machine.{Machine}
 use Rattle.ra_base.specs.Searches.{or_else}
-use Rattle.ra_base.proofs.Searches.{left_none, right_none, first_none_at}
+use Rattle.ra_base.proofs.Searches.{left_none, right_none}
 use Rattle.ra_model.specs.declared.raw.Tables.{Tables}
-use Rattle.ra_model.specs.Numbers.{machine_count, process_count}
+use Rattle.ra_model.specs.Numbers.{machine_count}
 use Rattle.ra_model.specs.Assignments.{IsAssignment, machine_at}
-use Rattle.ra_model.proofs.BrokenLemmas.{cause_none}
 use Rattle.ra_moves.specs.declared.steps.Step.{Step}
 use Rattle.ra_moves.specs.Steps.{step_at, process_in, from_in, to_in, StandsAt}
 use Rattle.ra_moves.specs.Replacing.{after_steps, applied, turned_step, turned}
-use Rattle.ra_moves.specs.Judging.{repeat_of, same_test, same_of}
+use Rattle.ra_moves.specs.Judging.{repeat_of, same_of}
 use Rattle.ra_moves.proofs.Applying.{length_after, after_stayed, after_moved, back}
+use Rattle.ra_moves.proofs.FollowLemmas.{apart_from_none, IsStep, step_needs}
 use Rattle.ra_moves.proofs.Repeats.{distinct_from_none}
-use Rattle.ra_moves.proofs.ValueLemmas.{after_before}
 use Rattle.ra_repair.specs.Following.{AreSteps, AreMade}
-
--- no step stays where it is
-apart_from_none : (steps : List Step) → same_of steps ≡ None → (j : ℕ) → j < length steps → from_in steps j ≢ to_in steps j
-unfolding same_of same_test
-apart_from_none steps none j within same = both_ways (eqb (from_in steps j) (to_in steps j)) (cause_none _ _ (first_none_at j (length steps) (same_test steps) within none)) (eq-eqb (from_in steps j) (to_in steps j) same)
 
 -- a move that isn't refused as Repeat or Same
 pub steps_from : (i : Tables) (a : List Machine) (steps : List Step) → StandsAt from_in steps a → ((j : ℕ) → j < length steps → to_in steps j < machine_count i) → or_else (repeat_of steps) (same_of steps) ≡ None → AreSteps i a steps
@@ -34,20 +27,8 @@ steps_from i a steps stand reach none = record {
 }
 
 -- what one of the steps needs, where those before it are done
-pub record IsStep (i : Tables) (b : List Machine) (s : Step) : Type 0 where
-  pub known : s.process.0 < process_count i
-  pub reach : s.to.0 < machine_count i
-  pub apart : s.from.0 ≢ s.to.0
-  pub at_from : machine_at b s.process.0 ≡ s.from.0
-
 pub step_of : (i : Tables) (a b : List Machine) (steps : List Step) (j : ℕ) (s : Step) → IsAssignment i a → AreSteps i a steps → j < length steps → b ≡ after_steps a steps j → s ≡ step_at steps j → IsStep i b s
-unfolding process_in from_in to_in
-step_of i a b steps j s fits are within made is = record {
-  known = omega (arith, ap (λ (x : Step). x.process.0) is, are.stand.known j within, fits.one_each);
-  reach = omega (arith, ap (λ (x : Step). x.to.0) is, are.reach j within);
-  apart = λ same. are.apart j within (sym (ap (λ (x : Step). x.from.0) is) ∙ same ∙ ap (λ (x : Step). x.to.0) is);
-  at_from = ap (machine_at b) (ap (λ (x : Step). x.process.0) is) ∙ ap (λ xs. machine_at xs (process_in steps j)) made ∙ after_before a steps j within are.stand are.distinct ∙ sym (ap (λ (x : Step). x.from.0) is);
-}
+step_of i a b steps j s fits are within made is = step_needs i a b steps j s fits are.stand are.distinct are.apart are.reach within made is
 
 -- the way back
 
