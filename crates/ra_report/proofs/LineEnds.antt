@@ -136,7 +136,7 @@ unfolding body_of
 drawing_is_line d = number_line_is_line (codes "draws") (drawing_number d) refl
 
 -- the ten lines before the entries
-pub head_lines : Parts → ℕ → ℕ → List Machine → Drawing → List (List ℕ)
+unfoldable pub head_lines : Parts → ℕ → ℕ → List Machine → Drawing → List (List ℕ)
 head_lines parts total best a d =
     number_line (codes "cost") parts.total
     ∷ number_line (codes "load") parts.load
@@ -171,6 +171,11 @@ head_has_lines parts total best a d x =
     (next_line _ _ _ (assignment_is_line a)
     (next_line _ _ _ (drawing_is_line d) refl)))))))))
 
+-- with nothing behind it
+pub head_alone : (parts : Parts) (total best : ℕ) (a : List Machine) (d : Drawing) → lines_of (head_text parts total best a d) ≡ head_lines parts total best a d
+unfolding head_lines lines_of
+head_alone parts total best a d = ap lines_of (sym (append-nil (head_text parts total best a d))) ∙ head_has_lines parts total best a d []
+
 -- lines of two texts can't differ first behind all lines of one of them
 pub unlike_within : (a b : List ℕ) (n : ℕ) → FirstUnlike a b n → n ≤ length (lines_of b)
 unfolding line_at
@@ -190,24 +195,23 @@ unlike_within a b n u = ⊎_elim
 
 -- the head of a report has ten lines, and what follows has its own
 pub head_line_count : (i : Tables) (a0 : List Machine) (l : Lots) (h : List Entry) → length (lines_of (report_head i a0 l h)) ≡ 10
-unfolding report_head head_lines lines_of
+unfolding report_head head_lines
 head_line_count i a0 l h =
     let j = best_of i a0 h in
     let best = state a0 h j in
-    ap (λ t. length (lines_of t)) (sym (append-nil (report_head i a0 l h)))
-    ∙ ap length (head_has_lines (parts_of i a0 best) (pinned_bound_of i a0).total j best l.drawing [])
+    ap length (head_alone (parts_of i a0 best) (pinned_bound_of i a0).total j best l.drawing)
 
 pub head_line_count_of : (j : Journal) → length (lines_of (head_of j)) ≡ 10
 unfolding head_of
 head_line_count_of j = head_line_count j.inst.now.tables j.a0.now.items j.lots.now j.book.entries.items
 
 pub head_before : (i : Tables) (a0 : List Machine) (l : Lots) (h : List Entry) (x : List ℕ) → lines_of (report_head i a0 l h ++ x) ≡ lines_of (report_head i a0 l h) ++ lines_of x
-unfolding report_head lines_of
+unfolding report_head
 head_before i a0 l h x =
     let j = best_of i a0 h in
     let best = state a0 h j in
     head_has_lines (parts_of i a0 best) (pinned_bound_of i a0).total j best l.drawing x
-    ∙ ap (λ ls. ls ++ lines_of x) (sym (append-nil (head_lines (parts_of i a0 best) (pinned_bound_of i a0).total j best l.drawing)) ∙ sym (head_has_lines (parts_of i a0 best) (pinned_bound_of i a0).total j best l.drawing []) ∙ ap lines_of (append-nil (report_head i a0 l h)))
+    ∙ ap (λ ls. ls ++ lines_of x) (sym (head_alone (parts_of i a0 best) (pinned_bound_of i a0).total j best l.drawing))
 
 -- the lines of the first n entries
 pub entries_before : (h : List Entry) (n : ℕ) (x : List ℕ) → lines_of (entries_text h n ++ x) ≡ entry_lines h n ++ lines_of x

@@ -1,9 +1,8 @@
 -- The lines of a report's head are short.
-use Rattle.std.proofs.Common.{◌≡◌, ℕ, zero, suc, ◌+◌, ◌*◌, ◌^◌, ◌<◌, ◌≤◌, List, [], ◌∷◌, ◌++◌, length, slice_get, get_or, Option, Some, None, unwrap_or, codes, refl, ap, ◌∙◌, subst, arith, append_assoc, length-append, lt_trans}
+use Rattle.std.proofs.Common.{◌≡◌, ℕ, zero, suc, ◌+◌, ◌*◌, ◌^◌, ◌<◌, ◌≤◌, List, [], ◌∷◌, ◌++◌, length, slice_get, get_or, Option, Some, None, unwrap_or, codes, refl, ap, ◌∙◌, subst, arith, length-append, lt_trans}
 use Rattle.std.proofs.lemmas.Option.{slice_get-get_or, none-some}
 use Rattle.ra_base.specs.declared.causes.Drawing.{Drawing}
 use Rattle.ra_base.specs.declared.causes.Drawing.TheVariants.{One, Two}
-use Rattle.ra_base.specs.declared.costs.Parts.{Parts}
 use Rattle.ra_base.specs.declared.ids.Machine.{Machine}
 use Rattle.ra_bounds.specs.PinnedBounds.{pinned_bound_of}
 use Rattle.ra_bounds.proofs.PinnedLemmas.{none_costs_less_pinned}
@@ -22,10 +21,10 @@ use Rattle.ra_journal.specs.Legal.{Legal}
 use Rattle.ra_journal.specs.States.{state}
 use Rattle.ra_journal.proofs.BestLemmas.{best_within}
 use Rattle.ra_journal.proofs.SoundLemmas.{sound}
-use Rattle.ra_report.specs.Texts.{space, number_text, number_line, parts_text}
-use Rattle.ra_report.specs.JournalTexts.{machines_text, assignment_line, drawing_number, drawing_line, head_text, report_head, report_text}
+use Rattle.ra_report.specs.Texts.{space, number_text, number_line}
+use Rattle.ra_report.specs.JournalTexts.{machines_text, assignment_line, drawing_number, report_head, report_text}
 use Rattle.ra_report.proofs.LengthLaws.{text_length, cost_length}
-use Rattle.ra_report.proofs.LineEnds.{IsLine, number_line_is_line, assignment_is_line, drawing_is_line, line_before, line_alone}
+use Rattle.ra_report.proofs.LineEnds.{IsLine, number_line_is_line, assignment_is_line, head_lines, head_alone}
 use Rattle.ra_verify.specs.Laws.{ReportHasNoneWrong}
 use Rattle.ra_verify.specs.WrongLines.{most_bytes, over_long}
 use Rattle.ra_verify.proofs.FollowLemmas.{few_entries}
@@ -82,44 +81,9 @@ unfolding drawing_number
 drawing_few One = omega arith
 drawing_few Two = omega arith
 
--- the ten lines of a head, one by one
-ten_lines : Parts → ℕ → ℕ → List Machine → Drawing → List (List ℕ)
-ten_lines parts total best a d =
-    number_line (codes "cost") parts.total
-    ∷ number_line (codes "load") parts.load
-    ∷ number_line (codes "balance") parts.balance
-    ∷ number_line (codes "process") parts.process
-    ∷ number_line (codes "service") parts.service
-    ∷ number_line (codes "machine") parts.machine
-    ∷ number_line (codes "bound") total
-    ∷ number_line (codes "best_at") best
-    ∷ assignment_line a
-    ∷ drawing_line d
-    ∷ []
-
-ten_texts : (a b c d e f g h i j : List ℕ) → (((((((((a ++ b) ++ c) ++ d) ++ e) ++ f) ++ g) ++ h) ++ i) ++ j) ≡ a ++ (b ++ (c ++ (d ++ (e ++ (f ++ (g ++ (h ++ (i ++ j))))))))
-ten_texts a b c d e f g h i j = simp append_assoc
-
-next_line : (line rest : List ℕ) (lines : List (List ℕ)) → IsLine line → lines_of rest ≡ lines → lines_of (line ++ rest) ≡ line ∷ lines
-next_line line rest lines is e = line_before line rest is ∙ ap (λ ls. line ∷ ls) e
-
-ten_are : (parts : Parts) (total best : ℕ) (a : List Machine) (d : Drawing) → lines_of (head_text parts total best a d) ≡ ten_lines parts total best a d
-unfolding head_text parts_text ten_lines body_of
-ten_are parts total best a d =
-    ap lines_of (ten_texts (number_line (codes "cost") parts.total) (number_line (codes "load") parts.load) (number_line (codes "balance") parts.balance) (number_line (codes "process") parts.process) (number_line (codes "service") parts.service) (number_line (codes "machine") parts.machine) (number_line (codes "bound") total) (number_line (codes "best_at") best) (assignment_line a) (drawing_line d))
-    ∙ next_line _ _ _ (number_line_is_line (codes "cost") parts.total refl)
-    (next_line _ _ _ (number_line_is_line (codes "load") parts.load refl)
-    (next_line _ _ _ (number_line_is_line (codes "balance") parts.balance refl)
-    (next_line _ _ _ (number_line_is_line (codes "process") parts.process refl)
-    (next_line _ _ _ (number_line_is_line (codes "service") parts.service refl)
-    (next_line _ _ _ (number_line_is_line (codes "machine") parts.machine refl)
-    (next_line _ _ _ (number_line_is_line (codes "bound") total refl)
-    (next_line _ _ _ (number_line_is_line (codes "best_at") best refl)
-    (next_line _ _ _ (assignment_is_line a) (line_alone (drawing_line d) (drawing_is_line d))))))))))
-
 -- the ten lines of a report of a legal journal
-heads_short : (i : Tables) (a0 : List Machine) (l : Lots) (h : List Entry) → WellFormed i → Small i → IsAssignment i a0 → Feasible i a0 a0 → Legal i a0 l h → AreShort 0 (ten_lines (parts_of i a0 (state a0 h (best_of i a0 h))) (pinned_bound_of i a0).total (best_of i a0 h) (state a0 h (best_of i a0 h)) l.drawing)
-unfolding AreShort ten_lines most_bytes parts_of best_of body_of
+heads_short : (i : Tables) (a0 : List Machine) (l : Lots) (h : List Entry) → WellFormed i → Small i → IsAssignment i a0 → Feasible i a0 a0 → Legal i a0 l h → AreShort 0 (head_lines (parts_of i a0 (state a0 h (best_of i a0 h))) (pinned_bound_of i a0).total (best_of i a0 h) (state a0 h (best_of i a0 h)) l.drawing)
+unfolding AreShort head_lines most_bytes parts_of best_of body_of
 heads_short i a0 l h limits numbers fits feasible legal =
     let j = best_of i a0 h in
     let a = state a0 h j in
@@ -160,12 +124,12 @@ heads_short i a0 l h limits numbers fits feasible legal =
 
 -- none of them is over long
 report_short : (i : Tables) (a0 : List Machine) (l : Lots) (h : List Entry) (k : ℕ) → WellFormed i → Small i → IsAssignment i a0 → Feasible i a0 a0 → Legal i a0 l h → k < 10 → over_long (report_text i a0 l h) k ≡ None
-unfolding line_at report_head ten_lines
+unfolding line_at report_head head_lines
 report_short i a0 l h k limits numbers fits feasible legal within =
     let j = best_of i a0 h in
     let a = state a0 h j in
-    let lines = ten_lines (parts_of i a0 a) (pinned_bound_of i a0).total j a l.drawing in
-    let head : lines_of (report_head i a0 l h) ≡ lines = ten_are (parts_of i a0 a) (pinned_bound_of i a0).total j a l.drawing in
+    let lines = head_lines (parts_of i a0 a) (pinned_bound_of i a0).total j a l.drawing in
+    let head : lines_of (report_head i a0 l h) ≡ lines = head_alone (parts_of i a0 a) (pinned_bound_of i a0).total j a l.drawing in
     let there : slice_get lines k ≡ Some (get_or lines k []) = slice_get-get_or lines k [] within in
     let at : line_at k (report_text i a0 l h) ≡ Some (get_or lines k []) = report_at i a0 l h k within ∙ ap (λ (t : List (List ℕ)). slice_get t k) head ∙ there in
     short_at (report_text i a0 l h) (get_or lines k []) k at (subst (λ (m : ℕ). length (body_of (get_or lines k [])) ≤ most_bytes m) {x = 0 + k} {y = k} (omega arith) (short_there 0 lines k (get_or lines k []) (heads_short i a0 l h limits numbers fits feasible legal) there))
