@@ -179,7 +179,8 @@ fn trial_from<R: Threads + Wait + Sync, O: Sink, G: Gate>(
     ensures printed { OnOk result (IsSummarized inst.now.tables initial.now.items lots.now
         (Appends (O.taken out.old) (O.taken out.new))) }
     ensures refused { IfErr result (TrialSays (IsSummarized inst.now.tables initial.now.items
-        lots.now (Breaks (O.taken out.old) (O.taken out.new) (O.faults out.old) (O.faults out.new)))) }
+        lots.now
+        (Breaks (O.taken out.old) (O.taken out.new) (O.faults out.old) (O.faults out.new)))) }
     ensures untouched { IfErr result (λ fault. fault ≢ TrialFault.Write → out.new ≡ out.old) }
     ensures never_falls { O.faults out.old ≤ O.faults out.new }
 {
@@ -220,7 +221,8 @@ fn trial_over<R: Threads + Wait + Sync, O: Sink, G: Gate>(
     ensures printed { OnOk result (IsSummarized inst.now.tables initial.now.items lots.now
         (Appends (O.taken out.old) (O.taken out.new))) }
     ensures refused { IfErr result (TrialSays (IsSummarized inst.now.tables initial.now.items
-        lots.now (Breaks (O.taken out.old) (O.taken out.new) (O.faults out.old) (O.faults out.new)))) }
+        lots.now
+        (Breaks (O.taken out.old) (O.taken out.new) (O.faults out.old) (O.faults out.new)))) }
     ensures untouched { IfErr result (λ fault. fault ≢ TrialFault.Write → out.new ≡ out.old) }
     ensures never_falls { O.faults out.old ≤ O.faults out.new }
 {
