@@ -1,6 +1,7 @@
 //! Lots of written words.
-ghost use Rattle.std.specs.Prelude.{◌≡◌, ◌*◌, ◌+◌, ◌≤◌, IfOk, length};
+ghost use Rattle.std.specs.Prelude.{◌≡◌, ◌*◌, ◌+◌, ◌≤◌, [], ◌∷◌, IfOk, length};
 ghost use Rattle.ra_draws.specs.Lots.{IsFitting};
+ghost use Rattle.ra_samples.specs.WrittenLots.{AreWords, AreWritten};
 
 use crate::lists::list;
 use ra_base::{Drawing, NoMemory};
@@ -12,6 +13,7 @@ pub fn written(alloc: Global, words: &[u64], budget: u64) -> Result<Lot, NoMemor
     requires { length words.now ≡ 8 * budget }
     ensures fitting { IfOk result (λ lot. IsFitting lot) }
     ensures budget { IfOk result (λ lot. lot.budget ≡ budget) }
+    ensures words { IfOk result (λ lot. AreWords lot.source words.now) }
 {
     let words = list(alloc, words)?;
     Ok(Lot {
@@ -25,7 +27,10 @@ pub fn one_lot(alloc: Global, slack: u64, budget: u64, words: &[u64]) -> Result<
     requires words { length words.now ≡ 8 * budget }
     requires few { budget ≤ 1000000 }
     ensures slack { IfOk result (λ lots. lots.slack ≡ slack) }
+    ensures drawing { IfOk result (λ lots. lots.drawing ≡ Drawing.One) }
     ensures one { IfOk result (λ lots. length lots.lots.items ≡ 1) }
+    ensures written { IfOk result (λ lots.
+        AreWritten lots.lots.items (words.now ∷ []) budget) }
 {
     let mut lots = Vec::new(alloc);
     lots.push(written(alloc, words, budget)?)?;
@@ -44,7 +49,10 @@ pub fn two_lots(
     requires second { length second.now ≡ 8 * budget }
     requires few { budget + budget ≤ 1000000 }
     ensures slack { IfOk result (λ lots. lots.slack ≡ slack) }
+    ensures drawing { IfOk result (λ lots. lots.drawing ≡ Drawing.One) }
     ensures two { IfOk result (λ lots. length lots.lots.items ≡ 2) }
+    ensures written { IfOk result (λ lots.
+        AreWritten lots.lots.items (first.now ∷ second.now ∷ []) budget) }
 {
     let mut lots = Vec::new(alloc);
     lots.push(written(alloc, first, budget)?)?;
