@@ -7,3 +7,4 @@ pub mod ListLaws
 pub mod Picks
 pub mod Least
 pub mod Tables
+pub mod Whole
