@@ -3,6 +3,7 @@ pub mod TallyLemmas
 pub mod BrokenLemmas
 pub mod BoundLemmas
 pub mod MachineLemmas
+pub mod WholeLemmas
 pub mod CopyLemmas
 pub mod PartLemmas
 pub mod SortingLemmas

@@ -15,3 +15,4 @@ pub mod Relations
 pub mod Services
 pub mod Sorting
 pub mod Usage
+pub mod WholeCosts

@@ -2,11 +2,12 @@ ghost use Rattle.std.specs.Prelude.{◌≡◌, ℕ, ◌*◌, ◌<◌, ◌≤◌,
 ghost use Rattle.std.specs.Bool.{Decides};
 ghost use Rattle.ra_model.specs.Limits.{WellFormed};
 ghost use Rattle.ra_model.specs.Numbers.{all_open, resource_count, machine_count, service_count, process_count, balance_count, dependency_start, dependency_end, need_at, service_of, first_of, second_of};
-ghost use Rattle.ra_model.specs.Assignments.{IsAssignment, machine_at};
+ghost use Rattle.ra_model.specs.Assignments.{IsAssignment};
 
+use crate::assigned::machine_of;
 use crate::numbers::Instance;
 use crate::raw::RawInstance;
-use ra_base::{Assignment, Machine};
+use ra_base::{Assignment, Process};
 
 impl RawInstance {
     /// Whether these lists are an instance, as `Instance::of` needs: the counts are within the limits, each table has
@@ -32,22 +33,12 @@ impl Instance {
             return false;
         }
         for p in 0..self.processes() {
-            if machine_of(a, p).0 >= self.machines() {
+            if machine_of(a, Process(p)).0 >= self.machines() {
                 return false;
             }
         }
         true
     }
-}
-
-/// The machine of a process.
-#[tactic(auto, using(crate::proofs::TallyLemmas::machine_at_read))]
-fn machine_of(a: &Assignment, p: u32) -> Machine
-    requires { p < length a.now.items }
-    ensures { result.0 ≡ machine_at a.now.items p }
-{
-    let _count = a.len();
-    a.get(p as usize)
 }
 
 fn is_within(count: usize, least: usize, most: usize) -> bool

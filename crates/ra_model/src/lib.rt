@@ -5,6 +5,7 @@
 //! `ra_laws`.
 #![tactic(auto)]
 
+mod assigned;
 mod copying;
 mod fits;
 mod labels;
@@ -13,6 +14,7 @@ mod numbers;
 mod raw;
 mod tables;
 
+pub use assigned::machine_of;
 pub use copying::copies;
 pub use labels::Places;
 pub use members::Members;
