@@ -8,8 +8,7 @@ ghost use Rattle.ra_pins.specs.Loads.{AreKept};
 ghost use Rattle.ra_pins.specs.Marks.{AreStamped};
 ghost use Rattle.ra_pins.specs.Walks.{spot, overfull, IsWalk};
 
-use crate::tables::read_cell;
-use ra_base::{Fixed, Machine, Process, Resource, Service, Steps};
+use ra_base::{Fixed, Machine, Process, Resource, Service, Steps, read_cell};
 use ra_model::Instance;
 use std::sync::ledger::Ledger;
 

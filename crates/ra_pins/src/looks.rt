@@ -13,9 +13,9 @@ ghost use Rattle.ra_pins.specs.Searches.{IsSearch, IsBetween, HasLooked, HasWalk
 use crate::blocked::{is_blocked, spot};
 use crate::marks::mark_service;
 use crate::search::Search;
-use crate::tables::{Columns, add_row, machine_of};
+use crate::tables::{Columns, add_row};
 use ra_base::{Assignment, Fixed, Machine, Process, Service, Steps};
-use ra_model::{Instance, Members};
+use ra_model::{Instance, Members, machine_of};
 use std::sync::ledger::{Blank, Ledger};
 
 /// Passes over the processes until one flags nothing: then exactly the pinned processes are flagged.

@@ -5,9 +5,8 @@ ghost use Rattle.ra_model.specs.Members.{AreMembers, members_of, member_at};
 ghost use Rattle.ra_pins.specs.PinLists.{flag_at};
 ghost use Rattle.ra_pins.specs.Marks.{AreMarked, AreTouched, AreStamped, AreSeated, IsSet, is_seat};
 
-use crate::tables::machine_of;
 use ra_base::{Assignment, Fixed, Process, Service};
-use ra_model::{Instance, Members};
+use ra_model::{Instance, Members, machine_of};
 
 /// Marks the machines on which flagged processes of a service start, by the number of the service and one. A mark that
 /// was set stays true, since flags are never taken away.

@@ -11,9 +11,9 @@ ghost use Rattle.ra_pins.specs.Laws.{Stays};
 
 use crate::looks::settle;
 use crate::search::Search;
-use crate::tables::{Columns, add_row, machine_of, read_cell};
-use ra_base::{Assignment, Fixed, Machine, NoMemory, Process, Resource, Steps};
-use ra_model::{Instance, Members, copies};
+use crate::tables::{Columns, add_row};
+use ra_base::{Assignment, Fixed, Machine, NoMemory, Process, Resource, Steps, read_cell};
+use ra_model::{Instance, Members, copies, machine_of};
 use std::alloc::Global;
 use std::marker::{Brand, Model};
 use std::sync::ledger::{Blank, Ledger};

@@ -5,9 +5,9 @@ ghost use Rattle.ra_pins.specs.Loads.{IsTally, row_share};
 ghost use Rattle.ra_pins.specs.Searches.{IsBetween};
 ghost use Rattle.ra_pins.specs.declared.tables.Columns.TheVariants as columns;
 
-use crate::tables::{Columns, add_row, machine_of};
+use crate::tables::{Columns, add_row};
 use ra_base::{Assignment, Fixed, NoMemory, Process, Steps};
-use ra_model::{Instance, copies};
+use ra_model::{Instance, copies, machine_of};
 use std::alloc::Global;
 use std::marker::Brand;
 use std::sync::ledger::{Blank, Ledger};

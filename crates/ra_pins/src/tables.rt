@@ -1,10 +1,8 @@
-ghost use Rattle.std.specs.Prelude.{◌≡◌, ◌+◌, ◌*◌, ◌^◌, ◌<◌, Bool, length, slice_set};
-ghost use Rattle.ra_base.specs.Tables.{cell};
+ghost use Rattle.std.specs.Prelude.{◌≡◌, ◌*◌, ◌^◌, ◌<◌, length};
 ghost use Rattle.ra_model.specs.Numbers.{resource_count, machine_count, process_count, transient_at};
-ghost use Rattle.ra_model.specs.Assignments.{machine_at};
 ghost use Rattle.ra_pins.specs.Loads.{takes, amount_in, AddsRow, IsBelow};
 
-use ra_base::{Assignment, Fixed, Machine, Process, Resource, Steps};
+use ra_base::{Fixed, Machine, Process, Resource, Steps, add_to_cell};
 use ra_model::Instance;
 use std::sync::ledger::Ledger;
 
@@ -26,38 +24,6 @@ fn takes(columns: Columns, transient: bool) -> bool
         Columns::Transient => transient,
         Columns::Others => !transient,
     }
-}
-
-/// The machine of a process.
-#[tactic(auto, using(ra_model::proofs::TallyLemmas::machine_at_read))]
-pub(crate) fn machine_of(a: &Assignment, p: Process) -> Machine
-    requires { p.0 < length a.now.items }
-    ensures { result.0 ≡ machine_at a.now.items p.0 }
-{
-    let _count = a.len();
-    a.get(p.0 as usize)
-}
-
-/// The number of a table at a row and a column.
-#[tactic(auto, unfolding(ra_base::specs::Tables::cell))]
-pub(crate) fn read_cell(table: &Fixed<u64>, width: u32, row: u32, column: u32) -> u64
-    requires { row * width + column < length table.now.items }
-    ensures { result ≡ cell width table.now.items row column }
-{
-    let _within = table.len();
-    table.get(row as usize * width as usize + column as usize)
-}
-
-/// Adds to the number of a table at a row and a column.
-fn add_to_cell(table: &mut Fixed<u64>, width: u32, row: u32, column: u32, amount: u32)
-    requires place { row * width + column < length table.old.items }
-    requires fits { cell width table.old.items row column + amount < 2 ^ 64 }
-    ensures { table.new.items ≡ slice_set table.old.items (row * width + column)
-        (cell width table.old.items row column + amount) }
-{
-    let _within = table.len();
-    let sum = read_cell(table, width, row, column) + u64::from(amount);
-    table.set(row as usize * width as usize + column as usize, sum);
 }
 
 /// What a process requires of a resource, and nothing of one that isn't meant.
