@@ -6,8 +6,7 @@ ghost use Rattle.ra_model.specs.Costs.{available, shortfall, balance_part, balan
 ghost use Rattle.ra_check.specs.Stands.{IsUsage};
 ghost use Rattle.ra_check.specs.Made.{IsGrid};
 
-use crate::cells::read_cell;
-use ra_base::{Fixed, Machine, Resource};
+use ra_base::{Fixed, Machine, Resource, read_cell};
 use ra_model::Instance;
 
 /// The balance cost of whatever assignment the table has the use of.

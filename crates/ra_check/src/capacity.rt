@@ -6,10 +6,9 @@ ghost use Rattle.ra_model.specs.Broken.{capacity_test, row_capacity, broken_capa
 ghost use Rattle.ra_check.specs.Made.{IsGrid, IsMadeFor};
 ghost use Rattle.ra_check.specs.Stands.{IsUsage};
 
-use crate::cells::read_cell;
 use crate::scratch::Scratch;
 use crate::usage::sum_usage;
-use ra_base::{Assignment, Cause, Fixed, Machine, Resource};
+use ra_base::{Assignment, Cause, Fixed, Machine, Resource, read_cell};
 use ra_model::Instance;
 use std::marker::Brand;
 use std::sync::ledger::Blank;

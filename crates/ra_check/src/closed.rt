@@ -3,9 +3,8 @@ ghost use Rattle.ra_model.specs.Numbers.{process_count};
 ghost use Rattle.ra_model.specs.Assignments.{IsAssignment};
 ghost use Rattle.ra_model.specs.Broken.{closed_test, broken_closed};
 
-use crate::usage::machine_of;
 use ra_base::{Assignment, Cause, Process};
-use ra_model::Instance;
+use ra_model::{Instance, machine_of};
 
 /// The first process that is put on a closed machine.
 #[tactic(auto, using(ra_base::proofs::Searches::searches), unfolding(ra_model::specs::Broken::broken_closed))]
@@ -29,8 +28,8 @@ fn closed_test(inst: &Instance, a0: &Assignment, a: &Assignment, p: Process) -> 
     requires fits { IsAssignment inst.now.tables a.now.items }
     ensures { result ≡ closed_test inst.now.tables a0.now.items a.now.items p.0 }
 {
-    let at = machine_of(a, p.0);
-    if inst.closed(at) && machine_of(a0, p.0) != at {
+    let at = machine_of(a, p);
+    if inst.closed(at) && machine_of(a0, p) != at {
         Some(Cause::Closed {
             process: p,
             machine: at,

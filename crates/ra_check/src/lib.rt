@@ -3,7 +3,6 @@
 
 mod balance;
 mod capacity;
-mod cells;
 mod closed;
 mod conflict;
 mod dependency;

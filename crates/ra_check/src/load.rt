@@ -6,8 +6,7 @@ ghost use Rattle.ra_model.specs.Costs.{excess_on, load_part, load_cost};
 ghost use Rattle.ra_check.specs.Stands.{IsUsage};
 ghost use Rattle.ra_check.specs.Made.{IsGrid};
 
-use crate::cells::read_cell;
-use ra_base::{Fixed, Machine, Resource};
+use ra_base::{Fixed, Machine, Resource, read_cell};
 use ra_model::Instance;
 
 /// The load cost of whatever assignment the table has the use of.

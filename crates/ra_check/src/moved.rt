@@ -6,9 +6,8 @@ ghost use Rattle.ra_model.specs.Costs.{service_cost};
 ghost use Rattle.ra_check.specs.Stands.{HasMoved, AddsMoved, AreBelow};
 
 use crate::scratch::fill;
-use crate::usage::machine_of;
 use ra_base::{Assignment, Fixed, Process};
-use ra_model::Instance;
+use ra_model::{Instance, machine_of};
 
 /// The service cost: the greatest number of moved processes of one service, times its weight.
 pub(crate) fn service_cost(
@@ -74,7 +73,7 @@ fn count_process(
         counts.new.items }
     ensures slots { length counts.new.items ≡ length counts.old.items }
 {
-    if machine_of(a0, p.0) != machine_of(a, p.0) {
+    if machine_of(a0, p) != machine_of(a, p) {
         let place = inst.service_of(p).0 as usize;
         let count = counts.get(place) + 1;
         counts.set(place, count);

@@ -6,10 +6,9 @@ ghost use Rattle.ra_model.specs.Usage.{use_share, transient_share};
 ghost use Rattle.ra_check.specs.Stands.{IsUsage, IsTransientUse, AddsShare, IsBelow};
 ghost use Rattle.ra_check.specs.Made.{IsGrid};
 
-use crate::cells::add_to_cell;
 use crate::scratch::fill;
-use ra_base::{Assignment, Fixed, Machine, Process, Resource, Steps};
-use ra_model::Instance;
+use ra_base::{Assignment, Fixed, Machine, Process, Resource, Steps, add_to_cell};
+use ra_model::{Instance, machine_of};
 use std::sync::ledger::{Blank, Ledger};
 
 /// Writes the use of each machine's resources into a table, whatever stands in it.
@@ -31,7 +30,7 @@ pub(crate) fn sum_usage<L: Ledger>(
     let cells = table.len();
     fill(table, cells, 0);
     for p in 0..inst.processes() {
-        let at = machine_of(a, p);
+        let at = machine_of(a, Process(p));
         add_row(inst, Process(p), at, table, &mut steps);
     }
 }
@@ -57,20 +56,10 @@ pub(crate) fn sum_transient<L: Ledger>(
     let cells = table.len();
     fill(table, cells, 0);
     for p in 0..inst.processes() {
-        let from = machine_of(a0, p);
-        let at = machine_of(a, p);
+        let from = machine_of(a0, Process(p));
+        let at = machine_of(a, Process(p));
         add_rows(inst, Process(p), from, at, table, &mut steps);
     }
-}
-
-/// The machine of a process.
-#[tactic(auto, using(ra_model::proofs::TallyLemmas::machine_at_read))]
-pub(crate) fn machine_of(a: &Assignment, p: u32) -> Machine
-    requires { p < length a.now.items }
-    ensures { result.0 ≡ machine_at a.now.items p }
-{
-    let _count = a.len();
-    a.get(p as usize)
 }
 
 /// Adds the requirements of a process to the row of the machine that it leaves and to that of the machine that it

@@ -3,9 +3,8 @@ ghost use Rattle.ra_model.specs.Numbers.{process_count};
 ghost use Rattle.ra_model.specs.Assignments.{IsAssignment, machine_at, tally};
 ghost use Rattle.ra_model.specs.Costs.{process_share, process_cost, way_share, machine_cost};
 
-use crate::usage::machine_of;
 use ra_base::{Assignment, Process};
-use ra_model::Instance;
+use ra_model::{Instance, machine_of};
 
 /// The process cost: what the moved processes cost, times its weight.
 #[tactic(auto, using(crate::proofs::CostLaws::times_small), unfolding(ra_model::specs::Costs::process_cost))]
@@ -68,7 +67,7 @@ fn process_share(inst: &Instance, a0: &Assignment, a: &Assignment, p: Process) -
     requires fits { IsAssignment inst.now.tables a.now.items }
     ensures { result ≡ process_share inst.now.tables a0.now.items p.0 (machine_at a.now.items p.0) }
 {
-    if machine_of(a, p.0) == machine_of(a0, p.0) {
+    if machine_of(a, p) == machine_of(a0, p) {
         0
     } else {
         inst.process_cost(p)
@@ -82,7 +81,7 @@ fn way_share(inst: &Instance, a0: &Assignment, a: &Assignment, p: Process) -> u3
     requires fits { IsAssignment inst.now.tables a.now.items }
     ensures { result ≡ way_share inst.now.tables a0.now.items p.0 (machine_at a.now.items p.0) }
 {
-    let from = machine_of(a0, p.0);
-    let at = machine_of(a, p.0);
+    let from = machine_of(a0, p);
+    let at = machine_of(a, p);
     inst.move_cost(from, at)
 }
