@@ -4,6 +4,7 @@ use Rattle.std.specs.Prelude.{pos}
 use Rattle.ra_base.specs.Sums.{total}
 use Rattle.ra_base.specs.declared.ids.Machine.{Machine}
 use Rattle.ra_base.proofs.Sums.{total_same, total_le, total_grouped, total_of_sum, total_minus, total_times_minus}
+use Rattle.ra_base.proofs.Whole.{difference, above_zero_natural}
 use Rattle.ra_model.specs.declared.raw.Tables.{Tables}
 use Rattle.ra_model.specs.Numbers.{resource_count, machine_count, process_count, balance_count, load_weight_of, capacity_of, safety_of, requirement_of, first_of, second_of, target_of, balance_weight_of}
 use Rattle.ra_model.specs.Limits.{WellFormed}
@@ -13,7 +14,6 @@ use Rattle.ra_model.specs.Feasible.{Feasible}
 use Rattle.ra_model.specs.Costs.{excess_on, load_part, load_cost, available, shortfall, balance_part, balance_cost, objective}
 use Rattle.ra_bounds.specs.Bounds.{required, safety, capacity, overload, load_bound, spare, lack, balance_bound, bound_of}
 use Rattle.ra_bounds.specs.Laws.{NoneCostsLess}
-use Rattle.ra_bounds.proofs.SignLemmas.{difference, above_zero_natural}
 
 -- the use of all machines is what all processes require, since each process is on one machine
 pub use_total : (i : Tables) (a : List Machine) (r : ℕ) → IsAssignment i a → total (machine_count i) (λ m. use_of i a m r) ≡ required i r

@@ -1,12 +1,13 @@
 -- What the numbers that a program reads say of the bound, and how small they are.
 use Rattle.std.proofs.Common.{◌≡◌, ℕ, ◌-◌, ◌^◌, ◌<◌, List, refl, arith, get_or, ℤ}
 use Rattle.std.specs.Prelude.{pos, ◌-ℤ◌, ◌*ℤ◌}
+use Rattle.ra_base.specs.Whole.{above_zero}
 use Rattle.ra_model.specs.declared.raw.BalanceRow.{BalanceRow}
 use Rattle.ra_model.specs.declared.raw.Tables.{Tables}
 use Rattle.ra_model.specs.Numbers.{resource_count, machine_count, process_count, balance_row, capacity_of, requirement_of}
 use Rattle.ra_model.specs.Limits.{WellFormed, Small}
 use Rattle.ra_model.proofs.InstanceLemmas.{first_read, second_read, target_read}
-use Rattle.ra_bounds.specs.Bounds.{required, safety, capacity, overload, spare, above_zero, lack}
+use Rattle.ra_bounds.specs.Bounds.{required, safety, capacity, overload, spare, lack}
 use Rattle.ra_bounds.specs.Totals.{AreRequired, AreSafeties, AreCapacities}
 use Rattle.ra_bounds.proofs.TotalLemmas.{total_small}
 

@@ -4,10 +4,9 @@ use Rattle.std.specs.Prelude.{◌-ℤ◌, ◌*ℤ◌, unsigned_abs}
 use Rattle.std.specs.Int.{w128}
 use lib.Signed.{lt_z}
 use mir.Val.{to_z, of_z}
-use Rattle.std.proofs.Math.IntN.{pos-*ℤ-pos}
 use Rattle.std.proofs.lemmas.Int.{ints, to_z-of_z, fits_signed_from_abs, unsigned_abs-mul}
 use Rattle.std.proofs.lemmas.Nat.{mul-le}
-use Rattle.ra_bounds.specs.Bounds.{above_zero}
+use Rattle.ra_base.specs.Whole.{above_zero}
 
 -- a number above zero, and one that isn't
 pub above_zero_abs : (z : ℤ) → pos 0 <ℤ z → unsigned_abs z ≡ above_zero z
@@ -19,19 +18,6 @@ pub above_zero_none : (z : ℤ) → z ≤ℤ pos 0 → above_zero z ≡ 0
 unfolding above_zero
 above_zero_none (pos n) below = omega (arith, ints)
 above_zero_none (negsuc n) below = refl
-
--- a difference of natural numbers, where it is one
-pub difference : (all part left : ℕ) → left + part ≡ all → pos all -ℤ pos part ≡ pos left
-difference all part left sum = omega (arith, ints)
-
--- max(0, target * a1 - a2) where a1 and a2 are natural numbers
-pub above_zero_natural : (t a b : ℕ) → above_zero (pos t *ℤ pos a -ℤ pos b) ≡ t * a - b
-unfolding above_zero
-above_zero_natural t a b = by_sign (pos t *ℤ pos a -ℤ pos b) (t * a) b (ap (λ z. z -ℤ pos b) (pos-*ℤ-pos t a))
-  where
-    by_sign : (z : ℤ) (x b : ℕ) → z ≡ pos x -ℤ pos b → above_zero z ≡ x - b
-    by_sign (pos n) x b is = omega (arith, ints)
-    by_sign (negsuc n) x b is = omega (arith, ints)
 
 -- how far from zero the numbers are
 

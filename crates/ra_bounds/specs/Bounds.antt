@@ -1,6 +1,7 @@
 -- The lower bound. Over the natural numbers `a - b` is max(0, a - b); over the signed numbers it is the difference.
-use Rattle.std.specs.Prelude.{ℕ, ◌+◌, ◌-◌, ◌*◌, ℤ, pos, negsuc, ◌-ℤ◌, ◌*ℤ◌}
+use Rattle.std.specs.Prelude.{ℕ, ◌+◌, ◌-◌, ◌*◌, ℤ, pos, ◌-ℤ◌, ◌*ℤ◌}
 use Rattle.ra_base.specs.Sums.{total}
+use Rattle.ra_base.specs.Whole.{above_zero}
 use Rattle.ra_model.specs.declared.raw.Tables.{Tables}
 use Rattle.ra_model.specs.Numbers.{resource_count, machine_count, process_count, balance_count, load_weight_of, capacity_of, safety_of, requirement_of, first_of, second_of, target_of, balance_weight_of}
 use Rattle.ra_bounds.specs.declared.costs.Bound.{Bound}
@@ -28,11 +29,6 @@ load_bound i = total (resource_count i) (λ r. load_weight_of i r * overload i r
 -- the signed number: sum of C(m, r) over m - sum of R(p, r) over p
 unfoldable pub spare : Tables → ℕ → ℤ
 spare i r = pos (capacity i r) -ℤ pos (required i r)
-
--- max(0, x)
-unfoldable pub above_zero : ℤ → ℕ
-above_zero (pos n) = n
-above_zero (negsuc n) = 0
 
 -- max(0, target * a1 - a2) of balance objective b, where a1 and a2 are those signed numbers for its two resources
 unfoldable pub lack : Tables → ℕ → ℕ

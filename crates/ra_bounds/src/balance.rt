@@ -1,6 +1,7 @@
 ghost use Rattle.std.specs.Prelude.{◌≡◌, ◌*◌, ◌^◌, ◌<◌, ◌≤◌, pos, ◌-ℤ◌, ◌*ℤ◌, unsigned_abs};
+ghost use Rattle.ra_base.specs.Whole.{above_zero};
 ghost use Rattle.ra_model.specs.Numbers.{resource_count, balance_count, balance_weight_of};
-ghost use Rattle.ra_bounds.specs.Bounds.{spare, above_zero, lack, balance_bound};
+ghost use Rattle.ra_bounds.specs.Bounds.{spare, lack, balance_bound};
 ghost use Rattle.ra_bounds.specs.Totals.{AreRequired, AreCapacities};
 
 use crate::sums::MOST_RESOURCES;
