@@ -15,4 +15,4 @@ pub use flaws::{first_flaw, repeat_of, same_of};
 pub use moves::Move;
 pub use replace::{apply, undo};
 pub use steps::{MoveKind, Step};
-pub use verdicts::{Plan, Verdict, Weighed, settle};
+pub use verdicts::{Plan, Verdict, Weighed, by_rise, settle};

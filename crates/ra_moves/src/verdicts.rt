@@ -63,9 +63,10 @@ pub fn settle(
     }
 }
 
-/// Rise or Done.
+/// The verdict on a move that breaks nothing: Rise, where the cost after it is above `kept`, the cost so far, by more
+/// than is allowed, and else Done.
 #[tactic(auto, using(crate::proofs::Settled::risen, crate::proofs::Settled::done))]
-fn by_rise(kept: u128, cost: u128, allowed: u64) -> Verdict
+pub fn by_rise(kept: u128, cost: u128, allowed: u64) -> Verdict
     requires { kept < 2 ^ 127 + 2 ^ 115 }
     ensures { result ≡ verdict_of (rise_test kept cost allowed) cost }
 {
