@@ -14,13 +14,15 @@ pub struct Lots {
 }
 
 impl Lots {
+    ghost use Rattle.ra_draws.specs.Shown.{slack_in, drawing_in, lots_in};
+
     /// These lots: 1 to 16 of them, with budgets of at most 1,000,000 together, and with eight words for each
     /// proposal of a written lot.
     pub fn of(slack: u64, drawing: Drawing, lots: Vec<Lot>) -> Lots
         requires { IsLots lots.items }
-        ensures slack { result.slack ≡ slack }
-        ensures drawing { result.drawing ≡ drawing }
-        ensures lots { result.lots.items ≡ lots.items }
+        ensures slack { slack_in result ≡ slack }
+        ensures drawing { drawing_in result ≡ drawing }
+        ensures lots { lots_in result ≡ lots.items }
     {
         Lots {
             slack,
@@ -31,21 +33,21 @@ impl Lots {
 
     /// The rise of cost that a worker's first proposal is allowed at most; it falls to 0 at the last one.
     pub fn slack(&self) -> u64
-        ensures { result ≡ self.now.slack }
+        ensures { result ≡ slack_in self.now }
     {
         self.slack
     }
 
     /// How the words of a proposal name the machines of a shift.
     pub fn drawing(&self) -> Drawing
-        ensures { result ≡ self.now.drawing }
+        ensures { result ≡ drawing_in self.now }
     {
         self.drawing
     }
 
     /// How many lots there are, from 1 to 16.
     pub fn len(&self) -> u32
-        ensures value { result ≡ length self.now.lots.items }
+        ensures value { result ≡ length (lots_in self.now) }
         ensures some { 1 ≤ result }
         ensures few { result ≤ 16 }
     {
@@ -55,8 +57,8 @@ impl Lots {
     /// The lot of worker `w`.
     #[tactic(auto, unfolding(crate::specs::Lots::lot_at))]
     pub fn lot(&self, w: u32) -> &Lot
-        requires { w < length self.now.lots.items }
-        ensures { result.now ≡ lot_at self.now.lots.items w }
+        requires { w < length (lots_in self.now) }
+        ensures { result.now ≡ lot_at (lots_in self.now) w }
     {
         &self.lots[w as usize]
     }
