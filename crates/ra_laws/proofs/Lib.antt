@@ -12,3 +12,4 @@ pub mod Telling
 pub mod SmallNumbers
 pub mod ModelTextCounts
 pub mod ModelTextMeaning
+pub mod LeastLemmas

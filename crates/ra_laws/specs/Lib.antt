@@ -8,3 +8,4 @@ pub mod VerifyLaws
 pub mod PinLaws
 pub mod LineLaws
 pub mod ModelTextLaws
+pub mod LeastLaws

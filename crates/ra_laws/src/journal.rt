@@ -1,4 +1,5 @@
 //! Laws of journals: each function does nothing, and its contract is a law that was proved.
+ghost use Rattle.ra_laws.specs.LeastLaws.{BestIsLeast};
 ghost use Rattle.ra_journal.specs.Laws.{LegalIsSound, LegalMakesMoves, LegalIsOffered, NextKeepsLegal, CommittedIsLegal, OneLotsJournal};
 
 /// In a legal journal over a feasible start every state is feasible, and its kept cost is its objective.
@@ -30,4 +31,9 @@ pub fn committed_is_legal()
 /// With one lot the run of one worker is legal and whole, and no other journal is.
 pub fn one_lots_journal()
     ensures { OneLotsJournal }
+{}
+
+/// The best state of a journal is the first of least cost among all its states.
+pub fn best_is_least()
+    ensures { BestIsLeast }
 {}

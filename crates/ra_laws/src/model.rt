@@ -1,5 +1,6 @@
 //! Laws of the problem's words: each function does nothing, and its contract is a law that was proved.
 ghost use Rattle.ra_model.specs.Laws.{BrokenNamesConstraints, AllSumsFit};
+ghost use Rattle.ra_model.specs.WholeCosts.{BalanceIsWhole};
 ghost use Rattle.ra_model.specs.MachineCosts.{LoadIsByMachine, BalanceIsByMachine, AllMachineCostsFit};
 ghost use Rattle.ra_laws.specs.ModelLaws.{BrokenNamesAll, OneShareChanges, CountsGoOverMembers};
 
@@ -36,6 +37,11 @@ pub fn load_is_by_machine()
 /// The balance cost is the sum over the machines of what each adds to it.
 pub fn balance_is_by_machine()
     ensures { BalanceIsByMachine }
+{}
+
+/// The balance cost of a feasible assignment is what the challenge's formula gives in whole numbers.
+pub fn balance_is_whole()
+    ensures { BalanceIsWhole }
 {}
 
 /// No cost of a machine is too large for the numbers of a program.

@@ -1,4 +1,5 @@
 //! Laws of moves: each function does nothing, and its contract is a law that was proved.
+ghost use Rattle.ra_laws.specs.LeastLaws.{PlanIsLeast};
 ghost use Rattle.ra_moves.specs.Laws.{FailuresAreLocal, WeighingIsDetermined};
 
 /// A move of an assignment that breaks nothing breaks only what it touches.
@@ -11,4 +12,9 @@ pub fn failures_are_local()
 /// have the same machines.
 pub fn weighing_is_determined()
     ensures { WeighingIsDetermined }
+{}
+
+/// The plan of a proposal is the first option of least cost among those that are done, and option 0 where none is.
+pub fn plan_is_least()
+    ensures { PlanIsLeast }
 {}
