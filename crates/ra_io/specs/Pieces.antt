@@ -7,7 +7,7 @@
 -- of Rattle.std.specs.Io.KnownBytes, and that a prefix of a text was taken by `AppendsPart`:
 --   ensures whole { OnOk result (Appends (O.taken out.old) (O.taken out.new) text) }
 --   ensures part { OnErr result (AppendsPart (O.taken out.old) (O.taken out.new) text) }
-use Rattle.std.specs.Prelude.{◌≡◌, ◌≢◌, ℕ, ◌-◌, ◌≤◌, Option, Some, IfSome, List, length, take, min, Bool, nat_eq}
+use Rattle.std.specs.Prelude.{◌≡◌, ◌≢◌, ℕ, ◌-◌, ◌≤◌, Option, Some, List, length, take, min, Bool, nat_eq}
 use Rattle.std.specs.List.{list_any}
 use Rattle.std.specs.Io.KnownBytes.{Appends}
 
@@ -27,7 +27,3 @@ AppendsPart old new text = (n : ℕ) × (n ≤ length text) × Appends old new (
 -- whether a number is listed
 abbrev pub is_listed : List ℕ → ℕ → Bool
 is_listed numbers n = list_any (λ y. nat_eq y n) numbers
-
--- where the bytes are told, these are the first of them
-abbrev pub IsFront : Option (List ℕ) → List ℕ → Type 0
-IsFront told front = IfSome told (λ bytes. take (length front) bytes ≡ front)

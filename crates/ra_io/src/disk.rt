@@ -4,14 +4,28 @@ ghost use Rattle.ra_io.specs.Faults.{Rose, raised};
 
 use crate::counts::{Count, counted};
 use crate::outside::{Failed, Files};
+use arrayvec::ArrayString;
 use std::io::{Read, Seek, SeekFrom};
 use std::{fs, io, rt};
 
+/// The most bytes of a name, which is the system's limit for a path.
+const MOST_NAME: usize = 4096;
+
 /// The files of the system. What they hold is untold, and one count serves all names.
+///
+/// The file that was read last stays open. A fetch at place 0 opens the name anew, and one that goes on
+/// where the last one ended reads on in the same file, so that one reading from front to end sees one
+/// file, even if the name stands for another one by then.
 #[derive(Drop)]
 pub struct DiskFiles<'r, R: rt::Files> {
     rt: &'r R,
     faults: Count,
+    /// The file that was read last, if that didn't fail.
+    file: Option<R::File>,
+    /// Its name.
+    name: ArrayString<MOST_NAME>,
+    /// The place behind what was read last.
+    place: u64,
 }
 
 impl<'r, R: rt::Files> DiskFiles<'r, R> {
@@ -22,6 +36,41 @@ impl<'r, R: rt::Files> DiskFiles<'r, R> {
         DiskFiles {
             rt,
             faults: Count::make(),
+            file: None,
+            name: ArrayString::new(),
+            place: 0,
+        }
+    }
+
+    /// Reads from a place of a file on. After a failure no file is kept, so that the next call tries the
+    /// same place again.
+    fn read_at(&mut self, name: &str, at: u64, into: &mut [u8]) -> io::Result<usize>
+        ensures bound { IfOk result (λ n. n ≤ length into.new) }
+        ensures faults { self.new.faults ≡ self.old.faults }
+    {
+        let mut file = match self.file.take() {
+            Some(file) if at > 0 && self.name.as_str() == name => file,
+            _ => {
+                self.place = 0;
+                fs::open(self.rt, name)?
+            }
+        };
+        if at != self.place {
+            file.seek(SeekFrom::Start(at))?;
+        }
+        let number = file.read(into)?;
+        self.keep(file, name, at.saturating_add(number as u64));
+        Ok(number)
+    }
+
+    /// Keeps an open file with its name. A name that is longer than any path isn't kept.
+    fn keep(&mut self, file: R::File, name: &str, place: u64)
+        ensures { self.new.faults ≡ self.old.faults }
+    {
+        self.name.clear();
+        if self.name.try_push_str(name).is_ok() {
+            self.file = Some(file);
+            self.place = place;
         }
     }
 }
@@ -40,15 +89,6 @@ impl<R: rt::Files> Files for DiskFiles<'_, R> {
         ensures faults { self.new.faults.value ≡
             (if is_err result then raised self.old.faults.value else self.old.faults.value) }
     {
-        counted(read_at(self.rt, name, at, into), &mut self.faults)
+        counted(self.read_at(name, at, into), &mut self.faults)
     }
-}
-
-/// Opens a file and reads from a place on.
-fn read_at<R: rt::Files>(rt: &R, name: &str, at: u64, into: &mut [u8]) -> io::Result<usize>
-    ensures { IfOk result (λ n. n ≤ length into.new) }
-{
-    let mut file = fs::open(rt, name)?;
-    file.seek(SeekFrom::Start(at))?;
-    file.read(into)
 }

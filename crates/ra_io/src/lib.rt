@@ -21,4 +21,4 @@ pub use outside::{Failed, Files, Gate, NoGate, Sink};
 pub use pairs::PairGate;
 pub use steady::{CountSink, SteadyFiles};
 pub use streams::{ErrSink, OutSink};
-pub use whole::{MOST_BYTES, Unread, put_all, read_all};
+pub use whole::put_all;

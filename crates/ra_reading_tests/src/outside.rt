@@ -1,21 +1,29 @@
 //! Files and sinks, and the gate at which two workers meet.
+ghost use Rattle.std.specs.Prelude.{◌^◌, ◌<◌, length};
+
 use super::files::{failing, steady};
 use super::found::same;
 use ra_io::{
     CountSink, DiskFiles, ErrSink, Failed, Files, Gate, MemorySink, NoGate, OutSink, PairGate,
-    Sink, Unread, put_all, read_all,
+    Sink, put_all,
 };
 use ra_samples::list;
 use std::alloc::Global;
 use std::io::Write;
+use std::os::fd::AsRawFd;
 use std::process::Abort;
 use std::{fs, io, thread};
 
-/// Demands that a file has these bytes.
-fn demand_bytes(rt: &impl Abort, alloc: Global, files: &mut impl Files, name: &str, want: &[u8]) {
-    let bytes = read_all(alloc, files, name).expect(rt, "not read");
-    same(rt, bytes.as_slice(), want);
-    drop(bytes);
+/// Demands that a file has these bytes, read one by one.
+fn demand_bytes(rt: &impl Abort, files: &mut impl Files, name: &str, want: &[u8])
+    requires { length want.now < 2 ^ 62 }
+{
+    let mut into = [0u8; 1];
+    for (at, &byte) in want.iter().enumerate() {
+        same(rt, files.fetch(name, at as u64, &mut into), Ok(1));
+        same(rt, into[0], byte);
+    }
+    same(rt, files.fetch(name, want.len() as u64, &mut into), Ok(0));
 }
 
 #[test]
@@ -27,9 +35,9 @@ fn steady_files_hold_what_was_added(rt: HostRuntime) {
     files
         .add(rt.alloc(), "m", b"1 2 3")
         .expect(&rt, "no memory");
-    demand_bytes(&rt, rt.alloc(), &mut files, "m", b"1 2 3");
-    demand_bytes(&rt, rt.alloc(), &mut files, "i", b"0 3 0\n");
-    demand_bytes(&rt, rt.alloc(), &mut files, "n", b"");
+    demand_bytes(&rt, &mut files, "m", b"1 2 3");
+    demand_bytes(&rt, &mut files, "i", b"0 3 0\n");
+    demand_bytes(&rt, &mut files, "n", b"");
     drop(files);
 }
 
@@ -43,16 +51,8 @@ fn memory_files_give_few_bytes_and_fail_where_wanted(rt: HostRuntime) {
     same(&rt, files.fetch("m", 8, &mut into), Ok(2));
     same(&rt, files.fetch("m", 10, &mut into), Ok(0));
     same(&rt, files.fetch("n", 0, &mut into), Err(Failed));
-    demand_bytes(&rt, rt.alloc(), &mut files, "m", b"0123456789");
+    demand_bytes(&rt, &mut files, "m", b"0123456789");
     drop(files);
-}
-
-#[test]
-fn a_failed_fetch_ends_the_reading(rt: HostRuntime) {
-    let mut files = failing(rt.alloc(), 4, &[2], "m", b"0123456789").expect(&rt, "no memory");
-    let fault = read_all(rt.alloc(), &mut files, "m").err();
-    drop(files);
-    same(&rt, fault, Some(Unread::ReadFault));
 }
 
 #[test]
@@ -82,12 +82,97 @@ fn disk_files_read_a_file(rt: HostRuntime) {
     let name = "disk_files_read_a_file.txt";
     fs::write(&rt, name, "0 3 0\n").expect(&rt, "not written");
     let mut files = DiskFiles::make(&rt);
-    demand_bytes(&rt, rt.alloc(), &mut files, name, b"0 3 0\n");
+    demand_bytes(&rt, &mut files, name, b"0 3 0\n");
     let mut into = [0u8; 2];
     same(&rt, files.fetch(name, 2, &mut into), Ok(2));
     same(&rt, into, *b"3 ");
     fs::remove_file(&rt, name).expect(&rt, "not removed");
     same(&rt, files.fetch(name, 0, &mut into), Err(Failed));
+}
+
+#[test]
+fn a_file_that_is_replaced_is_read_to_its_end(rt: HostRuntime) {
+    let name = "a_file_that_is_replaced.txt";
+    let other = "a_file_that_replaces.txt";
+    fs::write(&rt, name, "0 3 0\n").expect(&rt, "not written");
+    fs::write(&rt, other, "12 12 12\n").expect(&rt, "not written");
+    let mut files = DiskFiles::make(&rt);
+    let mut into = [0u8; 4];
+    same(&rt, files.fetch(name, 0, &mut into), Ok(4));
+    same(&rt, into, *b"0 3 ");
+    fs::rename(&rt, other, name).expect(&rt, "not renamed");
+    same(&rt, files.fetch(name, 4, &mut into), Ok(2));
+    same(&rt, into, *b"0\n3 ");
+    same(&rt, files.fetch(name, 6, &mut into), Ok(0));
+    demand_bytes(&rt, &mut files, name, b"12 12 12\n");
+    fs::remove_file(&rt, name).expect(&rt, "not removed");
+}
+
+#[test]
+fn a_file_that_is_removed_is_read_to_its_end(rt: HostRuntime) {
+    let name = "a_file_that_is_removed.txt";
+    fs::write(&rt, name, "0 3 0\n").expect(&rt, "not written");
+    let mut files = DiskFiles::make(&rt);
+    let mut into = [0u8; 4];
+    same(&rt, files.fetch(name, 0, &mut into), Ok(4));
+    fs::remove_file(&rt, name).expect(&rt, "not removed");
+    same(&rt, files.fetch(name, 4, &mut into), Ok(2));
+    same(&rt, into, *b"0\n3 ");
+    same(&rt, files.fetch(name, 0, &mut into), Err(Failed));
+    same(&rt, files.fetch(name, 4, &mut into), Err(Failed));
+    fs::write(&rt, name, "12 12 12\n").expect(&rt, "not written");
+    same(&rt, files.fetch(name, 5, &mut into), Ok(4));
+    same(&rt, into, *b" 12\n");
+    fs::remove_file(&rt, name).expect(&rt, "not removed");
+}
+
+#[test]
+fn two_files_are_read_by_turns(rt: HostRuntime) {
+    let first = "two_files_are_read_by_turns.txt";
+    let second = "two_files_are_read_by_turns.txt.2";
+    fs::write(&rt, first, "0 3 0\n").expect(&rt, "not written");
+    fs::write(&rt, second, "12 12\n").expect(&rt, "not written");
+    let mut files = DiskFiles::make(&rt);
+    let mut into = [0u8; 2];
+    same(&rt, files.fetch(first, 0, &mut into), Ok(2));
+    same(&rt, files.fetch(second, 2, &mut into), Ok(2));
+    same(&rt, into, *b" 1");
+    same(&rt, files.fetch(first, 4, &mut into), Ok(2));
+    same(&rt, into, *b"0\n");
+    same(&rt, files.fetch(first, 1, &mut into), Ok(2));
+    same(&rt, into, *b" 3");
+    fs::remove_file(&rt, first).expect(&rt, "not removed");
+    fs::remove_file(&rt, second).expect(&rt, "not removed");
+}
+
+#[test]
+fn disk_files_read_a_pipe(rt: HostRuntime) {
+    let (reader, mut writer) = io::pipe(&rt).expect(&rt, "no pipe");
+    let name = format!(in rt.alloc(); "/proc/self/fd/{}", reader.as_raw_fd()).expect(
+        &rt,
+        "no memory",
+    );
+    writer.write_all(b"0 3 0\n").expect(&rt, "not written");
+    drop(writer);
+    let mut files = DiskFiles::make(&rt);
+    let mut into = [0u8; 4];
+    same(&rt, files.fetch(name.as_str(), 0, &mut into), Ok(4));
+    same(&rt, into, *b"0 3 ");
+    same(&rt, files.fetch(name.as_str(), 4, &mut into), Ok(2));
+    same(&rt, into, *b"0\n3 ");
+    same(&rt, files.fetch(name.as_str(), 6, &mut into), Ok(0));
+    same(&rt, files.fetch(name.as_str(), 2, &mut into), Err(Failed));
+    drop(name);
+    drop(reader);
+}
+
+#[test]
+fn a_name_longer_than_any_path_fails(rt: HostRuntime) {
+    let name = format!(in rt.alloc(); "{:a>5000}", "").expect(&rt, "no memory");
+    let mut files = DiskFiles::make(&rt);
+    let mut into = [0u8; 4];
+    same(&rt, files.fetch(name.as_str(), 0, &mut into), Err(Failed));
+    drop(name);
 }
 
 /// A writer that takes one byte at once, and has room for three.
