@@ -1,6 +1,10 @@
 pub mod Faults
+pub mod Outside
 pub mod Pieces
 pub mod Texts
+pub mod Counts
 pub mod MemoryFiles
 pub mod MemorySink
 pub mod SteadyFiles
+pub mod DiskFiles
+pub mod OutSink

@@ -13,39 +13,41 @@ pub struct Count {
 }
 
 impl Count {
+    ghost use Rattle.ra_io.specs.Counts.{number_of};
+
     /// The count 0.
     pub fn make() -> Count
-        ensures { result.value ≡ 0 }
+        ensures { number_of result ≡ 0 }
     {
         Count { value: 0 }
     }
 
     /// The number.
     pub fn value(&self) -> u64
-        ensures { result ≡ self.now.value }
+        ensures { result ≡ number_of self.now }
     {
         self.value
     }
 
     /// Counts one more.
     pub fn raise(&mut self)
-        ensures { self.new.value ≡ raised self.old.value }
+        ensures { number_of self.new ≡ raised (number_of self.old) }
     {
         self.value = self.value.saturating_add(1);
     }
-}
 
-/// The number that a call of the system gave, or a failure, which is counted.
-pub fn counted(outcome: io::Result<usize>, faults: &mut Count) -> Result<usize, Failed>
-    ensures value { result_ok result ≡ result_ok outcome }
-    ensures faults { faults.new.value ≡
-        (if is_err result then raised faults.old.value else faults.old.value) }
-{
-    match outcome {
-        Ok(number) => Ok(number),
-        Err(_) => {
-            faults.raise();
-            Err(Failed)
+    /// The number that a call of the system gave, or a failure, which is counted.
+    pub fn counted(&mut self, outcome: io::Result<usize>) -> Result<usize, Failed>
+        ensures value { result_ok result ≡ result_ok outcome }
+        ensures faults { number_of self.new ≡
+            (if is_err result then raised (number_of self.old) else number_of self.old) }
+    {
+        match outcome {
+            Ok(number) => Ok(number),
+            Err(_) => {
+                self.raise();
+                Err(Failed)
+            }
         }
     }
 }

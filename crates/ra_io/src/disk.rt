@@ -2,7 +2,7 @@ ghost use Rattle.std.specs.Prelude.{◌≡◌, ◌≤◌, if◌then◌else◌, �
 ghost use Rattle.std.specs.Result.{is_err};
 ghost use Rattle.ra_io.specs.Faults.{Rose, raised};
 
-use crate::counts::{Count, counted};
+use crate::counts::Count;
 use crate::outside::{Failed, Files};
 use arrayvec::ArrayString;
 use std::io::{Read, Seek, SeekFrom};
@@ -29,6 +29,8 @@ pub struct DiskFiles<'r, R: rt::Files> {
 }
 
 impl<'r, R: rt::Files> DiskFiles<'r, R> {
+    ghost use Rattle.ra_io.specs.DiskFiles as disk;
+
     /// The files that this runtime reaches.
     pub fn make(rt: &'r R) -> DiskFiles<'r, R>
         ensures { (name : List ℕ) → ⟦<DiskFiles<'r, R> as Files>⟧.faults result name ≡ 0 }
@@ -46,7 +48,7 @@ impl<'r, R: rt::Files> DiskFiles<'r, R> {
     /// same place again.
     fn read_at(&mut self, name: &str, at: u64, into: &mut [u8]) -> io::Result<usize>
         ensures bound { IfOk result (λ n. n ≤ length into.new) }
-        ensures faults { self.new.faults ≡ self.old.faults }
+        ensures faults { disk.count self.new ≡ disk.count self.old }
     {
         let mut file = match self.file.take() {
             Some(file) if at > 0 && self.name.as_str() == name => file,
@@ -65,7 +67,7 @@ impl<'r, R: rt::Files> DiskFiles<'r, R> {
 
     /// Keeps an open file with its name. A name that is longer than any path isn't kept.
     fn keep(&mut self, file: R::File, name: &str, place: u64)
-        ensures { self.new.faults ≡ self.old.faults }
+        ensures { disk.count self.new ≡ disk.count self.old }
     {
         self.name.clear();
         if self.name.try_push_str(name).is_ok() {
@@ -76,19 +78,22 @@ impl<'r, R: rt::Files> DiskFiles<'r, R> {
 }
 
 impl<R: rt::Files> Files for DiskFiles<'_, R> {
+    ghost use Rattle.ra_io.specs.DiskFiles as disk;
+
     ghost held = { λ s name. None };
 
-    ghost faults = { λ s name. s.faults.value };
+    ghost faults = { λ s name. disk.faults s };
 
-    ghost counted = { λ s name. s.faults.small };
+    ghost counted = { λ s name. disk.counted s };
 
     fn fetch(&mut self, name: &str, at: u64, into: &mut [u8]) -> Result<usize, Failed>
         ensures bound { IfOk result (λ n. n ≤ length into.new) }
-        ensures failed { OnErr result (Rose self.old.faults.value self.new.faults.value) }
-        ensures never_fall { (other : List ℕ) → self.old.faults.value ≤ self.new.faults.value }
-        ensures faults { self.new.faults.value ≡
-            (if is_err result then raised self.old.faults.value else self.old.faults.value) }
+        ensures failed { OnErr result (Rose (disk.faults self.old) (disk.faults self.new)) }
+        ensures never_fall { (other : List ℕ) → disk.faults self.old ≤ disk.faults self.new }
+        ensures faults { disk.faults self.new ≡
+            (if is_err result then raised (disk.faults self.old) else disk.faults self.old) }
     {
-        counted(self.read_at(name, at, into), &mut self.faults)
+        let outcome = self.read_at(name, at, into);
+        self.faults.counted(outcome)
     }
 }

@@ -67,7 +67,7 @@ impl Files for MemoryFiles {
 
     ghost faults = { λ s name. files.faults s };
 
-    ghost counted = { λ s name. s.faults.small };
+    ghost counted = { λ s name. files.counted s };
 
     fn fetch(&mut self, name: &str, at: u64, into: &mut [u8]) -> Result<usize, Failed>
         // It fails exactly where its number is listed or the name isn't held.
@@ -80,13 +80,8 @@ impl Files for MemoryFiles {
         ensures bytes { IfSome (files.held self.old name.now)
             (λ bytes. IfOk result (λ n. take n into.new ≡ take n (drop at bytes))) }
 
-        // It counts itself, and its failure.
-        ensures calls { files.calls self.new ≡ raised (files.calls self.old) }
-        ensures faults { files.faults self.new ≡
-            (if is_err result then raised (files.faults self.old) else files.faults self.old) }
-        ensures held { (other : List ℕ) → files.held self.new other ≡ files.held self.old other }
-        ensures each { files.each self.new ≡ files.each self.old }
-        ensures listed { files.fails self.new ≡ files.fails self.old }
+        // It counts itself, and its failure, and nothing else changes.
+        ensures counts { files.Counts self.old self.new (is_err result) }
     {
         let number = self.calls.value();
         self.calls.raise();
@@ -159,7 +154,7 @@ impl Sink for MemorySink {
 
     ghost faults = { sink.faults };
 
-    ghost counted = { λ s. s.faults.small };
+    ghost counted = { sink.counted };
 
     fn put(&mut self, piece: &[u8]) -> Result<usize, Failed>
         // It fails exactly where its number is listed or no room is left.
@@ -172,12 +167,8 @@ impl Sink for MemorySink {
             sink.bytes self.old ++ take (result_unwrap_or result 0) piece.now }
         ensures left { sink.left self.new ≡ sink.left self.old - result_unwrap_or result 0 }
 
-        // It counts itself, and its failure.
-        ensures calls { sink.calls self.new ≡ raised (sink.calls self.old) }
-        ensures faults { sink.faults self.new ≡
-            (if is_err result then raised (sink.faults self.old) else sink.faults self.old) }
-        ensures each { sink.each self.new ≡ sink.each self.old }
-        ensures listed { sink.fails self.new ≡ sink.fails self.old }
+        // It counts itself, and its failure, and what was asked of the sink stays.
+        ensures counts { sink.Counts self.old self.new (is_err result) }
     {
         let number = self.calls.value();
         self.calls.raise();

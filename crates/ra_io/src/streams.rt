@@ -2,7 +2,7 @@ ghost use Rattle.std.specs.Prelude.{◌≡◌, ◌<◌, ◌≤◌, if◌then◌e
 ghost use Rattle.std.specs.Result.{is_err};
 ghost use Rattle.ra_io.specs.Faults.{raised};
 
-use crate::counts::{Count, counted};
+use crate::counts::Count;
 use crate::outside::{Failed, Sink};
 use std::io;
 use std::io::{ErrorKind, Write};
@@ -27,19 +27,22 @@ impl<W: Write + Drop> OutSink<W> {
 }
 
 impl<W: Write + Drop> Sink for OutSink<W> {
+    ghost use Rattle.ra_io.specs.OutSink as sink;
+
     ghost taken = { λ s. None };
 
-    ghost faults = { λ s. s.faults.value };
+    ghost faults = { sink.faults };
 
-    ghost counted = { λ s. s.faults.small };
+    ghost counted = { sink.counted };
 
     fn put(&mut self, piece: &[u8]) -> Result<usize, Failed>
         ensures some { IfOk result (λ n. 0 < n) }
         ensures bound { IfOk result (λ n. n ≤ length piece.now) }
-        ensures faults { self.new.faults.value ≡
-            (if is_err result then raised self.old.faults.value else self.old.faults.value) }
+        ensures faults { sink.faults self.new ≡
+            (if is_err result then raised (sink.faults self.old) else sink.faults self.old) }
     {
-        counted(write_some(&mut self.to, piece), &mut self.faults)
+        let outcome = write_some(&mut self.to, piece);
+        self.faults.counted(outcome)
     }
 }
 

@@ -1,0 +1,7 @@
+-- What a count says.
+use Rattle.std.specs.Prelude.{ℕ}
+use Rattle.ra_io.specs.declared.counts.Count.{Count}
+
+-- the number
+abbrev pub number_of : Count → ℕ
+number_of count = count.value
