@@ -1,11 +1,11 @@
 -- From the answers of a token reader to the meaning of an assignment file.
-use Rattle.std.proofs.Common.{◌≡◌, ℕ, ◌+◌, ◌<◌, ◌≤◌, ◌⊎◌, List, [], ◌∷◌, ◌++◌, length, map, take, Option, Some, None, Ok, Err, refl, sym, ap, ◌∙◌, inl, inr, ⊎_elim, arith}
-use Rattle.std.proofs.lemmas.Bool.{cond-true, cond-false, lt-ltb, le-ltb}
+use Rattle.std.proofs.Common.{◌≡◌, ℕ, zero, suc, ◌+◌, ◌<◌, ◌≤◌, ◌⊎◌, ◌↔◌, List, [], ◌∷◌, ◌++◌, length, map, take, get_or, Option, Some, None, Ok, Err, refl, sym, ap, ◌∙◌, inl, inr, ⊎_elim, subst, arith}
+use Rattle.std.proofs.lemmas.Bool.{cond-true, cond-false, lt-ltb, le-ltb, cases_lt}
 use Rattle.std.proofs.lemmas.List.{take_more, take_all, map-append}
-use Rattle.std.proofs.lemmas.Option.{slice_get_past, slice_get_within, get_or_from_slice_get}
+use Rattle.std.proofs.lemmas.Option.{slice_get_past, slice_get_within, get_or_from_slice_get, slice_get-get_or, slice_get_cases}
 use Rattle.std.specs.Prelude.{slice_get, nat_lt}
-use Rattle.ra_base.specs.Searches.{first}
-use Rattle.ra_base.proofs.Searches.{first_more_none, first_found, both_none, or_else_none, or_else_some}
+use Rattle.ra_base.specs.Searches.{or_else, first}
+use Rattle.ra_base.proofs.Searches.{first_more_none, first_found, first_none_at, first_none_from, both_none, left_none, right_none, or_else_none, or_else_some}
 use Rattle.ra_base.specs.declared.ids.Machine.{Machine}
 use Rattle.ra_token.specs.declared.answers.Token.{Token}
 use Rattle.ra_token.specs.declared.answers.TokenFault.{TokenFault}
@@ -16,7 +16,7 @@ use Rattle.ra_model.specs.declared.raw.Tables.{Tables}
 use Rattle.ra_model.specs.Numbers.{machine_count, process_count}
 use Rattle.ra_assign.specs.declared.faults.AssignFault.{AssignFault}
 use Rattle.ra_assign.specs.declared.faults.AssignFault.TheVariants.{ReadFault, BadByte, TooLarge, TooLong, Missing, NoMachine, Extra, NoMemory}
-use Rattle.ra_assign.specs.Lists.{assign_fault, none_left, machine_test, process_test, behind_test, end_test, assign_refusal, machine_of, IsAssignmentOf}
+use Rattle.ra_assign.specs.Lists.{assign_fault, none_left, machine_test, process_test, behind_test, end_test, assign_refusal, machine_of, IsAssignmentFile, IsAssignmentOf}
 use Rattle.ra_assign.specs.Answers.{AssignSays}
 use Rattle.ra_assign.specs.Reading.{TakesMachine, HasTaken, HasEnded}
 
@@ -43,6 +43,13 @@ says_fault found (told.BadByte at byte) h = ⊎_elim (λ (e : told.BadByte at by
 says_fault found (told.TooLarge at) h = ⊎_elim (λ (e : told.TooLarge at ≡ told.ReadFault). cc) (λ (e : found ≡ Some (TooLarge at)). e) h
 says_fault found told.TooLong h = ⊎_elim (λ (e : told.TooLong ≡ told.ReadFault). cc) (λ (e : found ≡ Some TooLong). e) h
 says_fault found told.NoMemory h = tt
+
+-- where no token is found, the tokens have ended
+pub past_none : (ts : List Token) (n : ℕ) → slice_get ts n ≡ None → length ts ≤ n
+past_none ts n none = ⊎_elim
+    (λ found. absurd (let e : slice_get ts n ≡ Some found.0 = found.2 in cc))
+    (λ past. past.0)
+    (slice_get_cases ts n).1
 
 -- behind the last token there is none
 past_all : (bytes : List ℕ) (n : ℕ) → GaveAll bytes n → slice_get (tokens bytes) n ≡ None
@@ -95,12 +102,70 @@ taken_more bytes i place after n a m before takes =
       machines = rw (before.machines, takes.machine, take_more (tokens bytes) n takes.token there, get_or_from_slice_get (tokens bytes) n takes.token takes.token (rw before.given at takes.found)) (sym (map-append machine_of (take n (tokens bytes)) (takes.token ∷ [])));
     }
 
+-- a machine that was tested exists
+machine_names : (i : Tables) (fault : Option TokenFault) (p : ℕ) (found : Option Token) → machine_test i fault p found ≡ None → (t : Token) × (found ≡ Some t) × (t.value < machine_count i)
+unfolding machine_test
+machine_names i fault p None none = absurd (let e : Some (none_left fault p) ≡ None = none in cc)
+machine_names i fault p (Some t) none = ⊎_elim
+    (λ (inside : t.value < machine_count i). (t, refl, inside))
+    (λ (outside : machine_count i ≤ t.value). absurd (let e = cond-false (nat_lt t.value (machine_count i)) None (Some (NoMachine (record { 0 = p }) t.value)) (le-ltb t.value (machine_count i) outside) in cc))
+    (cases_lt t.value (machine_count i))
+
+process_names : (bytes : List ℕ) (i : Tables) (p : ℕ) → process_test bytes i p ≡ None → (t : Token) × (slice_get (tokens bytes) p ≡ Some t) × (t.value < machine_count i)
+unfolding process_test
+process_names bytes i p none = machine_names i (first_fault bytes) p (slice_get (tokens bytes) p) none
+
+behind_none : (fault : Option TokenFault) (next : Option Token) → behind_test fault next ≡ None → (fault ≡ None) × (next ≡ None)
+unfolding behind_test
+behind_none None None none = (refl, refl)
+behind_none (Some fault) None none = absurd (let e : Some (assign_fault fault) ≡ None = none in cc)
+behind_none fault (Some t) none = absurd (let e = sym (behind_token fault t) ∙ none in cc)
+
+end_none : (bytes : List ℕ) (n : ℕ) → end_test bytes n ≡ None → (first_fault bytes ≡ None) × (slice_get (tokens bytes) n ≡ None)
+unfolding end_test
+end_none bytes n none = behind_none (first_fault bytes) (slice_get (tokens bytes) n) none
+
+-- where no process lacks its machine, there are as many tokens
+many : (bytes : List ℕ) (i : Tables) (n : ℕ) → first n (process_test bytes i) ≡ None → n ≤ length (tokens bytes)
+many bytes i zero sound = omega arith
+many bytes i (suc n) sound =
+    let named = process_names bytes i n (first_none_at n (suc n) (process_test bytes i) (omega arith) sound) in
+    let there : n < length (tokens bytes) = slice_get_within (tokens bytes) n named.0 named.1 in
+    omega arith
+
+-- nothing is refused exactly where the bytes are an assignment file
+pub assign_accepts : (bytes : List ℕ) (i : Tables) → (assign_refusal bytes i ≡ None) ↔ IsAssignmentFile bytes i
+unfolding assign_refusal
+assign_accepts bytes i = (there, back)
+  where
+    there : or_else (first (process_count i) (process_test bytes i)) (end_test bytes (process_count i)) ≡ None → IsAssignmentFile bytes i
+    there none =
+        let all = left_none _ _ none in
+        let end = end_none bytes (process_count i) (right_none (first (process_count i) (process_test bytes i)) _ none) in
+        let past = past_none (tokens bytes) (process_count i) end.1 in
+        record {
+          sound = end.0;
+          one_each = omega (arith, past, many bytes i (process_count i) all);
+          exist = λ k d within.
+              let named = process_names bytes i k (first_none_at k (process_count i) (process_test bytes i) (omega (arith, past, within)) all) in
+              subst (λ (t : Token). t.value < machine_count i) (sym (get_or_from_slice_get (tokens bytes) k named.0 d named.1)) named.2;
+        }
+
+    back : IsAssignmentFile bytes i → or_else (first (process_count i) (process_test bytes i)) (end_test bytes (process_count i)) ≡ None
+    back file =
+        let none : Token = record { value = 0; at = 0 } in
+        both_none _ _
+        (first_none_from (process_count i) (process_test bytes i) (λ p below.
+        let within : p < length (tokens bytes) = omega (arith, file.one_each, below) in
+        process_inside bytes i p (get_or (tokens bytes) p none) (slice_get-get_or (tokens bytes) p none within) (file.exist p none within)))
+        (end_sound bytes (process_count i) (sym file.one_each, file.sound))
+
 -- all machines were taken, and nothing is left
 pub taken_all : (bytes : List ℕ) (i : Tables) (place : ℕ) (a : List Machine) → HasTaken bytes i place (process_count i) a → HasEnded bytes place → IsAssignmentOf bytes i a
 unfolding assign_refusal
 taken_all bytes i place a taken ended =
     record {
-      accepted = both_none _ _ taken.sound (rw taken.given at ended.sound);
+      file = (assign_accepts bytes i).0 (both_none _ _ taken.sound (rw taken.given at ended.sound));
       machines = taken.machines ∙ ap (map machine_of) (take_all (process_count i) (tokens bytes) (let e : process_count i ≡ length (tokens bytes) = rw taken.given at ended.all in omega arith));
     }
 

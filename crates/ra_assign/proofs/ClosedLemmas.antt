@@ -1,13 +1,13 @@
 -- From the answers of a token reader to the meaning of a closed list.
-use Rattle.std.proofs.Common.{◌≡◌, ℕ, ◌+◌, ◌<◌, ◌≤◌, ◌≢◌, ◌⊎◌, List, [], ◌∷◌, ◌++◌, length, take, get_or, set, Option, Some, None, Ok, Err, Bool, refl, sym, ap, ◌∙◌, inl, inr, ⊎_elim, arith, eqb, true, false, eq-eqb, ne_eqb, get_or-set_other, get_or-set_same}
+use Rattle.std.proofs.Common.{◌≡◌, ℕ, ◌+◌, ◌<◌, ◌≤◌, ◌≢◌, ◌⊎◌, ◌↔◌, List, [], ◌∷◌, ◌++◌, length, take, get_or, set, Option, Some, None, Ok, Err, Bool, refl, sym, ap, ◌∙◌, inl, inr, ⊎_elim, arith, eqb, true, false, eq-eqb, ne_eqb, get_or-set_other, get_or-set_same}
 use Rattle.std.proofs.lemmas.Bool.{cond-true, cond-false, lt-ltb, le-ltb, cases_lt, cases_eq}
 use Rattle.std.proofs.lemmas.List.Folds.{list_any-append}
 use Rattle.std.proofs.lemmas.List.{take_more, take_all, get_or-replicate}
-use Rattle.std.proofs.lemmas.Option.{slice_get_within, get_or_from_slice_get}
+use Rattle.std.proofs.lemmas.Option.{slice_get_within, slice_get-get_or, get_or_from_slice_get}
 use Rattle.std.specs.Prelude.{slice_get, nat_lt, replicate, ◌||◌}
-use Rattle.ra_base.specs.Searches.{first}
+use Rattle.ra_base.specs.Searches.{or_else, first}
 use Rattle.ra_base.specs.declared.ids.Machine.{Machine}
-use Rattle.ra_base.proofs.Searches.{first_more_none, first_found, first_none_at, or_else_none, or_else_some}
+use Rattle.ra_base.proofs.Searches.{first_more_none, first_found, first_none_at, first_none_from, both_none, left_none, right_none, or_else_none, or_else_some}
 use Rattle.ra_base.proofs.Counts.{count_le}
 use Rattle.ra_token.specs.declared.answers.Token.{Token}
 use Rattle.ra_token.specs.declared.answers.TokenFault.{TokenFault}
@@ -21,7 +21,7 @@ use Rattle.ra_model.specs.declared.raw.Tables.{Tables}
 use Rattle.ra_model.specs.Numbers.{machine_count}
 use Rattle.ra_assign.specs.declared.faults.ClosedFault.{ClosedFault}
 use Rattle.ra_assign.specs.declared.faults.ClosedFault.TheVariants.{ReadFault, BadByte, TooLarge, TooLong, NoMachine, NoMemory}
-use Rattle.ra_assign.specs.ClosedLists.{closed_fault, machine_test, token_test, file_fault, closed_refusal, names_machine, IsClosedOf}
+use Rattle.ra_assign.specs.ClosedLists.{closed_fault, machine_test, token_test, file_fault, closed_refusal, names_machine, IsClosedFile, IsClosedOf}
 use Rattle.ra_assign.specs.Answers.{ClosedSays}
 use Rattle.ra_assign.specs.Reading.{TakesClosed, HasFlagged}
 
@@ -108,11 +108,50 @@ flagged_none bytes i place start = record {
   named = λ k inside. rw start (get_or-replicate (machine_count i) k false false inside);
 }
 
+-- a token that was tested names a machine
+test_names : (i : Tables) (found : Option Token) (t : Token) → found ≡ Some t → machine_test i found ≡ None → t.value < machine_count i
+unfolding machine_test
+test_names i found t is none = ⊎_elim
+    (λ (inside : t.value < machine_count i). inside)
+    (λ (outside : machine_count i ≤ t.value). absurd (let e = cond-false (nat_lt t.value (machine_count i)) None (Some (NoMachine t.at t.value)) (le-ltb t.value (machine_count i) outside) in let n = rw is at none in cc))
+    (cases_lt t.value (machine_count i))
+
+token_names : (bytes : List ℕ) (i : Tables) (k : ℕ) (t : Token) → slice_get (tokens bytes) k ≡ Some t → token_test bytes i k ≡ None → t.value < machine_count i
+unfolding token_test
+token_names bytes i k t found none = test_names i (slice_get (tokens bytes) k) t found none
+
+no_fault : (fault : Option TokenFault) → file_fault fault ≡ None → fault ≡ None
+unfolding file_fault
+no_fault None none = refl
+no_fault (Some fault) none = absurd (let e : Some (closed_fault fault) ≡ None = none in cc)
+
+no_fault_none : (fault : Option TokenFault) → fault ≡ None → file_fault fault ≡ None
+unfolding file_fault
+no_fault_none fault none = rw none refl
+
+-- nothing is refused exactly where the bytes are a closed list
+pub closed_accepts : (bytes : List ℕ) (i : Tables) → (closed_refusal bytes i ≡ None) ↔ IsClosedFile bytes i
+unfolding closed_refusal
+closed_accepts bytes i = (there, back)
+  where
+    there : or_else (first (length (tokens bytes)) (token_test bytes i)) (file_fault (first_fault bytes)) ≡ None → IsClosedFile bytes i
+    there none = record {
+      sound = no_fault (first_fault bytes) (right_none (first (length (tokens bytes)) (token_test bytes i)) _ none);
+      exist = λ k d within. token_names bytes i k (get_or (tokens bytes) k d) (slice_get-get_or (tokens bytes) k d within) (first_none_at k (length (tokens bytes)) (token_test bytes i) within (left_none _ _ none));
+    }
+
+    back : IsClosedFile bytes i → or_else (first (length (tokens bytes)) (token_test bytes i)) (file_fault (first_fault bytes)) ≡ None
+    back file =
+        let none : Token = record { value = 0; at = 0 } in
+        both_none _ _
+        (first_none_from (length (tokens bytes)) (token_test bytes i) (λ k within. token_inside bytes i k (get_or (tokens bytes) k none) (slice_get-get_or (tokens bytes) k none within) (file.exist k none within)))
+        (no_fault_none (first_fault bytes) file.sound)
+
 -- all tokens were taken and the file has no fault
 pub flagged_all : (bytes : List ℕ) (i : Tables) (place : ℕ) (flags : List Bool) → HasFlagged bytes i place flags → length flags ≡ machine_count i → IsAnswer bytes (tokens_before bytes place) (Ok None) → IsClosedOf bytes i flags
 unfolding closed_refusal file_fault
 flagged_all bytes i place flags flagged one_each answer = record {
-  accepted = rw (sym answer.0, flagged.sound, answer.1) (or_else_none None);
+  file = (closed_accepts bytes i).0 (rw (sym answer.0, flagged.sound, answer.1) (or_else_none None));
   one_each = one_each;
   named = λ k inside. flagged.named k inside ∙ ap (λ (ts : List Token). names_machine ts k) (take_all (tokens_before bytes place) (tokens bytes) (let e : tokens_before bytes place ≡ length (tokens bytes) = answer.0 in omega arith));
 }

@@ -9,6 +9,7 @@ use Rattle.ra_token.specs.TokenList.{tokens}
 use Rattle.ra_token.specs.Faults.{first_fault}
 use Rattle.ra_model.specs.declared.raw.Tables.{Tables}
 use Rattle.ra_model.specs.Numbers.{machine_count}
+use Rattle.ra_assign.specs.Lists.{AllExist}
 use Rattle.ra_assign.specs.declared.faults.ClosedFault.{ClosedFault}
 use Rattle.ra_assign.specs.declared.faults.ClosedFault.TheVariants.{ReadFault, BadByte, TooLarge, TooLong, NoMachine, NoMemory}
 
@@ -43,9 +44,15 @@ closed_refusal bytes i =
 abbrev pub names_machine : List Token → ℕ → Bool
 names_machine ts m = list_any (λ t. t.value == m) ts
 
--- the bytes mean these flags: nothing is refused, there is one for each machine, and it says whether a token names it
+-- the bytes are a closed list: they have no fault, and each token names a machine
+pub record IsClosedFile (bytes : List ℕ) (i : Tables) : Type 0 where
+  pub sound : first_fault bytes ≡ None
+  pub exist : AllExist i (tokens bytes)
+
+-- the bytes mean these flags: they are a closed list, there is a flag for each machine, and it says whether a token
+-- names it
 pub record IsClosedOf (bytes : List ℕ) (i : Tables) (flags : List Bool) : Type 0 where
-  pub accepted : closed_refusal bytes i ≡ None
+  pub file : IsClosedFile bytes i
   pub one_each : length flags ≡ machine_count i
   pub named : (m : ℕ) → m < machine_count i
       → slice_index_or flags m false ≡ names_machine (tokens bytes) m

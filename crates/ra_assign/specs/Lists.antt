@@ -1,5 +1,6 @@
 -- Assignment files: one token for each process, in their order, the number of its machine.
-use Rattle.std.specs.Prelude.{◌≡◌, ℕ, zero, suc, List, [], ◌∷◌, ◌++◌, map, nat_lt, if◌then◌else◌, slice_get, Option, Some, None}
+use Rattle.std.specs.Prelude.{◌≡◌, ℕ, zero, suc, ◌<◌, List, [], ◌∷◌, ◌++◌, length, map, nat_lt, if◌then◌else◌, slice_get, Option, Some, None}
+use Rattle.std.specs.List.{All}
 use Rattle.std.specs.Fmt.{decimal}
 use Rattle.ra_base.specs.Searches.{or_else, first}
 use Rattle.ra_base.specs.declared.ids.Machine.{Machine}
@@ -53,9 +54,19 @@ assign_refusal bytes i =
 abbrev pub machine_of : Token → Machine
 machine_of t = record { 0 = t.value }
 
--- the bytes mean this assignment: nothing is refused, and its machines are the tokens' values
+-- each token names a machine
+abbrev pub AllExist : Tables → List Token → Type 0
+AllExist i ts = All (λ t. t.value < machine_count i) ts
+
+-- the bytes are an assignment file: they have no fault and a token for each process, and each names a machine
+pub record IsAssignmentFile (bytes : List ℕ) (i : Tables) : Type 0 where
+  pub sound : first_fault bytes ≡ None
+  pub one_each : length (tokens bytes) ≡ process_count i
+  pub exist : AllExist i (tokens bytes)
+
+-- the bytes mean this assignment: they are an assignment file, and its machines are the tokens' values
 pub record IsAssignmentOf (bytes : List ℕ) (i : Tables) (a : List Machine) : Type 0 where
-  pub accepted : assign_refusal bytes i ≡ None
+  pub file : IsAssignmentFile bytes i
   pub machines : a ≡ map machine_of (tokens bytes)
 
 -- the text of machines behind others: a space and the number for each, and LF

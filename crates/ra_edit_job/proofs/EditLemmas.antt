@@ -12,6 +12,7 @@ use Rattle.ra_edits_read.specs.declared.faults.EditsFault.TheVariants as reader
 use Rattle.ra_edits_read.specs.Answers.{IsEditsRefusal}
 use Rattle.ra_edits_read.specs.EditLists.{EditLists}
 use Rattle.ra_edits_read.specs.EditTexts.{edits_refusal, AreEditsOf, added_test, resized_test, numbers_test, found_test, edit_test}
+use Rattle.ra_edits_read.proofs.FileLaws.{edits_accept}
 use Rattle.ra_io.specs.Faults.{Rose}
 use Rattle.ra_model.specs.Assignments.{IsAssignment}
 use Rattle.ra_model.specs.Costs.{parts_of}
@@ -127,7 +128,7 @@ some_then None P Q step is = tt
 some_then (Some bytes) P Q step is = step bytes is
 
 accepted_of : (held : Held) (names : Names) (i : Tables) (a0 a : List Machine) (e : EditLists) → IsTaken held names i a0 a e → EditsAccepted held names
-accepted_of held names i a0 a e taken = record { tables = i; a0 = a0; a = a; accepts = taken.accepts; none = some_then (held (name_of names file.Edits)) (λ bytes. AreEditsOf bytes i e) (λ bytes. edits_refusal bytes i ≡ None) (λ bytes are. are.accepted) taken.edits }
+accepted_of held names i a0 a e taken = record { tables = i; a0 = a0; a = a; accepts = taken.accepts; none = some_then (held (name_of names file.Edits)) (λ bytes. AreEditsOf bytes i e) (λ bytes. edits_refusal bytes i ≡ None) (λ bytes are. (edits_accept bytes i).1 (are.count, are.file)) taken.edits }
 
 -- a refusal of the run
 pub says_run : (held : Held) (names : Names) (i : Tables) (a0 a : List Machine) (e : EditLists) (before now : Faults) (way : List ℕ → Type 0) → IsSome names.initial → IsSome names.changed → IsTaken held names i a0 a e → (refusal : Refusal) → EditSays i a0 a (IsEdited i a0 a e way) refusal → Says held names before now (EditOwn held names (Edited held names way)) refusal

@@ -14,7 +14,6 @@ use Rattle.ra_edits_read.specs.declared.edits.Edit.{Edit}
 use Rattle.ra_edits_read.specs.declared.edits.Edit.TheVariants.{Add, Retire, Resize}
 use Rattle.ra_edits_read.specs.declared.faults.EditsFault.{EditsFault}
 use Rattle.ra_edits_read.specs.declared.faults.EditsFault.TheVariants.{Range, TooMany}
-use Rattle.ra_edits_read.specs.declared.reading.TheConstants.{MOST_EDITS}
 use Rattle.ra_edits_read.specs.EditTexts.{value_at, numbers_behind, edit_from, requirements_from, any_at, below_at, any_from, added_test, resized_test, numbers_test, kind_test, found_test}
 use Rattle.ra_edits_read.specs.Answers.{EditsSays}
 use Rattle.ra_edits_read.specs.Reading.{TakesNumber, TakesValues, TakesEdit, HasEdit}
@@ -161,22 +160,22 @@ takes_other bytes i k kind x y old new edit not_one not_two h =
 
 -- with its kind
 
-kind_sound : (k : ℕ) (t : Token) → k < MOST_EDITS → 0 < t.value → t.value < 4 → kind_test k t ≡ None
+pub kind_sound : (k : ℕ) (t : Token) → k < 100000 → 0 < t.value → t.value < 4 → kind_test k t ≡ None
 unfolding kind_test
-kind_sound k t few some kind = rw (lt-ltb k MOST_EDITS few, lt-ltb 0 t.value some, lt-ltb t.value 4 kind) refl
+kind_sound k t few some kind = rw (lt-ltb k 100000 few, lt-ltb 0 t.value some, lt-ltb t.value 4 kind) refl
 
-pub kind_wrong : (k : ℕ) (t : Token) → k < MOST_EDITS → (0 < t.value → t.value < 4 → ⊥) → kind_test k t ≡ Some (Range t.at t.value 1 3)
+pub kind_wrong : (k : ℕ) (t : Token) → k < 100000 → (0 < t.value → t.value < 4 → ⊥) → kind_test k t ≡ Some (Range t.at t.value 1 3)
 unfolding kind_test
-kind_wrong k t few wrong = rw (lt-ltb k MOST_EDITS few, no_kind t.value wrong) refl
+kind_wrong k t few wrong = rw (lt-ltb k 100000 few, no_kind t.value wrong) refl
   where
     no_kind : (n : ℕ) → (0 < n → n < 4 → ⊥) → (nat_lt 0 n && nat_lt n 4) ≡ false
     no_kind n wrong = grind (arith, nat_tests)
 
-pub kind_behind : (k : ℕ) (t : Token) → MOST_EDITS ≤ k → kind_test k t ≡ Some (TooMany t.at)
+pub kind_behind : (k : ℕ) (t : Token) → 100000 ≤ k → kind_test k t ≡ Some (TooMany t.at)
 unfolding kind_test
-kind_behind k t many = rw (le-ltb k MOST_EDITS many) refl
+kind_behind k t many = rw (le-ltb k 100000 many) refl
 
-pub has_edit : (bytes : List ℕ) (i : Tables) (k x y z : ℕ) (t : Token) (old new : List ℕ) (edit : Edit) → slice_get (tokens bytes) (tokens_before bytes x) ≡ Some t → tokens_before bytes y ≡ tokens_before bytes x + 1 → k < MOST_EDITS → 0 < t.value → t.value < 4 → TakesEdit bytes i k t.value y z old new edit → HasEdit bytes i k x z old new edit
+pub has_edit : (bytes : List ℕ) (i : Tables) (k x y z : ℕ) (t : Token) (old new : List ℕ) (edit : Edit) → slice_get (tokens bytes) (tokens_before bytes x) ≡ Some t → tokens_before bytes y ≡ tokens_before bytes x + 1 → k < 100000 → 0 < t.value → t.value < 4 → TakesEdit bytes i k t.value y z old new edit → HasEdit bytes i k x z old new edit
 unfolding found_test
 has_edit bytes i k x y z t old new edit found next few some kind takes =
     let behind : tokens_before bytes y ≡ suc (tokens_before bytes x) = next ∙ add-one (tokens_before bytes x) in
@@ -193,7 +192,7 @@ pub found_kind : (bytes : List ℕ) (i : Tables) (k n : ℕ) (t : Token) (fault 
 unfolding found_test
 found_kind bytes i k n t fault found wrong = rw (found, wrong) (or_else_some fault _)
 
-pub found_behind : (bytes : List ℕ) (i : Tables) (k x y : ℕ) (t : Token) (fault : EditsFault) → slice_get (tokens bytes) (tokens_before bytes x) ≡ Some t → tokens_before bytes y ≡ tokens_before bytes x + 1 → k < MOST_EDITS → 0 < t.value → t.value < 4 → EditsSays (numbers_test bytes i k t.value (tokens_before bytes y)) fault → EditsSays (found_test bytes i k (tokens_before bytes x) (slice_get (tokens bytes) (tokens_before bytes x))) fault
+pub found_behind : (bytes : List ℕ) (i : Tables) (k x y : ℕ) (t : Token) (fault : EditsFault) → slice_get (tokens bytes) (tokens_before bytes x) ≡ Some t → tokens_before bytes y ≡ tokens_before bytes x + 1 → k < 100000 → 0 < t.value → t.value < 4 → EditsSays (numbers_test bytes i k t.value (tokens_before bytes y)) fault → EditsSays (found_test bytes i k (tokens_before bytes x) (slice_get (tokens bytes) (tokens_before bytes x))) fault
 unfolding found_test
 found_behind bytes i k x y t fault found next few some kind says =
     let behind : tokens_before bytes y ≡ suc (tokens_before bytes x) = next ∙ add-one (tokens_before bytes x) in

@@ -1,4 +1,5 @@
 pub mod ListLaws
 pub mod NumberLaws
 pub mod EditLaws
+pub mod Meaning
 pub mod FileLaws

@@ -70,7 +70,7 @@ pub any_there : (bytes : List ℕ) (k n : ℕ) (t : Token) → slice_get (tokens
 unfolding any_at any_test
 any_there bytes k n t found = rw found refl
 
-any_within : (bytes : List ℕ) (k n : ℕ) → n < length (tokens bytes) → any_at bytes k n ≡ None
+pub any_within : (bytes : List ℕ) (k n : ℕ) → n < length (tokens bytes) → any_at bytes k n ≡ None
 any_within bytes k n within = any_there bytes k n _ (slice_get-get_or (tokens bytes) n (record { value = 0; at = 0 }) within)
 
 -- a number was taken
@@ -109,7 +109,7 @@ below_token bytes k count n t found outside = rw found (cond-false (nat_lt t.val
 pub below_outside : (bytes : List ℕ) (k count x y : ℕ) (t : Token) → HasNext bytes x y (Some t) → count ≤ t.value → below_at bytes k count (tokens_before bytes x) ≡ Some (Range t.at t.value 0 (count - 1))
 below_outside bytes k count x y t h outside = below_token bytes k count (tokens_before bytes x) t h.answer outside
 
-below_inside : (bytes : List ℕ) (k count n : ℕ) (t : Token) → slice_get (tokens bytes) n ≡ Some t → t.value < count → below_at bytes k count n ≡ None
+pub below_inside : (bytes : List ℕ) (k count n : ℕ) (t : Token) → slice_get (tokens bytes) n ≡ Some t → t.value < count → below_at bytes k count n ≡ None
 unfolding below_at below_test
 below_inside bytes k count n t found inside = rw found (cond-true (nat_lt t.value count) None (Some (Range t.at t.value 0 (count - 1))) (lt-ltb t.value count inside))
 
@@ -118,7 +118,7 @@ takes_below bytes k count x y value h inside = below_inside bytes k count (token
 
 -- some numbers
 
-any_from_there : (bytes : List ℕ) (k n R : ℕ) → n + R ≤ length (tokens bytes) → any_from bytes k n R ≡ None
+pub any_from_there : (bytes : List ℕ) (k n R : ℕ) → n + R ≤ length (tokens bytes) → any_from bytes k n R ≡ None
 unfolding any_from
 any_from_there bytes k n R there = first_none_from R (λ j. any_at bytes k (n + j)) (λ j h. any_within bytes k (n + j) (omega arith))
 

@@ -1,6 +1,6 @@
 -- Files of edits. An edit is a kind and the numbers behind it: 1, a service, a machine, a requirement for each resource
 -- and a move cost add a process; 2 and a process retire it; 3, a process and a requirement for each resource resize it.
-use Rattle.std.specs.Prelude.{◌≡◌, ℕ, zero, suc, ◌+◌, ◌-◌, ◌==◌, ◌&&◌, nat_lt, if◌then◌else◌, List, [], ◌∷◌, ◌++◌, length, replicate, slice_get, slice_index_or, Option, Some, None}
+use Rattle.std.specs.Prelude.{◌≡◌, ℕ, zero, suc, ◌+◌, ◌-◌, ◌<◌, ◌≤◌, ◌==◌, ◌&&◌, nat_lt, if◌then◌else◌, List, [], ◌∷◌, ◌++◌, length, replicate, slice_get, slice_index_or, Option, Some, None}
 use Rattle.ra_base.specs.Searches.{or_else, first}
 use Rattle.ra_token.specs.declared.answers.Token.{Token}
 use Rattle.ra_token.specs.declared.answers.TokenFault.{TokenFault}
@@ -14,8 +14,7 @@ use Rattle.ra_edits_read.specs.declared.edits.Edit.{Edit}
 use Rattle.ra_edits_read.specs.declared.edits.Edit.TheVariants.{Add, Retire, Resize}
 use Rattle.ra_edits_read.specs.declared.faults.EditsFault.{EditsFault}
 use Rattle.ra_edits_read.specs.declared.faults.EditsFault.TheVariants.{ReadFault, BadByte, TooLarge, TooLong, Missing, Range, TooMany, NoMemory}
-use Rattle.ra_edits_read.specs.declared.reading.TheConstants.{MOST_EDITS}
-use Rattle.ra_edits_read.specs.EditLists.{EditLists}
+use Rattle.ra_edits_read.specs.EditLists.{EditLists, FitsInstance}
 
 -- what token n is worth, and zero past the last one
 unfoldable pub value_at : List ℕ → ℕ → ℕ
@@ -59,6 +58,27 @@ requirements_to R bytes (suc k) =
     requirements_to R bytes k
     ++ requirements_from R bytes (value_at bytes (kind_place R bytes k))
     (suc (kind_place R bytes k))
+
+-- the kind of edit k, and the edit
+abbrev pub kind_of : ℕ → List ℕ → ℕ → ℕ
+kind_of R bytes k = value_at bytes (kind_place R bytes k)
+
+abbrev pub edit_of : ℕ → List ℕ → ℕ → Edit
+edit_of R bytes k = edit_from R bytes (kind_of R bytes k) (suc (kind_place R bytes k))
+
+-- edit k is one: its kind is 1, 2 or 3, and the service and the machine of an added process exist
+pub record IsEdit (bytes : List ℕ) (i : Tables) (k : ℕ) : Type 0 where
+  pub least : 1 ≤ kind_of (resource_count i) bytes k
+  pub most : kind_of (resource_count i) bytes k ≤ 3
+  pub fits : FitsInstance i (edit_of (resource_count i) bytes k)
+
+-- the bytes are a file of so many edits, 100,000 at most: they have no fault, each of its edits is one, and behind the
+-- last of them stands no token
+pub record IsEditsFile (bytes : List ℕ) (i : Tables) (count : ℕ) : Type 0 where
+  pub sound : first_fault bytes ≡ None
+  pub few : count ≤ 100000
+  pub each : (k : ℕ) → k < count → IsEdit bytes i k
+  pub all : kind_place (resource_count i) bytes count ≡ length (tokens bytes)
 
 -- a token's fault, as one of edits
 unfoldable pub edits_fault : TokenFault → EditsFault
@@ -110,10 +130,10 @@ numbers_test bytes i k kind n =
     else if kind == 2 then any_at bytes k n
     else resized_test bytes i k n
 
--- what is wrong with the kind of edit k: there may be no such edit, and a kind is 1, 2 or 3
+-- what is wrong with the kind of edit k: there may be 100,000 edits, and a kind is 1, 2 or 3
 unfoldable pub kind_test : ℕ → Token → Option EditsFault
 kind_test k t =
-    if nat_lt k MOST_EDITS
+    if nat_lt k 100000
     then (if nat_lt 0 t.value && nat_lt t.value 4 then None else Some (Range t.at t.value 1 3))
     else Some (TooMany t.at)
 
@@ -132,16 +152,15 @@ unfoldable pub file_fault : Option TokenFault → Option EditsFault
 file_fault None = None
 file_fault (Some fault) = Some (edits_fault fault)
 
--- the first refusal of a file of edits
+-- the first refusal of a file of edits, in which there may be 100,000
 unfoldable pub edits_refusal : List ℕ → Tables → Option EditsFault
 edits_refusal bytes i =
-    or_else (first (suc MOST_EDITS) (edit_test bytes i)) (file_fault (first_fault bytes))
+    or_else (first 100001 (edit_test bytes i)) (file_fault (first_fault bytes))
 
--- the bytes mean these edits: nothing is refused, and they are all edits of the file in their order
+-- the bytes mean these edits: they are a file of edits, and these are all of them in their order
 pub record AreEditsOf (bytes : List ℕ) (i : Tables) (e : EditLists) : Type 0 where
-  pub accepted : edits_refusal bytes i ≡ None
   pub count : ℕ
-  pub all : kind_place (resource_count i) bytes count ≡ length (tokens bytes)
+  pub file : IsEditsFile bytes i count
   pub width : e.width ≡ resource_count i
   pub edits : e.edits ≡ edits_to (resource_count i) bytes count
   pub requirements : e.requirements ≡ requirements_to (resource_count i) bytes count

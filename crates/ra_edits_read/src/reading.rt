@@ -128,7 +128,7 @@ fn read_end<F: Files>(files: &mut F, tokens: &mut Tokens, inst: &Instance) -> Re
         (here (F.held files.old) (F.faults files.old) tokens.old)
         (here (F.held files.new) (F.faults files.new) tokens.new)) }
     ensures refuses { IfErr result (λ fault. Refuses EditsFault.ReadFault (λ bytes before.
-        EditStop bytes inst.now.tables MOST_EDITS before fault)
+        EditStop bytes inst.now.tables 100000 before fault)
         (here (F.held files.old) (F.faults files.old) tokens.old)
         (here (F.held files.new) (F.faults files.new) tokens.new) fault) }
 {
@@ -148,7 +148,7 @@ fn next_edit<F: Files>(
     requirements: &mut Fixed<u32>,
 ) -> Result<Option<Edit>, EditsFault>
     requires stands { Stands (here (F.held files.old) (F.faults files.old) tokens.old) }
-    requires few { k < MOST_EDITS }
+    requires few { k < 100000 }
     requires room { length requirements.old.items + resource_count inst.now.tables
         ≤ requirements.old.room }
     ensures gives { IfOk result (λ next. Went (λ bytes before after.

@@ -16,6 +16,8 @@ use Rattle.ra_assign.specs.declared.faults.AssignFault.{AssignFault}
 use Rattle.ra_assign.specs.declared.faults.ClosedFault.{ClosedFault}
 use Rattle.ra_assign.specs.Lists.{assign_refusal, IsAssignmentOf}
 use Rattle.ra_assign.specs.ClosedLists.{closed_refusal, IsClosedOf}
+use Rattle.ra_assign.proofs.AssignLemmas.{assign_accepts}
+use Rattle.ra_assign.proofs.ClosedLemmas.{closed_accepts}
 use Rattle.ra_jobs.specs.Files.{Held, Names, ModelIs, CloseIs, InstanceIs, NamedListIs, Accepts}
 use Rattle.ra_jobs.specs.Refusals.{ModelRefused, ListRefused, ClosedRefused, InitialRefused, ChangedRefused, InitialBreaks, ChangedBreaks}
 use Rattle.ra_jobs.proofs.RowLemmas.{bare_raw, raw_same}
@@ -92,7 +94,7 @@ no_closed held name named model told fault refused i instance =
     let same = models_same held name model refused.model instance.model refused.read instance.read in
     let closing = subst (λ (o : Option (List ℕ)). CloseIs held o instance.model i) refused.named instance.closed in
     told_gives ⊥ (λ bytes. closed_refusal bytes refused.model ≡ Some fault) (λ bytes. IsClosedOf bytes instance.model closing.0.items) (held refused.name) (told refused.name refused.named)
-    (λ bytes some is. refused_not _ fault (closed_same bytes refused.model instance.model same ∙ is.accepted) some) refused.refused closing.2
+    (λ bytes some is. refused_not _ fault (closed_same bytes refused.model instance.model same ∙ (closed_accepts bytes instance.model).1 is.file) some) refused.refused closing.2
 
 -- the lists
 
@@ -100,7 +102,7 @@ no_list : (held : Held) (named : Option (List ℕ)) → Told held named → (nam
 no_list held named told name is i j same fault refused a list =
     let read = subst (λ (o : Option (List ℕ)). NamedListIs held o j a) is list in
     told_gives ⊥ (λ bytes. assign_refusal bytes i ≡ Some fault) (λ bytes. IsAssignmentOf bytes j a) (held name) (told name is)
-    (λ bytes some assigned. refused_not _ fault (assign_same bytes i j same ∙ assigned.accepted) some) refused.refused read
+    (λ bytes some assigned. refused_not _ fault (assign_same bytes i j same ∙ (assign_accepts bytes j).1 assigned.file) some) refused.refused read
 
 pub no_initial : (held : Held) (names : Names) → IsSome (held names.model) → Told held names.closed → Told held names.initial → (fault : AssignFault) → InitialRefused held names fault → (i : Tables) (a0 : List Machine) → InstanceIs held names.model names.closed i → NamedListIs held names.initial i a0 → ⊥
 no_initial held names model closed initial fault refused i a0 instance list = no_list held names.initial initial refused.name refused.named refused.tables i

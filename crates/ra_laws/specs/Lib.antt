@@ -9,3 +9,4 @@ pub mod PinLaws
 pub mod LineLaws
 pub mod ModelTextLaws
 pub mod LeastLaws
+pub mod FileLaws

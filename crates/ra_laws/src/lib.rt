@@ -20,7 +20,7 @@ pub mod model_text;
 pub mod moves;
 /// The pinned processes of a start.
 pub mod pins;
-/// What a model file means.
+/// What a model file means, and which lists and edits are read.
 pub mod reading;
 /// Penalties, and runs of tries.
 pub mod repair;

@@ -15,6 +15,7 @@ use Rattle.ra_model.specs.Broken.{first_broken}
 use Rattle.ra_model.proofs.BrokenLemmas.{unbroken_from_feasible}
 use Rattle.ra_model_read.specs.ModelText.{IsModel}
 use Rattle.ra_assign.specs.Lists.{IsAssignmentOf}
+use Rattle.ra_assign.proofs.AssignLemmas.{assign_accepts}
 use Rattle.ra_crew.specs.declared.solved.Solved.{Solved as Run}
 use Rattle.ra_crew.specs.Runs.{IsRun}
 use Rattle.ra_report.specs.Summaries.{summary_of}
@@ -73,7 +74,7 @@ accepted number held holds = record {
   initial = λ name named i instance.
       let is = instance_read number held i holds instance in
       let same : codes "start" ≡ name = cc in
-      (start_text, subst (λ (n : List ℕ). held n ≡ Some start_text) same holds.start, ((start_text_is_start (trial_word number) i is start_list).1 refl).accepted);
+      (start_text, subst (λ (n : List ℕ). held n ≡ Some start_text) same holds.start, (assign_accepts start_text i).1 ((start_text_is_start (trial_word number) i is start_list).1 refl).file);
   changed = λ name named. absurd (cc);
 }
 

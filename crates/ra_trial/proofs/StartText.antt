@@ -1,13 +1,9 @@
 -- The start's text means the start.
-use Rattle.std.proofs.Common.{◌≡◌, ◌↔◌, ℕ, ◌<◌, List, [], ◌∷◌, ◌++◌, length, map, get_or, Some, None, refl, sym, ap, ap₂, ◌∙◌, arith}
-use Rattle.std.proofs.lemmas.Bool.{cond-true, lt-ltb}
+use Rattle.std.proofs.Common.{◌≡◌, ◌↔◌, ℕ, ◌<◌, List, [], ◌∷◌, ◌++◌, length, map, get_or, None, refl, sym, ap, ap₂, ◌∙◌, arith}
 use Rattle.std.proofs.lemmas.List.{append-nil, get_or-map, length-map}
 use Rattle.std.proofs.lemmas.List.Elements.{All-map}
-use Rattle.std.proofs.lemmas.Option.{slice_get-get_or, slice_get_past}
 use Rattle.std.specs.Fmt.{decimal}
 use Rattle.std.specs.List.{All}
-use Rattle.std.specs.Prelude.{slice_get}
-use Rattle.ra_base.proofs.Searches.{first_none_from, both_none}
 use Rattle.ra_base.specs.declared.ids.Machine.{Machine}
 use Rattle.ra_token.specs.declared.answers.Token.{Token}
 use Rattle.ra_token.specs.Faults.{first_fault}
@@ -15,7 +11,7 @@ use Rattle.ra_token.specs.TokenList.{tokens}
 use Rattle.ra_token.specs.Values.{value_of}
 use Rattle.ra_model.specs.declared.raw.Tables.{Tables}
 use Rattle.ra_model.specs.Numbers.{machine_count, process_count}
-use Rattle.ra_assign.specs.Lists.{assignment_bytes, machine_test, process_test, behind_test, end_test, assign_refusal, machine_of, IsAssignmentOf}
+use Rattle.ra_assign.specs.Lists.{assignment_bytes, machine_of, IsAssignmentFile, IsAssignmentOf}
 use Rattle.ra_assign.specs.Lists as assign
 use Rattle.ra_trial.specs.Lines.{listed, more_text, line_text, lines_text}
 use Rattle.ra_trial.specs.Numbers.{start_of}
@@ -78,35 +74,27 @@ token_machines (t ∷ ts) (m ∷ ms) same =
 tokens_many : length (tokens start_text) ≡ 1000
 tokens_many = sym (length-map (tokens start_text) value_of) ∙ ap length start_told.1 ∙ length-map start_list number ∙ start_many
 
--- each token is the number of a machine, and nothing is behind them
+-- there is a token for each process, and each is the number of a machine
 module _ (g : ℕ → ℕ) (i : Tables) (is : IsTrial g i) where
-  token_passes : (p : ℕ) (t : Token) → slice_get (tokens start_text) p ≡ Some t → t.value < machine_count i → process_test start_text i p ≡ None
-  unfolding process_test machine_test
-  token_passes p t found low = ap (machine_test i (first_fault start_text) p) found ∙ cond-true _ _ _ (lt-ltb t.value (machine_count i) low)
-
-  machine_found : (p : ℕ) → p < 1000 → process_test start_text i p ≡ None
+  token_low : (p : ℕ) (d : Token) → p < 1000 → (get_or (tokens start_text) p d).value < machine_count i
   unfolding number
-  machine_found p within =
+  token_low p d within =
       let has = has_numbers g i is in
-      let d : Token = record { value = 0; at = 0 } in
       let t : Token = get_or (tokens start_text) p d in
       let value : t.value ≡ get_or (map number start_list) p 0 = sym (get_or-map value_of (tokens start_text) p d 0 (omega (arith, tokens_many))) ∙ ap (λ ns. get_or ns p 0) start_told.1 in
       let machine : get_or (map number start_list) p 0 ≡ (get_or start_list p (record { 0 = 0 })).0 = get_or-map number start_list p (record { 0 = 0 }) 0 (omega (arith, start_many)) in
       let low : (get_or start_list p (record { 0 = 0 })).0 < 100 = machines_low p (record { 0 = 0 }) (omega (arith, start_many)) in
-      token_passes p t (slice_get-get_or (tokens start_text) p d (omega (arith, tokens_many))) (omega (arith, has.machines, value, machine, low))
+      omega (arith, has.machines, value, machine, low)
 
-  end_passes : (n : ℕ) → n ≡ 1000 → end_test start_text n ≡ None
-  unfolding end_test behind_test
-  end_passes n all = ap₂ behind_test start_told.0 (slice_get_past (tokens start_text) n (omega (arith, tokens_many)))
-
-  start_accepted : assign_refusal start_text i ≡ None
-  unfolding assign_refusal
-  start_accepted =
-      let has = has_numbers g i is in
-      both_none _ _ (first_none_from (process_count i) (process_test start_text i) (λ p within. machine_found p (omega (arith, has.processes)))) (end_passes (process_count i) has.processes)
+  start_file : IsAssignmentFile start_text i
+  start_file = record {
+    sound = start_told.0;
+    one_each = tokens_many ∙ sym (has_numbers g i is).processes;
+    exist = λ p d within. token_low p d (omega (arith, tokens_many, within));
+  }
 
   pub start_text_is_start : (a : List Machine) → IsAssignmentOf start_text i a ↔ (a ≡ start_list)
   start_text_is_start a = (
     λ told. told.machines ∙ token_machines (tokens start_text) start_list start_told.1,
-    λ same. record { accepted = start_accepted; machines = same ∙ sym (token_machines (tokens start_text) start_list start_told.1) },
+    λ same. record { file = start_file; machines = same ∙ sym (token_machines (tokens start_text) start_list start_told.1) },
   )
