@@ -3,3 +3,4 @@ pub mod Standing
 pub mod Reading
 pub mod Windows
 pub mod Comparing
+pub mod Expecteds

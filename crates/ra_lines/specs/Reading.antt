@@ -1,7 +1,10 @@
 -- A reader of lines, and what comes next of the bytes that it has not given.
-use Rattle.std.specs.Prelude.{◌≡◌, ℕ, ◌≤◌, true, false, List, [], ◌∷◌, ◌++◌, length, take, drop, Option, IfSome}
+use Rattle.std.specs.Prelude.{◌≡◌, ℕ, ◌+◌, ◌-◌, ◌≤◌, true, false, List, [], ◌∷◌, ◌++◌, length, take, drop, Option, Result, Ok, IfSome, IfOk, OnErr}
+use Rattle.ra_base.specs.declared.lists.Fixed.{Fixed}
+use Rattle.ra_io.specs.Outside.{Reading, ReadFailed}
 use Rattle.ra_lines.specs.declared.answers.Next.{Next}
 use Rattle.ra_lines.specs.declared.answers.Next.TheVariants.{Line, Last, Long, End}
+use Rattle.ra_lines.specs.declared.answers.ReadFault.{ReadFault}
 use Rattle.ra_lines.specs.Lines.{lines_of, ends_line, length_before_end, IsOverLong}
 use Rattle.ra_lines.specs.Standing.{Standing}
 
@@ -41,3 +44,26 @@ IsNext room bytes after Line = BeginsWithLine room bytes after
 IsNext room bytes after Last = IsLastLine room bytes after
 IsNext room bytes after Long = BeginsOverLong room bytes
 IsNext room bytes after End = (bytes ≡ [])
+
+-- the next line was asked for, with room for so many bytes before its end: it was added to a list as far as there was
+-- room, and the answer says what it is
+pub record TakesLine (files : Reading) (most_before : ℕ) (old new : Standing) (before after : Fixed ℕ)
+    (answer : Result Next ReadFault) : Type 0 where
+  pub reads : Reads (files.held_after new.name) new
+  -- where the bytes are told, those from the old place to the new one were given, whatever the answer is
+  pub given :
+      IfSome (files.held old.name) (λ bytes.
+      after.items ≡ before.items ++ take (new.place - old.place) (drop old.place bytes))
+  pub next :
+      IfSome (files.held old.name) (λ bytes.
+      IfOk answer (IsNext most_before (drop old.place bytes) (drop new.place bytes)))
+  pub number : length after.items + old.place ≡ length before.items + new.place
+  pub goes_on : old.place ≤ new.place
+  pub most : new.place ≤ old.place + most_before + 1
+  pub long : answer ≡ Ok Long → new.place ≡ old.place + most_before + 1
+  pub room : after.room ≡ before.room
+  -- a failed fetch is counted
+  pub fault : OnErr answer (ReadFailed files old.name)
+  pub name : new.name ≡ old.name
+  pub kept : (other : List ℕ) → files.held_after other ≡ files.held other
+  pub never_fall : (other : List ℕ) → files.before other ≤ files.after other

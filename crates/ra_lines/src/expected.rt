@@ -1,7 +1,7 @@
 ghost use Rattle.std.specs.Prelude.{◌≡◌, ◌<◌, ◌≤◌, ◌^◌, ◌↔◌, ℕ, true, false, [], List, Some, Option, length, IfSome, IfNone};
 ghost use Rattle.std.specs.Option.{ForSome, ForNone};
 ghost use Rattle.ra_lines.specs.Lines.{FirstUnlike};
-ghost use Rattle.ra_lines.specs.Comparing.{is_byte_at, opened, taken_of, WasGiven};
+ghost use Rattle.ra_lines.specs.Comparing.{is_byte_at, opened, WasGiven};
 
 use crate::scan::{count_ends, same_length};
 use ra_io::{Failed, Sink};
@@ -22,11 +22,12 @@ pub struct Expected<'a> {
 }
 
 impl<'a> Expected<'a> {
+    ghost use Rattle.ra_lines.specs.Expecteds as sink;
+
     /// It was given nothing yet.
     pub fn make(expected: &'a [u8]) -> Expected<'a>
-        ensures none { taken_of result.expected.now result.agreed result.other ≡ opened
-            expected.now }
-        ensures sound { result.faults ≡ 0 }
+        ensures none { sink.taken result ≡ opened expected.now }
+        ensures sound { sink.faults result ≡ 0 }
     {
         Expected {
             expected,
@@ -39,7 +40,7 @@ impl<'a> Expected<'a> {
     /// Whether it was given exactly the bytes that are expected.
     pub fn is_same(&self) -> bool
         ensures { (expected text : List ℕ) → WasGiven expected
-            (taken_of self.now.expected.now self.now.agreed self.now.other) self.now.faults text →
+            (sink.taken self.now) (sink.faults self.now) text →
             (result ≡ true) ↔ (text ≡ expected) }
     {
         match self.other {
@@ -52,10 +53,10 @@ impl<'a> Expected<'a> {
     /// expected, or one of them has none; none where they are the same.
     pub fn unlike_line(&self) -> Option<usize>
         ensures same { (expected text : List ℕ) → WasGiven expected
-            (taken_of self.now.expected.now self.now.agreed self.now.other) self.now.faults text →
+            (sink.taken self.now) (sink.faults self.now) text →
             IfNone result (text ≡ expected) }
         ensures unlike { (expected text : List ℕ) → WasGiven expected
-            (taken_of self.now.expected.now self.now.agreed self.now.other) self.now.faults text →
+            (sink.taken self.now) (sink.faults self.now) text →
             IfSome result (FirstUnlike expected text) }
     {
         if self.is_same() {
@@ -66,11 +67,13 @@ impl<'a> Expected<'a> {
 }
 
 impl<'a> Sink for Expected<'a> {
-    ghost taken = { λ s. Some (taken_of s.expected.now s.agreed s.other) };
+    ghost use Rattle.ra_lines.specs.Expecteds as sink;
 
-    ghost faults = { λ s. s.faults };
+    ghost taken = { λ s. Some (sink.taken s) };
 
-    ghost counted = { λ s. s.small };
+    ghost faults = { sink.faults };
+
+    ghost counted = { sink.counted };
 
     fn put(&mut self, piece: &[u8]) -> Result<usize, Failed> {
         if self.other.is_some() {

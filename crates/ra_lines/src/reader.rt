@@ -1,7 +1,6 @@
-ghost use Rattle.std.specs.Prelude.{◌≡◌, ℕ, ◌+◌, ◌-◌, ◌<◌, ◌≤◌, ◌^◌, ◌++◌, List, length, take, drop, Option, IfSome, IfOk, OnErr, Ok};
-ghost use Rattle.ra_io.specs.Faults.{Rose};
-ghost use Rattle.ra_lines.specs.Reading.{Reads, IsNext};
-ghost use Rattle.ra_lines.specs.declared.answers.Next.TheVariants as Next;
+ghost use Rattle.std.specs.Prelude.{◌≡◌, ℕ, ◌+◌, ◌<◌, ◌^◌, List, length, Option, IfOk};
+ghost use Rattle.ra_io.specs.Outside.{reading};
+ghost use Rattle.ra_lines.specs.Reading.{Reads, TakesLine};
 
 use crate::answers::{Next, ReadFault};
 use crate::window::Window;
@@ -60,30 +59,8 @@ impl LineReader {
         requires reads { Reads (F.held files.old self.old.name) self.old }
         requires room { length line.old.items + room < line.old.room }
         requires near { self.old.place + room < 2 ^ 62 }
-        ensures reads { Reads (F.held files.new self.new.name) self.new }
-
-        // Where the bytes are told, those from the old place to the new one were given, whatever the answer is.
-        ensures given { IfSome (F.held files.old self.old.name) (λ bytes.
-            line.new.items ≡ line.old.items ++
-            take (self.new.place - self.old.place) (drop self.old.place bytes)) }
-        ensures next { IfSome (F.held files.old self.old.name) (λ bytes. IfOk result
-            (IsNext room (drop self.old.place bytes) (drop self.new.place bytes))) }
-
-        ensures number { length line.new.items + self.old.place ≡
-            length line.old.items + self.new.place }
-        ensures goes_on { self.old.place ≤ self.new.place }
-        ensures most { self.new.place ≤ self.old.place + room + 1 }
-        ensures long { result ≡ Ok Next.Long → self.new.place ≡ self.old.place + room + 1 }
-        ensures room { line.new.room ≡ line.old.room }
-
-        // A failed fetch is counted.
-        ensures fault { OnErr result (Rose (F.faults files.old self.old.name)
-            (F.faults files.new self.old.name)) }
-
-        ensures name { self.new.name ≡ self.old.name }
-        ensures kept { (other : List ℕ) → F.held files.new other ≡ F.held files.old other }
-        ensures never_fall { (other : List ℕ) →
-            F.faults files.old other ≤ F.faults files.new other }
+        ensures { TakesLine (reading F.Files files.old files.new) room self.old self.new
+            line.old line.new result }
     {
         let before = line.len();
         let next = self

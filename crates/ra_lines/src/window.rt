@@ -1,7 +1,5 @@
-ghost use Rattle.std.specs.Prelude.{◌≡◌, ℕ, ◌+◌, ◌-◌, ◌<◌, ◌≤◌, ◌^◌, ◌++◌, [], true, false, List, length, take, drop, min, Option, Ok, IfSome, IfOk, OnErr, vec_len};
-ghost use Rattle.ra_io.specs.Faults.{Rose};
-ghost use Rattle.ra_lines.specs.Lines.{ends_line, body_of, HasNoEnd};
-ghost use Rattle.ra_lines.specs.Reading.{IsNext};
+ghost use Rattle.std.specs.Prelude.{◌≡◌, ◌+◌, ◌<◌, ◌≤◌, ◌^◌, [], length, take, drop, IfSome, IfOk, vec_len};
+ghost use Rattle.ra_io.specs.Outside.{reading};
 ghost use Rattle.ra_lines.specs.declared.window.TheConstants.{BUFFER_BYTES};
 
 use crate::answers::{Next, ReadFault};
@@ -28,7 +26,7 @@ pub struct Window {
 }
 
 impl Window {
-    ghost use Rattle.ra_lines.specs.Windows.{ready_of, IsEnded, Gave};
+    ghost use Rattle.ra_lines.specs.Windows.{ready_of, GivesLine, MakesReady, GivesFront};
 
     /// A window with nothing ready.
     pub fn make(alloc: Global) -> Result<Window, AllocError>
@@ -55,22 +53,8 @@ impl Window {
             take (length (ready_of self.old)) (drop place bytes) ≡ ready_of self.old) }
         requires room { length line.old.items + room < line.old.room }
         requires near { place + room < 2 ^ 62 }
-        ensures gave { IfSome (F.held files.old name.now) (λ bytes. Gave bytes place
-            (length line.new.items - length line.old.items) line.old.items line.new.items
-            (ready_of self.new)) }
-        ensures next { IfSome (F.held files.old name.now) (λ bytes. IfOk result
-            (IsNext room (drop place bytes)
-            (drop (place + (length line.new.items - length line.old.items)) bytes))) }
-        ensures grows { length line.old.items ≤ length line.new.items }
-        ensures most { length line.new.items ≤ length line.old.items + room + 1 }
-        ensures long { result ≡ Ok Next.Long →
-            length line.new.items ≡ length line.old.items + room + 1 }
-        ensures room { line.new.room ≡ line.old.room }
-        ensures fault { OnErr result (Rose (F.faults files.old name.now)
-            (F.faults files.new name.now)) }
-        ensures kept { (other : List ℕ) → F.held files.new other ≡ F.held files.old other }
-        ensures never_fall { (other : List ℕ) →
-            F.faults files.old other ≤ F.faults files.new other }
+        ensures { GivesLine (reading F.Files files.old files.new) name.now place room
+            line.old line.new (ready_of self.new) result }
     {
         let before = line.len();
         let mut given = 0;
@@ -95,17 +79,8 @@ impl Window {
         place: u64,
     ) -> Result<bool, ReadFault>
         requires place { place < 2 ^ 62 }
-        ensures fetched { IfSome (F.held files.old name.now) (λ bytes.
-            take (length (ready_of self.old)) (drop place bytes) ≡ ready_of self.old
-            → take (length (ready_of self.new)) (drop place bytes) ≡ ready_of self.new) }
-        ensures more { result ≡ Ok true → 0 < length (ready_of self.new) }
-        ensures ended { result ≡ Ok false →
-            IfSome (F.held files.old name.now) (λ bytes. drop place bytes ≡ []) }
-        ensures fault { OnErr result (Rose (F.faults files.old name.now)
-            (F.faults files.new name.now)) }
-        ensures kept { (other : List ℕ) → F.held files.new other ≡ F.held files.old other }
-        ensures never_fall { (other : List ℕ) →
-            F.faults files.old other ≤ F.faults files.new other }
+        ensures { MakesReady (reading F.Files files.old files.new) name.now place
+            (ready_of self.old) (ready_of self.new) result }
     {
         if self.at < self.filled {
             return Ok(true);
@@ -123,21 +98,8 @@ impl Window {
     /// `line`. Whether there was an LF.
     pub fn give(&mut self, most: usize, line: &mut Fixed<u8>) -> bool
         requires room { length line.old.items + most ≤ line.old.room }
-        ensures given { line.new.items ≡ line.old.items ++
-            take (length line.new.items - length line.old.items) (ready_of self.old) }
-        ensures left { ready_of self.new ≡
-            drop (length line.new.items - length line.old.items) (ready_of self.old) }
-        ensures ended { result ≡ true → IsEnded
-            (take (length line.new.items - length line.old.items) (ready_of self.old)) }
-        ensures unended { result ≡ false → HasNoEnd
-            (take (length line.new.items - length line.old.items) (ready_of self.old)) }
-        ensures most { length line.new.items ≤ length line.old.items + most }
-        ensures some { 0 < most → 0 < length (ready_of self.old) →
-            length line.old.items < length line.new.items }
-        ensures grows { length line.old.items ≤ length line.new.items }
-        ensures within { length line.new.items ≤
-            length line.old.items + length (ready_of self.old) }
-        ensures room { line.new.room ≡ line.old.room }
+        ensures { GivesFront most (ready_of self.old) (ready_of self.new) line.old line.new
+            result }
     {
         let (number, ended) = line_front(&self.buffer[self.at..self.filled], most);
         line.extend_from_slice(&self.buffer[self.at..self.at + number]);

@@ -1,5 +1,6 @@
 -- What is known from one moment of a reading to a later one.
 use Rattle.std.specs.Prelude.{◌≡◌, ℕ, ◌+◌, List, Option, ◌≤◌, Ok, Err, IfSome, OnSome}
+use Rattle.ra_io.specs.declared.outside.Files as files
 use Rattle.ra_io.specs.Faults.{Rose}
 use Rattle.ra_token.specs.declared.answers.Token.{Token}
 use Rattle.ra_token.specs.declared.answers.TokenFault.{TokenFault}
@@ -15,6 +16,10 @@ pub record Here : Type 0 where
 
 abbrev pub here : (List ℕ → Option (List ℕ)) → (List ℕ → ℕ) → Standing → Here
 here held faults tokens = record { held = held; faults = faults; tokens = tokens }
+
+-- the same from what is told of the files, which is `F.Files` in a clause
+abbrev pub moment : {F : Type 0} → files.Ghosts F → F → Standing → Here
+moment told lent tokens = here (told.held lent) (told.faults lent) tokens
 
 -- the reader stands in the bytes of its file, where they are told
 abbrev pub Stands : Here → Type 0
