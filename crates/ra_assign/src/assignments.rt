@@ -5,7 +5,7 @@ ghost use Rattle.ra_model.specs.Assignments.{IsAssignment};
 ghost use Rattle.ra_model.specs.Numbers.{machine_count, process_count};
 ghost use Rattle.ra_assign.specs.Lists.{IsAssignmentOf, assign_fault, process_test, end_test};
 ghost use Rattle.ra_assign.specs.Answers.{IsAssignRefusal, AssignSays};
-ghost use Rattle.ra_token.specs.Moments.{here, Stands, Went, Refuses, HasNext, HasFault};
+ghost use Rattle.ra_token.specs.Moments.{moment, Stands, Went, Refuses, HasNext, HasFault};
 ghost use Rattle.ra_assign.specs.Reading.{TakesMachine, HasEnded};
 
 use crate::faults::AssignFault;
@@ -55,19 +55,17 @@ fn read_machines<F: Files>(
     inst: &Instance,
     list: &mut Assignment,
 ) -> Result<(), AssignFault>
-    requires stands { Stands (here (F.held files.old) (F.faults files.old) tokens.old) }
+    requires stands { Stands (moment F.Files files.old tokens.old) }
     requires start { (bytes : List ℕ) → tokens_before bytes tokens.old.place ≡ 0 }
     requires empty { list.old.items ≡ [] }
     requires room { list.old.room ≡ process_count inst.now.tables }
     ensures gives { OnOk result (Went (λ bytes before after.
         IsAssignmentOf bytes inst.now.tables list.new.items)
-        (here (F.held files.old) (F.faults files.old) tokens.old)
-        (here (F.held files.new) (F.faults files.new) tokens.new)) }
+        (moment F.Files files.old tokens.old) (moment F.Files files.new tokens.new)) }
     ensures fits { OnOk result (IsAssignment inst.now.tables list.new.items) }
     ensures refuses { IfErr result (λ fault. Refuses AssignFault.ReadFault (λ bytes before.
         IsAssignRefusal bytes inst.now.tables fault)
-        (here (F.held files.old) (F.faults files.old) tokens.old)
-        (here (F.held files.new) (F.faults files.new) tokens.new) fault) }
+        (moment F.Files files.old tokens.old) (moment F.Files files.new tokens.new) fault) }
 {
     for p in 0..inst.processes() {
         let machine = next_machine(files, tokens, inst, p)?;
@@ -84,16 +82,14 @@ fn next_machine<F: Files>(
     inst: &Instance,
     p: u32,
 ) -> Result<Machine, AssignFault>
-    requires stands { Stands (here (F.held files.old) (F.faults files.old) tokens.old) }
+    requires stands { Stands (moment F.Files files.old tokens.old) }
     ensures gives { IfOk result (λ m.
         Went (λ bytes before after. TakesMachine bytes inst.now.tables before after m)
-        (here (F.held files.old) (F.faults files.old) tokens.old)
-        (here (F.held files.new) (F.faults files.new) tokens.new)) }
+        (moment F.Files files.old tokens.old) (moment F.Files files.new tokens.new)) }
     ensures exists { IfOk result (λ m. m.0 < machine_count inst.now.tables) }
     ensures refuses { IfErr result (λ fault. Refuses AssignFault.ReadFault (λ bytes before.
         tokens_before bytes before ≡ p → AssignSays (process_test bytes inst.now.tables p) fault)
-        (here (F.held files.old) (F.faults files.old) tokens.old)
-        (here (F.held files.new) (F.faults files.new) tokens.new) fault) }
+        (moment F.Files files.old tokens.old) (moment F.Files files.new tokens.new) fault) }
 {
     let Some(token) = next_token(files, tokens)? else {
         return Err(AssignFault::Missing {
@@ -111,14 +107,12 @@ fn next_machine<F: Files>(
 
 /// The end of the file, behind the last process.
 fn read_end<F: Files>(files: &mut F, tokens: &mut Tokens) -> Result<(), AssignFault>
-    requires stands { Stands (here (F.held files.old) (F.faults files.old) tokens.old) }
+    requires stands { Stands (moment F.Files files.old tokens.old) }
     ensures gives { OnOk result (Went (λ bytes before after. HasEnded bytes before)
-        (here (F.held files.old) (F.faults files.old) tokens.old)
-        (here (F.held files.new) (F.faults files.new) tokens.new)) }
+        (moment F.Files files.old tokens.old) (moment F.Files files.new tokens.new)) }
     ensures refuses { IfErr result (λ fault. Refuses AssignFault.ReadFault (λ bytes before.
         AssignSays (end_test bytes (tokens_before bytes before)) fault)
-        (here (F.held files.old) (F.faults files.old) tokens.old)
-        (here (F.held files.new) (F.faults files.new) tokens.new) fault) }
+        (moment F.Files files.old tokens.old) (moment F.Files files.new tokens.new) fault) }
 {
     let next = next_token(files, tokens)?;
     match next {
@@ -129,15 +123,13 @@ fn read_end<F: Files>(files: &mut F, tokens: &mut Tokens) -> Result<(), AssignFa
 
 /// The next token, or none at the end of the file.
 fn next_token<F: Files>(files: &mut F, tokens: &mut Tokens) -> Result<Option<Token>, AssignFault>
-    requires stands { Stands (here (F.held files.old) (F.faults files.old) tokens.old) }
+    requires stands { Stands (moment F.Files files.old tokens.old) }
     ensures gives { IfOk result (λ next.
         Went (λ bytes before after. HasNext bytes before after next)
-        (here (F.held files.old) (F.faults files.old) tokens.old)
-        (here (F.held files.new) (F.faults files.new) tokens.new)) }
+        (moment F.Files files.old tokens.old) (moment F.Files files.new tokens.new)) }
     ensures refuses { IfErr result (λ fault. Refuses AssignFault.ReadFault (λ bytes before.
         HasFault assign_fault bytes before fault)
-        (here (F.held files.old) (F.faults files.old) tokens.old)
-        (here (F.held files.new) (F.faults files.new) tokens.new) fault) }
+        (moment F.Files files.old tokens.old) (moment F.Files files.new tokens.new) fault) }
 {
     match tokens.next(files) {
         Ok(next) => Ok(next),

@@ -4,7 +4,7 @@ ghost use Rattle.ra_token.specs.TokenList.{tokens_before};
 ghost use Rattle.ra_model.specs.Numbers.{machine_count};
 ghost use Rattle.ra_assign.specs.ClosedLists.{IsClosedOf, closed_fault};
 ghost use Rattle.ra_assign.specs.Answers.{IsClosedRefusal};
-ghost use Rattle.ra_token.specs.Moments.{here, Stands, Went, Refuses, HasNext, HasFault};
+ghost use Rattle.ra_token.specs.Moments.{moment, Stands, Went, Refuses, HasNext, HasFault};
 ghost use Rattle.ra_assign.specs.Reading.{ClosedNext, ClosedStop};
 
 use crate::faults::ClosedFault;
@@ -53,18 +53,16 @@ fn flag_machines<F: Files>(
     inst: &Instance,
     flags: &mut Fixed<bool>,
 ) -> Result<(), ClosedFault>
-    requires stands { Stands (here (F.held files.old) (F.faults files.old) tokens.old) }
+    requires stands { Stands (moment F.Files files.old tokens.old) }
     requires start { (bytes : List ℕ) → tokens_before bytes tokens.old.place ≡ 0 }
     requires none_flagged { flags.old.items ≡ replicate (machine_count inst.now.tables) false }
     ensures gives { OnOk result (Went (λ bytes before after.
         IsClosedOf bytes inst.now.tables flags.new.items)
-        (here (F.held files.old) (F.faults files.old) tokens.old)
-        (here (F.held files.new) (F.faults files.new) tokens.new)) }
+        (moment F.Files files.old tokens.old) (moment F.Files files.new tokens.new)) }
     ensures fits { OnOk result (length flags.new.items ≡ machine_count inst.now.tables) }
     ensures refuses { IfErr result (λ fault. Refuses ClosedFault.ReadFault (λ bytes before.
         IsClosedRefusal bytes inst.now.tables fault)
-        (here (F.held files.old) (F.faults files.old) tokens.old)
-        (here (F.held files.new) (F.faults files.new) tokens.new) fault) }
+        (moment F.Files files.old tokens.old) (moment F.Files files.new tokens.new) fault) }
 {
     for taken in 0..PLACE_LIMIT + 1 {
         let Some(machine) = next_closed(files, tokens, inst)? else {
@@ -81,16 +79,14 @@ fn next_closed<F: Files>(
     tokens: &mut Tokens,
     inst: &Instance,
 ) -> Result<Option<Machine>, ClosedFault>
-    requires stands { Stands (here (F.held files.old) (F.faults files.old) tokens.old) }
+    requires stands { Stands (moment F.Files files.old tokens.old) }
     ensures gives { IfOk result (λ next.
         Went (λ bytes before after. ClosedNext bytes inst.now.tables before after next)
-        (here (F.held files.old) (F.faults files.old) tokens.old)
-        (here (F.held files.new) (F.faults files.new) tokens.new)) }
+        (moment F.Files files.old tokens.old) (moment F.Files files.new tokens.new)) }
     ensures exists { IfOk result (λ next. IfSome next (λ m. m.0 < machine_count inst.now.tables)) }
     ensures refuses { IfErr result (λ fault. Refuses ClosedFault.ReadFault (λ bytes before.
         ClosedStop bytes inst.now.tables before fault)
-        (here (F.held files.old) (F.faults files.old) tokens.old)
-        (here (F.held files.new) (F.faults files.new) tokens.new) fault) }
+        (moment F.Files files.old tokens.old) (moment F.Files files.new tokens.new) fault) }
 {
     let Some(token) = next_token(files, tokens)? else {
         return Ok(None);
@@ -106,15 +102,13 @@ fn next_closed<F: Files>(
 
 /// The next token, or none at the end of the file.
 fn next_token<F: Files>(files: &mut F, tokens: &mut Tokens) -> Result<Option<Token>, ClosedFault>
-    requires stands { Stands (here (F.held files.old) (F.faults files.old) tokens.old) }
+    requires stands { Stands (moment F.Files files.old tokens.old) }
     ensures gives { IfOk result (λ next.
         Went (λ bytes before after. HasNext bytes before after next)
-        (here (F.held files.old) (F.faults files.old) tokens.old)
-        (here (F.held files.new) (F.faults files.new) tokens.new)) }
+        (moment F.Files files.old tokens.old) (moment F.Files files.new tokens.new)) }
     ensures refuses { IfErr result (λ fault. Refuses ClosedFault.ReadFault (λ bytes before.
         HasFault closed_fault bytes before fault)
-        (here (F.held files.old) (F.faults files.old) tokens.old)
-        (here (F.held files.new) (F.faults files.new) tokens.new) fault) }
+        (moment F.Files files.old tokens.old) (moment F.Files files.new tokens.new) fault) }
 {
     match tokens.next(files) {
         Ok(next) => Ok(next),

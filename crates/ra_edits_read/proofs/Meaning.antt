@@ -1,5 +1,5 @@
 -- What a file of edits is, beside what is refused.
-use Rattle.std.proofs.Common.{◌≡◌, ℕ, zero, suc, ◌+◌, ◌-◌, ◌<◌, ◌≤◌, ◌⊎◌, List, length, get_or, Option, Some, None, refl, sym, ap, ◌∙◌, subst, inl, inr, ⊎_elim, arith, add-zero, add-suc, le_refl}
+use Rattle.std.proofs.Common.{◌≡◌, ℕ, zero, suc, ◌+◌, ◌-◌, ◌<◌, ◌≤◌, ◌⊎◌, List, length, get_or, Option, Some, None, refl, sym, subst, inl, inr, ⊎_elim, arith, add-zero, add-suc, le_refl}
 use Rattle.std.specs.Prelude.{slice_get, nat_lt}
 use Rattle.std.proofs.lemmas.Bool.{cond-false, le-ltb, cases_lt, cases_eq}
 use Rattle.std.proofs.lemmas.Option.{slice_get_within, slice_get-get_or}
@@ -11,10 +11,9 @@ use Rattle.ra_token.specs.TokenList.{tokens}
 use Rattle.ra_token.specs.Faults.{first_fault}
 use Rattle.ra_model.specs.declared.raw.Tables.{Tables}
 use Rattle.ra_model.specs.Numbers.{resource_count, machine_count, service_count}
-use Rattle.ra_edits_read.specs.declared.faults.EditsFault.{EditsFault}
-use Rattle.ra_edits_read.specs.declared.faults.EditsFault.TheVariants.{Range, TooMany}
+use Rattle.ra_edits_read.specs.declared.faults.EditsFault.TheVariants.{Range}
 use Rattle.ra_edits_read.specs.EditLists.{FitsInstance}
-use Rattle.ra_edits_read.specs.EditTexts.{value_at, numbers_behind, kind_place, kind_of, edit_from, edit_of, IsEdit, IsEditsFile, none_left, any_test, below_test, any_at, below_at, any_from, added_test, resized_test, numbers_test, kind_test, found_test, edit_test}
+use Rattle.ra_edits_read.specs.EditTexts.{value_at, numbers_behind, kind_place, edit_from, IsEdit, IsEditsFile, none_left, any_test, below_test, any_at, below_at, any_from, added_test, resized_test, numbers_test, kind_test, found_test, edit_test}
 use Rattle.ra_edits_read.proofs.NumberLaws.{worth_of, any_within, any_from_there, below_inside}
 use Rattle.ra_edits_read.proofs.EditLaws.{kind_sound, kind_wrong, kind_behind}
 

@@ -1,6 +1,7 @@
 -- What is known on the way through a file of edits.
-use Rattle.std.specs.Prelude.{◌≡◌, ℕ, suc, ◌+◌, ◌≤◌, List, ◌++◌, length, slice_get, Option, Some, None, Ok}
+use Rattle.std.specs.Prelude.{◌≡◌, ℕ, suc, ◌+◌, ◌*◌, ◌≤◌, List, [], ◌++◌, length, slice_get, Option, Some, None, Result, Ok, IfSome, IfOk, OnOk, OnSome}
 use Rattle.ra_base.specs.Searches.{first}
+use Rattle.ra_base.specs.declared.lists.Fixed.{Fixed}
 use Rattle.ra_token.specs.declared.answers.Token.{Token}
 use Rattle.ra_token.specs.TokenList.{tokens, tokens_before, IsAnswer}
 use Rattle.ra_token.specs.Values.{values_from}
@@ -9,6 +10,7 @@ use Rattle.ra_model.specs.Numbers.{resource_count}
 use Rattle.ra_edits_read.specs.declared.edits.Edit.{Edit}
 use Rattle.ra_edits_read.specs.declared.faults.EditsFault.{EditsFault}
 use Rattle.ra_edits_read.specs.Answers.{IsEditsRefusal}
+use Rattle.ra_edits_read.specs.EditLists.{AllFit, FitsInstance}
 use Rattle.ra_edits_read.specs.EditTexts.{value_at, numbers_behind, kind_place, edit_from, requirements_from, edits_to, requirements_to, numbers_test, edit_test, found_test, AreEditsOf}
 
 -- the next token was taken, and is worth this
@@ -81,3 +83,35 @@ pub record IsWhole (bytes : List ℕ) (i : Tables) (edits : List Edit) (requirem
   pub lists :
       AreEditsOf bytes i
       (record { width = resource_count i; edits = edits; requirements = requirements })
+
+-- a list has room for what one more edit requires
+abbrev pub HasRowRoom : Tables → Fixed ℕ → Type 0
+HasRowRoom i list = length list.items + resource_count i ≤ list.room
+
+-- an edit was read that fits the instance, and a requirement for each resource was added to a list
+pub record AddsRow (i : Tables) (old new : Fixed ℕ) (answer : Result Edit EditsFault) : Type 0 where
+  pub number : OnOk answer (length new.items ≡ length old.items + resource_count i)
+  pub room : OnOk answer (new.room ≡ old.room)
+  pub fits : IfOk answer (FitsInstance i)
+
+-- the same of an edit or the end of the file, which adds nothing
+pub record MayAddRow (i : Tables) (old new : Fixed ℕ) (answer : Result (Option Edit) EditsFault) : Type
+    0 where
+  pub number :
+      IfOk answer (λ next. OnSome next (length new.items ≡ length old.items + resource_count i))
+  pub same : answer ≡ Ok None → new.items ≡ old.items
+  pub room : OnOk answer (new.room ≡ old.room)
+  pub fits : IfOk answer (λ next. IfSome next (FitsInstance i))
+
+-- 100,000 edits at most were read, each of which fits the instance, with a requirement for each resource
+pub record AreFew (i : Tables) (edits : List Edit) (requirements : List ℕ) : Type 0 where
+  pub few : length edits ≤ 100000
+  pub rows : length requirements ≡ length edits * resource_count i
+  pub fits : AllFit i edits
+
+-- two empty lists, with room for 100,000 edits and their requirements
+pub record AreEmpty (i : Tables) (edits : Fixed Edit) (requirements : Fixed ℕ) : Type 0 where
+  pub no_edits : edits.items ≡ []
+  pub no_requirements : requirements.items ≡ []
+  pub edits_room : edits.room ≡ 100000
+  pub requirements_room : requirements.room ≡ 100000 * resource_count i

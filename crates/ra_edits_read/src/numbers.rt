@@ -1,7 +1,7 @@
 //! Numbers of an edit, one or some of them.
 ghost use Rattle.std.specs.Prelude.{◌≡◌, ℕ, ◌+◌, ◌-◌, ◌<◌, ◌≤◌, List, length, slice_get, IfSome, IfOk, IfErr, OnOk};
 ghost use Rattle.ra_token.specs.TokenList.{tokens, tokens_before};
-ghost use Rattle.ra_token.specs.Moments.{here, Stands, Went, Refuses, HasNext, HasFault};
+ghost use Rattle.ra_token.specs.Moments.{moment, Stands, Went, Refuses, HasNext, HasFault};
 ghost use Rattle.ra_edits_read.specs.EditTexts.{edits_fault, any_at, below_at, any_from};
 ghost use Rattle.ra_edits_read.specs.Answers.{EditsSays};
 ghost use Rattle.ra_edits_read.specs.Reading.{TakesNumber, TakesValues};
@@ -17,15 +17,13 @@ pub(crate) fn any_number<F: Files>(
     tokens: &mut Tokens,
     k: u64,
 ) -> Result<u32, EditsFault>
-    requires stands { Stands (here (F.held files.old) (F.faults files.old) tokens.old) }
+    requires stands { Stands (moment F.Files files.old tokens.old) }
     ensures gives { IfOk result (λ value.
         Went (λ bytes before after. TakesNumber bytes before after value)
-        (here (F.held files.old) (F.faults files.old) tokens.old)
-        (here (F.held files.new) (F.faults files.new) tokens.new)) }
+        (moment F.Files files.old tokens.old) (moment F.Files files.new tokens.new)) }
     ensures refuses { IfErr result (λ fault. Refuses EditsFault.ReadFault (λ bytes before.
         EditsSays (any_at bytes k (tokens_before bytes before)) fault)
-        (here (F.held files.old) (F.faults files.old) tokens.old)
-        (here (F.held files.new) (F.faults files.new) tokens.new) fault) }
+        (moment F.Files files.old tokens.old) (moment F.Files files.new tokens.new) fault) }
 {
     let Some(token) = next_token(files, tokens)? else {
         return Err(EditsFault::Missing { edit: k });
@@ -40,17 +38,15 @@ pub(crate) fn number_below<F: Files>(
     k: u64,
     count: u32,
 ) -> Result<u32, EditsFault>
-    requires stands { Stands (here (F.held files.old) (F.faults files.old) tokens.old) }
+    requires stands { Stands (moment F.Files files.old tokens.old) }
     requires some { 0 < count }
     ensures gives { IfOk result (λ value.
         Went (λ bytes before after. TakesNumber bytes before after value)
-        (here (F.held files.old) (F.faults files.old) tokens.old)
-        (here (F.held files.new) (F.faults files.new) tokens.new)) }
+        (moment F.Files files.old tokens.old) (moment F.Files files.new tokens.new)) }
     ensures below { IfOk result (λ value. value < count) }
     ensures refuses { IfErr result (λ fault. Refuses EditsFault.ReadFault (λ bytes before.
         EditsSays (below_at bytes k count (tokens_before bytes before)) fault)
-        (here (F.held files.old) (F.faults files.old) tokens.old)
-        (here (F.held files.new) (F.faults files.new) tokens.new) fault) }
+        (moment F.Files files.old tokens.old) (moment F.Files files.new tokens.new) fault) }
 {
     let Some(token) = next_token(files, tokens)? else {
         return Err(EditsFault::Missing { edit: k });
@@ -74,19 +70,17 @@ pub(crate) fn take_numbers<F: Files>(
     count: usize,
     values: &mut Fixed<u32>,
 ) -> Result<(), EditsFault>
-    requires stands { Stands (here (F.held files.old) (F.faults files.old) tokens.old) }
+    requires stands { Stands (moment F.Files files.old tokens.old) }
     requires some { 0 < count }
     requires room { length values.old.items + count ≤ values.old.room }
     ensures gives { OnOk result (Went (λ bytes before after.
         TakesValues bytes before after count values.old.items values.new.items)
-        (here (F.held files.old) (F.faults files.old) tokens.old)
-        (here (F.held files.new) (F.faults files.new) tokens.new)) }
+        (moment F.Files files.old tokens.old) (moment F.Files files.new tokens.new)) }
     ensures number { OnOk result (length values.new.items ≡ length values.old.items + count) }
     ensures room { values.new.room ≡ values.old.room }
     ensures refuses { IfErr result (λ fault. Refuses EditsFault.ReadFault (λ bytes before.
         EditsSays (any_from bytes k (tokens_before bytes before) count) fault)
-        (here (F.held files.old) (F.faults files.old) tokens.old)
-        (here (F.held files.new) (F.faults files.new) tokens.new) fault) }
+        (moment F.Files files.old tokens.old) (moment F.Files files.new tokens.new) fault) }
 {
     match tokens.next_values(files, count, values) {
         Ok(taken) => {
@@ -104,15 +98,13 @@ pub(crate) fn next_token<F: Files>(
     files: &mut F,
     tokens: &mut Tokens,
 ) -> Result<Option<Token>, EditsFault>
-    requires stands { Stands (here (F.held files.old) (F.faults files.old) tokens.old) }
+    requires stands { Stands (moment F.Files files.old tokens.old) }
     ensures gives { IfOk result (λ next.
         Went (λ bytes before after. HasNext bytes before after next)
-        (here (F.held files.old) (F.faults files.old) tokens.old)
-        (here (F.held files.new) (F.faults files.new) tokens.new)) }
+        (moment F.Files files.old tokens.old) (moment F.Files files.new tokens.new)) }
     ensures refuses { IfErr result (λ fault. Refuses EditsFault.ReadFault (λ bytes before.
         HasFault edits_fault bytes before fault)
-        (here (F.held files.old) (F.faults files.old) tokens.old)
-        (here (F.held files.new) (F.faults files.new) tokens.new) fault) }
+        (moment F.Files files.old tokens.old) (moment F.Files files.new tokens.new) fault) }
 {
     match tokens.next(files) {
         Ok(next) => Ok(next),

@@ -2,11 +2,11 @@ ghost use Rattle.std.specs.Prelude.{◌≡◌, ℕ, ◌+◌, ◌*◌, ◌<◌, �
 ghost use Rattle.ra_io.specs.Faults.{Rose};
 ghost use Rattle.ra_token.specs.TokenList.{tokens_before};
 ghost use Rattle.ra_model.specs.Numbers.{resource_count};
-ghost use Rattle.ra_token.specs.Moments.{here, Stands, Went, Refuses};
-ghost use Rattle.ra_edits_read.specs.EditLists.{AreEditsFor, AllFit, FitsInstance};
+ghost use Rattle.ra_token.specs.Moments.{moment, Stands, Went, Refuses};
+ghost use Rattle.ra_edits_read.specs.EditLists.{AreEditsFor};
 ghost use Rattle.ra_edits_read.specs.EditTexts.{AreEditsOf, numbers_test, added_test, resized_test, any_at};
 ghost use Rattle.ra_edits_read.specs.Answers.{IsEditsRefusal, EditsSays};
-ghost use Rattle.ra_edits_read.specs.Reading.{TakesEdit, NextEdit, EditStop, HasEnded, IsWhole};
+ghost use Rattle.ra_edits_read.specs.Reading.{TakesEdit, NextEdit, EditStop, HasEnded, IsWhole, HasRowRoom, AddsRow, MayAddRow, AreFew, AreEmpty};
 
 use crate::edits::{Edit, Edits};
 use crate::faults::EditsFault;
@@ -55,17 +55,15 @@ fn read_lists<F: Files>(
     tokens: &mut Tokens,
     inst: &Instance,
 ) -> Result<Edits, EditsFault>
-    requires stands { Stands (here (F.held files.old) (F.faults files.old) tokens.old) }
+    requires stands { Stands (moment F.Files files.old tokens.old) }
     requires start { (bytes : List ℕ) → tokens_before bytes tokens.old.place ≡ 0 }
     ensures gives { IfOk result (λ edits. Went (λ bytes before after.
         AreEditsOf bytes inst.now.tables edits)
-        (here (F.held files.old) (F.faults files.old) tokens.old)
-        (here (F.held files.new) (F.faults files.new) tokens.new)) }
+        (moment F.Files files.old tokens.old) (moment F.Files files.new tokens.new)) }
     ensures fits { IfOk result (λ edits. AreEditsFor inst.now.tables edits) }
     ensures refuses { IfErr result (λ fault. Refuses EditsFault.ReadFault (λ bytes before.
         IsEditsRefusal bytes inst.now.tables fault)
-        (here (F.held files.old) (F.faults files.old) tokens.old)
-        (here (F.held files.new) (F.faults files.new) tokens.new) fault) }
+        (moment F.Files files.old tokens.old) (moment F.Files files.new tokens.new) fault) }
 {
     let Ok(mut edits) = Fixed::make(alloc, MOST_EDITS as usize) else {
         return Err(EditsFault::NoMemory);
@@ -91,25 +89,16 @@ fn read_all<F: Files>(
     edits: &mut Fixed<Edit>,
     requirements: &mut Fixed<u32>,
 ) -> Result<(), EditsFault>
-    requires stands { Stands (here (F.held files.old) (F.faults files.old) tokens.old) }
+    requires stands { Stands (moment F.Files files.old tokens.old) }
     requires start { (bytes : List ℕ) → tokens_before bytes tokens.old.place ≡ 0 }
-    requires no_edits { edits.old.items ≡ [] }
-    requires no_requirements { requirements.old.items ≡ [] }
-    requires edits_room { edits.old.room ≡ MOST_EDITS }
-    requires requirements_room { requirements.old.room ≡
-        MOST_EDITS * resource_count inst.now.tables }
+    requires empty { AreEmpty inst.now.tables edits.old requirements.old }
     ensures gives { OnOk result (Went (λ bytes before after.
         IsWhole bytes inst.now.tables edits.new.items requirements.new.items)
-        (here (F.held files.old) (F.faults files.old) tokens.old)
-        (here (F.held files.new) (F.faults files.new) tokens.new)) }
-    ensures few { OnOk result (length edits.new.items ≤ 100000) }
-    ensures rows { OnOk result (length requirements.new.items ≡
-        length edits.new.items * resource_count inst.now.tables) }
-    ensures fits { OnOk result (AllFit inst.now.tables edits.new.items) }
+        (moment F.Files files.old tokens.old) (moment F.Files files.new tokens.new)) }
+    ensures are { OnOk result (AreFew inst.now.tables edits.new.items requirements.new.items) }
     ensures refuses { IfErr result (λ fault. Refuses EditsFault.ReadFault (λ bytes before.
         IsEditsRefusal bytes inst.now.tables fault)
-        (here (F.held files.old) (F.faults files.old) tokens.old)
-        (here (F.held files.new) (F.faults files.new) tokens.new) fault) }
+        (moment F.Files files.old tokens.old) (moment F.Files files.new tokens.new) fault) }
 {
     for k in 0..MOST_EDITS {
         let Some(edit) = next_edit(files, tokens, inst, k, requirements)? else {
@@ -123,14 +112,12 @@ fn read_all<F: Files>(
 
 /// The end of the file, behind the greatest number of edits.
 fn read_end<F: Files>(files: &mut F, tokens: &mut Tokens, inst: &Instance) -> Result<(), EditsFault>
-    requires stands { Stands (here (F.held files.old) (F.faults files.old) tokens.old) }
+    requires stands { Stands (moment F.Files files.old tokens.old) }
     ensures gives { OnOk result (Went (λ bytes before after. HasEnded bytes before)
-        (here (F.held files.old) (F.faults files.old) tokens.old)
-        (here (F.held files.new) (F.faults files.new) tokens.new)) }
+        (moment F.Files files.old tokens.old) (moment F.Files files.new tokens.new)) }
     ensures refuses { IfErr result (λ fault. Refuses EditsFault.ReadFault (λ bytes before.
         EditStop bytes inst.now.tables 100000 before fault)
-        (here (F.held files.old) (F.faults files.old) tokens.old)
-        (here (F.held files.new) (F.faults files.new) tokens.new) fault) }
+        (moment F.Files files.old tokens.old) (moment F.Files files.new tokens.new) fault) }
 {
     let next = next_token(files, tokens)?;
     match next {
@@ -147,24 +134,17 @@ fn next_edit<F: Files>(
     k: u64,
     requirements: &mut Fixed<u32>,
 ) -> Result<Option<Edit>, EditsFault>
-    requires stands { Stands (here (F.held files.old) (F.faults files.old) tokens.old) }
+    requires stands { Stands (moment F.Files files.old tokens.old) }
     requires few { k < 100000 }
-    requires room { length requirements.old.items + resource_count inst.now.tables
-        ≤ requirements.old.room }
+    requires room { HasRowRoom inst.now.tables requirements.old }
     ensures gives { IfOk result (λ next. Went (λ bytes before after.
         NextEdit bytes inst.now.tables k before after
         requirements.old.items requirements.new.items next)
-        (here (F.held files.old) (F.faults files.old) tokens.old)
-        (here (F.held files.new) (F.faults files.new) tokens.new)) }
-    ensures number { IfOk result (λ next. OnSome next (length requirements.new.items ≡
-        length requirements.old.items + resource_count inst.now.tables)) }
-    ensures same { result ≡ Ok None → requirements.new.items ≡ requirements.old.items }
-    ensures room { OnOk result (requirements.new.room ≡ requirements.old.room) }
-    ensures fits { IfOk result (λ next. IfSome next (FitsInstance inst.now.tables)) }
+        (moment F.Files files.old tokens.old) (moment F.Files files.new tokens.new)) }
+    ensures row { MayAddRow inst.now.tables requirements.old requirements.new result }
     ensures refuses { IfErr result (λ fault. Refuses EditsFault.ReadFault (λ bytes before.
         EditStop bytes inst.now.tables k before fault)
-        (here (F.held files.old) (F.faults files.old) tokens.old)
-        (here (F.held files.new) (F.faults files.new) tokens.new) fault) }
+        (moment F.Files files.old tokens.old) (moment F.Files files.new tokens.new) fault) }
 {
     let Some(token) = next_token(files, tokens)? else {
         return Ok(None);
@@ -190,22 +170,16 @@ fn read_numbers<F: Files>(
     kind: u32,
     requirements: &mut Fixed<u32>,
 ) -> Result<Edit, EditsFault>
-    requires stands { Stands (here (F.held files.old) (F.faults files.old) tokens.old) }
-    requires room { length requirements.old.items + resource_count inst.now.tables
-        ≤ requirements.old.room }
+    requires stands { Stands (moment F.Files files.old tokens.old) }
+    requires room { HasRowRoom inst.now.tables requirements.old }
     ensures gives { IfOk result (λ edit. Went (λ bytes before after.
         TakesEdit bytes inst.now.tables k kind before after
         requirements.old.items requirements.new.items edit)
-        (here (F.held files.old) (F.faults files.old) tokens.old)
-        (here (F.held files.new) (F.faults files.new) tokens.new)) }
-    ensures number { OnOk result (length requirements.new.items ≡
-        length requirements.old.items + resource_count inst.now.tables) }
-    ensures room { OnOk result (requirements.new.room ≡ requirements.old.room) }
-    ensures fits { IfOk result (FitsInstance inst.now.tables) }
+        (moment F.Files files.old tokens.old) (moment F.Files files.new tokens.new)) }
+    ensures row { AddsRow inst.now.tables requirements.old requirements.new result }
     ensures refuses { IfErr result (λ fault. Refuses EditsFault.ReadFault (λ bytes before.
         EditsSays (numbers_test bytes inst.now.tables k kind (tokens_before bytes before)) fault)
-        (here (F.held files.old) (F.faults files.old) tokens.old)
-        (here (F.held files.new) (F.faults files.new) tokens.new) fault) }
+        (moment F.Files files.old tokens.old) (moment F.Files files.new tokens.new) fault) }
 {
     match kind {
         1 => read_added(files, tokens, inst, k, requirements),
@@ -222,22 +196,16 @@ fn read_added<F: Files>(
     k: u64,
     requirements: &mut Fixed<u32>,
 ) -> Result<Edit, EditsFault>
-    requires stands { Stands (here (F.held files.old) (F.faults files.old) tokens.old) }
-    requires room { length requirements.old.items + resource_count inst.now.tables
-        ≤ requirements.old.room }
+    requires stands { Stands (moment F.Files files.old tokens.old) }
+    requires room { HasRowRoom inst.now.tables requirements.old }
     ensures gives { IfOk result (λ edit. Went (λ bytes before after.
         TakesEdit bytes inst.now.tables k 1 before after
         requirements.old.items requirements.new.items edit)
-        (here (F.held files.old) (F.faults files.old) tokens.old)
-        (here (F.held files.new) (F.faults files.new) tokens.new)) }
-    ensures number { OnOk result (length requirements.new.items ≡
-        length requirements.old.items + resource_count inst.now.tables) }
-    ensures room { OnOk result (requirements.new.room ≡ requirements.old.room) }
-    ensures fits { IfOk result (FitsInstance inst.now.tables) }
+        (moment F.Files files.old tokens.old) (moment F.Files files.new tokens.new)) }
+    ensures row { AddsRow inst.now.tables requirements.old requirements.new result }
     ensures refuses { IfErr result (λ fault. Refuses EditsFault.ReadFault (λ bytes before.
         EditsSays (added_test bytes inst.now.tables k (tokens_before bytes before)) fault)
-        (here (F.held files.old) (F.faults files.old) tokens.old)
-        (here (F.held files.new) (F.faults files.new) tokens.new) fault) }
+        (moment F.Files files.old tokens.old) (moment F.Files files.new tokens.new) fault) }
 {
     let service = number_below(files, tokens, k, inst.services())?;
     let machine = number_below(files, tokens, k, inst.machines())?;
@@ -258,22 +226,16 @@ fn read_retired<F: Files>(
     k: u64,
     requirements: &mut Fixed<u32>,
 ) -> Result<Edit, EditsFault>
-    requires stands { Stands (here (F.held files.old) (F.faults files.old) tokens.old) }
-    requires room { length requirements.old.items + resource_count inst.now.tables
-        ≤ requirements.old.room }
+    requires stands { Stands (moment F.Files files.old tokens.old) }
+    requires room { HasRowRoom inst.now.tables requirements.old }
     ensures gives { IfOk result (λ edit. Went (λ bytes before after.
         TakesEdit bytes inst.now.tables k 2 before after
         requirements.old.items requirements.new.items edit)
-        (here (F.held files.old) (F.faults files.old) tokens.old)
-        (here (F.held files.new) (F.faults files.new) tokens.new)) }
-    ensures number { OnOk result (length requirements.new.items ≡
-        length requirements.old.items + resource_count inst.now.tables) }
-    ensures room { OnOk result (requirements.new.room ≡ requirements.old.room) }
-    ensures fits { IfOk result (FitsInstance inst.now.tables) }
+        (moment F.Files files.old tokens.old) (moment F.Files files.new tokens.new)) }
+    ensures row { AddsRow inst.now.tables requirements.old requirements.new result }
     ensures refuses { IfErr result (λ fault. Refuses EditsFault.ReadFault (λ bytes before.
         EditsSays (any_at bytes k (tokens_before bytes before)) fault)
-        (here (F.held files.old) (F.faults files.old) tokens.old)
-        (here (F.held files.new) (F.faults files.new) tokens.new) fault) }
+        (moment F.Files files.old tokens.old) (moment F.Files files.new tokens.new) fault) }
 {
     let process = any_number(files, tokens, k)?;
     push_zeros(inst.resources(), requirements);
@@ -288,22 +250,16 @@ fn read_resized<F: Files>(
     k: u64,
     requirements: &mut Fixed<u32>,
 ) -> Result<Edit, EditsFault>
-    requires stands { Stands (here (F.held files.old) (F.faults files.old) tokens.old) }
-    requires room { length requirements.old.items + resource_count inst.now.tables
-        ≤ requirements.old.room }
+    requires stands { Stands (moment F.Files files.old tokens.old) }
+    requires room { HasRowRoom inst.now.tables requirements.old }
     ensures gives { IfOk result (λ edit. Went (λ bytes before after.
         TakesEdit bytes inst.now.tables k 3 before after
         requirements.old.items requirements.new.items edit)
-        (here (F.held files.old) (F.faults files.old) tokens.old)
-        (here (F.held files.new) (F.faults files.new) tokens.new)) }
-    ensures number { OnOk result (length requirements.new.items ≡
-        length requirements.old.items + resource_count inst.now.tables) }
-    ensures room { OnOk result (requirements.new.room ≡ requirements.old.room) }
-    ensures fits { IfOk result (FitsInstance inst.now.tables) }
+        (moment F.Files files.old tokens.old) (moment F.Files files.new tokens.new)) }
+    ensures row { AddsRow inst.now.tables requirements.old requirements.new result }
     ensures refuses { IfErr result (λ fault. Refuses EditsFault.ReadFault (λ bytes before.
         EditsSays (resized_test bytes inst.now.tables k (tokens_before bytes before)) fault)
-        (here (F.held files.old) (F.faults files.old) tokens.old)
-        (here (F.held files.new) (F.faults files.new) tokens.new) fault) }
+        (moment F.Files files.old tokens.old) (moment F.Files files.new tokens.new) fault) }
 {
     let process = any_number(files, tokens, k)?;
     take_numbers(files, tokens, k, inst.resources() as usize, requirements)?;

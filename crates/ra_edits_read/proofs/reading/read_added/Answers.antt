@@ -34,11 +34,12 @@ returns-clause-gives g c =
     let three = went_on {R = λ bytes x u. TakesThree bytes c.resources.result s m old new x u} two c.in_ok-take_numbers.ensures.gives (λ bytes x z u h three. record { middle = z; two = h; three = three }) in
     went_on three c.in_ok-move_cost.ensures.gives (λ bytes x u v h four. at_added bytes _ _ _ x u v s m c.in_ok-move_cost.move_cost old new c.resources.ensures (omega (arith, c.services.ensures, c.in_ok-service.ensures.below)) (omega (arith, c.machines.ensures, c.in_ok-machine.ensures.below)) h four)
 
-pub returns-clause-number : goal.returns-clause-number
-returns-clause-number g c = c.in_ok-take_numbers.ensures.number ∙ ap (λ n. length c.args.requirements.now.items + n) c.resources.ensures
-
-pub returns-clause-fits : goal.returns-clause-fits
-returns-clause-fits g c = (omega (arith, c.services.ensures, c.in_ok-service.ensures.below), omega (arith, c.machines.ensures, c.in_ok-machine.ensures.below))
+pub returns-clause-row : goal.returns-clause-row
+returns-clause-row g c = record {
+  number = c.in_ok-take_numbers.ensures.number ∙ ap (λ n. length c.args.requirements.now.items + n) c.resources.ensures;
+  room = c.take_numbers.ensures.room;
+  fits = (omega (arith, c.services.ensures, c.in_ok-service.ensures.below), omega (arith, c.machines.ensures, c.in_ok-machine.ensures.below));
+}
 
 pub take_numbers-requires-clause-room : goal.take_numbers-requires-clause-room
 take_numbers-requires-clause-room g c = rw c.resources.ensures c.requires.room

@@ -6,12 +6,12 @@ use Rattle.ra_edits_read.proofs.reading.read_all.Goals as goal
 
 pub loop-k-init : goal.loop-k-init
 loop-k-init g c = record {
-  went = went_nowhere _ c.requires.stands (λ bytes. has_none bytes _ _ _ _ (c.requires.start bytes) c.requires.no_edits c.requires.no_requirements);
-  size = ap length c.requires.no_edits;
-  rows = ap length c.requires.no_requirements ∙ sym (zero-mul _);
+  went = went_nowhere _ c.requires.stands (λ bytes. has_none bytes _ _ _ _ (c.requires.start bytes) c.requires.empty.no_edits c.requires.empty.no_requirements);
+  size = ap length c.requires.empty.no_edits;
+  rows = ap length c.requires.empty.no_requirements ∙ sym (zero-mul _);
   edits_room = refl;
   room = refl;
-  fits = fit_none _ _ c.requires.no_edits;
+  fits = fit_none _ _ c.requires.empty.no_edits;
 }
 
 pub returns-in_err-edit-clause-refuses : goal.returns-in_err-edit-clause-refuses
@@ -22,14 +22,14 @@ returns-in_default-clause-gives g c = went_on c.loop-k.invariant.went (rw c.in_d
 
 pub loop-k-preserved : goal.loop-k-preserved
 loop-k-preserved g c =
-    let number : length c.next_edit.new.requirements.items ≡ length c.loop-k.requirements.items + resource_count c.args.inst.now.tables = rw c.in-Some.is at c.in_ok-edit.ensures.number in
+    let number : length c.next_edit.new.requirements.items ≡ length c.loop-k.requirements.items + resource_count c.args.inst.now.tables = rw c.in-Some.is at c.in_ok-edit.ensures.row.number in
     record {
       went = went_on c.loop-k.invariant.went (rw c.in-Some.is at c.in_ok-edit.ensures.gives) (λ bytes x y z has one. has_more bytes _ y z _ _ _ _ _ c.in-Some.edit has one c.push.ensures.items);
       size = ap length c.push.ensures.items ∙ length-append c.loop-k.edits.items (c.in-Some.edit ∷ []) ∙ ap (λ n. n + 1) c.loop-k.invariant.size;
       rows = number ∙ ap (λ n. n + resource_count c.args.inst.now.tables) c.loop-k.invariant.rows ∙ next_row c.loop-k.k (resource_count c.args.inst.now.tables);
       edits_room = c.push.ensures.room ∙ c.loop-k.invariant.edits_room;
-      room = c.in_ok-edit.ensures.room ∙ c.loop-k.invariant.room;
-      fits = fit_more _ _ _ c.in-Some.edit c.loop-k.invariant.fits (rw c.in-Some.is at c.in_ok-edit.ensures.fits) c.push.ensures.items;
+      room = c.in_ok-edit.ensures.row.room ∙ c.loop-k.invariant.room;
+      fits = fit_more _ _ _ c.in-Some.edit c.loop-k.invariant.fits (rw c.in-Some.is at c.in_ok-edit.ensures.row.fits) c.push.ensures.items;
     }
 
 pub returns-in_err-read_end-clause-refuses : goal.returns-in_err-read_end-clause-refuses

@@ -8,4 +8,4 @@ pub returns-clause-gives : goal.returns-clause-gives
 returns-clause-gives g c = went_as c.in_ok-read_all.ensures.gives (λ bytes x y whole. rw c.resources-width.ensures whole.lists)
 
 pub returns-clause-fits : goal.returns-clause-fits
-returns-clause-fits g c = record { width = c.resources-width.ensures; rows = c.in_ok-read_all.ensures.rows; each = c.in_ok-read_all.ensures.fits }
+returns-clause-fits g c = record { width = c.resources-width.ensures; rows = c.in_ok-read_all.ensures.are.rows; each = c.in_ok-read_all.ensures.are.fits }
