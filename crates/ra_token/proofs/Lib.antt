@@ -3,6 +3,8 @@ pub mod RunLaws
 pub mod FaultLaws
 pub mod TokenLaws
 pub mod Steps
+pub mod Eight
+pub mod Masks
 pub mod InPiece
 pub mod Told
 pub mod Fetched
@@ -10,5 +12,6 @@ pub mod Scanning
 pub mod Exits
 pub mod ToldByte
 pub mod ValueLaws
+pub mod Taking
 pub mod Written
 pub mod ToldLemmas

@@ -1,5 +1,6 @@
 -- What is known on the way to the next token.
-use Rattle.std.specs.Prelude.{◌≡◌, ℕ, ◌+◌, ◌-◌, ◌<◌, ◌≤◌, true, List, length, take, slice_get, slice_index, Option, Some, None, IfSome, Err}
+use Rattle.std.specs.Prelude.{◌≡◌, ℕ, zero, suc, ◌*◌, ◌+◌, ◌-◌, ◌<◌, ◌≤◌, true, List, length, take, slice_get, slice_index, Option, Some, None, IfSome, Err}
+use Rattle.ra_base.specs.Listed.{Listed}
 use Rattle.ra_base.specs.Searches.{first}
 use Rattle.ra_token.specs.declared.answers.Token.{Token}
 use Rattle.ra_token.specs.declared.answers.TokenFault.{TokenFault}
@@ -8,6 +9,7 @@ use Rattle.ra_token.specs.Runs.{digit_at, worth, run_start}
 use Rattle.ra_token.specs.Faults.{fault_at}
 use Rattle.ra_token.specs.TokenList.{tokens, tokens_before, IsAnswer}
 use Rattle.ra_token.specs.Reads.{IsBetween, IsPiece}
+use Rattle.ra_token.specs.Values.{AddsValues}
 
 -- where the bytes of the file are told, the window shows some of them
 abbrev pub Shows : Option (List ℕ) → Window → Type 0
@@ -55,6 +57,25 @@ pub record IsNext (bytes : List ℕ) (from start place value : ℕ) : Type 0 whe
   pub token : slice_get (tokens bytes) (tokens_before bytes from) ≡ Some (token_of value start)
   pub between : IsBetween bytes place
   pub given : tokens_before bytes place ≡ tokens_before bytes from + 1
+
+-- what digits that stand one after another are worth
+unfoldable pub digits_worth : List ℕ → ℕ → ℕ → ℕ
+digits_worth bytes from zero = 0
+digits_worth bytes from (suc k) =
+    digits_worth bytes from k * 10 + (slice_index bytes (from + k) - 48)
+
+-- runs of a piece of bytes, from one index on up to another, were taken, so many at most: their values were put behind
+-- those of a list
+pub record TakesRuns (piece : List ℕ) (from end limit : ℕ) (old new : Listed ℕ) : Type 0 where
+  pub low : from ≤ end
+  pub within : end ≤ length piece
+  pub grows : length old.items ≤ length new.items
+  pub most : length new.items ≤ length old.items + limit
+  pub room : new.room ≡ old.room
+  pub adds : (bytes : List ℕ) (start : ℕ) → start + length piece ≤ 536870912
+      → IsPiece bytes start piece → IsBetween bytes (start + from)
+      → AddsValues bytes (start + from) (start + end) (length new.items - length old.items)
+      old.items new.items
 
 -- the fault comes next
 abbrev pub FaultsAt : List ℕ → ℕ → TokenFault → Type 0

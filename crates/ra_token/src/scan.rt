@@ -1,12 +1,14 @@
-ghost use Rattle.std.specs.Prelude.{◌≡◌, ℕ, ◌+◌, ◌-◌, ◌<◌, ◌≤◌, ◌↔◌, true, false, List, length, IsTrue, IfSome, slice_index};
+ghost use Rattle.std.specs.Prelude.{◌≡◌, ℕ, ◌+◌, ◌<◌, ◌≤◌, ◌↔◌, true, false, ◌≢◌, if◌then◌else◌, List, length, IsTrue, IfSome, slice_index};
+ghost use Rattle.std.specs.Int.{bit_at};
 ghost use Rattle.ra_token.specs.Runs.{digit_at, is_blank};
 ghost use Rattle.ra_token.specs.declared.scan.TheConstants.{NEAR};
 ghost use Rattle.ra_token.specs.Reads.{IsBetween, IsPiece};
 ghost use Rattle.ra_token.specs.Scan.{InRun, IsNext, FaultsAt};
-ghost use Rattle.ra_token.specs.Values.{AddsValues};
+ghost use Rattle.ra_token.specs.Scan.{digits_worth, TakesRuns};
 
 use crate::answers::{LARGEST, PLACE_LIMIT, TokenFault};
 use ra_base::Fixed;
+use std::simd::prelude::*;
 
 /// Whether a byte separates numbers: a space, a tab, CR or LF.
 pub fn is_blank(byte: u8) -> bool
@@ -131,6 +133,7 @@ pub fn near_digits(bytes: &[u8], from: usize) -> Option<Stretch>
 #[inline]
 pub fn near_run(bytes: &[u8], from: usize) -> Option<Stretch>
     requires { from ≤ length bytes.now }
+    ensures low { IfSome result (λ run. from ≤ run.end) }
     ensures within { IfSome result (λ run. run.end < length bytes.now) }
     ensures small { IfSome result (λ run. run.value ≤ LARGEST) }
     ensures next { (all : List ℕ) (start : ℕ) → start + length bytes.now ≤ PLACE_LIMIT →
@@ -148,28 +151,128 @@ pub fn near_run(bytes: &[u8], from: usize) -> Option<Stretch>
     Some(stretch)
 }
 
-/// Adds the values of the next runs from `from` on to a list, at most `most` of them, as far as `near_run` gives them.
-/// The index behind the last.
+/// How many bytes behind a blank `block_runs` looks at, and how many more it may read.
+pub const BLOCK: usize = 64;
+
+/// Which of the `BLOCK` bytes from `from` on are no digits: bit k stands for the byte at `from + k`.
+#[inline(always)]
+pub fn others(bytes: &[u8], from: usize) -> u64
+    requires { from + BLOCK ≤ length bytes.now }
+    ensures { (k : ℕ) → k < BLOCK → bit_at result k ≡ (if digit_at bytes.now (from + k) then 0 else 1) }
+{
+    let lanes = u8x64::from_slice(&bytes[from..]) - u8x64::splat(b'0');
+    lanes.simd_gt(u8x64::splat(9)).to_bitmask()
+}
+
+/// The lowest bit that is set.
+#[inline(always)]
+pub fn lowest(bits: u64) -> usize
+    requires { bits ≢ 0 }
+    ensures within { result < 64 }
+    ensures set { bit_at bits result ≡ 1 }
+    ensures below { (k : ℕ) → k < result → bit_at bits k ≡ 0 }
+{
+    bits.trailing_zeros() as usize
+}
+
+/// The bits without one of them.
+#[inline(always)]
+pub fn without(bits: u64, bit: usize) -> u64
+    requires { bit < 64 }
+    ensures gone { bit_at result bit ≡ 0 }
+    ensures kept { (k : ℕ) → k < 64 → k ≢ bit → bit_at result k ≡ bit_at bits k }
+{
+    bits & !(1 << bit)
+}
+
+/// What `count` digits from `from` on are worth, eight at most, where eight bytes are there: eight at a time, then their
+/// pairs, then the pairs of these.
+#[inline(always)]
+pub fn eight_worth(bytes: &[u8], from: usize, count: usize) -> u32
+    requires there { from + 8 ≤ length bytes.now }
+    requires some { 0 < count }
+    requires few { count ≤ 8 }
+    requires digits { (k : ℕ) → k < count → digit_at bytes.now (from + k) ≡ true }
+    ensures { result ≡ digits_worth bytes.now from count }
+{
+    let eight = u64::from_le_bytes([
+        bytes[from],
+        bytes[from + 1],
+        bytes[from + 2],
+        bytes[from + 3],
+        bytes[from + 4],
+        bytes[from + 5],
+        bytes[from + 6],
+        bytes[from + 7],
+    ]);
+    let digits = eight.wrapping_sub(0x3030_3030_3030_3030) << (64 - 8 * count);
+    let twos = (digits.wrapping_mul(2_561) >> 8) & 0x00ff_00ff_00ff_00ff;
+    let fours = (twos.wrapping_mul(6_553_601) >> 16) & 0x0000_ffff_0000_ffff;
+    (fours.wrapping_mul(42_949_672_960_001) >> 32) as u32
+}
+
+/// Adds the values of the runs that end among the `BLOCK` bytes behind the blank at `from` to a list, at most `most` of
+/// them, as far as each stands behind one blank and has few digits. The index behind the last.
+#[inline]
+pub fn block_runs(bytes: &[u8], from: usize, most: usize, values: &mut Fixed<u32>) -> usize
+    requires within { from + BLOCK + NEAR < length bytes.now }
+    requires room { length values.old.items + most ≤ values.old.room }
+    ensures { TakesRuns bytes.now from result most values.old values.new }
+{
+    let mut at = from;
+    let mut rest = others(bytes, from + 1);
+    for k in 0..most {
+        if rest == 0 || !is_blank(bytes[at]) {
+            return at;
+        }
+        let bit = lowest(rest);
+        let count = from + bit - at;
+        if count == 0 || count > NEAR {
+            return at;
+        }
+        values.push(eight_worth(bytes, at + 1, count));
+        at = from + 1 + bit;
+        rest = without(rest, bit);
+    }
+    at
+}
+
+/// Adds the value of the next run from `from` on to a list, if `near_run` gives it. The index behind it.
+#[inline]
+pub fn one_run(bytes: &[u8], from: usize, values: &mut Fixed<u32>) -> usize
+    requires within { from ≤ length bytes.now }
+    requires room { length values.old.items < values.old.room }
+    ensures { TakesRuns bytes.now from result 1 values.old values.new }
+{
+    let Some(stretch) = near_run(bytes, from) else {
+        return from;
+    };
+    values.push(stretch.value as u32);
+    stretch.end
+}
+
+/// Adds the values of the next runs from `from` on to a list, at most `most` of them, as far as they stand close
+/// together: each behind one blank, and ending well before the end of the bytes. The index behind the last.
 #[inline(never)]
 pub fn take_runs(bytes: &[u8], from: usize, most: usize, values: &mut Fixed<u32>) -> usize
     requires within { from ≤ length bytes.now }
     requires room { length values.old.items + most ≤ values.old.room }
-    ensures within { result ≤ length bytes.now }
-    ensures grows { length values.old.items ≤ length values.new.items }
-    ensures most { length values.new.items ≤ length values.old.items + most }
-    ensures room { values.new.room ≡ values.old.room }
-    ensures adds { (all : List ℕ) (start : ℕ) → start + length bytes.now ≤ PLACE_LIMIT →
-        IsPiece all start bytes.now → IsBetween all (start + from)
-        → AddsValues all (start + from) (start + result)
-        (length values.new.items - length values.old.items) values.old.items values.new.items }
+    ensures { TakesRuns bytes.now from result most values.old values.new }
 {
+    let before = values.len();
     let mut at = from;
-    for k in 0..most {
-        let Some(stretch) = near_run(bytes, at) else {
-            return at;
+    let mut taken = 0;
+    while taken < most {
+        let end = if bytes.len() - at > BLOCK + NEAR {
+            block_runs(bytes, at, most - taken, values)
+        } else {
+            one_run(bytes, at, values)
         };
-        values.push(stretch.value as u32);
-        at = stretch.end;
+        if end == at {
+            return at;
+        }
+        at = end;
+        taken = values.len() - before;
     }
     at
 }

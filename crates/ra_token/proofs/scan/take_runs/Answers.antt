@@ -1,16 +1,24 @@
-use Rattle.std.proofs.Common.{◌+◌, refl, ◌∙◌, arith, length-append}
-use Rattle.ra_token.proofs.ValueLaws.{adds_none, adds_more}
+use Rattle.std.proofs.Common.{◌-◌, ◌≤◌, arith}
+use Rattle.ra_token.specs.Scan.{TakesRuns}
+use Rattle.ra_token.proofs.Taking.{takes_none, takes_then, takes_more}
+use Rattle.ra_token.proofs.scan.take_runs.Goals.{then-bytes-at, else-bytes-at}
 use Rattle.ra_token.proofs.scan.take_runs.Goals as goal
 
-pub loop-k-init : goal.loop-k-init
-loop-k-init c = (c.requires.within, omega arith, refl, λ all start low is between. adds_none all (start + c.args.from) 0 c.args.values.now.items refl between)
+pub loop-taken-init : goal.loop-taken-init
+loop-taken-init c = (takes_none c.args.bytes.now c.args.from c.args.most c.args.values.now c.requires.within, omega (arith, c.len-before.ensures.value), c.len-before.ensures.value)
 
-pub loop-k-preserved : goal.loop-k-preserved
-loop-k-preserved c = (
-  omega (arith, c.in-Some.ensures.within),
-  grind (arith, length-append),
-  c.push.ensures.room ∙ c.loop-k.invariant.2,
-  λ all start low is between.
-      let so_far = c.loop-k.invariant.3 all start low is between in
-      adds_more all (start + c.args.from) (start + c.loop-k.at) _ (start + c.in-Some.stretch.end) c.in-Some.stretch.value c.loop-k.k _ _ _ so_far (c.in-Some.ensures.next all start low is so_far.between) c.push.ensures.items,
-)
+pub loop-taken-preserved : goal.loop-taken-preserved
+loop-taken-preserved c =
+    let bytes = c.args.bytes.now in
+    let before = c.loop-taken.invariant in
+    let limit = c.args.most - c.loop-taken.taken in
+    let some : 1 ≤ limit = omega (arith, c.loop-taken-test.true) in
+    let more : TakesRuns bytes c.loop-taken.at c.if-bytes-at.end limit c.loop-taken.values c.if-bytes-at.values =
+    elim c.if-bytes-at.branch [
+      | then-bytes-at w ↦ rw (w.values-is, w.end-is) w.block_runs-end.ensures
+      | else-bytes-at w ↦ rw (w.values-is, w.end-is) (takes_more bytes _ _ 1 limit _ _ some w.one_run-end.ensures)
+    ] in (
+      takes_then bytes c.args.from c.loop-taken.at c.if-bytes-at.end c.args.most c.args.most limit c.args.values.now c.loop-taken.values c.if-bytes-at.values before.0 more (omega (arith, more.most, before.1, before.2, c.loop-taken-test.true)),
+      omega (arith, more.grows, before.1, c.len.ensures.value),
+      before.2,
+    )

@@ -1,7 +1,5 @@
-use Rattle.std.proofs.Common.{◌∙◌}
 use Rattle.std.proofs.lemmas.Result.{err_from_is_err_and}
 use Rattle.ra_token.proofs.Exits.{same_err, ok_not_err, rose_later, keeps_on, told_first, told_next, told_refused}
-use Rattle.ra_token.proofs.Scanning.{KeepsFiles}
 use Rattle.ra_token.proofs.window.Window.fetched_run.Goals as goal
 
 pub returns-in_err-first : goal.returns-in_err-first
