@@ -1,25 +1,24 @@
 -- The first fault of a list of bytes.
 use Rattle.std.specs.Prelude.{ℕ, suc, ◌==◌, nat_lt, if◌then◌else◌, List, length, slice_index, Option, Some, None, is_some, unwrap_or}
 use Rattle.ra_base.specs.Searches.{first}
-use Rattle.ra_token.specs.declared.answers.TheConstants.{LARGEST, PLACE_LIMIT}
 use Rattle.ra_token.specs.declared.answers.TokenFault.{TokenFault}
 use Rattle.ra_token.specs.declared.answers.TokenFault.TheVariants.{BadByte, TooLarge, TooLong}
 use Rattle.ra_token.specs.Runs.{digit_at, is_blank, worth, run_start}
 
--- a digit with which its run is worth too much
+-- a digit with which its run is worth too much: more than 2^32 - 1
 unfoldable pub digit_fault : List ℕ → ℕ → Option TokenFault
 digit_fault bytes k =
-    if nat_lt LARGEST (worth bytes (suc k)) then Some (TooLarge (run_start bytes k)) else None
+    if nat_lt 4294967295 (worth bytes (suc k)) then Some (TooLarge (run_start bytes k)) else None
 
 -- a byte that is no digit, where it is no blank either
 unfoldable pub other_fault : List ℕ → ℕ → Option TokenFault
 other_fault bytes k =
     if is_blank (slice_index bytes k) then None else Some (BadByte k (slice_index bytes k))
 
--- the fault that shows at a place of the bytes
+-- the fault that shows at a place of the bytes; a file has 512 MiB at most
 unfoldable pub fault_at : List ℕ → ℕ → Option TokenFault
 fault_at bytes k =
-    if k == PLACE_LIMIT then Some TooLong
+    if k == 536870912 then Some TooLong
     else if digit_at bytes k then digit_fault bytes k
     else other_fault bytes k
 
