@@ -6,3 +6,4 @@ pub mod Reads
 pub mod Values
 pub mod Scan
 pub mod Moments
+pub mod Finds

@@ -44,6 +44,7 @@ impl Window {
     ghost use Rattle.ra_token.specs.Reads.{IsBetween};
     ghost use Rattle.ra_token.specs.Values.{AddsValues};
     ghost use Rattle.ra_token.specs.Scan.{Shows, Covers, ready_byte, Begins, IsTaken, IsNext, FaultsAt, IsReached, InRun};
+    ghost use Rattle.ra_token.specs.Finds.{outside, FindsRun, FindsDigit, EndsRun};
 
     /// A window with nothing ready.
     pub fn make(alloc: Global) -> Result<Window, AllocError>
@@ -67,23 +68,9 @@ impl Window {
         requires place { place ≤ PLACE_LIMIT }
         requires shows { Shows (F.held files.old name.now) self.old }
         requires between { IfSome (F.held files.old name.now) (λ bytes. IsBetween bytes place) }
-        ensures shows { Shows (F.held files.new name.now) self.new }
-        ensures next { IfSome (F.held files.old name.now) (λ bytes.
-            IfOk result (λ found. IfSome found (λ run.
-            IsNext bytes place run.0 run.1.end run.1.value))) }
-        ensures ended { IfSome (F.held files.old name.now) (λ bytes.
-            IfOk result (λ found. IfNone found (IsAnswer bytes (tokens_before bytes place)
-            (Ok None)))) }
-        ensures refused { IfSome (F.held files.old name.now) (λ bytes.
-            IfErr result (FaultsAt bytes place)) }
-        ensures place { IfOk result (λ found. IfSome found (λ run. run.1.end ≤ PLACE_LIMIT)) }
-        ensures small { IfOk result (λ found. IfSome found (λ run. run.1.value ≤ LARGEST)) }
-        ensures memory { result ≡ Err TokenFault.NoMemory → ⊥ }
-        ensures fault { result ≡ Err TokenFault.ReadFault →
-            Rose (F.faults files.old name.now) (F.faults files.new name.now) }
-        ensures kept { (other : List ℕ) → F.held files.new other ≡ F.held files.old other }
-        ensures never_fall { (other : List ℕ) →
-            F.faults files.old other ≤ F.faults files.new other }
+        ensures { FindsRun (outside (F.held files.old) (F.held files.new) (F.faults files.old)
+            (F.faults files.new))
+            name.now place self.new result }
     {
         match self.ready_run(place) {
             Some(found) => Ok(Some(found)),
@@ -148,23 +135,9 @@ impl Window {
         requires place { place ≤ PLACE_LIMIT }
         requires shows { Shows (F.held files.old name.now) self.old }
         requires between { IfSome (F.held files.old name.now) (λ bytes. IsBetween bytes place) }
-        ensures shows { Shows (F.held files.new name.now) self.new }
-        ensures next { IfSome (F.held files.old name.now) (λ bytes.
-            IfOk result (λ found. IfSome found (λ run.
-            IsNext bytes place run.0 run.1.end run.1.value))) }
-        ensures ended { IfSome (F.held files.old name.now) (λ bytes.
-            IfOk result (λ found. IfNone found (IsAnswer bytes (tokens_before bytes place)
-            (Ok None)))) }
-        ensures refused { IfSome (F.held files.old name.now) (λ bytes.
-            IfErr result (FaultsAt bytes place)) }
-        ensures place { IfOk result (λ found. IfSome found (λ run. run.1.end ≤ PLACE_LIMIT)) }
-        ensures small { IfOk result (λ found. IfSome found (λ run. run.1.value ≤ LARGEST)) }
-        ensures memory { result ≡ Err TokenFault.NoMemory → ⊥ }
-        ensures fault { result ≡ Err TokenFault.ReadFault →
-            Rose (F.faults files.old name.now) (F.faults files.new name.now) }
-        ensures kept { (other : List ℕ) → F.held files.new other ≡ F.held files.old other }
-        ensures never_fall { (other : List ℕ) →
-            F.faults files.old other ≤ F.faults files.new other }
+        ensures { FindsRun (outside (F.held files.old) (F.held files.new) (F.faults files.old)
+            (F.faults files.new))
+            name.now place self.new result }
     {
         let Some(first) = self.first_digit(files, name, place)? else {
             return Ok(None);
@@ -260,21 +233,9 @@ impl Window {
         requires place { place ≤ PLACE_LIMIT }
         requires shows { Shows (F.held files.old name.now) self.old }
         requires between { IfSome (F.held files.old name.now) (λ bytes. IsBetween bytes place) }
-        ensures shows { Shows (F.held files.new name.now) self.new }
-        ensures begins { IfSome (F.held files.old name.now) (λ bytes.
-            IfOk result (λ found. IfSome found (λ at. Begins bytes place at))) }
-        ensures ended { IfSome (F.held files.old name.now) (λ bytes.
-            IfOk result (λ found. IfNone found (IsAnswer bytes (tokens_before bytes place)
-            (Ok None)))) }
-        ensures refused { IfSome (F.held files.old name.now) (λ bytes.
-            IfErr result (FaultsAt bytes place)) }
-        ensures low { IfOk result (λ found. IfSome found (λ at. at < PLACE_LIMIT)) }
-        ensures memory { result ≡ Err TokenFault.NoMemory → ⊥ }
-        ensures fault { result ≡ Err TokenFault.ReadFault →
-            Rose (F.faults files.old name.now) (F.faults files.new name.now) }
-        ensures kept { (other : List ℕ) → F.held files.new other ≡ F.held files.old other }
-        ensures never_fall { (other : List ℕ) →
-            F.faults files.old other ≤ F.faults files.new other }
+        ensures { FindsDigit (outside (F.held files.old) (F.held files.new) (F.faults files.old)
+            (F.faults files.new))
+            name.now place self.new result }
     {
         let mut at = place;
         while let Some(byte) = self.byte(files, name, at)? {
@@ -302,19 +263,9 @@ impl Window {
         requires place { first < PLACE_LIMIT }
         requires shows { Shows (F.held files.old name.now) self.old }
         requires begins { IfSome (F.held files.old name.now) (λ bytes. Begins bytes first first) }
-        ensures shows { Shows (F.held files.new name.now) self.new }
-        ensures taken { IfSome (F.held files.old name.now) (λ bytes.
-            IfOk result (λ run. IsTaken bytes first run.end run.value)) }
-        ensures refused { IfSome (F.held files.old name.now) (λ bytes.
-            IfErr result (FaultsAt bytes first)) }
-        ensures place { IfOk result (λ run. run.end ≤ PLACE_LIMIT) }
-        ensures small { IfOk result (λ run. run.value ≤ LARGEST) }
-        ensures memory { result ≡ Err TokenFault.NoMemory → ⊥ }
-        ensures fault { result ≡ Err TokenFault.ReadFault →
-            Rose (F.faults files.old name.now) (F.faults files.new name.now) }
-        ensures kept { (other : List ℕ) → F.held files.new other ≡ F.held files.old other }
-        ensures never_fall { (other : List ℕ) →
-            F.faults files.old other ≤ F.faults files.new other }
+        ensures { EndsRun (outside (F.held files.old) (F.held files.new) (F.faults files.old)
+            (F.faults files.new))
+            name.now first self.new result }
     {
         let mut end = first;
         let mut value = 0;

@@ -1,0 +1,71 @@
+-- What a window finds in a file from a place on, and what it leaves.
+use Rattle.std.specs.Prelude.{◌≡◌, ℕ, ◌<◌, ◌≤◌, List, Option, None, Result, Ok, Err, IfSome, IfNone, IfOk, IfErr}
+use Rattle.ra_io.specs.Faults.{Rose}
+use Rattle.ra_token.specs.declared.answers.TokenFault.{TokenFault}
+use Rattle.ra_token.specs.declared.answers.TokenFault.TheVariants.{ReadFault, NoMemory}
+use Rattle.ra_token.specs.declared.window.Run.{Run}
+use Rattle.ra_token.specs.declared.window.Window.{Window}
+use Rattle.ra_token.specs.TokenList.{tokens_before, IsAnswer}
+use Rattle.ra_token.specs.Scan.{Shows, Begins, IsTaken, IsNext, FaultsAt}
+
+-- what the files hold and how often reading failed, before a call and after it
+pub record Outside : Type 0 where
+  pub held : List ℕ → Option (List ℕ)
+  pub held_after : List ℕ → Option (List ℕ)
+  pub faults : List ℕ → ℕ
+  pub faults_after : List ℕ → ℕ
+
+abbrev pub outside : (List ℕ → Option (List ℕ)) → (List ℕ → Option (List ℕ)) → (List ℕ → ℕ)
+    → (List ℕ → ℕ) → Outside
+outside held held_after faults faults_after =
+    record {
+      held = held;
+      held_after = held_after;
+      faults = faults;
+      faults_after = faults_after;
+    }
+
+-- the next run from a place on, with the place of its first digit; none at the end; or the first fault
+pub record FindsRun (o : Outside) (name : List ℕ) (from : ℕ) (after : Window)
+    (said : Result (Option (ℕ × Run)) TokenFault) : Type 0 where
+  pub shows : Shows (o.held_after name) after
+  pub next : IfSome (o.held name) (λ bytes.
+      IfOk said (λ found. IfSome found (λ run. IsNext bytes from run.0 run.1.end run.1.value)))
+  pub ended : IfSome (o.held name) (λ bytes.
+      IfOk said (λ found. IfNone found (IsAnswer bytes (tokens_before bytes from) (Ok None))))
+  pub refused : IfSome (o.held name) (λ bytes. IfErr said (FaultsAt bytes from))
+  pub place : IfOk said (λ found. IfSome found (λ run. run.1.end ≤ 536870912))
+  pub small : IfOk said (λ found. IfSome found (λ run. run.1.value ≤ 4294967295))
+  pub memory : said ≡ Err NoMemory → ⊥
+  pub fault : said ≡ Err ReadFault → Rose (o.faults name) (o.faults_after name)
+  pub kept : (other : List ℕ) → o.held_after other ≡ o.held other
+  pub never_fall : (other : List ℕ) → o.faults other ≤ o.faults_after other
+
+-- where the next run begins, from a place on; none at the end; or the first fault
+pub record FindsDigit (o : Outside) (name : List ℕ) (from : ℕ) (after : Window)
+    (said : Result (Option ℕ) TokenFault) : Type 0 where
+  pub shows : Shows (o.held_after name) after
+  pub begins : IfSome (o.held name) (λ bytes.
+      IfOk said (λ found. IfSome found (λ at. Begins bytes from at)))
+  pub ended : IfSome (o.held name) (λ bytes.
+      IfOk said (λ found. IfNone found (IsAnswer bytes (tokens_before bytes from) (Ok None))))
+  pub refused : IfSome (o.held name) (λ bytes. IfErr said (FaultsAt bytes from))
+  pub low : IfOk said (λ found. IfSome found (λ at. at < 536870912))
+  pub memory : said ≡ Err NoMemory → ⊥
+  pub fault : said ≡ Err ReadFault → Rose (o.faults name) (o.faults_after name)
+  pub kept : (other : List ℕ) → o.held_after other ≡ o.held other
+  pub never_fall : (other : List ℕ) → o.faults other ≤ o.faults_after other
+
+-- the run that begins at a place, or the first fault
+pub record EndsRun (o : Outside) (name : List ℕ) (first : ℕ) (after : Window)
+    (said : Result Run TokenFault) : Type 0 where
+  pub shows : Shows (o.held_after name) after
+  pub taken : IfSome (o.held name) (λ bytes.
+      IfOk said (λ run. IsTaken bytes first run.end run.value))
+  pub refused : IfSome (o.held name) (λ bytes. IfErr said (FaultsAt bytes first))
+  pub place : IfOk said (λ run. run.end ≤ 536870912)
+  pub small : IfOk said (λ run. run.value ≤ 4294967295)
+  pub memory : said ≡ Err NoMemory → ⊥
+  pub fault : said ≡ Err ReadFault → Rose (o.faults name) (o.faults_after name)
+  pub kept : (other : List ℕ) → o.held_after other ≡ o.held other
+  pub never_fall : (other : List ℕ) → o.faults other ≤ o.faults_after other
