@@ -1,12 +1,17 @@
 -- What a window finds in a file from a place on, and what it leaves.
-use Rattle.std.specs.Prelude.{◌≡◌, ℕ, ◌<◌, ◌≤◌, List, Option, None, Result, Ok, Err, IfSome, IfNone, IfOk, IfErr}
+use Rattle.std.specs.Prelude.{◌≡◌, ℕ, ◌<◌, ◌≤◌, List, Option, None, Result, Ok, Err, IfSome, IfNone, IfOk, IfErr, OnErr, OnSome, length, ◌+◌, ◌-◌, slice_get}
 use Rattle.ra_io.specs.Faults.{Rose}
+use Rattle.ra_base.specs.Listed.{Listed}
+use Rattle.ra_token.specs.declared.answers.Token.{Token}
 use Rattle.ra_token.specs.declared.answers.TokenFault.{TokenFault}
 use Rattle.ra_token.specs.declared.answers.TokenFault.TheVariants.{ReadFault, NoMemory}
 use Rattle.ra_token.specs.declared.window.Run.{Run}
 use Rattle.ra_token.specs.declared.window.Window.{Window}
 use Rattle.ra_token.specs.TokenList.{tokens_before, IsAnswer}
-use Rattle.ra_token.specs.Scan.{Shows, Begins, IsTaken, IsNext, FaultsAt}
+use Rattle.ra_token.specs.Reads.{Reads}
+use Rattle.ra_token.specs.Standing.{Standing}
+use Rattle.ra_token.specs.Values.{AddsValues}
+use Rattle.ra_token.specs.Scan.{Shows, Covers, ready_byte, Begins, IsTaken, IsNext, FaultsAt}
 
 -- what the files hold and how often reading failed, before a call and after it
 pub record Outside : Type 0 where
@@ -67,5 +72,47 @@ pub record EndsRun (o : Outside) (name : List ℕ) (first : ℕ) (after : Window
   pub small : IfOk said (λ run. run.value ≤ 4294967295)
   pub memory : said ≡ Err NoMemory → ⊥
   pub fault : said ≡ Err ReadFault → Rose (o.faults name) (o.faults_after name)
+  pub kept : (other : List ℕ) → o.held_after other ≡ o.held other
+  pub never_fall : (other : List ℕ) → o.faults other ≤ o.faults_after other
+
+-- the next token, and none where all were given and the file has no fault; or the first fault, where the tokens before it
+-- were given, or a failed fetch. Nothing is lost where none was given
+pub record GivesNext (o : Outside) (before after : Standing)
+    (said : Result (Option Token) TokenFault) : Type 0 where
+  pub reads : Reads (o.held_after after.name) after
+  pub answer : IfSome (o.held before.name) (λ bytes.
+      IsAnswer bytes (tokens_before bytes before.place) said)
+  pub one_more : IfSome (o.held before.name) (λ bytes.
+      IfOk said (λ next. OnSome next
+      (tokens_before bytes after.place ≡ tokens_before bytes before.place + 1)))
+  pub ended : said ≡ Ok None → after.place ≡ before.place
+  pub refused : OnErr said (after.place ≡ before.place)
+  pub fault : said ≡ Err ReadFault → Rose (o.faults before.name) (o.faults_after before.name)
+  pub memory : said ≡ Err NoMemory → ⊥
+  pub name : after.name ≡ before.name
+  pub kept : (other : List ℕ) → o.held_after other ≡ o.held other
+  pub never_fall : (other : List ℕ) → o.faults other ≤ o.faults_after other
+
+-- the values of the next tokens were added to a list, so many of them, or all that were left; or a fault came first, and
+-- the values of the tokens before it were added
+pub record GivesValues (o : Outside) (before after : Standing) (count : ℕ) (old new : Listed ℕ)
+    (said : Result ℕ TokenFault) : Type 0 where
+  pub reads : Reads (o.held_after after.name) after
+  pub adds : IfSome (o.held before.name) (λ bytes.
+      AddsValues bytes before.place after.place (length new.items - length old.items)
+      old.items new.items)
+  pub number : IfOk said (λ n. length new.items ≡ length old.items + n)
+  pub most : length new.items ≤ length old.items + count
+  pub grows : length old.items ≤ length new.items
+  pub room : new.room ≡ old.room
+  pub ended : IfSome (o.held before.name) (λ bytes.
+      IfOk said (λ n. n < count
+      → IsAnswer bytes (tokens_before bytes after.place) (Ok None)))
+  pub refused : IfSome (o.held before.name) (λ bytes. IfErr said (λ failed.
+      IsAnswer bytes (tokens_before bytes after.place) (Err failed)))
+  pub short : OnErr said (length new.items < length old.items + count)
+  pub fault : said ≡ Err ReadFault → Rose (o.faults before.name) (o.faults_after before.name)
+  pub memory : said ≡ Err NoMemory → ⊥
+  pub name : after.name ≡ before.name
   pub kept : (other : List ℕ) → o.held_after other ≡ o.held other
   pub never_fall : (other : List ℕ) → o.faults other ≤ o.faults_after other

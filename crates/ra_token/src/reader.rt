@@ -2,6 +2,7 @@ ghost use Rattle.std.specs.Prelude.{◌≡◌, ℕ, ◌+◌, ◌-◌, ◌<◌, �
 ghost use Rattle.ra_io.specs.Faults.{Rose};
 ghost use Rattle.ra_token.specs.TokenList.{IsAnswer, tokens_before};
 ghost use Rattle.ra_token.specs.Reads.{Reads};
+ghost use Rattle.ra_token.specs.Finds.{outside, GivesNext, GivesValues};
 ghost use Rattle.ra_token.specs.Values.{AddsValues};
 
 use crate::answers::{Token, TokenFault};
@@ -67,26 +68,9 @@ impl Tokens {
     /// reader stands where it stood, so the next call gives the same fault, or tries to fetch again.
     pub fn next<F: Files>(&mut self, files: &mut F) -> Result<Option<Token>, TokenFault>
         requires reads { Reads (F.held files.old self.old.name) self.old }
-        ensures reads { Reads (F.held files.new self.new.name) self.new }
-
-        // Where the bytes are told, token number n comes after n tokens, and then the end or the first fault.
-        ensures answer { IfSome (F.held files.old self.old.name) (λ bytes.
-            IsAnswer bytes (tokens_before bytes self.old.place) result) }
-        ensures one_more { IfSome (F.held files.old self.old.name) (λ bytes.
-            IfOk result (λ next. OnSome next
-            (tokens_before bytes self.new.place ≡ tokens_before bytes self.old.place + 1))) }
-        ensures ended { result ≡ Ok None → self.new.place ≡ self.old.place }
-        ensures refused { OnErr result (self.new.place ≡ self.old.place) }
-
-        // A failed fetch is counted, and memory is no cause.
-        ensures fault { result ≡ Err TokenFault.ReadFault →
-            Rose (F.faults files.old self.old.name) (F.faults files.new self.old.name) }
-        ensures memory { result ≡ Err TokenFault.NoMemory → ⊥ }
-
-        ensures name { self.new.name ≡ self.old.name }
-        ensures kept { (other : List ℕ) → F.held files.new other ≡ F.held files.old other }
-        ensures never_fall { (other : List ℕ) →
-            F.faults files.old other ≤ F.faults files.new other }
+        ensures { GivesNext (outside (F.held files.old) (F.held files.new) (F.faults files.old)
+            (F.faults files.new))
+            self.old self.new result }
     {
         let name = self.name.as_str();
         let Some((first, run)) = self.window.next_run(files, name, self.place)? else {
@@ -114,34 +98,9 @@ impl Tokens {
     ) -> Result<usize, TokenFault>
         requires reads { Reads (F.held files.old self.old.name) self.old }
         requires room { length values.old.items + count ≤ values.old.room }
-        ensures reads { Reads (F.held files.new self.new.name) self.new }
-
-        // Where the bytes are told, what was added are the values of the next tokens, and as many were passed.
-        ensures adds { IfSome (F.held files.old self.old.name) (λ bytes.
-            AddsValues bytes self.old.place self.new.place
-            (length values.new.items - length values.old.items) values.old.items values.new.items) }
-        ensures number { IfOk result (λ n. length values.new.items ≡ length values.old.items + n) }
-        ensures most { length values.new.items ≤ length values.old.items + count }
-        ensures grows { length values.old.items ≤ length values.new.items }
-        ensures room { values.new.room ≡ values.old.room }
-
-        // It stops before `count` at the end alone, or at the first fault.
-        ensures ended { IfSome (F.held files.old self.old.name) (λ bytes.
-            IfOk result (λ n. n < count
-            → IsAnswer bytes (tokens_before bytes self.new.place) (Ok None))) }
-        ensures refused { IfSome (F.held files.old self.old.name) (λ bytes. IfErr result (λ fault.
-            IsAnswer bytes (tokens_before bytes self.new.place) (Err fault))) }
-        ensures short { OnErr result (length values.new.items < length values.old.items + count) }
-
-        // A failed fetch is counted, and memory is no cause.
-        ensures fault { result ≡ Err TokenFault.ReadFault →
-            Rose (F.faults files.old self.old.name) (F.faults files.new self.old.name) }
-        ensures memory { result ≡ Err TokenFault.NoMemory → ⊥ }
-
-        ensures name { self.new.name ≡ self.old.name }
-        ensures kept { (other : List ℕ) → F.held files.new other ≡ F.held files.old other }
-        ensures never_fall { (other : List ℕ) →
-            F.faults files.old other ≤ F.faults files.new other }
+        ensures { GivesValues (outside (F.held files.old) (F.held files.new) (F.faults files.old)
+            (F.faults files.new))
+            self.old self.new count values.old values.new result }
     {
         let before = values.len();
         let mut taken = 0;

@@ -34,12 +34,3 @@ loop-taken-preserved g c =
           (c.take_ready.ensures.adds (g.F.Files.held c.next.new.files c.next.new.self.name) c.next.ensures.reads),
       record { kept = λ other. c.next.ensures.kept other ∙ kept.kept other; never_fell = λ other. omega (arith, c.next.ensures.never_fall other, kept.never_fell other) },
     )
-
-pub returns-clause-adds : goal.returns-clause-adds
-returns-clause-adds g c = told_as_many (g.F.Files.held c.args.files.now c.args.self.now.name) _ _ _ c.loop-taken.taken _ _ _ refl (omega arith) c.loop-taken.invariant.5
-
-pub returns-in_default-clause-adds : goal.returns-in_default-clause-adds
-returns-in_default-clause-adds g c = told_as_many (g.F.Files.held c.args.files.now c.args.self.now.name) _ _ _ c.loop-taken.taken _ _ _ (sym (c.in_ok-token.ensures.ended (ap Ok c.in_default.is))) (omega arith) c.loop-taken.invariant.5
-
-pub returns-in_err-token-clause-adds : goal.returns-in_err-token-clause-adds
-returns-in_err-token-clause-adds g c = told_as_many (g.F.Files.held c.args.files.now c.args.self.now.name) _ _ _ c.loop-taken.taken _ _ _ (sym c.in_err-token.ensures.refused) (omega arith) c.loop-taken.invariant.5
