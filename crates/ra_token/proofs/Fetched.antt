@@ -1,5 +1,6 @@
 -- What a fetch tells of the bytes of a file.
 use Rattle.std.proofs.Common.{◌≡◌, ◌↔◌, ℕ, ◌-◌, ◌<◌, ◌≤◌, ◌⊎◌, List, length, take, drop, get_or, slice_get, Option, Some, None, IfSome, sym, ap, refl, ◌∙◌, subst, ⊎_elim, arith, length-take, take-take}
+use Rattle.std.proofs.lemmas.List.{get_or_read}
 use Rattle.std.proofs.lemmas.Option.{slice_get_past}
 use Rattle.ra_token.specs.Reads.{IsPiece}
 use Rattle.ra_token.proofs.Told.{told_byte}
@@ -22,6 +23,12 @@ told_front told fetched items at n byte is read some within front =
     let here : at - at ≡ 0 = omega arith in
     told_byte told fetched at n at byte (told_piece told told fetched fetched at n n refl refl read (omega arith) within) (omega arith) (omega arith) within
     (front ∙ ap (λ xs. get_or xs 0 byte) is ∙ ap (λ k. get_or fetched k byte) (sym here))
+
+-- it is the one that is held ready first
+pub first_ready : (items fetched : List ℕ) (at byte : ℕ) → items ≡ fetched → 0 < length fetched → byte ≡ get_or items 0 byte → get_or items (at - at) 0 ≡ byte
+first_ready items fetched at byte is some front =
+    let here : at - at ≡ 0 = omega arith in
+    ap (λ k. get_or items k 0) here ∙ sym (get_or_read items 0 byte (omega (arith, ap length is)) front 0)
 
 -- where a fetch gives nothing, the file has ended
 pub told_past : (told : Option (List ℕ)) (room at n : ℕ) → IfSome told (λ bytes. (n ≡ 0) ↔ ((room ≡ 0) ⊎ (length bytes ≤ at))) → 0 < room → n ≡ 0 → IfSome told (λ bytes. None ≡ slice_get bytes at)

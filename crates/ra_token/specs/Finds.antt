@@ -30,6 +30,18 @@ outside held held_after faults faults_after =
       faults_after = faults_after;
     }
 
+-- the byte at a place, which is held ready then, or none past the end
+pub record ReadsByte (o : Outside) (name : List ℕ) (at : ℕ) (after : Window)
+    (said : Result (Option ℕ) TokenFault) : Type 0 where
+  pub shows : Shows (o.held_after name) after
+  pub byte : IfSome (o.held name) (λ bytes. IfOk said (λ read. read ≡ slice_get bytes at))
+  pub covers : IfOk said (λ read. IfSome read (λ _. at < 536870912 → Covers after at))
+  pub ready : IfOk said (λ read. IfSome read (λ x. at < 536870912 → ready_byte after at ≡ x))
+  pub cause : IfErr said (λ failed. failed ≡ ReadFault)
+  pub fault : OnErr said (Rose (o.faults name) (o.faults_after name))
+  pub kept : (other : List ℕ) → o.held_after other ≡ o.held other
+  pub never_fall : (other : List ℕ) → o.faults other ≤ o.faults_after other
+
 -- the next run from a place on, with the place of its first digit; none at the end; or the first fault
 pub record FindsRun (o : Outside) (name : List ℕ) (from : ℕ) (after : Window)
     (said : Result (Option (ℕ × Run)) TokenFault) : Type 0 where

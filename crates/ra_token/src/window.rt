@@ -44,7 +44,7 @@ impl Window {
     ghost use Rattle.ra_token.specs.Reads.{IsBetween};
     ghost use Rattle.ra_token.specs.Values.{AddsValues};
     ghost use Rattle.ra_token.specs.Scan.{Shows, Covers, ready_byte, Begins, IsTaken, IsNext, FaultsAt, IsReached, InRun};
-    ghost use Rattle.ra_token.specs.Finds.{outside, FindsRun, FindsDigit, EndsRun};
+    ghost use Rattle.ra_token.specs.Finds.{outside, ReadsByte, FindsRun, FindsDigit, EndsRun};
 
     /// A window with nothing ready.
     pub fn make(alloc: Global) -> Result<Window, AllocError>
@@ -156,19 +156,9 @@ impl Window {
     ) -> Result<Option<u8>, TokenFault>
         requires place { at ≤ PLACE_LIMIT }
         requires shows { Shows (F.held files.old name.now) self.old }
-        ensures shows { Shows (F.held files.new name.now) self.new }
-        ensures byte { IfSome (F.held files.old name.now) (λ bytes.
-            IfOk result (λ byte. byte ≡ slice_get bytes at)) }
-        ensures covers { IfOk result (λ byte. IfSome byte (λ _. at < PLACE_LIMIT →
-            Covers self.new at)) }
-        ensures ready { IfOk result (λ byte. IfSome byte (λ x. at < PLACE_LIMIT →
-            ready_byte self.new at ≡ x)) }
-        ensures cause { IfErr result (λ fault. fault ≡ TokenFault.ReadFault) }
-        ensures fault { OnErr result (Rose (F.faults files.old name.now)
-            (F.faults files.new name.now)) }
-        ensures kept { (other : List ℕ) → F.held files.new other ≡ F.held files.old other }
-        ensures never_fall { (other : List ℕ) →
-            F.faults files.old other ≤ F.faults files.new other }
+        ensures { ReadsByte (outside (F.held files.old) (F.held files.new) (F.faults files.old)
+            (F.faults files.new))
+            name.now at self.new result }
     {
         if self.start <= at && at - self.start < self.filled as u64 {
             return Ok(Some(self.buffer[(at - self.start) as usize]));
@@ -184,19 +174,9 @@ impl Window {
         at: u64,
     ) -> Result<Option<u8>, TokenFault>
         requires place { at ≤ PLACE_LIMIT }
-        ensures shows { Shows (F.held files.new name.now) self.new }
-        ensures byte { IfSome (F.held files.old name.now) (λ bytes.
-            IfOk result (λ byte. byte ≡ slice_get bytes at)) }
-        ensures covers { IfOk result (λ byte. IfSome byte (λ _. at < PLACE_LIMIT →
-            Covers self.new at)) }
-        ensures ready { IfOk result (λ byte. IfSome byte (λ x. at < PLACE_LIMIT →
-            ready_byte self.new at ≡ x)) }
-        ensures cause { IfErr result (λ fault. fault ≡ TokenFault.ReadFault) }
-        ensures fault { OnErr result (Rose (F.faults files.old name.now)
-            (F.faults files.new name.now)) }
-        ensures kept { (other : List ℕ) → F.held files.new other ≡ F.held files.old other }
-        ensures never_fall { (other : List ℕ) →
-            F.faults files.old other ≤ F.faults files.new other }
+        ensures { ReadsByte (outside (F.held files.old) (F.held files.new) (F.faults files.old)
+            (F.faults files.new))
+            name.now at self.new result }
     {
         self.filled = 0;
         let Ok(number) = files.fetch(name, at, self.buffer.as_mut_slice()) else {
