@@ -77,6 +77,12 @@ pub record TakesRuns (piece : List ℕ) (from end limit : ℕ) (old new : Listed
       → AddsValues bytes (start + from) (start + end) (length new.items - length old.items)
       old.items new.items
 
+-- what holds of whatever bytes have this piece, where a run is worth so much at an index of it
+abbrev pub RunsOn : List ℕ → ℕ → ℕ → (List ℕ → ℕ → ℕ → Type 0) → Type 0
+RunsOn piece from carried P =
+    (bytes : List ℕ) (start first : ℕ) → start + length piece ≤ 536870912 → IsPiece bytes start piece
+    → InRun bytes first (start + from) carried → P bytes start first
+
 -- the fault comes next
 abbrev pub FaultsAt : List ℕ → ℕ → TokenFault → Type 0
 FaultsAt bytes place fault = IsAnswer bytes (tokens_before bytes place) (Err fault)

@@ -3,7 +3,7 @@ ghost use Rattle.std.specs.Int.{bit_at};
 ghost use Rattle.ra_token.specs.Runs.{digit_at, is_blank};
 ghost use Rattle.ra_token.specs.declared.scan.TheConstants.{NEAR};
 ghost use Rattle.ra_token.specs.Reads.{IsBetween, IsPiece};
-ghost use Rattle.ra_token.specs.Scan.{InRun, IsNext, FaultsAt};
+ghost use Rattle.ra_token.specs.Scan.{InRun, IsNext, FaultsAt, RunsOn};
 ghost use Rattle.ra_token.specs.Scan.{digits_worth, TakesRuns};
 
 use crate::answers::{LARGEST, PLACE_LIMIT, TokenFault};
@@ -53,12 +53,10 @@ pub fn gather(bytes: &[u8], from: usize, carried: u64) -> Stretch
     ensures moved { from < result.end → digit_at bytes.now from ≡ true }
     ensures stops { result.value ≤ LARGEST → result.end < length bytes.now →
         digit_at bytes.now result.end ≡ false }
-    ensures goes_on { (all : List ℕ) (start first : ℕ) → start + length bytes.now ≤ PLACE_LIMIT →
-        IsPiece all start bytes.now → InRun all first (start + from) carried
-        → result.value ≤ LARGEST → InRun all first (start + result.end) result.value }
-    ensures too_large { (all : List ℕ) (start first : ℕ) → start + length bytes.now ≤ PLACE_LIMIT →
-        IsPiece all start bytes.now → InRun all first (start + from) carried
-        → LARGEST < result.value → FaultsAt all first (TokenFault.TooLarge first) }
+    ensures goes_on { RunsOn bytes.now from carried (λ all start first. result.value ≤ LARGEST →
+        InRun all first (start + result.end) result.value) }
+    ensures too_large { RunsOn bytes.now from carried (λ all start first. LARGEST < result.value →
+        FaultsAt all first (TokenFault.TooLarge first)) }
 {
     let mut value = carried;
     for i in from..bytes.len() {
