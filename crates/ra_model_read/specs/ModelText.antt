@@ -50,12 +50,16 @@ dependency S first k so_far = do
   needed ← field Dependency (first + k) 0 (S - 1)
   pure (so_far ++ record { 0 = needed } ∷ [])
 
+-- so many dependencies more, each on one of S services
+abbrev pub dependencies_more : ℕ → ℕ → List Service → Format (List Service)
+dependencies_more S count so_far = along count (dependency S (length so_far)) so_far
+
 -- service s of S
 unfoldable pub service : ℕ → ℕ → ServiceLists → Format ServiceLists
 service S s so_far = do
   spread_min ← any SpreadMin s
   count ← field DependencyCount s 0 (100000 - length so_far.dependencies)
-  dependencies ← along count (dependency S (length so_far.dependencies)) so_far.dependencies
+  dependencies ← dependencies_more S count so_far.dependencies
   pure (record {
     rows = so_far.rows
         ++ record { spread_min = spread_min; dependency_end = length dependencies } ∷ [];

@@ -1,12 +1,18 @@
 -- A format that is read from a file: what was read and what is left, or the refusal.
 use Rattle.std.specs.Prelude.{◌≡◌, ℕ, ◌≤◌, Bool, true, false, IsTrue, List, drop, Option, option_map}
+use Rattle.ra_io.specs.declared.outside.Files as files
 use Rattle.ra_io.specs.Faults.{Rose}
 use Rattle.ra_token.specs.Faults.{first_fault}
-use Rattle.ra_token.specs.Moments.{Here, Goes}
+use Rattle.ra_token.specs.Moments.{Here, here, Goes}
+use Rattle.ra_token.specs.Standing.{Standing}
 use Rattle.ra_token.specs.TokenList.{tokens, tokens_before}
 use Rattle.ra_model_read.specs.declared.faults.ModelFault.{ModelFault}
 use Rattle.ra_model_read.specs.declared.faults.ModelFault.TheVariants.{ReadFault, BadByte, TooLarge, TooLong, Missing, Range, Flag, Extra, NoMemory}
 use Rattle.ra_model_read.specs.Formats.{Left, Read, Refused, Format}
+
+-- the files that a call is lent and a reader, at one moment
+abbrev pub seen : {F : Type 0} → files.Ghosts F → F → Standing → Here
+seen told now tokens = here (told.held now) (told.faults now) tokens
 
 -- what is left of bytes for a reader at a place
 unfoldable pub left_from : ℕ → List ℕ → Left

@@ -1,8 +1,8 @@
 ghost use Rattle.std.specs.Prelude.{◌≡◌, ◌+◌, ◌<◌, ◌≤◌, length, map, IfOk, IfErr, OnOk};
 ghost use Rattle.ra_model_read.specs.Lists.{of_balance};
 ghost use Rattle.ra_model_read.specs.ModelText.{balance, balances};
-ghost use Rattle.ra_token.specs.Moments.{here, Stands};
-ghost use Rattle.ra_model_read.specs.Reading.{Gives, Refuses};
+ghost use Rattle.ra_token.specs.Moments.{Stands};
+ghost use Rattle.ra_model_read.specs.Reading.{seen, Gives, Refuses};
 ghost use Rattle.ra_model_read.specs.TableShapes.{AreBalances};
 
 use crate::faults::{Field, ModelFault};
@@ -20,16 +20,16 @@ pub(crate) fn read_balances<F: Files>(
     tokens: &mut Tokens,
     resource_count: u32,
 ) -> Result<Fixed<BalanceRow>, ModelFault>
-    requires stands { Stands (here (F.held files.old) (F.faults files.old) tokens.old) }
+    requires stands { Stands (seen F.Files files.old tokens.old) }
     requires some { 0 < resource_count }
     ensures few { IfOk result (λ rows. length rows.items ≤ 10) }
     ensures among { IfOk result (λ rows. AreBalances resource_count rows.items) }
     ensures gives { IfOk result (λ rows.
-        Gives (balances resource_count) (here (F.held files.old) (F.faults files.old) tokens.old)
-        (here (F.held files.new) (F.faults files.new) tokens.new) (map of_balance rows.items)) }
+        Gives (balances resource_count)
+        (seen F.Files files.old tokens.old) (seen F.Files files.new tokens.new)
+        (map of_balance rows.items)) }
     ensures refuses { IfErr result
-        (Refuses (balances resource_count) (here (F.held files.old) (F.faults files.old) tokens.old)
-        (here (F.held files.new) (F.faults files.new) tokens.new)) }
+        (Refuses (balances resource_count) (seen F.Files files.old tokens.old) (seen F.Files files.new tokens.new)) }
 {
     let count = read_field(files, tokens, Field::BalanceCount, 0, 0, 10)?;
     let mut rows = Fixed::make(alloc, count as usize)?;
@@ -47,20 +47,19 @@ fn read_balance<F: Files>(
     b: u32,
     rows: &mut Fixed<BalanceRow>,
 ) -> Result<(), ModelFault>
-    requires stands { Stands (here (F.held files.old) (F.faults files.old) tokens.old) }
+    requires stands { Stands (seen F.Files files.old tokens.old) }
     requires some { 0 < resource_count }
     requires room { length rows.old.items < rows.old.room }
     requires among { AreBalances resource_count rows.old.items }
     ensures gives { OnOk result (Gives (balance resource_count b (map of_balance rows.old.items))
-        (here (F.held files.old) (F.faults files.old) tokens.old)
-        (here (F.held files.new) (F.faults files.new) tokens.new) (map of_balance rows.new.items)) }
+        (seen F.Files files.old tokens.old) (seen F.Files files.new tokens.new)
+        (map of_balance rows.new.items)) }
     ensures length { OnOk result (length rows.new.items ≡ length rows.old.items + 1) }
     ensures room { rows.new.room ≡ rows.old.room }
     ensures among { OnOk result (AreBalances resource_count rows.new.items) }
     ensures refuses { IfErr result
         (Refuses (balance resource_count b (map of_balance rows.old.items))
-        (here (F.held files.old) (F.faults files.old) tokens.old)
-        (here (F.held files.new) (F.faults files.new) tokens.new)) }
+        (seen F.Files files.old tokens.old) (seen F.Files files.new tokens.new)) }
 {
     let first = read_field(
         files,

@@ -1,7 +1,7 @@
 ghost use Rattle.std.specs.Prelude.{◌≡◌, ◌+◌, ◌^◌, ◌<◌, ◌≤◌, length, IfOk, IfErr, OnOk};
 ghost use Rattle.ra_model_read.specs.Formats.{next_token, token_fault, any, field, flag, numbers, ends};
-ghost use Rattle.ra_token.specs.Moments.{here, Stands};
-ghost use Rattle.ra_model_read.specs.Reading.{Gives, Refuses};
+ghost use Rattle.ra_token.specs.Moments.{Stands};
+ghost use Rattle.ra_model_read.specs.Reading.{seen, Gives, Refuses};
 
 use crate::faults::{Field, ModelFault};
 use ra_base::Fixed;
@@ -30,13 +30,11 @@ pub(crate) fn read_token<F: Files>(
     what: Field,
     item: u64,
 ) -> Result<Token, ModelFault>
-    requires { Stands (here (F.held files.old) (F.faults files.old) tokens.old) }
+    requires { Stands (seen F.Files files.old tokens.old) }
     ensures gives { IfOk result (Gives (next_token what item)
-        (here (F.held files.old) (F.faults files.old) tokens.old)
-        (here (F.held files.new) (F.faults files.new) tokens.new)) }
+        (seen F.Files files.old tokens.old) (seen F.Files files.new tokens.new)) }
     ensures refuses { IfErr result
-        (Refuses (next_token what item) (here (F.held files.old) (F.faults files.old) tokens.old)
-        (here (F.held files.new) (F.faults files.new) tokens.new)) }
+        (Refuses (next_token what item) (seen F.Files files.old tokens.old) (seen F.Files files.new tokens.new)) }
 {
     match tokens.next(files) {
         Ok(Some(token)) => Ok(token),
@@ -53,13 +51,11 @@ pub(crate) fn read_any<F: Files>(
     what: Field,
     item: u64,
 ) -> Result<u32, ModelFault>
-    requires { Stands (here (F.held files.old) (F.faults files.old) tokens.old) }
+    requires { Stands (seen F.Files files.old tokens.old) }
     ensures gives { IfOk result (Gives (any what item)
-        (here (F.held files.old) (F.faults files.old) tokens.old)
-        (here (F.held files.new) (F.faults files.new) tokens.new)) }
+        (seen F.Files files.old tokens.old) (seen F.Files files.new tokens.new)) }
     ensures refuses { IfErr result
-        (Refuses (any what item) (here (F.held files.old) (F.faults files.old) tokens.old)
-        (here (F.held files.new) (F.faults files.new) tokens.new)) }
+        (Refuses (any what item) (seen F.Files files.old tokens.old) (seen F.Files files.new tokens.new)) }
 {
     let token = read_token(files, tokens, what, item)?;
     Ok(token.value)
@@ -74,15 +70,13 @@ pub(crate) fn read_field<F: Files>(
     least: u32,
     most: u32,
 ) -> Result<u32, ModelFault>
-    requires { Stands (here (F.held files.old) (F.faults files.old) tokens.old) }
+    requires { Stands (seen F.Files files.old tokens.old) }
     ensures low { IfOk result (λ value. least ≤ value) }
     ensures high { IfOk result (λ value. value ≤ most) }
     ensures gives { IfOk result (Gives (field what item least most)
-        (here (F.held files.old) (F.faults files.old) tokens.old)
-        (here (F.held files.new) (F.faults files.new) tokens.new)) }
+        (seen F.Files files.old tokens.old) (seen F.Files files.new tokens.new)) }
     ensures refuses { IfErr result (Refuses (field what item least most)
-        (here (F.held files.old) (F.faults files.old) tokens.old)
-        (here (F.held files.new) (F.faults files.new) tokens.new)) }
+        (seen F.Files files.old tokens.old) (seen F.Files files.new tokens.new)) }
 {
     let token = read_token(files, tokens, what, item)?;
     if token.value < least || most < token.value {
@@ -103,13 +97,11 @@ pub(crate) fn read_flag<F: Files>(
     tokens: &mut Tokens,
     r: u64,
 ) -> Result<bool, ModelFault>
-    requires { Stands (here (F.held files.old) (F.faults files.old) tokens.old) }
+    requires { Stands (seen F.Files files.old tokens.old) }
     ensures gives { IfOk result (Gives (flag r)
-        (here (F.held files.old) (F.faults files.old) tokens.old)
-        (here (F.held files.new) (F.faults files.new) tokens.new)) }
+        (seen F.Files files.old tokens.old) (seen F.Files files.new tokens.new)) }
     ensures refuses { IfErr result
-        (Refuses (flag r) (here (F.held files.old) (F.faults files.old) tokens.old)
-        (here (F.held files.new) (F.faults files.new) tokens.new)) }
+        (Refuses (flag r) (seen F.Files files.old tokens.old) (seen F.Files files.new tokens.new)) }
 {
     let token = read_token(files, tokens, Field::Transient, r)?;
     match token.value {
@@ -131,17 +123,15 @@ pub(crate) fn read_numbers<F: Files>(
     count: usize,
     table: &mut Fixed<u32>,
 ) -> Result<(), ModelFault>
-    requires stands { Stands (here (F.held files.old) (F.faults files.old) tokens.old) }
+    requires stands { Stands (seen F.Files files.old tokens.old) }
     requires room { length table.old.items + count ≤ table.old.room }
     requires fits { first + count < 2 ^ 64 }
     ensures gives { OnOk result (Gives (numbers what first count table.old.items)
-        (here (F.held files.old) (F.faults files.old) tokens.old)
-        (here (F.held files.new) (F.faults files.new) tokens.new) table.new.items) }
+        (seen F.Files files.old tokens.old) (seen F.Files files.new tokens.new) table.new.items) }
     ensures length { OnOk result (length table.new.items ≡ length table.old.items + count) }
     ensures room { table.new.room ≡ table.old.room }
     ensures refuses { IfErr result (Refuses (numbers what first count table.old.items)
-        (here (F.held files.old) (F.faults files.old) tokens.old)
-        (here (F.held files.new) (F.faults files.new) tokens.new)) }
+        (seen F.Files files.old tokens.old) (seen F.Files files.new tokens.new)) }
 {
     match tokens.next_values(files, count, table) {
         Ok(taken) if taken < count => Err(ModelFault::Missing {
@@ -155,13 +145,11 @@ pub(crate) fn read_numbers<F: Files>(
 
 /// The end of the file.
 pub(crate) fn read_end<F: Files>(files: &mut F, tokens: &mut Tokens) -> Result<(), ModelFault>
-    requires { Stands (here (F.held files.old) (F.faults files.old) tokens.old) }
+    requires { Stands (seen F.Files files.old tokens.old) }
     ensures gives { OnOk result (Gives ends
-        (here (F.held files.old) (F.faults files.old) tokens.old)
-        (here (F.held files.new) (F.faults files.new) tokens.new) tt) }
+        (seen F.Files files.old tokens.old) (seen F.Files files.new tokens.new) tt) }
     ensures refuses { IfErr result
-        (Refuses ends (here (F.held files.old) (F.faults files.old) tokens.old)
-        (here (F.held files.new) (F.faults files.new) tokens.new)) }
+        (Refuses ends (seen F.Files files.old tokens.old) (seen F.Files files.new tokens.new)) }
 {
     match tokens.next(files) {
         Ok(Some(token)) => Err(ModelFault::Extra { at: token.at }),

@@ -1,7 +1,7 @@
 ghost use Rattle.std.specs.Prelude.{◌≡◌, ◌+◌, ◌<◌, ◌≤◌, IfOk, IfErr, OnOk};
 ghost use Rattle.ra_model_read.specs.ModelText.{machine, machines};
-ghost use Rattle.ra_token.specs.Moments.{here, Stands};
-ghost use Rattle.ra_model_read.specs.Reading.{Gives, Refuses};
+ghost use Rattle.ra_token.specs.Moments.{Stands};
+ghost use Rattle.ra_model_read.specs.Reading.{seen, Gives, Refuses};
 ghost use Rattle.ra_model_read.specs.TableShapes.{machine_lists, HasMachines, IsMachines};
 
 use crate::faults::{Field, ModelFault};
@@ -20,15 +20,15 @@ pub(crate) fn read_machines<F: Files>(
     tokens: &mut Tokens,
     resource_count: u32,
 ) -> Result<MachineTables, ModelFault>
-    requires stands { Stands (here (F.held files.old) (F.faults files.old) tokens.old) }
+    requires stands { Stands (seen F.Files files.old tokens.old) }
     requires few { resource_count ≤ 20 }
     ensures shape { IfOk result (IsMachines resource_count) }
     ensures gives { IfOk result (λ tables.
-        Gives (machines resource_count) (here (F.held files.old) (F.faults files.old) tokens.old)
-        (here (F.held files.new) (F.faults files.new) tokens.new) (machine_lists tables)) }
+        Gives (machines resource_count)
+        (seen F.Files files.old tokens.old) (seen F.Files files.new tokens.new)
+        (machine_lists tables)) }
     ensures refuses { IfErr result
-        (Refuses (machines resource_count) (here (F.held files.old) (F.faults files.old) tokens.old)
-        (here (F.held files.new) (F.faults files.new) tokens.new)) }
+        (Refuses (machines resource_count) (seen F.Files files.old tokens.old) (seen F.Files files.new tokens.new)) }
 {
     let count = read_field(files, tokens, Field::MachineCount, 0, 1, 5000)?;
     let mut tables = machine_tables(alloc, resource_count, count)?;
@@ -70,19 +70,19 @@ fn read_machine<F: Files>(
     m: u32,
     tables: &mut MachineTables,
 ) -> Result<(), ModelFault>
-    requires stands { Stands (here (F.held files.old) (F.faults files.old) tokens.old) }
+    requires stands { Stands (seen F.Files files.old tokens.old) }
     requires has { HasMachines resource_count machine_count m tables.old }
     requires below { m < machine_count }
     requires few { resource_count ≤ 20 }
     requires within { machine_count ≤ 5000 }
     ensures gives { OnOk result (Gives (machine resource_count machine_count m
-        (machine_lists tables.old)) (here (F.held files.old) (F.faults files.old) tokens.old)
-        (here (F.held files.new) (F.faults files.new) tokens.new) (machine_lists tables.new)) }
+        (machine_lists tables.old))
+        (seen F.Files files.old tokens.old) (seen F.Files files.new tokens.new)
+        (machine_lists tables.new)) }
     ensures has { OnOk result (HasMachines resource_count machine_count (m + 1) tables.new) }
     ensures refuses { IfErr result
         (Refuses (machine resource_count machine_count m (machine_lists tables.old))
-        (here (F.held files.old) (F.faults files.old) tokens.old)
-        (here (F.held files.new) (F.faults files.new) tokens.new)) }
+        (seen F.Files files.old tokens.old) (seen F.Files files.new tokens.new)) }
 {
     let neighbourhood = read_any(files, tokens, Field::Neighbourhood, m as u64)?;
     let location = read_any(files, tokens, Field::Location, m as u64)?;

@@ -1,7 +1,7 @@
 ghost use Rattle.std.specs.Prelude.{◌≡◌, ◌+◌, ◌<◌, ◌≤◌, IfOk, IfErr, OnOk};
 ghost use Rattle.ra_model_read.specs.ModelText.{process, processes};
-ghost use Rattle.ra_token.specs.Moments.{here, Stands};
-ghost use Rattle.ra_model_read.specs.Reading.{Gives, Refuses};
+ghost use Rattle.ra_token.specs.Moments.{Stands};
+ghost use Rattle.ra_model_read.specs.Reading.{seen, Gives, Refuses};
 ghost use Rattle.ra_model_read.specs.TableShapes.{process_lists, HasProcesses, IsProcesses};
 
 use crate::faults::{Field, ModelFault};
@@ -21,16 +21,15 @@ pub(crate) fn read_processes<F: Files>(
     service_count: u32,
     resource_count: u32,
 ) -> Result<ProcessTables, ModelFault>
-    requires stands { Stands (here (F.held files.old) (F.faults files.old) tokens.old) }
+    requires stands { Stands (seen F.Files files.old tokens.old) }
     requires some { 0 < service_count }
     requires few { resource_count ≤ 20 }
     ensures shape { IfOk result (IsProcesses service_count resource_count) }
     ensures gives { IfOk result (λ tables. Gives (processes service_count resource_count)
-        (here (F.held files.old) (F.faults files.old) tokens.old)
-        (here (F.held files.new) (F.faults files.new) tokens.new) (process_lists tables)) }
+        (seen F.Files files.old tokens.old) (seen F.Files files.new tokens.new)
+        (process_lists tables)) }
     ensures refuses { IfErr result (Refuses (processes service_count resource_count)
-        (here (F.held files.old) (F.faults files.old) tokens.old)
-        (here (F.held files.new) (F.faults files.new) tokens.new)) }
+        (seen F.Files files.old tokens.old) (seen F.Files files.new tokens.new)) }
 {
     let count = read_field(files, tokens, Field::ProcessCount, 0, 1, 50_000)?;
     let mut tables = process_tables(alloc, service_count, resource_count, count)?;
@@ -75,21 +74,21 @@ fn read_process<F: Files>(
     p: u32,
     tables: &mut ProcessTables,
 ) -> Result<(), ModelFault>
-    requires stands { Stands (here (F.held files.old) (F.faults files.old) tokens.old) }
+    requires stands { Stands (seen F.Files files.old tokens.old) }
     requires has { HasProcesses service_count resource_count process_count p tables.old }
     requires below { p < process_count }
     requires some { 0 < service_count }
     requires few { resource_count ≤ 20 }
     requires within { process_count ≤ 50000 }
     ensures gives { OnOk result (Gives (process service_count resource_count p
-        (process_lists tables.old)) (here (F.held files.old) (F.faults files.old) tokens.old)
-        (here (F.held files.new) (F.faults files.new) tokens.new) (process_lists tables.new)) }
+        (process_lists tables.old))
+        (seen F.Files files.old tokens.old) (seen F.Files files.new tokens.new)
+        (process_lists tables.new)) }
     ensures has { OnOk result (HasProcesses service_count resource_count process_count
         (p + 1) tables.new) }
     ensures refuses { IfErr result
         (Refuses (process service_count resource_count p (process_lists tables.old))
-        (here (F.held files.old) (F.faults files.old) tokens.old)
-        (here (F.held files.new) (F.faults files.new) tokens.new)) }
+        (seen F.Files files.old tokens.old) (seen F.Files files.new tokens.new)) }
 {
     let service = read_field(
         files,

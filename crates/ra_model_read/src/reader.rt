@@ -5,8 +5,8 @@ ghost use Rattle.ra_model.specs.Numbers.{all_open};
 ghost use Rattle.ra_model_read.specs.FieldOrder.{IsTextOf};
 ghost use Rattle.ra_model_read.specs.Lists.{lists_of};
 ghost use Rattle.ra_model_read.specs.ModelText.{weights, rest, model, IsModel, model_refusal};
-ghost use Rattle.ra_token.specs.Moments.{here, Stands};
-ghost use Rattle.ra_model_read.specs.Reading.{Gives, Refuses, is_by_content};
+ghost use Rattle.ra_token.specs.Moments.{Stands};
+ghost use Rattle.ra_model_read.specs.Reading.{seen, Gives, Refuses, is_by_content};
 ghost use Rattle.ra_model_read.specs.TableShapes.{IsRest, rest_lists, weight_numbers};
 ghost use Rattle.ra_model_read.specs.Texts.{ModelIsItsNumbers};
 
@@ -64,14 +64,13 @@ fn read_raw<F: Files>(
     files: &mut F,
     tokens: &mut Tokens,
 ) -> Result<RawInstance, ModelFault>
-    requires { Stands (here (F.held files.old) (F.faults files.old) tokens.old) }
+    requires { Stands (seen F.Files files.old tokens.old) }
     ensures well_formed { IfOk result (λ raw. WellFormed (all_open raw)) }
     ensures gives { IfOk result (λ raw.
-        Gives model (here (F.held files.old) (F.faults files.old) tokens.old)
-        (here (F.held files.new) (F.faults files.new) tokens.new) (lists_of raw)) }
+        Gives model (seen F.Files files.old tokens.old) (seen F.Files files.new tokens.new)
+        (lists_of raw)) }
     ensures refuses { IfErr result
-        (Refuses model (here (F.held files.old) (F.faults files.old) tokens.old)
-        (here (F.held files.new) (F.faults files.new) tokens.new)) }
+        (Refuses model (seen F.Files files.old tokens.old) (seen F.Files files.new tokens.new)) }
 {
     let resources = read_resources(alloc, files, tokens)?;
     let resource_count = resources.len() as u32;
@@ -104,17 +103,16 @@ fn read_rest<F: Files>(
     service_count: u32,
     resource_count: u32,
 ) -> Result<RestTables, ModelFault>
-    requires stands { Stands (here (F.held files.old) (F.faults files.old) tokens.old) }
+    requires stands { Stands (seen F.Files files.old tokens.old) }
     requires services { 0 < service_count }
     requires some { 0 < resource_count }
     requires few { resource_count ≤ 20 }
     ensures shape { IfOk result (IsRest service_count resource_count) }
     ensures gives { IfOk result (λ tables. Gives (rest service_count resource_count)
-        (here (F.held files.old) (F.faults files.old) tokens.old)
-        (here (F.held files.new) (F.faults files.new) tokens.new) (rest_lists tables)) }
+        (seen F.Files files.old tokens.old) (seen F.Files files.new tokens.new)
+        (rest_lists tables)) }
     ensures refuses { IfErr result (Refuses (rest service_count resource_count)
-        (here (F.held files.old) (F.faults files.old) tokens.old)
-        (here (F.held files.new) (F.faults files.new) tokens.new)) }
+        (seen F.Files files.old tokens.old) (seen F.Files files.new tokens.new)) }
 {
     let processes = read_processes(alloc, files, tokens, service_count, resource_count)?;
     let balances = read_balances(alloc, files, tokens, resource_count)?;
@@ -129,13 +127,12 @@ fn read_rest<F: Files>(
 
 /// The three weights of moves.
 fn read_weights<F: Files>(files: &mut F, tokens: &mut Tokens) -> Result<WeightNumbers, ModelFault>
-    requires { Stands (here (F.held files.old) (F.faults files.old) tokens.old) }
+    requires { Stands (seen F.Files files.old tokens.old) }
     ensures gives { IfOk result (λ read.
-        Gives weights (here (F.held files.old) (F.faults files.old) tokens.old)
-        (here (F.held files.new) (F.faults files.new) tokens.new) (weight_numbers read)) }
+        Gives weights (seen F.Files files.old tokens.old) (seen F.Files files.new tokens.new)
+        (weight_numbers read)) }
     ensures refuses { IfErr result
-        (Refuses weights (here (F.held files.old) (F.faults files.old) tokens.old)
-        (here (F.held files.new) (F.faults files.new) tokens.new)) }
+        (Refuses weights (seen F.Files files.old tokens.old) (seen F.Files files.new tokens.new)) }
 {
     let process = read_any(files, tokens, Field::ProcessWeight, 0)?;
     let service = read_any(files, tokens, Field::ServiceWeight, 0)?;

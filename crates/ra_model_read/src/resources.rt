@@ -1,8 +1,8 @@
 ghost use Rattle.std.specs.Prelude.{◌≡◌, ◌+◌, ◌<◌, ◌≤◌, length, map, IfOk, IfErr, OnOk};
 ghost use Rattle.ra_model_read.specs.Lists.{of_resource};
 ghost use Rattle.ra_model_read.specs.ModelText.{resource, resources};
-ghost use Rattle.ra_token.specs.Moments.{here, Stands};
-ghost use Rattle.ra_model_read.specs.Reading.{Gives, Refuses};
+ghost use Rattle.ra_token.specs.Moments.{Stands};
+ghost use Rattle.ra_model_read.specs.Reading.{seen, Gives, Refuses};
 
 use crate::faults::{Field, ModelFault};
 use crate::fields::{read_any, read_field, read_flag};
@@ -18,15 +18,14 @@ pub(crate) fn read_resources<F: Files>(
     files: &mut F,
     tokens: &mut Tokens,
 ) -> Result<Fixed<ResourceRow>, ModelFault>
-    requires { Stands (here (F.held files.old) (F.faults files.old) tokens.old) }
+    requires { Stands (seen F.Files files.old tokens.old) }
     ensures some { IfOk result (λ rows. 1 ≤ length rows.items) }
     ensures few { IfOk result (λ rows. length rows.items ≤ 20) }
     ensures gives { IfOk result (λ rows.
-        Gives resources (here (F.held files.old) (F.faults files.old) tokens.old)
-        (here (F.held files.new) (F.faults files.new) tokens.new) (map of_resource rows.items)) }
+        Gives resources (seen F.Files files.old tokens.old) (seen F.Files files.new tokens.new)
+        (map of_resource rows.items)) }
     ensures refuses { IfErr result
-        (Refuses resources (here (F.held files.old) (F.faults files.old) tokens.old)
-        (here (F.held files.new) (F.faults files.new) tokens.new)) }
+        (Refuses resources (seen F.Files files.old tokens.old) (seen F.Files files.new tokens.new)) }
 {
     let count = read_field(files, tokens, Field::ResourceCount, 0, 1, 20)?;
     let mut rows = Fixed::make(alloc, count as usize)?;
@@ -43,17 +42,15 @@ fn read_resource<F: Files>(
     r: u32,
     rows: &mut Fixed<ResourceRow>,
 ) -> Result<(), ModelFault>
-    requires stands { Stands (here (F.held files.old) (F.faults files.old) tokens.old) }
+    requires stands { Stands (seen F.Files files.old tokens.old) }
     requires room { length rows.old.items < rows.old.room }
     ensures gives { OnOk result (Gives (resource r (map of_resource rows.old.items))
-        (here (F.held files.old) (F.faults files.old) tokens.old)
-        (here (F.held files.new) (F.faults files.new) tokens.new)
+        (seen F.Files files.old tokens.old) (seen F.Files files.new tokens.new)
         (map of_resource rows.new.items)) }
     ensures length { OnOk result (length rows.new.items ≡ length rows.old.items + 1) }
     ensures room { rows.new.room ≡ rows.old.room }
     ensures refuses { IfErr result (Refuses (resource r (map of_resource rows.old.items))
-        (here (F.held files.old) (F.faults files.old) tokens.old)
-        (here (F.held files.new) (F.faults files.new) tokens.new)) }
+        (seen F.Files files.old tokens.old) (seen F.Files files.new tokens.new)) }
 {
     let transient = read_flag(files, tokens, r as u64)?;
     let load_weight = read_any(files, tokens, Field::LoadWeight, r as u64)?;

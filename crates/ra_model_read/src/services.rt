@@ -1,8 +1,7 @@
 ghost use Rattle.std.specs.Prelude.{◌≡◌, ◌+◌, ◌<◌, ◌≤◌, length, IfOk, IfErr, OnOk};
-ghost use Rattle.ra_model_read.specs.Formats.{along};
-ghost use Rattle.ra_model_read.specs.ModelText.{dependency, service, services};
-ghost use Rattle.ra_token.specs.Moments.{here, Stands};
-ghost use Rattle.ra_model_read.specs.Reading.{Gives, Refuses};
+ghost use Rattle.ra_model_read.specs.ModelText.{dependencies_more, service, services};
+ghost use Rattle.ra_token.specs.Moments.{Stands};
+ghost use Rattle.ra_model_read.specs.Reading.{seen, Gives, Refuses};
 ghost use Rattle.ra_model_read.specs.TableShapes.{service_lists, AreServices, HasServices, IsServices};
 
 use crate::faults::{Field, ModelFault};
@@ -23,14 +22,13 @@ pub(crate) fn read_services<F: Files>(
     files: &mut F,
     tokens: &mut Tokens,
 ) -> Result<ServiceTables, ModelFault>
-    requires { Stands (here (F.held files.old) (F.faults files.old) tokens.old) }
+    requires { Stands (seen F.Files files.old tokens.old) }
     ensures shape { IfOk result IsServices }
     ensures gives { IfOk result (λ tables.
-        Gives services (here (F.held files.old) (F.faults files.old) tokens.old)
-        (here (F.held files.new) (F.faults files.new) tokens.new) (service_lists tables)) }
+        Gives services (seen F.Files files.old tokens.old) (seen F.Files files.new tokens.new)
+        (service_lists tables)) }
     ensures refuses { IfErr result
-        (Refuses services (here (F.held files.old) (F.faults files.old) tokens.old)
-        (here (F.held files.new) (F.faults files.new) tokens.new)) }
+        (Refuses services (seen F.Files files.old tokens.old) (seen F.Files files.new tokens.new)) }
 {
     let count = read_field(files, tokens, Field::ServiceCount, 0, 1, 50_000)?;
     let mut tables = service_tables(alloc, count)?;
@@ -58,16 +56,15 @@ fn read_service<F: Files>(
     s: u32,
     tables: &mut ServiceTables,
 ) -> Result<(), ModelFault>
-    requires stands { Stands (here (F.held files.old) (F.faults files.old) tokens.old) }
+    requires stands { Stands (seen F.Files files.old tokens.old) }
     requires has { HasServices service_count s tables.old }
     requires below { s < service_count }
     ensures gives { OnOk result (Gives (service service_count s (service_lists tables.old))
-        (here (F.held files.old) (F.faults files.old) tokens.old)
-        (here (F.held files.new) (F.faults files.new) tokens.new) (service_lists tables.new)) }
+        (seen F.Files files.old tokens.old) (seen F.Files files.new tokens.new)
+        (service_lists tables.new)) }
     ensures has { OnOk result (HasServices service_count (s + 1) tables.new) }
     ensures refuses { IfErr result (Refuses (service service_count s (service_lists tables.old))
-        (here (F.held files.old) (F.faults files.old) tokens.old)
-        (here (F.held files.new) (F.faults files.new) tokens.new)) }
+        (seen F.Files files.old tokens.old) (seen F.Files files.new tokens.new)) }
 {
     let spread_min = read_any(files, tokens, Field::SpreadMin, s as u64)?;
     let most = MOST_DEPENDENCIES - tables.dependencies.len() as u32;
@@ -95,25 +92,22 @@ fn read_dependencies<F: Files>(
     count: u32,
     dependencies: &mut Fixed<Service>,
 ) -> Result<(), ModelFault>
-    requires stands { Stands (here (F.held files.old) (F.faults files.old) tokens.old) }
+    requires stands { Stands (seen F.Files files.old tokens.old) }
     requires some { 0 < service_count }
     requires room { length dependencies.old.items + count ≤ dependencies.old.room }
     requires few { dependencies.old.room ≤ 100000 }
     requires needs { AreServices service_count dependencies.old.items }
     ensures gives { OnOk result (Gives
-        (along count (dependency service_count
-        (length dependencies.old.items)) dependencies.old.items)
-        (here (F.held files.old) (F.faults files.old) tokens.old)
-        (here (F.held files.new) (F.faults files.new) tokens.new) dependencies.new.items) }
+        (dependencies_more service_count count dependencies.old.items)
+        (seen F.Files files.old tokens.old) (seen F.Files files.new tokens.new)
+        dependencies.new.items) }
     ensures needs { OnOk result (AreServices service_count dependencies.new.items) }
     ensures length { OnOk result (length dependencies.new.items ≡
         length dependencies.old.items + count) }
     ensures room { dependencies.new.room ≡ dependencies.old.room }
     ensures refuses { IfErr result
-        (Refuses (along count (dependency service_count
-        (length dependencies.old.items)) dependencies.old.items)
-        (here (F.held files.old) (F.faults files.old) tokens.old)
-        (here (F.held files.new) (F.faults files.new) tokens.new)) }
+        (Refuses (dependencies_more service_count count dependencies.old.items)
+        (seen F.Files files.old tokens.old) (seen F.Files files.new tokens.new)) }
 {
     let first = dependencies.len() as u64;
     for k in 0..count {
