@@ -2,3 +2,4 @@ pub mod NeedLemmas
 pub mod CountLemmas
 pub mod PlaceLemmas
 pub mod DependantLemmas
+pub mod DistinctLemmas

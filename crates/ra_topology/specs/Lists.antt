@@ -1,6 +1,6 @@
 -- The services on which a service depends, and those that depend on it.
-use Rattle.std.specs.Prelude.{◌≡◌, ℕ, ◌<◌, Bool, List, [], length, map, slice_index_or}
-use Rattle.ra_base.specs.Sums.{pick}
+use Rattle.std.specs.Prelude.{◌≡◌, ◌≢◌, ℕ, ◌<◌, ◌≤◌, Bool, List, [], length, map, slice_index_or}
+use Rattle.ra_base.specs.Sums.{pick, is_named}
 use Rattle.ra_base.specs.declared.ids.Service.{Service}
 use Rattle.ra_model.specs.declared.raw.Tables.{Tables}
 use Rattle.ra_model.specs.Numbers.{service_count, dependency_count, need_of}
@@ -30,3 +30,15 @@ pub record AreNeedsOf (i : Tables) (s : ℕ) (services : List Service) : Type 0 
 -- exactly the services that depend on service s, in ascending order
 pub record AreDependantsOf (i : Tables) (s : ℕ) (services : List Service) : Type 0 where
   pub numbers : numbers_of services ≡ pick (service_count i) (is_dependant i s)
+
+-- exactly the services that the first k dependencies of service s name, each once
+pub record AreDistinct (i : Tables) (s k : ℕ) (services : List Service) : Type 0 where
+  pub same : (u : ℕ) → is_named (length services) (service_at services) u
+      ≡ is_named k (need_of i s) u
+  pub once : (j l : ℕ) → j < l → l < length services
+      → service_at services j ≢ service_at services l
+  pub few : length services ≤ k
+
+-- exactly the services on which service s depends, each once
+abbrev pub AreDistinctNeedsOf : Tables → ℕ → List Service → Type 0
+AreDistinctNeedsOf i s services = AreDistinct i s (dependency_count i s) services

@@ -4,6 +4,7 @@
 
 mod counts;
 mod dependants;
+mod distinct;
 mod lists;
 mod needs;
 mod topology;

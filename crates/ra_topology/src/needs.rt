@@ -23,7 +23,7 @@ pub(crate) fn list_needs(alloc: Global, inst: &Instance) -> Result<ServiceLists,
 
 /// How many dependencies all services have together.
 #[tactic(auto, using(crate::proofs::NeedLemmas::counting))]
-fn count_needs(inst: &Instance) -> usize
+pub(crate) fn count_needs(inst: &Instance) -> usize
     ensures { result ≡ dependency_start inst.now.tables (service_count inst.now.tables) }
 {
     let mut sum = 0;

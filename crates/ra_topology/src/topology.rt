@@ -4,6 +4,7 @@ ghost use Rattle.ra_topology.specs.Lists.{services_of};
 ghost use Rattle.ra_topology.specs.Fits.{IsTopologyOf};
 
 use crate::dependants::list_dependants;
+use crate::distinct::list_distinct;
 use crate::lists::ServiceLists;
 use crate::needs::list_needs;
 use ra_base::{NoMemory, Process, Service};
@@ -11,11 +12,12 @@ use ra_model::{Instance, Members};
 use std::alloc::Global;
 use std::marker::Model;
 
-/// For each service its processes, the services on which it depends, and those that depend on it. Contracts see one
-/// list of each kind for each service.
+/// For each service its processes, the services on which it depends, in file order and each once, and those that depend
+/// on it. Contracts see one list of each kind for each service.
 pub struct Topology {
     members: Members,
     needs: ServiceLists,
+    distinct: ServiceLists,
     dependants: ServiceLists,
 }
 
@@ -25,6 +27,7 @@ impl Drop for Topology {
         let Topology {
             members: _,
             needs: _,
+            distinct: _,
             dependants: _,
         } = self;
     }
@@ -38,6 +41,7 @@ impl Model for Topology {
     ghost view = { λ t. record {
       members = t.members;
       needs = t.needs;
+      distinct = t.distinct;
       dependants = t.dependants;
     } };
 }
@@ -49,10 +53,12 @@ impl Topology {
     {
         let members = Members::make(alloc, inst)?;
         let needs = list_needs(alloc, inst)?;
+        let distinct = list_distinct(alloc, inst)?;
         let dependants = list_dependants(alloc, inst)?;
         Ok(Topology {
             members,
             needs,
+            distinct,
             dependants,
         })
     }
@@ -71,6 +77,14 @@ impl Topology {
         ensures { result.now ≡ services_of self.now.needs s.0 }
     {
         self.needs.of(s)
+    }
+
+    /// The services on which a service depends, each once, however often its dependencies name it.
+    pub fn distinct_needs(&self, s: Service) -> &[Service]
+        requires { s.0 < length self.now.distinct }
+        ensures { result.now ≡ services_of self.now.distinct s.0 }
+    {
+        self.distinct.of(s)
     }
 
     /// The services that depend on a service, in ascending order, each once.
