@@ -27,11 +27,11 @@ pub struct Cells<'a> {
     /// Where the labels of each service start, and behind the last service where they all end.
     starts: Fixed<u32>,
     /// The machine of each process, service after service, those of a service ascending.
-    machines: Fixed<u32>,
+    machines: Vec<u32>,
     /// The labels of their locations in the same way.
-    locations: Fixed<u32>,
+    locations: Vec<u32>,
     /// And those of their neighbourhoods.
-    neighbourhoods: Fixed<u32>,
+    neighbourhoods: Vec<u32>,
     /// How many locations each service is in.
     spreads: Fixed<u32>,
     greatest: Greatest,
@@ -196,7 +196,7 @@ impl<'a> Cells<'a> {
 }
 
 /// How many of a service's labels are x.
-fn held_of(inst: &Instance, starts: &Fixed<u32>, labels: &Fixed<u32>, s: Service, x: u32) -> u32
+fn held_of(inst: &Instance, starts: &Fixed<u32>, labels: &Vec<u32>, s: Service, x: u32) -> u32
     requires service { s.0 < service_count inst.now.tables }
     requires starts { AreStarts inst.now.tables
         (service_count inst.now.tables + 1) starts.now.items }

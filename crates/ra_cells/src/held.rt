@@ -1,13 +1,11 @@
-ghost use Rattle.std.specs.Prelude.{◌≡◌, ℕ, ◌+◌, ◌-◌, ◌<◌, ◌≤◌, ◌^◌, true, false, length, slice_index};
+ghost use Rattle.std.specs.Prelude.{◌≡◌, ℕ, ◌+◌, ◌-◌, ◌<◌, ◌≤◌, ◌^◌, true, false, length, slice_index, slice_index_or};
 ghost use Rattle.ra_cells.specs.Held.{held, different, Ascends};
-
-use ra_base::Fixed;
 
 /// Up to so many labels are counted one by one.
 const SHORT: usize = 16;
 
 /// How many of the labels from start to end, which ascend, are x.
-pub(crate) fn held_in(labels: &Fixed<u32>, start: usize, end: usize, x: u32) -> u32
+pub(crate) fn held_in(labels: &Vec<u32>, start: usize, end: usize, x: u32) -> u32
     requires part { start ≤ end }
     requires there { end ≤ length labels.now.items }
     requires few { length labels.now.items < 2 ^ 32 }
@@ -24,7 +22,7 @@ pub(crate) fn held_in(labels: &Fixed<u32>, start: usize, end: usize, x: u32) -> 
 
 /// The same, found by looking at each label.
 #[tactic(auto, using(crate::proofs::HeldLemmas::scanning))]
-fn scan(labels: &Fixed<u32>, start: usize, end: usize, x: u32) -> u32
+fn scan(labels: &Vec<u32>, start: usize, end: usize, x: u32) -> u32
     requires part { start ≤ end }
     requires there { end ≤ length labels.now.items }
     requires few { length labels.now.items < 2 ^ 32 }
@@ -32,7 +30,7 @@ fn scan(labels: &Fixed<u32>, start: usize, end: usize, x: u32) -> u32
 {
     let mut count = 0;
     for k in start..end {
-        if labels.get(k) == x {
+        if label_at(labels, k) == x {
             count += 1;
         }
     }
@@ -40,7 +38,7 @@ fn scan(labels: &Fixed<u32>, start: usize, end: usize, x: u32) -> u32
 }
 
 /// The first place from start to end whose label is x or greater, and the end where there is none, found by halving.
-pub(crate) fn first_from(labels: &Fixed<u32>, start: usize, end: usize, x: u64) -> usize
+pub(crate) fn first_from(labels: &Vec<u32>, start: usize, end: usize, x: u64) -> usize
     requires part { start ≤ end }
     requires there { end ≤ length labels.now.items }
     requires ascends { Ascends labels.now.items start end }
@@ -53,7 +51,7 @@ pub(crate) fn first_from(labels: &Fixed<u32>, start: usize, end: usize, x: u64) 
     let mut high = end;
     while low < high {
         let middle = low + (high - low) / 2;
-        if u64::from(labels.get(middle)) < x {
+        if u64::from(label_at(labels, middle)) < x {
             low = middle + 1;
         } else {
             high = middle;
@@ -64,7 +62,7 @@ pub(crate) fn first_from(labels: &Fixed<u32>, start: usize, end: usize, x: u64) 
 
 /// How many different labels there are from start to end, which ascend.
 #[tactic(auto, using(crate::proofs::HeldLemmas::differing))]
-pub(crate) fn different_in(labels: &Fixed<u32>, start: usize, end: usize) -> u32
+pub(crate) fn different_in(labels: &Vec<u32>, start: usize, end: usize) -> u32
     requires part { start ≤ end }
     requires there { end ≤ length labels.now.items }
     requires few { length labels.now.items < 2 ^ 32 }
@@ -81,7 +79,7 @@ pub(crate) fn different_in(labels: &Fixed<u32>, start: usize, end: usize) -> u32
 }
 
 /// Whether the label at a place differs from that before it, or is the first from the start.
-fn is_new(labels: &Fixed<u32>, start: usize, k: usize) -> bool
+fn is_new(labels: &Vec<u32>, start: usize, k: usize) -> bool
     requires from { start ≤ k }
     requires there { k < length labels.now.items }
     requires ascends { Ascends labels.now.items start (k + 1) }
@@ -91,9 +89,18 @@ fn is_new(labels: &Fixed<u32>, start: usize, k: usize) -> bool
         0 < held labels.now.items start k (slice_index labels.now.items k) }
     ensures small { slice_index labels.now.items k < 2 ^ 32 }
 {
-    let label = labels.get(k);
+    let label = label_at(labels, k);
     if k == start {
         return true;
     }
-    labels.get(k - 1) != label
+    label_at(labels, k - 1) != label
+}
+
+/// The label at a place.
+#[inline(always)]
+pub(crate) fn label_at(labels: &Vec<u32>, place: usize) -> u32
+    requires { place < length labels.now.items }
+    ensures { result ≡ slice_index_or labels.now.items place result }
+{
+    labels.as_slice()[place]
 }
