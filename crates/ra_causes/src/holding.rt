@@ -10,7 +10,8 @@ use crate::trial::Trial;
 use ra_base::{Machine, Service};
 
 impl<'a, 'b> Trial<'a, 'b> {
-    /// Whether no constraint is broken after the move.
+    /// Whether no constraint is broken after the move. The time grows with the number of resources, and with that of the
+    /// services that the services moved need, or that need them, each looked up by halving; not with the processes.
     pub(crate) fn is_unbroken(&self) -> bool
         ensures { (result ≡ true) ↔
             (first_broken (tables_of self.now) (initial_of self.now) (after_of self.now) ≡ None) }
@@ -114,7 +115,7 @@ impl<'a, 'b> Trial<'a, 'b> {
             (neighbourhood_of (tables_of self.now) to.0) }
     {
         let label = self.inst.neighbourhood(to);
-        let needs = self.inst.depends(s);
+        let needs = self.topo.distinct_needs(s);
         for k in 0..needs.len() {
             let near = self.count_after(needs[k], Mark::InNeighbourhood, label);
             if near == 0 {

@@ -4,4 +4,4 @@ use Rattle.ra_causes.proofs.NearLemmas.{NeedsFound}
 use Rattle.ra_causes.proofs.trial.Trial.finds_needs.Given as goal
 
 abbrev pub invariant-loop-k : goal.invariant-loop-k
-invariant-loop-k l = NeedsFound (tables_of l.self) (after_of l.self) l.fn.s.0 l.label l.k
+invariant-loop-k l = NeedsFound (tables_of l.self) (after_of l.self) l.needs l.label l.k
