@@ -1,8 +1,8 @@
 -- Dependencies hold after a move where each process finds what its service needs in the neighbourhood that it enters, and
 -- leaves none of a service that needs it alone in the one that it leaves.
-use Rattle.std.proofs.Common.{◌≡◌, ◌≢◌, ℕ, ◌+◌, ◌<◌, ◌≤◌, true, false, List, None, length, sym, refl, ap, ◌∙◌, ⊎_elim, subst, arith}
-use Rattle.std.proofs.lemmas.Bool.{cases_Bool, cases_lt, cond-true, cond-false, eqb-true, ne_eqb}
-use Rattle.ra_base.proofs.Searches.{first_none_from}
+use Rattle.std.proofs.Common.{◌≡◌, ◌≢◌, ℕ, ◌+◌, ◌<◌, ◌≤◌, true, false, List, None, length, sym, refl, ap, ◌∙◌, ⊎_elim, subst, arith, eq-eqb}
+use Rattle.std.proofs.lemmas.Bool.{cases_Bool, cases_lt, cond-true, cond-false, eqb-true, eqb-false, ne_eqb}
+use Rattle.ra_base.proofs.Searches.{first_none_from, first_none_at}
 use Rattle.ra_model.specs.Limits.{WellFormed}
 use Rattle.ra_model.specs.Services.{is_of}
 use Rattle.ra_base.specs.Sums.{is_named}
@@ -15,7 +15,7 @@ use Rattle.ra_model.specs.Relations.{depends}
 use Rattle.ra_model.specs.Services.{in_neighbourhood}
 use Rattle.ra_model.specs.Feasible.{HasNear}
 use Rattle.ra_model.specs.Broken.{near_of, far_test, dependency_test, pair_dependency, service_dependency, broken_dependency}
-use Rattle.ra_model.proofs.BrokenLemmas.{Fine, dependency_met, dependency_unbroken, near_from_count, count_from_near}
+use Rattle.ra_model.proofs.BrokenLemmas.{Fine, dependency_met, dependency_unbroken, near_from_count, count_from_near, cause_none}
 use Rattle.ra_moves.specs.declared.steps.Step.{Step}
 use Rattle.ra_moves.specs.Steps.{process_in, from_in, to_in}
 use Rattle.ra_moves.specs.Replacing.{applied}
@@ -184,6 +184,12 @@ near_unbroken : (i : Tables) (b : List Machine) (s k p : ℕ) → 0 < in_neighbo
 unfolding far_test near_of
 near_unbroken i b s k p some = sym (held_if _ _ (ne_eqb (in_neighbourhood i b (need_of i s k) (neighbourhood_of i (machine_at b p))) 0 (λ none. absurd (omega (arith, none, some)))))
 
+some_near : (i : Tables) (b : List Machine) (s k p : ℕ) → far_test i b s k p ≡ None → 0 < in_neighbourhood i b (need_of i s k) (neighbourhood_of i (machine_at b p))
+unfolding far_test near_of
+some_near i b s k p far =
+    let some = eqb-false (in_neighbourhood i b (need_of i s k) (neighbourhood_of i (machine_at b p))) 0 (cause_none _ _ far) in
+    omega arith
+
 -- no process of a service is far from one that it stays near
 pub pair_stays : (i : Tables) (a0 a : List Machine) (steps : List Step) (s k : ℕ) → IsMove i a steps → Fine i a0 a → s < service_count i → k < dependency_count i s → StaysNear i (applied a steps) steps s (need_of i s k) (length steps) → pair_dependency i (applied a steps) s k ≡ None
 unfolding pair_dependency dependency_test
@@ -201,6 +207,45 @@ unfolding service_dependency
 needs_stay i a0 a steps s needs n move fine s_in are all stay = first_none_from (dependency_count i s) _ (λ k k_in.
     let at = need_listed i s k needs are k_in in
     pair_stays i a0 a steps s k move fine s_in k_in (subst (λ u. StaysNear i (applied a steps) steps s u (length steps)) at.2 (stay.each at.0 (omega (arith, at.1)))))
+
+-- and where none is far, the service stays near
+
+pair_met : (i : Tables) (b : List Machine) (s k p : ℕ) → pair_dependency i b s k ≡ None → p < process_count i → service_of i p ≡ s → HasNear i b (need_of i s k) (neighbourhood_of i (machine_at b p))
+unfolding pair_dependency dependency_test is_of
+pair_met i b s k p none p_in of =
+    let tested = first_none_at p (process_count i) (dependency_test i b s k) p_in none in
+    let far : far_test i b s k p ≡ None = sym (cond-true (is_of i s p) (far_test i b s k p) None (eq-eqb _ _ of)) ∙ tested in
+    near_from_count i b (need_of i s k) (neighbourhood_of i (machine_at b p)) (some_near i b s k p far)
+
+none_behind_met : (i : Tables) (b : List Machine) (s k label : ℕ) → pair_dependency i b s k ≡ None → in_neighbourhood i b (need_of i s k) label ≡ 0 → in_neighbourhood i b s label ≡ 0
+none_behind_met i b s k label met empty = ⊎_elim
+    (λ (some : 0 < in_neighbourhood i b s label).
+    let there = near_from_count i b s label some in
+    let near = pair_met i b s k there.0 met there.1 there.2 in
+    let counted : 0 < in_neighbourhood i b (need_of i s k) label = rw there.3 at (count_from_near i b (need_of i s k) (neighbourhood_of i (machine_at b there.0)) near) in
+    absurd (omega (arith, counted, empty)))
+    (λ (no : in_neighbourhood i b s label ≤ 0). omega arith)
+    (cases_lt 0 (in_neighbourhood i b s label))
+
+stays_met : (i : Tables) (a : List Machine) (steps : List Step) (s k : ℕ) → IsMove i a steps → (known : (j : ℕ) → j < length steps → process_in steps j < process_count i) → pair_dependency i (applied a steps) s k ≡ None → StaysNear i (applied a steps) steps s (need_of i s k) (length steps)
+unfolding service_in
+stays_met i a steps s k move known met = record {
+  finds = λ j within. record {
+    each = λ is.
+        let near = pair_met i (applied a steps) s k (process_in steps j) met (known j within) is in
+        let at : neighbourhood_of i (machine_at (applied a steps) (process_in steps j)) ≡ neighbourhood_of i (to_in steps j) = ap (neighbourhood_of i) (lands i a steps j (process_in steps j) move within refl) in
+        rw at at (count_from_near i (applied a steps) (need_of i s k) (neighbourhood_of i (machine_at (applied a steps) (process_in steps j))) near);
+  };
+  leaves = λ j within. record { each = λ is empty. none_behind_met i (applied a steps) s k (neighbourhood_of i (from_in steps j)) met empty };
+}
+
+-- each service of a list that a service needs
+pub listed_stays : (i : Tables) (a : List Machine) (steps : List Step) (s x u : ℕ) (needs : List Service) → IsMove i a steps → AreDistinctNeedsOf i s needs → x < length needs → u ≡ service_at needs x → service_dependency i (applied a steps) s ≡ None → StaysNear i (applied a steps) steps s u (length steps)
+unfolding service_dependency
+listed_stays i a steps s x u needs move are within is none =
+    let at = listed_need i s x needs are within in
+    let met : pair_dependency i (applied a steps) s at.0 ≡ None = first_none_at at.0 (dependency_count i s) (pair_dependency i (applied a steps) s) at.1 none in
+    subst (λ v. StaysNear i (applied a steps) steps s v (length steps)) (at.2 ∙ sym is) (stays_met i a steps s at.0 move (λ j j_in. omega (arith, move.stands.known j j_in, move.fits.one_each)) met)
 
 pub near_all : (i : Tables) (a0 a : List Machine) (steps : List Step) (n : ℕ) → IsMove i a steps → Fine i a0 a → n ≡ length steps → KeepNear i (applied a steps) steps n → broken_dependency i (applied a steps) ≡ None
 near_all i a0 a steps n move fine all keeps =

@@ -83,12 +83,12 @@ impl<'a, 'b> Trial<'a, 'b> {
         }
     }
 
-    /// Whether a service stays near each service that it needs, by counts alone: none of its dependencies is broken then.
+    /// Whether none of a service's dependencies is broken, by counts alone: it stays near each service that it needs.
     #[tactic(auto, using(crate::proofs::StepLemmas::known))]
     fn keeps_needs(&self, s: Service) -> bool
         requires { s.0 < service_count (tables_of self.now) }
-        ensures { result ≡ true →
-            service_dependency (tables_of self.now) (after_of self.now) s.0 ≡ None }
+        ensures { (result ≡ true) ↔
+            (service_dependency (tables_of self.now) (after_of self.now) s.0 ≡ None) }
     {
         let needs = self.topo.distinct_needs(s);
         for k in 0..needs.len() {

@@ -28,4 +28,4 @@ returns c =
     sym (rw all at c.loop-k.invariant)
 
 pub returns-then-keeps_needs : goal.returns-then-keeps_needs
-returns-then-keeps_needs c = sym (c.keeps_needs.ensures c.if-keeps_needs.true)
+returns-then-keeps_needs c = sym (c.keeps_needs.ensures.0 c.if-keeps_needs.true)
