@@ -1,11 +1,15 @@
 -- What is kept of an assignment, and that it is what the definitions give.
-use Rattle.std.specs.Prelude.{◌≡◌, List}
+use Rattle.std.specs.Prelude.{◌≡◌, ◌≤◌, List, []}
+use Rattle.ra_base.specs.Listed.{Listed}
 use Rattle.ra_base.specs.declared.ids.Machine.{Machine}
+use Rattle.ra_draws.specs.declared.sources.Lot.{Lot}
+use Rattle.ra_draws.specs.Lots.{IsFitting}
 use Rattle.ra_model.specs.declared.raw.Tables.{Tables}
 use Rattle.ra_model.specs.Assignments.{IsAssignment}
 use Rattle.ra_rows.specs.Rows as rows
 use Rattle.ra_cells.specs.Stands as cells
 use Rattle.ra_repair.specs.declared.kept.Kept.{Kept}
+use Rattle.ra_repair.specs.declared.tries.Try.{Try}
 use Rattle.ra_repair.specs.Penalty.{penalty}
 
 -- rows and counters of an instance and an initial assignment stand for the kept assignment
@@ -20,3 +24,9 @@ pub record Stands (kept : Kept) (i : Tables) (a0 : List Machine) : Type 0 where
 pub record Keeps (kept : Kept) (i : Tables) (a0 : List Machine) : Type 0 where
   pub stands : Stands kept i a0
   pub penalty_is : kept.penalty ≡ penalty i a0 kept.assignment.items
+
+-- a lot may be used, no try was made for it yet, and there is room for as many as its budget
+pub record AreToCome (lot : Lot) (tries : Listed Try) : Type 0 where
+  pub fitting : IsFitting lot
+  pub none : tries.items ≡ []
+  pub room : lot.budget ≤ tries.room

@@ -1,10 +1,9 @@
-ghost use Rattle.std.specs.Prelude.{◌≡◌, ◌<◌, ◌≤◌, [], true, if◌then◌else◌};
-ghost use Rattle.ra_draws.specs.Lots.{IsFitting};
+ghost use Rattle.std.specs.Prelude.{◌≡◌, ◌<◌, ◌≤◌, true, if◌then◌else◌};
 ghost use Rattle.ra_model.specs.Assignments.{IsAssignment};
 ghost use Rattle.ra_moves.specs.Replacing.{applied};
 ghost use Rattle.ra_topology.specs.Fits.{IsTopologyOf};
 ghost use Rattle.ra_repair.specs.Following.{AreSteps};
-ghost use Rattle.ra_repair.specs.Keeping.{Keeps};
+ghost use Rattle.ra_repair.specs.Keeping.{Keeps, AreToCome};
 ghost use Rattle.ra_repair.specs.Runs.{is_taken, try_with, after_try, repair_run};
 
 use crate::following::follow;
@@ -33,11 +32,9 @@ pub(crate) fn make_tries<L: Ledger>(
     requires some { 0 < blank.parts }
     requires start { IsAssignment inst.now.tables start.now.items }
     requires topology { IsTopologyOf topo.now inst.now.tables }
-    requires lot { IsFitting lot.now }
     requires keeps { Keeps kept.old inst.now.tables start.now.items }
     requires begins { kept.old.assignment.items ≡ start.now.items }
-    requires none { tries.old.items ≡ [] }
-    requires room { lot.now.budget ≤ tries.old.room }
+    requires tries { AreToCome lot.now tries.old }
     ensures keeps { Keeps kept.new inst.now.tables start.now.items }
     ensures room { tries.new.room ≡ tries.old.room }
     ensures run { record { assignment = kept.new.assignment.items; tries = tries.new.items }

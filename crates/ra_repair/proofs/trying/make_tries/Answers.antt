@@ -8,8 +8,8 @@ use Rattle.ra_repair.proofs.trying.make_tries.Goals as goal
 pub loop-k-init : goal.loop-k-init
 loop-k-init g c = record {
   keeps = c.requires.keeps;
-  run = repaired_none c.args.inst.now.tables c.args.start.now.items c.args.lot.now _ c.requires.begins c.requires.none;
-  number = ap length c.requires.none;
+  run = repaired_none c.args.inst.now.tables c.args.start.now.items c.args.lot.now _ c.requires.begins c.requires.tries.none;
+  number = ap length c.requires.tries.none;
   room = refl;
   lot = c.make-draws.ensures.lot;
   made = c.make-draws.ensures.made;
