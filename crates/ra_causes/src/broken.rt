@@ -11,7 +11,9 @@ use ra_moves::{Move, repeat_of, same_of};
 use ra_world::World;
 use std::sync::ledger::Ledger;
 
-/// The cause other than a rise of the cost for which a move is refused.
+/// The cause other than a rise of the cost for which a move is refused. Where there is none the time is that of
+/// `is_unbroken`. Else it grows besides with the services that depend on a service moved, and with what each of them needs;
+/// with the dependencies of one service and its processes only if the cause is one of these dependencies.
 pub fn broken_of<L: Ledger>(world: &World<'_>, mv: &Move, steps: &mut Steps<L>) -> Option<Cause>
     requires offered { IsOffered world.now.inst.now.tables world.now.kept.assignment.items
         mv.now.steps }
@@ -34,7 +36,9 @@ pub fn broken_of<L: Ledger>(world: &World<'_>, mv: &Move, steps: &mut Steps<L>) 
 }
 
 /// Whether a move is refused for no cause other than a rise of the cost: the same test in the cheapest order, which
-/// names no cause.
+/// names no cause. The time grows with the number of resources, and with that of the services that a service moved needs
+/// or that need it, each counted once however often a dependency is listed; not with the size of a service but for the
+/// halvings that find a count.
 pub fn is_unbroken<L: Ledger>(world: &World<'_>, mv: &Move, steps: &mut Steps<L>) -> bool
     requires offered { IsOffered world.now.inst.now.tables world.now.kept.assignment.items
         mv.now.steps }

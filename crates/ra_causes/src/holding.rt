@@ -10,8 +10,7 @@ use crate::trial::Trial;
 use ra_base::{Machine, Service};
 
 impl<'a, 'b> Trial<'a, 'b> {
-    /// Whether no constraint is broken after the move. The time grows with the number of resources, and with that of the
-    /// services that the services moved need, or that need them, each looked up by halving; not with the processes.
+    /// Whether no constraint is broken after the move.
     pub(crate) fn is_unbroken(&self) -> bool
         ensures { (result ≡ true) ↔
             (first_broken (tables_of self.now) (initial_of self.now) (after_of self.now) ≡ None) }
