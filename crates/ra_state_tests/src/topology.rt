@@ -44,6 +44,25 @@ fn compare_needs(rt: &impl Abort, topology: &Topology)
     );
 }
 
+/// Each service that a service needs stands once, where the first of its dependencies names it.
+fn compare_distinct(rt: &impl Abort, topology: &Topology)
+    requires { length topology.now.distinct ≡ 4 }
+{
+    let once = [Service(2), Service(0)];
+    same(rt, topology.distinct_needs(Service(0)), once.as_slice());
+    same(rt, topology.distinct_needs(Service(1)).is_empty(), true);
+    same(
+        rt,
+        topology.distinct_needs(Service(2)),
+        [Service(0)].as_slice(),
+    );
+    same(
+        rt,
+        topology.distinct_needs(Service(3)),
+        [Service(2), Service(1)].as_slice(),
+    );
+}
+
 fn compare_dependants(rt: &impl Abort, topology: &Topology)
     requires { length topology.now.dependants ≡ 4 }
 {
@@ -66,6 +85,7 @@ fn compare_tangle(rt: &impl Abort, alloc: Global, inst: &Instance) {
     let topology = Topology::make(alloc, inst).expect(rt, "no memory");
     compare_members(rt, &topology);
     compare_needs(rt, &topology);
+    compare_distinct(rt, &topology);
     compare_dependants(rt, &topology);
 }
 
