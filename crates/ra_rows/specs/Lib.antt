@@ -1,3 +1,4 @@
 pub mod RowTables
 pub mod Rows
 pub mod Changes
+pub mod FilterRows
