@@ -40,11 +40,11 @@ cost_by_row : (i : Tables) (a : List Machine) (m : ℕ) → cost_of i a m ≡ ro
 unfolding cost_of row_cost machine_load machine_balance
 cost_by_row i a m = refl
 
-cost_entered : (i : Tables) (a0 a : List Machine) (p to : ℕ) → IsStart i a0 a p to → cost_of i (shifted a p to) to ≡ row_cost i to (use_with i a p to)
+pub cost_entered : (i : Tables) (a0 a : List Machine) (p to : ℕ) → IsStart i a0 a p to → cost_of i (shifted a p to) to ≡ row_cost i to (use_with i a p to)
 unfolding use_with
 cost_entered i a0 a p to h = cost_by_row i (shifted a p to) to ∙ row_cost_same i to (use_of i (shifted a p to) to) (use_with i a p to) h.formed (λ r within. use_entered i a0 a p to r h)
 
-cost_left : (i : Tables) (a0 a : List Machine) (p to : ℕ) → IsStart i a0 a p to → cost_of i (shifted a p to) (machine_at a p) ≡ row_cost i (machine_at a p) (use_without i a p)
+pub cost_left : (i : Tables) (a0 a : List Machine) (p to : ℕ) → IsStart i a0 a p to → cost_of i (shifted a p to) (machine_at a p) ≡ row_cost i (machine_at a p) (use_without i a p)
 unfolding use_without
 cost_left i a0 a p to h = cost_by_row i (shifted a p to) (machine_at a p) ∙ row_cost_same i (machine_at a p) (use_of i (shifted a p to) (machine_at a p)) (use_without i a p) h.formed (λ r within. omega (arith, use_left i a0 a p to r h))
 
@@ -62,7 +62,7 @@ balances_change i a0 a p to h =
     omega (arith, change, balance_by_machine i a, balance_by_machine i (shifted a p to))
 
 -- all four parts
-cost_changes : (i : Tables) (a0 a : List Machine) (p to : ℕ) → IsStart i a0 a p to → local_cost i a0 (shifted a p to) + (cost_of i a (machine_at a p) + way_cost i a0 p (machine_at a p) + cost_of i a to) ≡ local_cost i a0 a + (cost_of i (shifted a p to) (machine_at a p) + cost_of i (shifted a p to) to + way_cost i a0 p to)
+pub cost_changes : (i : Tables) (a0 a : List Machine) (p to : ℕ) → IsStart i a0 a p to → local_cost i a0 (shifted a p to) + (cost_of i a (machine_at a p) + way_cost i a0 p (machine_at a p) + cost_of i a to) ≡ local_cost i a0 a + (cost_of i (shifted a p to) (machine_at a p) + cost_of i (shifted a p to) to + way_cost i a0 p to)
 unfolding local_cost cost_of way_cost
 cost_changes i a0 a p to h = omega (arith, loads_change i a0 a p to h, balances_change i a0 a p to h, process_set i a0 a p (record { 0 = to }) h.fits h.known, machine_set i a0 a p (record { 0 = to }) h.fits h.known)
 
@@ -80,7 +80,7 @@ change_is i a0 a p to without before with way here h without_is before_is with_i
     signed (local_cost i a0 b) (local_cost i a0 a) (without + with + way) (before + here) (omega (arith, cost_changes i a0 a p to h, left, entered, before_is, way_is, here_is, same))
 
 -- moved counts
-moved_mine : (i : Tables) (a0 a : List Machine) (p to : ℕ) → IsAssignment i a → p < process_count i → moved_of i a0 (shifted a p to) (service_of i p) + away (machine_at a0 p) (machine_at a p) ≡ moved_of i a0 a (service_of i p) + away (machine_at a0 p) to
+pub moved_mine : (i : Tables) (a0 a : List Machine) (p to : ℕ) → IsAssignment i a → p < process_count i → moved_of i a0 (shifted a p to) (service_of i p) + away (machine_at a0 p) (machine_at a p) ≡ moved_of i a0 a (service_of i p) + away (machine_at a0 p) to
 unfolding moved_of away
 moved_mine i a0 a p to fits within = omega (arith, members_mine i a p to (service_of i p) (λ q at. cond (eqb (machine_at a0 q) at) false true) fits within refl, away_is (eqb (machine_at a0 p) (machine_at a p)), away_is (eqb (machine_at a0 p) to))
   where

@@ -5,3 +5,4 @@ pub mod SpreadLaws
 pub mod AllowLaws
 pub mod ReadLaws
 pub mod ChangeLaws
+mod FilterLaws

@@ -28,7 +28,7 @@ share_other i s p at test other = one_if_false _ (and_left _ _ (is_of_other i s 
 pub members_mine : (i : Tables) (a : List Machine) (p to s : ℕ) (test : ℕ → ℕ → Bool) → IsAssignment i a → p < process_count i → service_of i p ≡ s → members_at i (shifted a p to) s test + one_if (test p (machine_at a p)) ≡ members_at i a s test + one_if (test p to)
 members_mine i a p to s test fits within is = omega (arith, members_set i a p (record { 0 = to }) s test fits within, share_mine i s p (machine_at a p) test is, share_mine i s p to test is)
 
-members_other : (i : Tables) (a : List Machine) (p to s : ℕ) (test : ℕ → ℕ → Bool) → IsAssignment i a → p < process_count i → service_of i p ≢ s → members_at i (shifted a p to) s test ≡ members_at i a s test
+pub members_other : (i : Tables) (a : List Machine) (p to s : ℕ) (test : ℕ → ℕ → Bool) → IsAssignment i a → p < process_count i → service_of i p ≢ s → members_at i (shifted a p to) s test ≡ members_at i a s test
 members_other i a p to s test fits within other = omega (arith, members_set i a p (record { 0 = to }) s test fits within, share_other i s p (machine_at a p) test other, share_other i s p to test other)
 
 members_some : (i : Tables) (a : List Machine) (p s : ℕ) (test : ℕ → ℕ → Bool) → p < process_count i → service_of i p ≡ s → one_if (test p (machine_at a p)) ≤ members_at i a s test

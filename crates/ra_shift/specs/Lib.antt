@@ -1,3 +1,4 @@
 pub mod Conditions
+pub mod Filter
 pub mod Leaving
 pub mod Sharing
