@@ -1,10 +1,11 @@
 -- The best option so far, one option after another.
-use Rattle.std.proofs.Common.{◌≡◌, ◌≢◌, ◌↔◌, ℕ, ◌+◌, ◌<◌, ◌≤◌, arith, length, Bool, true, false, cond, List, [], ◌∷◌, Option, Some, None, refl, sym, ap, ◌∙◌}
+use Rattle.std.proofs.Common.{◌≡◌, ◌≢◌, ◌↔◌, ℕ, ◌+◌, ◌^◌, ◌<◌, ◌≤◌, arith, length, Bool, true, false, cond, ltb, List, [], ◌∷◌, Option, Some, None, refl, sym, ap, ap₂, ◌∙◌}
+use Rattle.std.proofs.lemmas.Bool.{ltb-true, ltb-false}
 use Rattle.ra_base.specs.Searches.{is_better, least, least_place, or_else}
 use Rattle.ra_base.specs.declared.causes.Cause.{Cause}
 use Rattle.ra_base.specs.declared.causes.Drawing.{Drawing}
 use Rattle.ra_base.specs.declared.ids.Machine.{Machine}
-use Rattle.ra_base.proofs.Least.{least_none, least_place_none, least_more, least_place_more, is_better_none}
+use Rattle.ra_base.proofs.Least.{least_none, least_place_none, least_more, least_place_more, least_better, least_kept, least_means, is_better_none, is_better_some}
 use Rattle.ra_base.proofs.Searches.{left_none}
 use Rattle.ra_model.specs.declared.raw.Tables.{Tables}
 use Rattle.ra_model.specs.Numbers.{machine_count}
@@ -13,17 +14,21 @@ use Rattle.ra_model.specs.Assignments.{IsAssignment}
 use Rattle.ra_moves.specs.declared.steps.Step.{Step}
 use Rattle.ra_moves.specs.declared.verdicts.Verdict.{Verdict}
 use Rattle.ra_moves.specs.declared.verdicts.Verdict.TheVariants.{Done, Refused}
-use Rattle.ra_moves.specs.declared.verdicts.Weighed.{Weighed}
-use Rattle.ra_moves.specs.Judging.{judge, broken_by, repeat_of, verdict_of}
+use Rattle.ra_model.specs.Broken.{cause_if}
+use Rattle.ra_model.specs.Costs.{objective}
+use Rattle.ra_model.proofs.BoundLemmas.{objective_under}
+use Rattle.ra_model.proofs.BrokenLemmas.{cause_free}
+use Rattle.ra_moves.specs.Judging.{judge, broken_by, repeat_of, rise_test, verdict_of}
+use Rattle.ra_moves.specs.Replacing.{applied}
+use Rattle.ra_shift.specs.Arriving.{BreaksNothing, cost_after, cost_now, IsCostBelow}
 use Rattle.ra_moves.proofs.Repeats.{distinct_from_none}
 use Rattle.ra_moves.proofs.OptionLemmas.{option_stands, option_reaches}
 use Rattle.ra_moves.specs.Moving.{IsMove, IsOffered}
-use Rattle.ra_moves.specs.Weighing.{weighed_of}
 use Rattle.ra_moves.specs.MoveSteps.{MoveSteps}
 use Rattle.ra_moves.specs.declared.steps.MoveKind.TheVariants.{Shift}
 use Rattle.ra_moves.specs.Options.{kind_of, option_count, drawn, target, leaving, option_at, option_cost, done_cost, plan_place, plan_of}
 use Rattle.ra_world.specs.declared.world.World.{World}
-use Rattle.ra_plan.specs.Choosing.{IsBest, cost_in, steps_in, weighed_in}
+use Rattle.ra_plan.specs.Choosing.{IsBest, cost_in, steps_in, bound_of}
 use Rattle.ra_plan.specs.declared.best.Best.{Best}
 use Rattle.ra_plan.proofs.OptionSizes.{option_few, option_some, shift_steps, least_place_below}
 
@@ -32,7 +37,6 @@ pub best_none : (w : World) (x : List ℕ) (d : Drawing) (allowed : ℕ) (best :
 best_none w x d allowed best cost option = record {
   cost = cost ∙ sym (least_none (cost_in w x d allowed));
   option = option ∙ sym (least_place_none (cost_in w x d allowed));
-  weighed = λ c is. absurd (cc);
 }
 
 -- the cost of an option from the verdict on it
@@ -51,7 +55,6 @@ best_skipped w x d allowed n best is none =
     record {
       cost = is.cost ∙ sym (least_more n f ∙ ap (λ (b : Bool). cond b (f n) (least n f)) worse);
       option = is.option ∙ sym (least_place_more n f ∙ ap (λ (b : Bool). cond b n (least_place n f)) worse);
-      weighed = is.weighed;
     }
 
 pub best_refused : (w : World) (x : List ℕ) (d : Drawing) (allowed n : ℕ) (best : Best) (cause : Cause) → IsBest w x d allowed n best → Refused cause ≡ judge w.inst.now.tables w.start.now.items w.kept.assignment.items (steps_in w x d n) allowed → IsBest w x d allowed (n + 1) best
@@ -59,27 +62,25 @@ unfolding done_cost
 best_refused w x d allowed n best cause is verdict = best_skipped w x d allowed n best is (cost_of w x d allowed n (Refused cause) verdict)
 
 -- one that is done at a lower cost is the best from then on
-pub best_done : (w : World) (x : List ℕ) (d : Drawing) (allowed n cost : ℕ) (weighed : Weighed) (best : Best) → IsBest w x d allowed n best → Done cost ≡ judge w.inst.now.tables w.start.now.items w.kept.assignment.items (steps_in w x d n) allowed → weighed ≡ weighed_in w x d n → IsBest w x d allowed (n + 1) (cond (is_better (Some cost) best.cost) (record { cost = Some cost; option = n; weighed = weighed }) best)
+pub best_done : (w : World) (x : List ℕ) (d : Drawing) (allowed n cost : ℕ) (best : Best) → IsBest w x d allowed n best → Done cost ≡ judge w.inst.now.tables w.start.now.items w.kept.assignment.items (steps_in w x d n) allowed → IsBest w x d allowed (n + 1) (cond (is_better (Some cost) best.cost) (record { cost = Some cost; option = n }) best)
 unfolding done_cost
-best_done w x d allowed n cost weighed best is verdict weighing =
+best_done w x d allowed n cost best is verdict =
     let f : ℕ → Option ℕ = cost_in w x d allowed in
     let here : f n ≡ Some cost = cost_of w x d allowed n (Done cost) verdict in
     by_test (is_better (Some cost) best.cost) (ap (λ (c : Option ℕ). is_better (Some cost) c) is.cost ∙ ap (λ (c : Option ℕ). is_better c (least n f)) (sym here))
   where
-    by_test : (better : Bool) → better ≡ is_better (cost_in w x d allowed n) (least n (cost_in w x d allowed)) → IsBest w x d allowed (n + 1) (cond better (record { cost = Some cost; option = n; weighed = weighed }) best)
+    by_test : (better : Bool) → better ≡ is_better (cost_in w x d allowed n) (least n (cost_in w x d allowed)) → IsBest w x d allowed (n + 1) (cond better (record { cost = Some cost; option = n }) best)
     by_test true better =
         let f : ℕ → Option ℕ = cost_in w x d allowed in
         record {
           cost = sym (cost_of w x d allowed n (Done cost) verdict) ∙ sym (least_more n f ∙ ap (λ (b : Bool). cond b (f n) (least n f)) (sym better));
           option = sym (least_place_more n f ∙ ap (λ (b : Bool). cond b n (least_place n f)) (sym better));
-          weighed = λ c at. weighing;
         }
     by_test false better =
         let f : ℕ → Option ℕ = cost_in w x d allowed in
         record {
           cost = is.cost ∙ sym (least_more n f ∙ ap (λ (b : Bool). cond b (f n) (least n f)) (sym better));
           option = is.option ∙ sym (least_place_more n f ∙ ap (λ (b : Bool). cond b n (least_place n f)) (sym better));
-          weighed = is.weighed;
         }
 
 -- an option that breaks something isn't done
@@ -126,13 +127,6 @@ steps_offered w x d k steps same = rw (← same) (option_offered _ _ x d k w.ins
 pub judged_in : (w : World) (x : List ℕ) (d : Drawing) (allowed n : ℕ) (steps : List Step) (verdict : Verdict) → steps_in w x d n ≡ steps → verdict ≡ judge w.inst.now.tables w.start.now.items w.kept.assignment.items steps allowed → verdict ≡ judge w.inst.now.tables w.start.now.items w.kept.assignment.items (steps_in w x d n) allowed
 judged_in w x d allowed n steps verdict same is = rw same is
 
-weighed_same : (w : World) (x : List ℕ) (d : Drawing) (n : ℕ) (steps : List Step) → steps_in w x d n ≡ steps → weighed_in w x d n ≡ weighed_of w.inst.now.tables w.start.now.items w.kept.assignment.items steps
-unfolding weighed_in
-weighed_same w x d n steps same = rw same refl
-
-pub weighed_at : (w : World) (x : List ℕ) (d : Drawing) (n : ℕ) (steps : List Step) (weighed : Weighed) → steps_in w x d n ≡ steps → weighed ≡ weighed_of w.inst.now.tables w.start.now.items w.kept.assignment.items steps → weighed ≡ weighed_in w x d n
-weighed_at w x d n steps weighed same is = is ∙ sym (weighed_same w x d n steps same)
-
 -- what is resolved over m machines is the option
 pub option_in : (w : World) (x : List ℕ) (d : Drawing) (m k : ℕ) (mv : MoveSteps) → m ≡ machine_count w.inst.now.tables → mv ≡ option_at w.kept.assignment.items x m d k → steps_in w x d k ≡ mv.steps
 unfolding steps_in
@@ -147,13 +141,108 @@ pub best_planned : (w : World) (x : List ℕ) (d : Drawing) (allowed m : ℕ) (b
 unfolding plan_of plan_place cost_in
 best_planned w x d allowed m best mv machines is option = rw (machines, is.option) at option
 
--- with its weighing
-pub best_weighed : (w : World) (x : List ℕ) (d : Drawing) (allowed n cost : ℕ) (best : Best) (steps : List Step) → IsBest w x d allowed n best → steps_in w x d best.option ≡ steps → best.cost ≡ Some cost → best.weighed ≡ weighed_of w.inst.now.tables w.start.now.items w.kept.assignment.items steps
-best_weighed w x d allowed n cost best steps is same there = is.weighed cost there ∙ weighed_same w x d best.option steps same
-
 -- and it is one of them
 pub best_below : (w : World) (x : List ℕ) (d : Drawing) (allowed m : ℕ) (best : Best) → m ≡ machine_count w.inst.now.tables → 1 ≤ m → IsBest w x d allowed (option_count x (machine_count w.inst.now.tables) d) best → best.option < option_count x m d
 best_below w x d allowed m best machines some is =
     let n : ℕ = option_count x m d in
     let place : best.option ≡ least_place n (cost_in w x d allowed) = rw machines is.option in
     omega (arith, least_place_below n (cost_in w x d allowed) (option_some x m d some))
+
+-- what it says of a verdict that it has a cost, and when it has one
+by_test : (test : Bool) (cause : Cause) (after cost : ℕ) → done_cost (verdict_of (cause_if test cause) after) ≡ Some cost → (test ≡ false) × (cost ≡ after)
+unfolding done_cost verdict_of cause_if
+by_test true cause after cost is = absurd (cc)
+by_test false cause after cost is = let same : after ≡ cost = cc in (refl, sym same)
+
+by_cause : (broken : Option Cause) (before after allowed cost : ℕ) → done_cost (verdict_of (or_else broken (rise_test before after allowed)) after) ≡ Some cost → (broken ≡ None) × (cost ≡ after) × (cost ≤ before + allowed)
+unfolding done_cost verdict_of or_else rise_test
+by_cause None before after allowed cost is =
+    let found = by_test (ltb (before + allowed) after) _ after cost is in
+    (refl, found.1, omega (arith, found.1, ltb-false (before + allowed) after found.0))
+by_cause (Some cause) before after allowed cost is = absurd (cc)
+
+not_above : (x y : ℕ) (t : Bool) → ltb x y ≡ t → y ≤ x → t ≡ false
+not_above x y true is low = absurd (omega (arith, ltb-true x y is, low))
+not_above x y false is low = refl
+
+is_above : (x y : ℕ) (t : Bool) → ltb x y ≡ t → x < y → t ≡ true
+is_above x y true is high = refl
+is_above x y false is high = absurd (omega (arith, ltb-false x y is, high))
+
+done_within : (before after allowed : ℕ) → after ≤ before + allowed → done_cost (verdict_of (or_else None (rise_test before after allowed)) after) ≡ Some after
+unfolding done_cost verdict_of or_else rise_test
+done_within before after allowed low = ap (λ (o : Option Cause). done_cost (verdict_of o after)) (cause_free (ltb (before + allowed) after) _ (not_above (before + allowed) after (ltb (before + allowed) after) refl low))
+
+-- an option with a cost breaks nothing, and the cost is that after it and rises by no more than is allowed
+pub cost_means : (w : World) (x : List ℕ) (d : Drawing) (allowed n cost : ℕ) (steps : List Step) → steps_in w x d n ≡ steps → cost_in w x d allowed n ≡ Some cost → (broken_by w.inst.now.tables w.start.now.items w.kept.assignment.items steps ≡ None) × (cost ≡ objective w.inst.now.tables w.start.now.items (applied w.kept.assignment.items steps)) × (cost ≤ cost_now w + allowed)
+unfolding cost_in option_cost steps_in judge
+cost_means w x d allowed n cost steps same is =
+    let here = ap (λ (s : List Step). done_cost (judge w.inst.now.tables w.start.now.items w.kept.assignment.items s allowed)) (sym same) ∙ is in
+    by_cause (broken_by w.inst.now.tables w.start.now.items w.kept.assignment.items steps) (cost_now w) (objective w.inst.now.tables w.start.now.items (applied w.kept.assignment.items steps)) allowed cost here
+
+-- and one that does so has that cost
+pub cost_comes : (w : World) (x : List ℕ) (d : Drawing) (allowed n : ℕ) (steps : List Step) → steps_in w x d n ≡ steps → broken_by w.inst.now.tables w.start.now.items w.kept.assignment.items steps ≡ None → objective w.inst.now.tables w.start.now.items (applied w.kept.assignment.items steps) ≤ cost_now w + allowed → cost_in w x d allowed n ≡ Some (objective w.inst.now.tables w.start.now.items (applied w.kept.assignment.items steps))
+unfolding cost_in option_cost steps_in judge
+cost_comes w x d allowed n steps same none low =
+    let after = objective w.inst.now.tables w.start.now.items (applied w.kept.assignment.items steps) in
+    ap (λ (s : List Step). done_cost (judge w.inst.now.tables w.start.now.items w.kept.assignment.items s allowed)) same
+    ∙ ap (λ (o : Option Cause). done_cost (verdict_of (or_else o (rise_test (cost_now w) after allowed)) after)) none
+    ∙ done_within (cost_now w) after allowed low
+
+-- the best so far is one of them
+pub best_means : (w : World) (x : List ℕ) (d : Drawing) (allowed n cost : ℕ) (best : Best) (steps : List Step) → IsBest w x d allowed n best → steps_in w x d best.option ≡ steps → best.cost ≡ Some cost → (broken_by w.inst.now.tables w.start.now.items w.kept.assignment.items steps ≡ None) × (cost ≡ objective w.inst.now.tables w.start.now.items (applied w.kept.assignment.items steps)) × (cost ≤ cost_now w + allowed)
+best_means w x d allowed n cost best steps is same there =
+    let found = least_means n cost (cost_in w x d allowed) (sym is.cost ∙ there) in
+    cost_means w x d allowed best.option cost steps same (ap (cost_in w x d allowed) is.option ∙ found.answer)
+
+pub best_unbroken : (w : World) (x : List ℕ) (d : Drawing) (allowed n cost : ℕ) (best : Best) (steps : List Step) → IsBest w x d allowed n best → steps_in w x d best.option ≡ steps → best.cost ≡ Some cost → broken_by w.inst.now.tables w.start.now.items w.kept.assignment.items steps ≡ None
+best_unbroken w x d allowed n cost best steps is same there = (best_means w x d allowed n cost best steps is same there).0
+
+-- bounds
+bound_low : (o : Option ℕ) (most : ℕ) → ((b : ℕ) → o ≡ Some b → b < most) → bound_of o most ≤ most
+unfolding bound_of
+bound_low None most low = omega arith
+bound_low (Some b) most low = omega (arith, low b refl)
+
+best_within : (w : World) (x : List ℕ) (d : Drawing) (allowed n : ℕ) (best : Best) → IsBest w x d allowed n best → bound_of best.cost (cost_now w + allowed + 1) ≤ cost_now w + allowed + 1
+best_within w x d allowed n best is = bound_low best.cost (cost_now w + allowed + 1) (λ b there. omega (arith, (best_means w x d allowed n b best (steps_in w x d best.option) is refl there).2))
+
+pub bound_fits : (w : World) (x : List ℕ) (d : Drawing) (allowed n most : ℕ) (best : Best) → IsBest w x d allowed n best → most ≡ cost_now w + allowed + 1 → allowed < 2 ^ 64 → bound_of best.cost most ≤ 2 ^ 120
+bound_fits w x d allowed n most best is most_is few = rw most_is (omega (arith, best_within w x d allowed n best is, few, objective_under w.inst.now.tables w.start.now.items w.kept.assignment.items w.inst.now.well_formed w.inst.now.small))
+
+-- an option without a cost below the bound changes nothing
+worse_at : (here least : Option ℕ) (most : ℕ) → ((c : ℕ) → here ≡ Some c → (bound_of least most ≤ c) × (c < most)) → is_better here least ≡ false
+unfolding bound_of
+worse_at None least most above = is_better_none least
+worse_at (Some c) None most above = absurd (omega (arith, (above c refl).0, (above c refl).1))
+worse_at (Some c) (Some b) most above = is_better_some c b ∙ not_above c b (ltb c b) refl (above c refl).0
+
+better_at : (least : Option ℕ) (c most : ℕ) → c < bound_of least most → is_better (Some c) least ≡ true
+unfolding bound_of is_better
+better_at None c most below = refl
+better_at (Some b) c most below = is_above c b (ltb c b) refl below
+
+pub best_stays : (w : World) (x : List ℕ) (d : Drawing) (allowed n p to : ℕ) (best : Best) (found : Option ℕ) → IsBest w x d allowed n best → steps_in w x d n ≡ leaving w.kept.assignment.items p to ∷ [] → IsCostBelow w p to (bound_of best.cost (cost_now w + allowed + 1)) found → found ≡ None → IsBest w x d allowed (n + 1) best
+best_stays w x d allowed n p to best found is same below none =
+    let f : ℕ → Option ℕ = cost_in w x d allowed in
+    let most = cost_now w + allowed + 1 in
+    let above = λ (c : ℕ) (here : f n ≡ Some c).
+    let means = cost_means w x d allowed n c (leaving w.kept.assignment.items p to ∷ []) same here in
+    let low = below.none none means.0 in
+    let under : bound_of (least n f) most ≤ c = omega (arith, ap (λ o. bound_of o most) is.cost, low, means.1) in
+    let both : (bound_of (least n f) most ≤ c) × (c < most) = (under, omega (arith, means.2)) in
+    both in
+    let kept = least_kept n f (worse_at (f n) (least n f) most above) in
+    record { cost = is.cost ∙ sym kept.0; option = is.option ∙ sym kept.1 }
+
+-- and one with such a cost is the best
+pub best_found : (w : World) (x : List ℕ) (d : Drawing) (allowed n p to cost : ℕ) (best : Best) (found : Option ℕ) → IsBest w x d allowed n best → steps_in w x d n ≡ leaving w.kept.assignment.items p to ∷ [] → IsCostBelow w p to (bound_of best.cost (cost_now w + allowed + 1)) found → found ≡ Some cost → IsBest w x d allowed (n + 1) (record { cost = found; option = n })
+best_found w x d allowed n p to cost best found is same below some =
+    let f : ℕ → Option ℕ = cost_in w x d allowed in
+    let most = cost_now w + allowed + 1 in
+    let value = below.found cost some in
+    let under = below.below cost some in
+    let low : cost_after w p to ≤ cost_now w + allowed = omega (arith, value, under, best_within w x d allowed n best is) in
+    let here : f n ≡ Some cost = cost_comes w x d allowed n (leaving w.kept.assignment.items p to ∷ []) same (below.free cost some) low ∙ ap (λ (c : ℕ). Some c) (sym value) in
+    let better = least_better n f (ap₂ is_better here (sym is.cost) ∙ better_at best.cost cost most under) in
+    record { cost = some ∙ sym here ∙ sym better.0; option = sym better.1 }

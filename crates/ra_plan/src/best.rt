@@ -1,11 +1,13 @@
-ghost use Rattle.std.specs.Prelude.{◌≡◌, ℕ, ◌+◌, List, Some, if◌then◌else◌};
+ghost use Rattle.std.specs.Prelude.{◌≡◌, ℕ, ◌+◌, List, [], ◌∷◌, Option, Some, None, if◌then◌else◌};
 ghost use Rattle.ra_base.specs.Searches.{is_better};
 ghost use Rattle.ra_base.specs.declared.causes.Drawing.{Drawing};
 ghost use Rattle.ra_moves.specs.Judging.{judge};
+ghost use Rattle.ra_moves.specs.Options.{leaving};
+ghost use Rattle.ra_shift.specs.Arriving.{cost_now, IsCostBelow};
 ghost use Rattle.ra_world.specs.declared.world.World.{World};
-ghost use Rattle.ra_plan.specs.Choosing.{IsBest, steps_in, weighed_in};
+ghost use Rattle.ra_plan.specs.Choosing.{IsBest, steps_in, bound_of};
 
-use ra_moves::{Verdict, Weighed};
+use ra_moves::Verdict;
 
 /// The best option so far.
 #[derive(Clone, Copy)]
@@ -14,8 +16,6 @@ pub(crate) struct Best {
     pub(crate) cost: Option<u128>,
     /// Its number, and 0 where none is done.
     pub(crate) option: u32,
-    /// Its weighing, where one is done.
-    pub(crate) weighed: Weighed,
 }
 
 impl Best {
@@ -27,43 +27,65 @@ impl Best {
         Best {
             cost: None,
             option: 0,
-            weighed: Weighed {
-                broken: None,
-                local: 0,
-                first: None,
-                second: None,
-                third: None,
-            },
         }
     }
 
-    /// Takes the next option, with its verdict and its weighing, where it is done at a lower cost.
+    /// What a cost has to be below, so that its option is the best: the cost of the best so far, or the first that is
+    /// too high.
     #[inline(always)]
-    pub(crate) fn consider(self, option: u32, verdict: &Verdict, weighed: &Weighed) -> Best
+    #[tactic(auto, unfolding(crate::specs::Choosing::bound_of))]
+    pub(crate) fn bound(&self, most: u128) -> u128
+        ensures { result ≡ bound_of self.now.cost most }
+    {
+        match self.cost {
+            Some(least) => least,
+            None => most,
+        }
+    }
+
+    /// Takes the next option, where a cost below the bound was found for it.
+    #[inline(always)]
+    pub(crate) fn or_found(self, option: u32, found: Option<u128>) -> Best
+        ensures { (w : World) (x : List ℕ) (d : Drawing) (allowed p to : ℕ)
+            → IsBest w x d allowed option self
+            → steps_in w x d option ≡ leaving w.kept.assignment.items p to ∷ []
+            → IsCostBelow w p to (bound_of self.cost (cost_now w + allowed + 1)) found
+            → IsBest w x d allowed (option + 1) result }
+    {
+        match found {
+            Some(_) => Best {
+                cost: found,
+                option,
+            },
+            None => self,
+        }
+    }
+
+    /// Takes the next option, with its verdict, where it is done at a lower cost.
+    #[inline(always)]
+    pub(crate) fn consider(self, option: u32, verdict: &Verdict) -> Best
         ensures { (w : World) (x : List ℕ) (d : Drawing) (allowed : ℕ)
             → IsBest w x d allowed option self
             → verdict.now ≡ judge w.inst.now.tables w.start.now.items w.kept.assignment.items
             (steps_in w x d option) allowed
-            → weighed.now ≡ weighed_in w x d option
             → IsBest w x d allowed (option + 1) result }
     {
         match *verdict {
-            Verdict::Done { cost } => self.or_done(option, cost, weighed),
+            Verdict::Done { cost } => self.or_done(option, cost),
             Verdict::Refused { .. } => self,
         }
     }
 
     /// The option that is done at a cost, where that is lower, else the best so far.
     #[inline(always)]
-    fn or_done(self, option: u32, cost: u128, weighed: &Weighed) -> Best
+    fn or_done(self, option: u32, cost: u128) -> Best
         ensures { result ≡ (if is_better (Some cost) self.cost
-            then record { cost = Some cost; option = option; weighed = weighed.now } else self) }
+            then record { cost = Some cost; option = option } else self) }
     {
         if self.is_above(cost) {
             Best {
                 cost: Some(cost),
                 option,
-                weighed: *weighed,
             }
         } else {
             self

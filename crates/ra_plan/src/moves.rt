@@ -60,5 +60,5 @@ fn with_option<L: Ledger>(
         return best;
     }
     let weighed = changed_by(world, mv, steps);
-    best.consider(option, &verdict(world, &weighed, allowed), &weighed)
+    best.consider(option, &verdict(world, &weighed, allowed))
 }

@@ -1,6 +1,7 @@
-ghost use Rattle.std.specs.Prelude.{◌≡◌, ℕ, Some, ◌+◌, ◌*◌, ◌≤◌};
+ghost use Rattle.std.specs.Prelude.{◌≡◌, ℕ, Some, None, ◌+◌, ◌*◌, ◌≤◌};
 ghost use Rattle.ra_base.specs.declared.causes.Drawing.TheVariants.{One, Two};
 ghost use Rattle.ra_model.specs.Numbers.{resource_count, machine_count};
+ghost use Rattle.ra_moves.specs.Judging.{broken_by};
 ghost use Rattle.ra_moves.specs.Options.{plan_of, option_count};
 ghost use Rattle.ra_moves.specs.Moving.{IsOffered};
 ghost use Rattle.ra_moves.specs.Weighing.{weighed_of};
@@ -11,6 +12,7 @@ use crate::moves::best_move;
 use crate::shifts::best_shift;
 use crate::weighing::weigh;
 use ra_base::{Drawing, Steps};
+use ra_changes::changed_by;
 use ra_moves::{Move, MoveKind, Plan, Weighed, resolve};
 use ra_world::World;
 use std::sync::ledger::Ledger;
@@ -48,19 +50,19 @@ pub fn plan<L: Ledger>(
     Plan { q, k, mv, weighed }
 }
 
-/// The weighing of the move that is planned: that of the best option, or of option 0 where none is done.
+/// The weighing of the move that is planned: of the best option, or of option 0 where none is done.
 fn weighing<L: Ledger>(world: &World<'_>, best: &Best, mv: &Move, steps: &mut Steps<L>) -> Weighed
     requires offered { IsOffered world.now.inst.now.tables world.now.kept.assignment.items
         mv.now.steps }
     requires best { (cost : ℕ) → best.now.cost ≡ Some cost →
-        best.now.weighed ≡ weighed_of world.now.inst.now.tables
-        world.now.start.now.items world.now.kept.assignment.items mv.now.steps }
+        broken_by world.now.inst.now.tables world.now.start.now.items
+        world.now.kept.assignment.items mv.now.steps ≡ None }
     ensures value { result ≡ weighed_of world.now.inst.now.tables
         world.now.start.now.items world.now.kept.assignment.items mv.now.steps }
     ensures counted { steps.new ≤ steps.old + 6 * resource_count world.now.inst.now.tables }
 {
     match best.cost {
-        Some(_) => best.weighed,
+        Some(_) => changed_by(world, mv, steps),
         None => weigh(world, mv, steps),
     }
 }

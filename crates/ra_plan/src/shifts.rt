@@ -1,14 +1,13 @@
-ghost use Rattle.std.specs.Prelude.{◌≡◌, ◌+◌, ℕ, ◌%◌, ◌<◌, ◌≤◌, List, [], ◌∷◌, length, slice_index};
+ghost use Rattle.std.specs.Prelude.{◌≡◌, ◌+◌, ℕ, ◌%◌, ◌^◌, ◌<◌, ◌≤◌, List, [], ◌∷◌, length, slice_index};
 ghost use Rattle.ra_model.specs.Numbers.{resource_count, machine_count, process_count};
 ghost use Rattle.ra_moves.specs.declared.steps.MoveKind.TheVariants as kind;
 ghost use Rattle.ra_moves.specs.Options.{kind_of, drawn, target, count_of, option_count};
 ghost use Rattle.ra_base.specs.declared.causes.Drawing.{Drawing};
 ghost use Rattle.ra_moves.specs.Options.{leaving};
-ghost use Rattle.ra_moves.specs.Moving.{IsOffered};
-ghost use Rattle.ra_plan.specs.Choosing.{IsBest, steps_in};
+ghost use Rattle.ra_shift.specs.Arriving.{cost_now};
+ghost use Rattle.ra_plan.specs.Choosing.{IsBest, steps_in, bound_of};
 
 use crate::best::Best;
-use crate::verdicts::verdict;
 use ra_base::{Drawing, Machine, Process, Steps};
 use ra_moves::options;
 use ra_shift::Shift;
@@ -35,15 +34,16 @@ pub(crate) fn best_shift<L: Ledger>(
     let first = (words[2] % machines as u64) as u32;
     let shift = Shift::make(world, process, steps);
     let count = options(words, machines, drawing);
+    let most = world.parts().total + u128::from(allowed) + 1;
     let mut best = Best::none();
     for option in 0..count {
         let to = target(words, drawing, machines, first, option);
-        best = with_shift(world, &shift, best, option, to, allowed);
+        best = with_shift(world, &shift, best, option, to, most);
     }
     best
 }
 
-/// The best with one more machine to which the process may go.
+/// The best with one more machine to which the process may go. `most` is the first cost that is too high.
 #[inline(always)]
 fn with_shift(
     world: &World<'_>,
@@ -51,22 +51,18 @@ fn with_shift(
     best: Best,
     option: u32,
     to: Machine,
-    allowed: u64,
+    most: u128,
 ) -> Best
     requires world { shift.now.world.now ≡ world.now }
     requires machine { to.0 < machine_count world.now.inst.now.tables }
-    requires offered { IsOffered world.now.inst.now.tables world.now.kept.assignment.items
-        (leaving world.now.kept.assignment.items shift.now.process.0 to.0 ∷ []) }
-    ensures { (x : List ℕ) (d : Drawing) → IsBest world.now x d allowed option best
+    requires bound { bound_of best.cost most ≤ 2 ^ 120 }
+    ensures { (x : List ℕ) (d : Drawing) (allowed : ℕ) → most ≡ cost_now world.now + allowed + 1
+        → IsBest world.now x d allowed option best
         → steps_in world.now x d option
         ≡ leaving world.now.kept.assignment.items shift.now.process.0 to.0 ∷ []
         → IsBest world.now x d allowed (option + 1) result }
 {
-    if !shift.fits(to) {
-        return best;
-    }
-    let weighed = shift.weighed(to);
-    best.consider(option, &verdict(world, &weighed, allowed), &weighed)
+    best.or_found(option, shift.cost_below(to, best.bound(most)))
 }
 
 /// The machine of an option: a word for each with drawing One, and a window of machines with drawing Two.

@@ -6,3 +6,4 @@ pub mod AllowLaws
 pub mod ReadLaws
 pub mod ChangeLaws
 mod FilterLaws
+mod FilterReads

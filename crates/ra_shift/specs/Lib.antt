@@ -1,3 +1,4 @@
+pub mod Arriving
 pub mod Conditions
 pub mod Filter
 pub mod Leaving

@@ -1,5 +1,4 @@
-ghost use Rattle.std.specs.Prelude.{◌≡◌, ℕ, ◌+◌, ◌-◌, ◌*◌, ◌^◌, ◌<◌, ◌≤◌, ◌-ℤ◌, pos, length, slice_index, FitsSigned};
-ghost use Rattle.std.specs.Int.{w128};
+ghost use Rattle.std.specs.Prelude.{◌≡◌, ℕ, ◌+◌, ◌-◌, ◌*◌, ◌^◌, ◌<◌, ◌≤◌, length, slice_index};
 ghost use Rattle.ra_model.specs.Numbers.{resource_count, machine_count, process_count};
 ghost use Rattle.ra_model.specs.Assignments.{machine_at};
 ghost use Rattle.ra_shift.specs.Sharing.{AreRequired, use_without, use_with, row_cost, way_cost};
@@ -98,14 +97,4 @@ pub(crate) fn way_cost(world: &World<'_>, p: Process, home: Machine, at: Machine
     };
     let process = u128::from(inst.process_weight()) * u128::from(moved);
     process + u128::from(inst.machine_weight()) * u128::from(inst.move_cost(home, at))
-}
-
-/// What is added, less what is taken away.
-pub(crate) fn difference(added: u128, taken: u128) -> i128
-    requires added { added < 2 ^ 126 }
-    requires taken { taken < 2 ^ 126 }
-    ensures value { result ≡ pos added -ℤ pos taken }
-    ensures fits { FitsSigned w128 result }
-{
-    added as i128 - taken as i128
 }

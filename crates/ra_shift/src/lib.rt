@@ -3,6 +3,7 @@
 #![tactic(auto)]
 
 mod costs;
+mod filter;
 mod reads;
 mod shift;
 

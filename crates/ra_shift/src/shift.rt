@@ -1,18 +1,19 @@
 ghost use Rattle.std.specs.Prelude.{◌≡◌, ◌≢◌, ℕ, ◌+◌, ◌*◌, ◌^◌, ◌<◌, ◌≤◌, ◌↔◌, [], ◌∷◌, None, true, false, pos, ◌-ℤ◌};
-ghost use Rattle.ra_model.specs.Numbers.{resource_count, machine_count, process_count, service_of, neighbourhood_of, spread_of, closed_at, transient_at, capacity_of, service_count};
+ghost use Rattle.ra_model.specs.Numbers.{resource_count, machine_count, process_count, service_of, neighbourhood_of, spread_of, closed_at, transient_at, capacity_of, service_count, process_weight_of, process_cost_of};
+ghost use Rattle.ra_shift.specs.Filter.{service_away};
 ghost use Rattle.ra_model.specs.Assignments.{machine_at};
-ghost use Rattle.ra_model.specs.Services.{on_machine, in_neighbourhood, locations_of};
+ghost use Rattle.ra_model.specs.Services.{on_machine, in_neighbourhood, locations_of, moved_of};
 ghost use Rattle.ra_moves.specs.Options.{leaving};
 ghost use Rattle.ra_moves.specs.Judging.{broken_by};
-ghost use Rattle.ra_moves.specs.Weighing.{local_change, moved_count, weighed_of};
+ghost use Rattle.ra_shift.specs.Arriving.{BreaksNothing, cost_after, cost_now, service_now, cost_added, cost_taken, IsCostBelow, IsSumBelow};
 ghost use Rattle.ra_shift.specs.Conditions.{shifted, HasRoom, HasRoomBetween, FindsNeeds, MayLeave};
 ghost use Rattle.ra_shift.specs.Leaving.{machine_left, location_left, neighbourhood_left, spread_left, spread_wanted, MayGo, cost_left, cost_before};
 ghost use Rattle.ra_shift.specs.Sharing.{AreRequired, cost_of, way_cost};
 
-use crate::costs::{cost_with, cost_without, difference, way_cost};
+use crate::costs::{cost_with, cost_without, way_cost};
+use crate::filter::{balance_above, load_above, saved, service_away, service_with};
 use crate::reads::{is_away, machine_of, may_leave, one_when, required_of, spread_without};
-use ra_base::{Machine, MovedCount, Process, Resource, Service, Steps};
-use ra_moves::Weighed;
+use ra_base::{Machine, Process, Resource, Service, Steps};
 use ra_world::World;
 use std::sync::ledger::Ledger;
 
@@ -40,6 +41,12 @@ pub struct Shift<'w, 'a> {
     without: u128,
     /// The same while it stays, and what its own way costs so far.
     before: u128,
+    /// The cost, and the service cost in it.
+    kept: u128,
+    service_cost: u128,
+    /// For all machines but its initial one: the cost with what is added, and what is taken away.
+    added: u128,
+    taken: u128,
     pub ghost process_known: { process.0 < process_count world.now.inst.now.tables },
     ghost from_is: { from.0 ≡ machine_left world.now process.0 },
     ghost home_is: { home.0 ≡ machine_at world.now.start.now.items process.0 },
@@ -56,6 +63,14 @@ pub struct Shift<'w, 'a> {
     ghost without_small: { without ≤ 30 * 2 ^ 96 },
     ghost before_is: { before ≡ cost_before world.now process.0 },
     ghost before_small: { before ≤ 2 ^ 102 },
+    ghost kept_is: { kept ≡ cost_now world.now },
+    ghost kept_small: { kept < 2 ^ 114 },
+    ghost service_cost_is: { service_cost ≡ service_now world.now },
+    ghost service_cost_small: { service_cost < 2 ^ 48 },
+    ghost added_is: { added ≡ cost_added world.now process.0 },
+    ghost added_small: { added < 2 ^ 115 },
+    ghost taken_is: { taken ≡ cost_taken world.now process.0 },
+    ghost taken_small: { taken < 2 ^ 103 },
 }
 
 impl<'w, 'a> Shift<'w, 'a> {
@@ -81,6 +96,8 @@ impl<'w, 'a> Shift<'w, 'a> {
         let may_leave = may_leave(world, process, service, neighbourhood);
         let without = cost_without(world, process, &required, from);
         let before = cost_before(world, process, home, from);
+        let parts = world.parts();
+        let away = added_away(world, process, service, home, from);
         Shift {
             world,
             process,
@@ -95,6 +112,10 @@ impl<'w, 'a> Shift<'w, 'a> {
             may_leave,
             without,
             before,
+            kept: parts.total,
+            service_cost: parts.service,
+            added: parts.total + (without + away),
+            taken: before + saved(inst, &required) + parts.service,
         }
     }
 
@@ -131,24 +152,82 @@ impl<'w, 'a> Shift<'w, 'a> {
         self.finds_needs(to)
     }
 
-    /// The weighing of a shift that breaks nothing.
-    pub fn weighed(&self, to: Machine) -> Weighed
+    /// The cost after the shift to a machine, if it breaks nothing and costs less than a bound.
+    #[inline(always)]
+    pub fn cost_below(&self, to: Machine, bound: u128) -> Option<u128>
         requires machine { to.0 < machine_count self.now.world.now.inst.now.tables }
-        requires unbroken { broken_by self.now.world.now.inst.now.tables
-            self.now.world.now.start.now.items self.now.world.now.kept.assignment.items
-            (leaving self.now.world.now.kept.assignment.items self.now.process.0 to.0 ∷ [])
-            ≡ None }
-        ensures { result ≡ weighed_of self.now.world.now.inst.now.tables
-            self.now.world.now.start.now.items self.now.world.now.kept.assignment.items
-            (leaving self.now.world.now.kept.assignment.items self.now.process.0 to.0 ∷ []) }
+        requires bound { bound ≤ 2 ^ 120 }
+        ensures { IsCostBelow self.now.world.now self.now.process.0 to.0 bound result }
     {
-        Weighed {
-            broken: None,
-            local: self.change(to),
-            first: Some(self.moved(to)),
-            second: None,
-            third: None,
+        if to.0 != self.home.0 {
+            self.cost_away(to, bound)
+        } else {
+            self.cost_home(to, bound)
         }
+    }
+
+    /// The same for a machine other than the initial one: what it adds is known before it is looked up whether the shift
+    /// breaks anything.
+    #[inline(always)]
+    fn cost_away(&self, to: Machine, bound: u128) -> Option<u128>
+        requires machine { to.0 < machine_count self.now.world.now.inst.now.tables }
+        requires bound { bound ≤ 2 ^ 120 }
+        requires apart { to.0 ≢ self.now.home.0 }
+        ensures { IsCostBelow self.now.world.now self.now.process.0 to.0 bound result }
+    {
+        let sum = self.sum_below(to, (bound + self.taken).saturating_sub(self.added))?;
+        if !self.fits(to) {
+            return None;
+        }
+        Some(self.added + sum - self.taken)
+    }
+
+    /// What a machine adds, if that is below a bound.
+    #[inline(always)]
+    fn sum_below(&self, to: Machine, bound: u128) -> Option<u128>
+        requires { to.0 < machine_count self.now.world.now.inst.now.tables }
+        ensures { IsSumBelow self.now.world.now self.now.process.0 to.0 bound result }
+    {
+        let inst = self.world.instance();
+        let way = u64::from(inst.machine_weight()) * u64::from(inst.move_cost(self.home, to));
+        let load = u128::from(way) + load_above(self.world, &self.required, to);
+        if load >= bound {
+            return None;
+        }
+        let sum = load + balance_above(self.world, &self.required, to);
+        if sum >= bound {
+            return None;
+        }
+        Some(sum)
+    }
+
+    /// The cost after the shift to the initial machine, if it breaks nothing and costs less than a bound.
+    fn cost_home(&self, to: Machine, bound: u128) -> Option<u128>
+        requires machine { to.0 < machine_count self.now.world.now.inst.now.tables }
+        ensures { IsCostBelow self.now.world.now self.now.process.0 to.0 bound result }
+    {
+        if !self.fits(to) {
+            return None;
+        }
+        let cost = self.cost_at(to);
+        if cost >= bound {
+            return None;
+        }
+        Some(cost)
+    }
+
+    /// The cost after a shift that breaks nothing.
+    fn cost_at(&self, to: Machine) -> u128
+        requires machine { to.0 < machine_count self.now.world.now.inst.now.tables }
+        requires unbroken { BreaksNothing self.now.world.now self.now.process.0 to.0 }
+        ensures { result ≡ cost_after self.now.world.now self.now.process.0 to.0 }
+    {
+        let world = self.world;
+        let here = world.machine_load(to) + world.machine_balance(to);
+        let with = cost_with(world, self.process, &self.required, to);
+        let way = way_cost(world, self.process, self.home, to);
+        let service = service_with(world, self.service, self.moved(to));
+        self.kept + self.without + with + way + service - (self.before + here + self.service_cost)
     }
 
     /// Whether a machine is open, or is the initial one of the process.
@@ -301,38 +380,37 @@ impl<'w, 'a> Shift<'w, 'a> {
         self.world.cells().in_neighbourhood(need, label) == 0
     }
 
-    /// The change of load, balance, process and machine cost together.
-    fn change(&self, to: Machine) -> i128
-        requires machine { to.0 < machine_count self.now.world.now.inst.now.tables }
-        requires apart { machine_at self.now.world.now.kept.assignment.items self.now.process.0
-            ≢ to.0 }
-        ensures { result ≡ local_change self.now.world.now.inst.now.tables
-            self.now.world.now.start.now.items self.now.world.now.kept.assignment.items
-            (leaving self.now.world.now.kept.assignment.items self.now.process.0 to.0 ∷ []) }
-    {
-        let world = self.world;
-        let here = world.machine_load(to) + world.machine_balance(to);
-        let with = cost_with(world, self.process, &self.required, to);
-        let way = way_cost(world, self.process, self.home, to);
-        difference(self.without + with + way, self.before + here)
-    }
-
-    /// The moved counts of the service.
-    fn moved(&self, to: Machine) -> MovedCount
-        ensures { result ≡ moved_count self.now.world.now.inst.now.tables
-            self.now.world.now.start.now.items self.now.world.now.kept.assignment.items
-            (leaving self.now.world.now.kept.assignment.items self.now.process.0 to.0 ∷ [])
+    /// The moved count of the service after it.
+    fn moved(&self, to: Machine) -> u32
+        ensures value { result ≡ moved_of self.now.world.now.inst.now.tables
+            self.now.world.now.start.now.items
+            (shifted self.now.world.now.kept.assignment.items self.now.process.0 to.0)
             (service_of self.now.world.now.inst.now.tables self.now.process.0) }
+        ensures few { result ≤ process_count self.now.world.now.inst.now.tables }
     {
         let before = self.world.cells().moved(self.service);
         let gone = is_away(self.home, self.from);
         let come = is_away(self.home, to);
-        MovedCount {
-            service: self.service,
-            before,
-            after: before + come - gone,
-        }
+        before + come - gone
     }
+}
+
+/// What is added for each machine but the initial one besides the costs of the machine that is left: the process cost and
+/// the service cost.
+fn added_away(world: &World<'_>, p: Process, s: Service, home: Machine, from: Machine) -> u128
+    requires process { p.0 < process_count world.now.inst.now.tables }
+    requires service { s.0 ≡ service_of world.now.inst.now.tables p.0 }
+    requires home { home.0 ≡ machine_at world.now.start.now.items p.0 }
+    requires from { from.0 ≡ machine_at world.now.kept.assignment.items p.0 }
+    ensures value { result ≡
+        process_weight_of world.now.inst.now.tables * process_cost_of world.now.inst.now.tables p.0
+        + service_away world.now.inst.now.tables world.now.start.now.items
+        world.now.kept.assignment.items p.0 }
+    ensures bound { result < 2 ^ 65 }
+{
+    let inst = world.instance();
+    let moved = u64::from(inst.process_weight()) * u64::from(inst.process_cost(p));
+    u128::from(moved) + service_away(world, p, s, home, from)
 }
 
 /// The load and balance cost of the machine of a process, and what the process's own way costs.

@@ -1,4 +1,4 @@
-use Rattle.ra_plan.proofs.Bests.{best_broken, unbroken_moves, judged_in, weighed_at}
+use Rattle.ra_plan.proofs.Bests.{best_broken, unbroken_moves, judged_in}
 use Rattle.ra_plan.proofs.moves.with_option.Goals as goal
 
 pub returns-then-not-is_unbroken-clause-best : goal.returns-then-not-is_unbroken-clause-best
@@ -17,4 +17,3 @@ returns-clause-best g c = λ x d is same.
     let judged = c.verdict.ensures steps c.requires.offered c.changed_by-weighed.ensures.value in
     c.consider.ensures world x d c.args.allowed is
     (judged_in world x d _ _ steps _ same judged)
-    (weighed_at world x d _ steps _ same c.changed_by-weighed.ensures.value)

@@ -1,9 +1,13 @@
-use Rattle.std.proofs.Common.{◌≡◌, arith, refl, ap, ◌∙◌}
+use Rattle.std.proofs.Common.{◌≡◌, ◌+◌, arith, refl, ap, ◌∙◌}
 use Rattle.ra_base.specs.declared.ids.Process.{Process}
 use Rattle.ra_model.specs.Numbers.{machine_count}
 use Rattle.ra_moves.specs.Options.{option_count, drawn}
 use Rattle.ra_moves.proofs.OptionLemmas.{shift_named}
-use Rattle.ra_plan.proofs.Bests.{shift_in, steps_offered}
+use Rattle.ra_base.specs.declared.costs.Parts.{Parts}
+use Rattle.ra_model.specs.Costs.{parts_of}
+use Rattle.ra_model.proofs.BoundLemmas.{objective_under}
+use Rattle.ra_shift.specs.Arriving.{cost_now}
+use Rattle.ra_plan.proofs.Bests.{shift_in, bound_fits}
 use Rattle.ra_plan.proofs.shifts.best_shift.Goals as goal
 
 pub loop-option-init : goal.loop-option-init
@@ -50,16 +54,32 @@ returns g c =
     let all : c.loop-option.option ≡ option_count c.args.words.now (machine_count world.inst.now.tables) c.args.drawing = end ∙ c.options-count.ensures.value ∙ ap (λ m. option_count c.args.words.now m c.args.drawing) machines in
     record { best = rw all at c.loop-option.invariant; counted = c.make-shift.ensures.counted }
 
-pub with_shift-best-requires-clause-offered : goal.with_shift-best-requires-clause-offered
-with_shift-best-requires-clause-offered g c =
+pub overflow_add-most : goal.overflow_add-most
+unfolding parts_of
+overflow_add-most g c =
     let world = c.args.world.now in
-    let machines : c.machines-machines.result ≡ machine_count world.inst.now.tables = rw c.instance.ensures at c.machines-machines.ensures in
-    let process : c.make-shift.result.process.0 ≡ drawn world.kept.assignment.items c.args.words.now 1 = ap (λ (p : Process). p.0) c.make-shift.ensures.process ∙ c.requires.named in
-    steps_offered world c.args.words.now c.args.drawing c.loop-option.option _ (shift_in world _ _ _ _ _ _ machines c.requires.shift process c.target-to.ensures.value)
+    let kept : c.parts.result.total ≡ cost_now world = ap (λ (x : Parts). x.total) c.parts.ensures in
+    omega (arith, kept, c.from.ensures, objective_under world.inst.now.tables world.start.now.items world.kept.assignment.items world.inst.now.well_formed world.inst.now.small)
+
+pub overflow_add-most-2 : goal.overflow_add-most-2
+unfolding parts_of
+overflow_add-most-2 g c =
+    let world = c.args.world.now in
+    let kept : c.parts.result.total ≡ cost_now world = ap (λ (x : Parts). x.total) c.parts.ensures in
+    omega (arith, kept, c.from.ensures, objective_under world.inst.now.tables world.start.now.items world.kept.assignment.items world.inst.now.well_formed world.inst.now.small)
+
+pub with_shift-best-requires-clause-bound : goal.with_shift-best-requires-clause-bound
+unfolding parts_of
+with_shift-best-requires-clause-bound g c =
+    let world = c.args.world.now in
+    let kept : c.parts.result.total ≡ cost_now world = ap (λ (x : Parts). x.total) c.parts.ensures in
+    bound_fits world c.args.words.now c.args.drawing c.args.allowed c.loop-option.option (c.parts.result.total + c.from.result + 1) c.loop-option.best c.loop-option.invariant (omega (arith, kept, c.from.ensures)) c.ranges.allowed.fits
 
 pub loop-option-preserved : goal.loop-option-preserved
+unfolding parts_of
 loop-option-preserved g c =
     let world = c.args.world.now in
     let machines : c.machines-machines.result ≡ machine_count world.inst.now.tables = rw c.instance.ensures at c.machines-machines.ensures in
     let process : c.make-shift.result.process.0 ≡ drawn world.kept.assignment.items c.args.words.now 1 = ap (λ (p : Process). p.0) c.make-shift.ensures.process ∙ c.requires.named in
-    c.with_shift-best.ensures _ _ c.loop-option.invariant (shift_in world _ _ _ _ _ _ machines c.requires.shift process c.target-to.ensures.value)
+    let kept : c.parts.result.total ≡ cost_now world = ap (λ (x : Parts). x.total) c.parts.ensures in
+    c.with_shift-best.ensures _ _ c.args.allowed (omega (arith, kept, c.from.ensures)) c.loop-option.invariant (shift_in world _ _ _ _ _ _ machines c.requires.shift process c.target-to.ensures.value)

@@ -1,19 +1,18 @@
-use Rattle.ra_plan.proofs.Bests.{best_broken, judged_in, weighed_at}
+-- The cost below the bound of the best so far.
+use Rattle.std.proofs.Common.{◌≡◌, ◌∙◌, ap, subst, arith}
+use Rattle.ra_shift.specs.Arriving.{IsCostBelow}
+use Rattle.ra_plan.specs.Choosing.{bound_of}
 use Rattle.ra_plan.proofs.shifts.with_shift.Goals as goal
 
-pub returns-then-not-fits : goal.returns-then-not-fits
-returns-then-not-fits c = λ x d is same.
-    let fitting = rw c.requires.world at c.fits.ensures in
-    best_broken c.args.world.now x d _ _ _ _ _ fitting c.if-not-fits.true is same
+pub cost_below-requires-clause-machine : goal.cost_below-requires-clause-machine
+cost_below-requires-clause-machine c = rw c.requires.world c.requires.machine
 
-pub verdict-requires : goal.verdict-requires
-verdict-requires c = record { some = record { steps = _; offered = c.requires.offered; is = rw c.requires.world at c.weighed-weighed.ensures } }
+pub cost_below-requires-clause-bound : goal.cost_below-requires-clause-bound
+cost_below-requires-clause-bound c = omega (arith, c.bound.ensures, c.requires.bound)
 
 pub returns : goal.returns
-returns c = λ x d is same.
+returns c = λ x d allowed most is same.
     let world = c.args.world.now in
-    let weighing = rw c.requires.world at c.weighed-weighed.ensures in
-    let judged = c.verdict.ensures _ c.requires.offered weighing in
-    c.consider.ensures world x d c.args.allowed is
-    (judged_in world x d _ _ _ _ same judged)
-    (weighed_at world x d _ _ _ same weighing)
+    let below = rw c.requires.world at c.cost_below.ensures in
+    c.or_found.ensures world x d allowed c.args.shift.now.process.0 c.args.to.0 is same
+    (subst (λ b. IsCostBelow world c.args.shift.now.process.0 c.args.to.0 b c.cost_below.result) (c.bound.ensures ∙ ap (bound_of c.args.best.cost) most) below)
