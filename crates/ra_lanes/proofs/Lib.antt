@@ -1,3 +1,4 @@
 pub mod LaneLemmas
+pub mod RingLemmas
 pub mod SumLemmas
 pub mod WindowLemmas

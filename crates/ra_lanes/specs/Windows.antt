@@ -1,5 +1,5 @@
 -- What is asked of rows of numbers and not there, for one machine, and with it what its way costs.
-use Rattle.std.specs.Prelude.{◌≡◌, ℕ, ◌+◌, ◌-◌, ◌*◌, ◌<◌, List, [], ◌∷◌, ◌⊎◌, length, slice_index}
+use Rattle.std.specs.Prelude.{◌≡◌, ℕ, ◌+◌, ◌-◌, ◌*◌, ◌%◌, ◌<◌, List, [], ◌∷◌, ◌⊎◌, length, slice_index}
 use Rattle.ra_lanes.specs.declared.windows.Term.{Term}
 
 -- the sum, over the terms, of what the number at a place of the term's row lacks of the term's amount
@@ -24,3 +24,8 @@ IsSumOrLarge limit said sum = (said ≡ sum) ⊎ ((limit < said) × (limit < sum
 pub record HasLanes (lanes : List ℕ) (f : ℕ → ℕ) : Type 0 where
   pub many : length lanes ≡ 16
   pub each : (k : ℕ) → k < 16 → slice_index lanes k ≡ f k
+
+-- the numbers of a ring from start on, n of them: after its last number comes its first
+pub record IsRingPart (ring : List ℕ) (start n : ℕ) (part : List ℕ) : Type 0 where
+  pub many : length part ≡ n
+  pub each : (k : ℕ) → k < n → slice_index part k ≡ slice_index ring ((start + k) % length ring)

@@ -2,6 +2,8 @@
 #![tactic(auto)]
 
 mod lanes;
+mod rings;
 mod windows;
 
+pub use rings::ring_part;
 pub use windows::{Term, window};
