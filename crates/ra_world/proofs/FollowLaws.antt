@@ -14,6 +14,7 @@ use Rattle.ra_model.proofs.BoundLemmas.{load_under, balance_under, process_under
 use Rattle.ra_rows.specs.Rows as rows
 use Rattle.ra_cells.specs.Stands as cells
 use Rattle.ra_world.specs.declared.kept.Kept.{Kept}
+use Rattle.ra_world.specs.FilterTables.{IsRowTable}
 use Rattle.ra_world.specs.Costs.{AreCosts, AreSmall}
 use Rattle.ra_world.specs.Keeping.{Keeps}
 use Rattle.ra_world.proofs.CostLaws.{process_set, machine_set, process_counted, machine_counted}
@@ -142,17 +143,19 @@ all_parts kept i a0 p from to loads balances load balance process service machin
     }
 
 -- all that is kept is that of the new assignment
-pub keeps_on : (kept : Kept) (i : Tables) (a0 b : List Machine) → kept.assignment.items ≡ b → IsAssignment i b → kept.rows.tables ≡ i → kept.rows.start ≡ a0 → rows.StandFor kept.rows b → cells.StandFor kept.cells i a0 b → AreCosts kept.loads.items (machine_count i) (machine_load i b) → AreCosts kept.balances.items (machine_count i) (machine_balance i b) → kept.parts ≡ parts_of i a0 b → Keeps kept i a0
-keeps_on kept i a0 b is fits tables start rows_stand cells_stand loads balances parts =
+pub keeps_on : (kept : Kept) (i : Tables) (a0 b : List Machine) → kept.assignment.items ≡ b → IsAssignment i b → kept.rows.tables ≡ i → kept.rows.start ≡ a0 → rows.StandFor kept.rows b → cells.StandFor kept.cells i a0 b → AreCosts kept.loads.items (machine_count i) (machine_load i b) → AreCosts kept.balances.items (machine_count i) (machine_balance i b) → IsRowTable i b kept.filters.items → kept.parts ≡ parts_of i a0 b → Keeps kept i a0
+keeps_on kept i a0 b is fits tables start rows_stand cells_stand loads balances filters parts =
     let back = sym is in
     let Rows : List Machine → Type 0 = λ x. rows.StandFor kept.rows x in
     let Counters : List Machine → Type 0 = λ x. cells.StandFor kept.cells i a0 x in
     let Loads : List Machine → Type 0 = λ x. AreCosts kept.loads.items (machine_count i) (machine_load i x) in
     let Balances : List Machine → Type 0 = λ x. AreCosts kept.balances.items (machine_count i) (machine_balance i x) in
+    let Filters : List Machine → Type 0 = λ x. IsRowTable i x kept.filters.items in
     let Fits : List Machine → Type 0 = λ x. IsAssignment i x in
     record {
       stand = record { fits = subst Fits back fits; instance = tables; start = start; rows = subst Rows back rows_stand; cells = subst Counters back cells_stand };
       loads = subst Loads back loads;
       balances = subst Balances back balances;
+      filters = subst Filters back filters;
       parts = parts ∙ ap (parts_of i a0) back;
     }

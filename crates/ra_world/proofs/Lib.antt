@@ -3,3 +3,4 @@ pub mod RenewalLaws
 pub mod StepLaws
 pub mod FollowLaws
 pub mod RequiredLaws
+pub mod FilterTableLaws

@@ -44,7 +44,7 @@ unfolding machine_balance
 balance_from i a m row limits is = row_balance_same i m (slice_index row) (use_of i a m) limits is.each
 
 -- a machine that process p neither leaves nor enters is used as before
-use_kept : (i : Tables) (a : List Machine) (p : ℕ) (to : Machine) (m r : ℕ) → IsAssignment i a → p < process_count i → machine_at a p ≢ m → to.0 ≢ m → use_of i a m r ≡ use_of i (set a p to) m r
+pub use_kept : (i : Tables) (a : List Machine) (p : ℕ) (to : Machine) (m r : ℕ) → IsAssignment i a → p < process_count i → machine_at a p ≢ m → to.0 ≢ m → use_of i a m r ≡ use_of i (set a p to) m r
 use_kept i a p to m r fits within not_left not_entered = omega (arith, use_set i a p to m r fits within, use_elsewhere i m r p (machine_at a p) not_left, use_elsewhere i m r p to.0 not_entered)
 
 pub load_stays : (i : Tables) (a : List Machine) (p : ℕ) (to : Machine) (m : ℕ) → IsAssignment i a → p < process_count i → machine_at a p ≢ m → to.0 ≢ m → machine_load i a m ≡ machine_load i (set a p to) m

@@ -10,6 +10,7 @@ use Rattle.ra_rows.specs.Rows as rows
 use Rattle.ra_cells.specs.Stands as cells
 use Rattle.ra_world.specs.declared.kept.Kept.{Kept}
 use Rattle.ra_world.specs.Costs.{AreCosts}
+use Rattle.ra_world.specs.FilterTables.{IsRowTable}
 
 -- rows and counters of an instance and an initial assignment stand for an assignment
 pub record Stand (kept : Kept) (i : Tables) (a0 a : List Machine) : Type 0 where
@@ -25,4 +26,5 @@ pub record Keeps (kept : Kept) (i : Tables) (a0 : List Machine) : Type 0 where
   pub loads : AreCosts kept.loads.items (machine_count i) (machine_load i kept.assignment.items)
   pub balances :
       AreCosts kept.balances.items (machine_count i) (machine_balance i kept.assignment.items)
+  pub filters : IsRowTable i kept.assignment.items kept.filters.items
   pub parts : kept.parts ≡ parts_of i a0 kept.assignment.items

@@ -2,3 +2,4 @@ pub mod Costs
 pub mod Keeping
 pub mod Following
 pub mod Required
+pub mod FilterTables

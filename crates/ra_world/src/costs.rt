@@ -67,7 +67,7 @@ fn balance_share(inst: &Instance, m: Machine, row: &[u64], b: u32) -> u128
 
 /// What is left of one resource of a machine.
 #[tactic(auto, unfolding(ra_model::specs::MachineCosts::row_left))]
-fn row_left(inst: &Instance, m: Machine, row: &[u64], r: Resource) -> u64
+pub(crate) fn row_left(inst: &Instance, m: Machine, row: &[u64], r: Resource) -> u64
     requires machine { m.0 < machine_count inst.now.tables }
     requires resource { r.0 < resource_count inst.now.tables }
     requires width { length row.now ≡ resource_count inst.now.tables }

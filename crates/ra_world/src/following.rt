@@ -6,6 +6,7 @@ ghost use Rattle.ra_world.specs.Keeping.{Keeps};
 ghost use Rattle.ra_world.specs.Following.{AreSteps};
 
 use crate::changes::{machine_after, process_after, service_cost, summed};
+use crate::filters::renew_filters;
 use crate::kept::Kept;
 use crate::renewal::{renew_balances, renew_loads};
 use ra_base::{Assignment, Steps};
@@ -65,6 +66,7 @@ fn follow_step<L: Ledger>(
         step,
         kept.parts.balance,
     );
+    renew_filters(inst, &kept.rows, &mut kept.filters, step);
     let process = process_after(inst, start, step, kept.parts.process);
     let service = service_cost(inst, &kept.cells);
     let machine = machine_after(inst, start, step, kept.parts.machine);

@@ -14,6 +14,8 @@ pub(crate) struct Kept<'a> {
     pub(crate) loads: Fixed<u128>,
     /// The balance cost of each machine.
     pub(crate) balances: Fixed<u128>,
+    /// The filter rows of all machines.
+    pub(crate) filters: Fixed<u32>,
     /// The parts of its cost, and their sum.
     pub(crate) parts: Parts,
 }
@@ -27,6 +29,7 @@ impl Drop for Kept<'_> {
             cells: _,
             loads: _,
             balances: _,
+            filters: _,
             parts: _,
         } = self;
     }

@@ -4,6 +4,7 @@
 
 mod changes;
 mod costs;
+mod filters;
 mod following;
 mod kept;
 mod renewal;

@@ -10,8 +10,10 @@ ghost use Rattle.ra_moves.specs.Replacing.{applied};
 ghost use Rattle.ra_moves.specs.Judging.{broken_by};
 ghost use Rattle.ra_rows.specs.Rows as rows;
 ghost use Rattle.ra_cells.specs.Stands as cells;
+ghost use Rattle.ra_world.specs.FilterTables.{IsRowTable};
 ghost use Rattle.ra_world.specs.Keeping.{Keeps};
 
+use crate::filters::filters_of;
 use crate::following::follow;
 use crate::kept::Kept;
 use crate::renewal::{balances_of, loads_of};
@@ -143,6 +145,14 @@ impl<'a> World<'a> {
         self.kept.balances.get(m.0 as usize)
     }
 
+    /// The filter rows of all machines, row after row: what a machine has of each resource and for each balance objective
+    /// before a process that comes costs more there.
+    pub fn filter_rows(&self) -> &[u32]
+        ensures { IsRowTable self.now.inst.now.tables self.now.kept.assignment.items result.now }
+    {
+        self.kept.filters.as_slice()
+    }
+
     /// Follows a move that the judge refuses for no cause other than a rise of the cost. It reads the requirements of
     /// its processes, each once, whatever the number of all processes is.
     pub fn apply<L: Ledger>(&mut self, mv: &Move, steps: &mut Steps<L>)
@@ -183,12 +193,14 @@ fn kept_of<'a>(
     let cells = Cells::make(alloc, inst, a0)?;
     let loads = loads_of(alloc, inst, &rows)?;
     let balances = balances_of(alloc, inst, &rows)?;
+    let filters = filters_of(alloc, inst, &rows)?;
     Ok(Kept {
         assignment,
         rows,
         cells,
         loads,
         balances,
+        filters,
         parts,
     })
 }

@@ -2,6 +2,7 @@
 use Rattle.std.proofs.Common.{◌∙◌, set, arith}
 use Rattle.ra_model.proofs.TallyLemmas.{fits_set}
 use Rattle.ra_world.proofs.FollowLaws.{load_sum, balance_sum, load_fits, balance_fits, process_fits, machine_fits, process_part, machine_part, all_parts, parts_small, parts_summed, loads_renewed, balances_renewed, keeps_on}
+use Rattle.ra_world.proofs.FilterTableLaws.{alike_elsewhere}
 use Rattle.ra_world.proofs.following.follow_step.Goals as goal
 
 pub shift-requires-clause-process : goal.shift-requires-clause-process
@@ -42,6 +43,15 @@ renew_balances-balance-requires-clause-instance g c = c.shift.ensures.tables ∙
 
 pub renew_balances-balance-requires-clause-one_each : goal.renew_balances-balance-requires-clause-one_each
 renew_balances-balance-requires-clause-one_each g c = c.requires.keeps.balances.one_each
+
+pub renew_filters-requires-clause-from : goal.renew_filters-requires-clause-from
+renew_filters-requires-clause-from g c = omega (arith, c.requires.at_from, c.requires.keeps.stand.fits.in_range c.args.step.process.0 c.requires.process)
+
+pub renew_filters-requires-clause-instance : goal.renew_filters-requires-clause-instance
+renew_filters-requires-clause-instance g c = c.shift.ensures.tables ∙ c.requires.keeps.stand.instance
+
+pub renew_filters-requires-clause-grid : goal.renew_filters-requires-clause-grid
+renew_filters-requires-clause-grid g c = c.requires.keeps.filters.many
 
 pub machine_after-machine-requires-clause-from : goal.machine_after-machine-requires-clause-from
 machine_after-machine-requires-clause-from g c = omega (arith, c.requires.at_from, c.requires.keeps.stand.fits.in_range c.args.step.process.0 c.requires.process)
@@ -108,4 +118,5 @@ returns-clause-keeps g c =
     (c.shift.ensures.tables ∙ keeps.stand.instance) (c.shift.ensures.start ∙ keeps.stand.start) rows_stand cells_stand
     (loads_renewed kept i a0 p from to _ keeps c.requires.process c.requires.at_from c.requires.to loads_are)
     (balances_renewed kept i a0 p from to _ c.args.inst.now.well_formed keeps c.requires.process c.requires.at_from c.requires.to balances_are)
+    (c.renew_filters.ensures a b rows_stand (alike_elsewhere i a p from.0 to keeps.stand.fits c.requires.process c.requires.at_from) keeps.filters)
     (parts_summed i a0 b _ _ _ _ _ _ parts c.summed-kept.ensures)
