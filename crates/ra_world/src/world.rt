@@ -43,6 +43,8 @@ pub struct World<'a> {
 }
 
 impl<'a> World<'a> {
+    ghost use Rattle.ra_world.specs.Worlds.{instance_of, tables_of, topology_of, initial_of, start_of, assignment_of, here_of, rows_of, cells_of};
+
     /// The world of an initial assignment that is feasible, whose cost has these parts.
     pub fn make(
         alloc: Global,
@@ -55,10 +57,10 @@ impl<'a> World<'a> {
         requires topology { IsTopologyOf topo.now inst.now.tables }
         requires unbroken { first_broken inst.now.tables a0.now.items a0.now.items ≡ None }
         requires parts { start ≡ parts_of inst.now.tables a0.now.items a0.now.items }
-        ensures instance { IfOk result (λ world. world.inst.now ≡ inst.now) }
-        ensures topology { IfOk result (λ world. world.topo.now ≡ topo.now) }
-        ensures initial { IfOk result (λ world. world.start.now ≡ a0.now) }
-        ensures assignment { IfOk result (λ world. world.kept.assignment.items ≡ a0.now.items) }
+        ensures instance { IfOk result (λ world. instance_of world ≡ inst.now) }
+        ensures topology { IfOk result (λ world. topology_of world ≡ topo.now) }
+        ensures initial { IfOk result (λ world. initial_of world ≡ a0.now) }
+        ensures assignment { IfOk result (λ world. here_of world ≡ a0.now.items) }
     {
         let kept = kept_of(alloc, inst, a0, start)?;
         Ok(World {
@@ -71,8 +73,8 @@ impl<'a> World<'a> {
 
     /// The assignment that the world stands for.
     pub fn assignment(&self) -> &Assignment
-        ensures value { result.now ≡ self.now.kept.assignment }
-        ensures fits { IsAssignment self.now.inst.now.tables result.now.items }
+        ensures value { result.now ≡ assignment_of self.now }
+        ensures fits { IsAssignment (tables_of self.now) result.now.items }
     {
         &self.kept.assignment
     }
@@ -80,67 +82,67 @@ impl<'a> World<'a> {
     /// The parts of its cost.
     pub fn parts(&self) -> Parts
         ensures { result ≡
-            parts_of self.now.inst.now.tables self.now.start.now.items
-            self.now.kept.assignment.items }
+            parts_of (tables_of self.now) (start_of self.now)
+            (here_of self.now) }
     {
         self.kept.parts
     }
 
     /// The initial assignment.
     pub fn initial(&self) -> &'a Assignment
-        ensures { result.now ≡ self.now.start.now }
+        ensures { result.now ≡ initial_of self.now }
     {
         self.start
     }
 
     /// The rows of its use and of its transient use.
     pub fn rows(&self) -> &Rows<'a>
-        ensures value { result.now ≡ self.now.kept.rows }
-        ensures instance { result.now.tables ≡ self.now.inst.now.tables }
-        ensures initial { result.now.start ≡ self.now.start.now.items }
-        ensures stand { rows.StandFor result.now self.now.kept.assignment.items }
+        ensures value { result.now ≡ rows_of self.now }
+        ensures instance { result.now.tables ≡ tables_of self.now }
+        ensures initial { result.now.start ≡ start_of self.now }
+        ensures stand { rows.StandFor result.now (here_of self.now) }
     {
         &self.kept.rows
     }
 
     /// The counters of its services.
     pub fn cells(&self) -> &Cells<'a>
-        ensures value { result.now ≡ self.now.kept.cells }
-        ensures instance { result.now.inst.now.tables ≡ self.now.inst.now.tables }
-        ensures stand { cells.StandFor result.now self.now.inst.now.tables self.now.start.now.items
-            self.now.kept.assignment.items }
+        ensures value { result.now ≡ cells_of self.now }
+        ensures instance { result.now.inst.now.tables ≡ tables_of self.now }
+        ensures stand { cells.StandFor result.now (tables_of self.now) (start_of self.now)
+            (here_of self.now) }
     {
         &self.kept.cells
     }
 
     /// The instance.
     pub fn instance(&self) -> &'a Instance
-        ensures { result.now ≡ self.now.inst.now }
+        ensures { result.now ≡ instance_of self.now }
     {
         self.inst
     }
 
     /// The topology of the instance.
     pub fn topology(&self) -> &'a Topology
-        ensures { result.now ≡ self.now.topo.now }
+        ensures { result.now ≡ topology_of self.now }
     {
         self.topo
     }
 
     /// What a machine adds to the load cost.
     pub fn machine_load(&self, m: Machine) -> u128
-        requires { m.0 < machine_count self.now.inst.now.tables }
+        requires { m.0 < machine_count (tables_of self.now) }
         ensures { result ≡
-            machine_load self.now.inst.now.tables self.now.kept.assignment.items m.0 }
+            machine_load (tables_of self.now) (here_of self.now) m.0 }
     {
         self.kept.loads.get(m.0 as usize)
     }
 
     /// What a machine adds to the balance cost.
     pub fn machine_balance(&self, m: Machine) -> u128
-        requires { m.0 < machine_count self.now.inst.now.tables }
+        requires { m.0 < machine_count (tables_of self.now) }
         ensures { result ≡
-            machine_balance self.now.inst.now.tables self.now.kept.assignment.items m.0 }
+            machine_balance (tables_of self.now) (here_of self.now) m.0 }
     {
         self.kept.balances.get(m.0 as usize)
     }
@@ -148,7 +150,7 @@ impl<'a> World<'a> {
     /// The filter rows of all machines, row after row: what a machine has of each resource and for each balance objective
     /// before a process that comes costs more there.
     pub fn filter_rows(&self) -> &[u32]
-        ensures { IsRowTable self.now.inst.now.tables self.now.kept.assignment.items result.now }
+        ensures { IsRowTable (tables_of self.now) (here_of self.now) result.now }
     {
         self.kept.filters.as_slice()
     }
@@ -156,19 +158,19 @@ impl<'a> World<'a> {
     /// Follows a move that the judge refuses for no cause other than a rise of the cost. It reads the requirements of
     /// its processes, each once, whatever the number of all processes is.
     pub fn apply<L: Ledger>(&mut self, mv: &Move, steps: &mut Steps<L>)
-        requires at_from { StandsAt from_in mv.now.steps self.old.kept.assignment.items }
+        requires at_from { StandsAt from_in mv.now.steps (here_of self.old) }
         requires to { (j : ℕ) → j < length mv.now.steps →
-            to_in mv.now.steps j < machine_count self.old.inst.now.tables }
-        requires unbroken { broken_by self.old.inst.now.tables self.old.start.now.items
-            self.old.kept.assignment.items mv.now.steps ≡ None }
-        ensures assignment { self.new.kept.assignment.items ≡
-            applied self.old.kept.assignment.items mv.now.steps }
-        ensures instance { self.new.inst.now ≡ self.old.inst.now }
-        ensures topology { self.new.topo.now ≡ self.old.topo.now }
-        ensures initial { self.new.start.now ≡ self.old.start.now }
+            to_in mv.now.steps j < machine_count (tables_of self.old) }
+        requires unbroken { broken_by (tables_of self.old) (start_of self.old)
+            (here_of self.old) mv.now.steps ≡ None }
+        ensures assignment { here_of self.new ≡
+            applied (here_of self.old) mv.now.steps }
+        ensures instance { instance_of self.new ≡ instance_of self.old }
+        ensures topology { topology_of self.new ≡ topology_of self.old }
+        ensures initial { initial_of self.new ≡ initial_of self.old }
         ensures counted { steps.new ≡
-            steps.old + length mv.now.steps * resource_count self.old.inst.now.tables }
-        ensures at_most { steps.new ≤ steps.old + 3 * resource_count self.old.inst.now.tables }
+            steps.old + length mv.now.steps * resource_count (tables_of self.old) }
+        ensures at_most { steps.new ≤ steps.old + 3 * resource_count (tables_of self.old) }
     {
         let inst = self.inst;
         let start = self.start;
