@@ -19,7 +19,7 @@ use Rattle.ra_turn.specs.Notes.{by, IsNews, ShutBy}
 use Rattle.ra_turn.specs.Locks.{Locks}
 use Rattle.ra_turn.specs.Law.{AtTicket, Scene, Kept, Ruled, Fits, Knows, AtHome, OutWith, left_of}
 use Rattle.ra_turn.specs.Stages.{IsPass, HasTicket, IsServed, HasSlot}
-use Rattle.ra_turn.specs.Steps.{with_stage, with_seen, with_ticket, peeked, drawn, looked, saw}
+use Rattle.ra_turn.specs.Steps.{with_stage, with_seen, with_ticket, peeked, drawn, queued, looked, saw}
 use Rattle.std.proofs.lemmas.Bool.Decides.{nat_tests}
 use Rattle.ra_turn.proofs.Lists.{prefix_self, sum_has, at_below, all_first}
 use Rattle.ra_turn.proofs.Stages.{slot_served, served_ticket, pass_live}
@@ -107,19 +107,14 @@ module _ {V N O : Type 0} (opening : V → O) (notes : V → List N) (author : N
         (refl, few),
       )
 
-  -- a try to draw a ticket
-  draws_at : (slots i : ℕ) (m : Me (Option V) (Sight N O)) (old : ℕ) (s : State (Option V) (Sight N O)) → m.0.stage ≡ Idle → 0 < m.0.left → (r : Rule s) → get_elem? s.views i ≡ some m.0
-      → (b : Bool) → (r.scene.ticket == old) ≡ b
-      → (w : Sight N O) × (a : Act (Option V)) × Valid s.homes m.1 a
-      × Rule (record { words = either (r.scene.ticket == old) (old + 1) r.scene.ticket ∷ r.scene.serving ∷ length r.scene.history ∷ r.guard_words; homes = homes_after s.homes m.1 a; views = set s.views i w })
-      × drawn (step slots 0 old (old + 1) none) m r.scene.ticket (w, carried_after m.1 a)
-  draws_at slots i m old s idle more r at true e =
+  -- the next ticket is drawn: the rule holds with the ticket word one more
+  one_drawn : (slots i : ℕ) (m : Me (Option V) (Sight N O)) (next : ℕ) (s : State (Option V) (Sight N O)) → m.0.stage ≡ Idle → 0 < m.0.left → (r : Rule s) → get_elem? s.views i ≡ some m.0
+      → next ≡ r.scene.ticket + 1
+      → Rule (record { words = next ∷ r.scene.serving ∷ length r.scene.history ∷ r.guard_words; homes = s.homes; views = set s.views i (with_ticket m.0 r.scene.ticket) })
+  one_drawn slots i m next s idle more r at raised =
       let k = r.kept in let c = r.scene in let v = m.0 in
-      let found : c.ticket ≡ old = grind (arith, nat_tests) in
-      let raised : either (c.ticket == old) (old + 1) c.ticket ≡ c.ticket + 1 = ap (λ (b : Bool). either b (old + 1) c.ticket) e ∙ omega arith in
       let c' : Scene N = record c { ticket = c.ticket + 1; queue = λ t. cond (t == c.ticket) i (c.queue t) } in
       let w : Sight N O = with_ticket v c.ticket in
-      let m' : Me (Option V) (Sight N O) = (w, m.1) in
       let kv = k.each i v at in
       let pass : IsPass v.stage = subst IsPass (sym idle) tt in
       let mine : Known c' s.homes i w = record {
@@ -146,20 +141,33 @@ module _ {V N O : Type 0} (opening : V → O) (notes : V → List N) (author : N
       (w, (tt, sym e), ap (get_elem? (set s.views i w)) mine ∙ set_here s.views i w (at_below s.views i v at))))
       (λ ne. (let theirs : c'.queue t ≡ c.queue t = ap (λ (b : Bool). cond b i (c.queue t)) (ne_eqb t c.ticket ne) in
       let g = waits_stay opening notes author passes turns o c r.guard_words s i v w k at (λ q h. absurd (subst HasTicket idle h.0)) t from (omega arith) in
-      (g.0, g.1, ap (get_elem? (set s.views i w)) theirs ∙ g.2))) in (
-        w,
+      (g.0, g.1, ap (get_elem? (set s.views i w)) theirs ∙ g.2))) in
+      record {
+        scene = c';
+        guard_words = r.guard_words;
+        kept = moved opening notes author passes turns o c c' r.guard_words r.guard_words s i v w _ s.homes k at
+            (ap (λ (n : ℕ). n ∷ c.serving ∷ length c.history ∷ r.guard_words) raised)
+            (let h = k.order in omega arith) (omega arith) k.numbers refl (λ n. refl) (λ n h. (tt, h.1)) waits k.unheard
+            (slot_stays opening notes author passes turns o c.history c.serving s.homes s.views i v w at (subst (λ (x : Stage). ¬ HasSlot x) (sym idle) (λ h. h)) k.slot)
+            mine others;
+        locks = locks_view author touches o guards c.history r.guard_words s.views i v w r.locks at refl refl (λ h. tt) (r.locks.news i v at);
+      }
+
+  -- a try to draw a ticket
+  draws_at : (slots i : ℕ) (m : Me (Option V) (Sight N O)) (old : ℕ) (s : State (Option V) (Sight N O)) → m.0.stage ≡ Idle → 0 < m.0.left → (r : Rule s) → get_elem? s.views i ≡ some m.0
+      → (b : Bool) → (r.scene.ticket == old) ≡ b
+      → (w : Sight N O) × (a : Act (Option V)) × Valid s.homes m.1 a
+      × Rule (record { words = either (r.scene.ticket == old) (old + 1) r.scene.ticket ∷ r.scene.serving ∷ length r.scene.history ∷ r.guard_words; homes = homes_after s.homes m.1 a; views = set s.views i w })
+      × drawn (step slots 0 old (old + 1) none) m r.scene.ticket (w, carried_after m.1 a)
+  draws_at slots i m old s idle more r at true e =
+      let c = r.scene in
+      let found : c.ticket ≡ old = grind (arith, nat_tests) in
+      let raised : either (c.ticket == old) (old + 1) c.ticket ≡ c.ticket + 1 = ap (λ (b : Bool). either b (old + 1) c.ticket) e ∙ omega arith in
+      let m' : Me (Option V) (Sight N O) = (with_ticket m.0 c.ticket, m.1) in (
+        m'.0,
         keeps,
         tt,
-        record {
-          scene = c';
-          guard_words = r.guard_words;
-          kept = moved opening notes author passes turns o c c' r.guard_words r.guard_words s i v w _ s.homes k at
-              (ap (λ (n : ℕ). n ∷ c.serving ∷ length c.history ∷ r.guard_words) raised)
-              (let h = k.order in omega arith) (omega arith) k.numbers refl (λ n. refl) (λ n h. (tt, h.1)) waits k.unheard
-              (slot_stays opening notes author passes turns o c.history c.serving s.homes s.views i v w at (subst (λ (x : Stage). ¬ HasSlot x) (sym idle) (λ h. h)) k.slot)
-              mine others;
-          locks = locks_view author touches o guards c.history r.guard_words s.views i v w r.locks at refl refl (λ h. tt) (r.locks.news i v at);
-        },
+        one_drawn slots i m _ s idle more r at raised,
         subst (λ (b : Bool). MatchBool b (m' ≡ m') (m' ≡ m)) (sym e) refl,
       )
   draws_at slots i m old s idle more r at false e =
@@ -184,6 +192,17 @@ module _ {V N O : Type 0} (opening : V → O) (notes : V → List N) (author : N
       × Rule (record { words = set ws 0 (either (get_or ws 0 0 == old) (old + 1) (get_or ws 0 0)); homes = homes_after s.homes m.1 a; views = set s.views i w' })
       × drawn (step slots 0 old (old + 1) none) m (get_or ws 0 0) (w', carried_after m.1 a) in
       subst P (sym r.kept.words) (draws_at slots i m old s idle more r at (r.scene.ticket == old) refl)
+
+  -- a ticket is drawn behind those that wait
+  pub queues : (slots i : ℕ) (m : Me (Option V) (Sight N O)) → passes * turns < 2 ^ 62 → m.0.stage ≡ Idle → 0 < m.0.left
+      → Allows Rule slots i m 0 (λ n. (n + 1) % 2 ^ 64) (queued (step slots 0 1 0 none) m)
+  queues slots i m small idle more s r len at fits =
+      let few = few_turns r.scene r.guard_words s i m.0 r.kept at in
+      let raised : (r.scene.ticket + 1) % 2 ^ 64 ≡ r.scene.ticket + 1 = mod-eq_of_lt (omega arith) in
+      let P : List ℕ → Type 0 = λ ws. (w' : Sight N O) × (a : Act (Option V)) × Valid s.homes m.1 a
+      × Rule (record { words = set ws 0 ((get_or ws 0 0 + 1) % 2 ^ 64); homes = homes_after s.homes m.1 a; views = set s.views i w' })
+      × queued (step slots 0 1 0 none) m (get_or ws 0 0) (w', carried_after m.1 a) in
+      subst P (sym r.kept.words) (with_ticket m.0 r.scene.ticket, keeps, tt, one_drawn slots i m _ s idle more r at raised, refl)
 
   -- the ticket that is served is one seat's
   pub served_one : (c : Scene N) (homes : List (maybe.Option (Option V))) (i j : ℕ) (v u : Sight N O) → Known c homes i v → Known c homes j u → IsServed v.stage → IsServed u.stage → i ≡ j

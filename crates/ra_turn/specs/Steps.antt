@@ -106,6 +106,11 @@ module _ {V N O : Type 0} where
       → Type 0
   drawn s m n m' = MatchBool (n == s.first) (m' ≡ (with_ticket (view m) n, slots m)) (m' ≡ m)
 
+  -- a ticket is drawn, and is the word that was found
+  abbrev pub queued : Step (Option V) → Me (Option V) (Sight N O) → ℕ → Me (Option V) (Sight N O)
+      → Type 0
+  queued s m n m' = m' ≡ (with_ticket (view m) n, slots m)
+
   -- it is its turn exactly where the word is its ticket
   abbrev pub looked : Step (Option V) → Me (Option V) (Sight N O) → ℕ → Me (Option V) (Sight N O)
       → Type 0

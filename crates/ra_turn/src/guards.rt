@@ -8,10 +8,10 @@ ghost use Rattle.ra_turn.specs.Steps.{with_news, heard, Took, Gave};
 ghost use Rattle.ra_turn.specs.Holds.{OnlyHolds, IsAnswerAt};
 
 use crate::law::{Desk, Place};
+use crate::patience::Patience;
 use crate::plays::{Glance, Grasp, Release};
 use crate::story::Story;
 use std::sync::Wait;
-use std::thread;
 
 const FIRST_GUARD: usize = 3;
 
@@ -100,11 +100,12 @@ pub(crate) fn hold_guard<V: Story, R: Wait>(
     ensures answer { IsAnswerAt V.author V.touches guard version (view seat.old.me).grips
         (view seat.new.me) result }
 {
+    let mut patience = Patience::make();
     for _ in rt.forever() {
         if let Some(answer) = try_hold(desk, seat, guard, version) {
             return answer;
         }
-        thread::yield_now();
+        patience.pause();
     }
     unreachable!()
 }

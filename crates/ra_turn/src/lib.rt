@@ -6,6 +6,7 @@ mod guards;
 mod law;
 mod make;
 mod pass;
+mod patience;
 mod plays;
 mod sight;
 mod steps;

@@ -1,5 +1,5 @@
 //! What each step on the table tells its seat.
-ghost use Rattle.ra_turn.specs.Steps.{peeked, drawn, looked, saw, noted, served, glanced, gripped, released, cut_left, cut_right, joined, spent};
+ghost use Rattle.ra_turn.specs.Steps.{peeked, drawn, queued, looked, saw, noted, served, glanced, gripped, released, cut_left, cut_right, joined, spent};
 
 use crate::sight::Sight;
 use crate::story::Story;
@@ -17,6 +17,13 @@ pub(crate) struct Draw;
 
 impl<V: Story> Play<Option<V>, Sight<V::Note, V::Opening>> for Draw {
     ghost then = { drawn };
+}
+
+/// A ticket is drawn, whether or not others wait before it.
+pub(crate) struct Queue;
+
+impl<V: Story> Play<Option<V>, Sight<V::Note, V::Opening>> for Queue {
+    ghost then = { queued };
 }
 
 /// A look at whose turn it is.

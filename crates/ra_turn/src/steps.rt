@@ -8,16 +8,19 @@ ghost use Rattle.ra_turn.specs.Seats.{IsSized, IsSameSeat};
 ghost use Rattle.ra_turn.specs.Steps.{with_stage, with_seen, with_ticket, Shows, IsShut, IsTold};
 
 use crate::law::{Desk, Place};
-use crate::plays::{Count, Draw, Look, Peek, See, Serve};
+use crate::patience::Patience;
+use crate::plays::{Count, Draw, Look, Peek, Queue, See, Serve};
 use crate::story::Story;
 use std::sync::Wait;
-use std::thread;
 
 const TICKET: usize = 0;
 
 const SERVING: usize = 1;
 
 const COUNT: usize = 2;
+
+/// How often a pass looks for a turn that is free before it queues up.
+const LOOKS: usize = 1_000;
 
 /// Draws the next ticket where the ticket word is the one given, and says whether it did.
 fn try_draw<V: Story>(desk: &Desk<V>, seat: &mut Place<V>, ticket: u64) -> bool
@@ -33,23 +36,37 @@ fn try_draw<V: Story>(desk: &Desk<V>, seat: &mut Place<V>, ticket: u64) -> bool
     desk.compare_exchange::<Draw>(seat, TICKET, ticket, ticket + 1) == ticket
 }
 
-/// Draws a ticket where it is served at once, and else gives the processor to others and tries again; returns it. So
-/// nobody waits behind a worker that has drawn one and doesn't run; behind one that is in its turn, all wait.
-pub(crate) fn draw<V: Story, R: Wait>(rt: &R, desk: &Desk<V>, seat: &mut Place<V>) -> u64
+/// Draws the next ticket, behind those that wait.
+fn queue<V: Story>(desk: &Desk<V>, seat: &mut Place<V>) -> u64
     requires table { (seat.old.table_id ≡ desk.now.table_id) ×
         IsSized desk.now.table_id desk.now.key }
     requires idle { ((view seat.old.me).stage ≡ Idle) × (0 < (view seat.old.me).left) }
     ensures same { IsSameSeat seat.old seat.new }
     ensures view { seat.new.me ≡ (with_ticket (view seat.old.me) result, slots seat.old.me) }
 {
-    for _ in rt.forever() {
+    desk.fetch_add::<Queue>(seat, TICKET, 1)
+}
+
+/// Draws a ticket, and returns it. It looks first, and draws where the ticket would be served at once: so nobody waits
+/// behind a worker that has drawn one and doesn't run. After `LOOKS` looks that found others in their turns it queues
+/// up, so that its turn comes after those that are before it then.
+pub(crate) fn draw<V: Story>(desk: &Desk<V>, seat: &mut Place<V>) -> u64
+    requires table { (seat.old.table_id ≡ desk.now.table_id) ×
+        IsSized desk.now.table_id desk.now.key }
+    requires idle { ((view seat.old.me).stage ≡ Idle) × (0 < (view seat.old.me).left) }
+    ensures same { IsSameSeat seat.old seat.new }
+    ensures view { seat.new.me ≡ (with_ticket (view seat.old.me) result, slots seat.old.me) }
+{
+    let mut patience = Patience::make();
+    for _ in 0..LOOKS {
+        let next = desk.peek(TICKET);
         let serving = desk.load::<Peek>(seat, SERVING);
-        if try_draw(desk, seat, serving) {
+        if next == serving && try_draw(desk, seat, serving) {
             return serving;
         }
-        thread::yield_now();
+        patience.pause();
     }
-    unreachable!()
+    queue(desk, seat)
 }
 
 /// Waits until the ticket is served.
@@ -60,11 +77,12 @@ pub(crate) fn wait<V: Story, R: Wait>(rt: &R, desk: &Desk<V>, seat: &mut Place<V
     ensures same { IsSameSeat seat.old seat.new }
     ensures view { seat.new.me ≡ (with_stage (view seat.old.me) Called, slots seat.old.me) }
 {
+    let mut patience = Patience::make();
     for _ in rt.forever() {
         if desk.load::<Look>(seat, SERVING) == ticket {
             return;
         }
-        thread::yield_now();
+        patience.pause();
     }
     unreachable!()
 }

@@ -39,7 +39,7 @@ impl<V: Story> Turn<V> {
             SeesNews self.now pass.new }
     {
         let desk = &self.table.shared;
-        let ticket = draw(rt, desk, &mut pass.seat);
+        let ticket = draw(desk, &mut pass.seat);
         pass.left -= 1;
         wait(rt, desk, &mut pass.seat, ticket);
         let (seen, value) = see(desk, &mut pass.seat);
