@@ -8,7 +8,7 @@ use Rattle.ra_base.specs.declared.ids.Guard.TheVariants as guard
 use Rattle.ra_base.specs.declared.ids.Machine.{Machine}
 use Rattle.ra_base.specs.declared.ids.Service.{Service}
 use Rattle.ra_guards.specs.VersionTable.{VersionTable}
-use Rattle.ra_guards.specs.Kept.{HasGuard, version_in, AreZero, IsSet, IsTouched}
+use Rattle.ra_guards.specs.Kept.{HasGuard, version_in, AreAtMost, AreZero, IsSet, IsTouched}
 use Rattle.ra_guards.specs.Order.{guard_at}
 
 abbrev table : List ℕ → List ℕ → VersionTable
@@ -30,6 +30,9 @@ zeros_at : (m n : ℕ) (g : Guard) → version_in (table (zeros_of m) (zeros_of 
 unfolding version_in
 zeros_at m n (guard.Machine k) = zero_at m k.0
 zeros_at m n (guard.Service k) = zero_at n k.0
+
+pub zeros_at_most : (m n : ℕ) (machines services : List ℕ) → machines ≡ zeros_of m → services ≡ zeros_of n → AreAtMost 0 (table machines services)
+zeros_at_most m n machines services e f g = rw (e, f) (omega (arith, zeros_at m n g))
 
 pub zeros : (m n : ℕ) (machines services : List ℕ) → machines ≡ zeros_of m → services ≡ zeros_of n → AreZero m n (table machines services)
 zeros m n machines services all_machines all_services = rw (all_machines, all_services) (record {
@@ -114,6 +117,16 @@ same_guard (guard.Machine m) (guard.Machine n) = ⊎_elim (λ (same : m.0 ≡ n.
 same_guard (guard.Machine m) (guard.Service s) = inr (λ same. absurd (cc))
 same_guard (guard.Service s) (guard.Machine m) = inr (λ same. absurd (cc))
 same_guard (guard.Service s) (guard.Service t) = ⊎_elim (λ (same : s.0 ≡ t.0). inl (ap (λ (k : ℕ). guard.Service (record { 0 = k })) same)) (λ (apart : s.0 ≢ t.0). inr (λ same. apart (service_number s t same))) (cases_eq s.0 t.0)
+
+-- no version is above n after a guard was set to at most n, where none was before
+pub still_at_most : (a b : VersionTable) (g : Guard) (x newest n : ℕ) → IsSet a b g x → AreAtMost newest a → newest ≤ n → x ≤ n → AreAtMost n b
+still_at_most a b g x newest n change most old new h = ⊎_elim
+    (λ same. omega (arith, ap (version_in b) same, change.set, new))
+    (λ other. omega (arith, change.kept h other, most h, old))
+    (same_guard h g)
+
+pub none_above : (v : VersionTable) (newest n : ℕ) → AreAtMost newest v → newest ≤ n → AreAtMost n v
+none_above v newest n most within g = omega (arith, most g, within)
 
 still_has : (a b : VersionTable) (guards : List Guard) (x : ℕ) (g : Guard) → IsTouched a b guards x → HasGuard a g → HasGuard b g
 unfolding HasGuard

@@ -21,9 +21,20 @@ use Rattle.ra_moves.specs.Touched.{ends_at, service_in, moves_service, reads_ser
 use Rattle.ra_guards.specs.declared.newest.Newer.{Newer}
 use Rattle.ra_guards.specs.Guards.{AreWithin, writes, reads, is_guard}
 use Rattle.ra_guards.specs.Order.{IsKnown, number_in, guard_of}
+use Rattle.ra_guards.specs.VersionTable.{VersionTable}
+use Rattle.ra_guards.specs.Kept.{version_in, AreAtMost}
 use Rattle.ra_guards.specs.Newest.{newer_at, first_that, first_newer, first_newer_read, reads_only, newer_of}
 use Rattle.ra_guards.specs.Lowest.{IsFirstNumber, IsLower, lowered, IsReadOf, IsReadIn, IsReadBy, IsReadBelow, IsWrittenBy, IsWrittenBelow}
 use Rattle.ra_guards.proofs.OrderLemmas.{guard_below, guard_above, guard_number}
+
+-- no guard at all has a version above q
+pub all_old : (i : Tables) (test : Guard → Bool) (v : Guard → ℕ) (q n : ℕ) → ((g : Guard) → v g ≤ q) → n ≡ machine_count i + service_count i → IsFirstNumber i test v q n
+all_old i test v q n old is = record {
+  within = omega (arith, is);
+  least = λ g known passes newer. absurd (omega (arith, old g, newer));
+  passes = λ below. absurd (omega (arith, below, is));
+  newer = λ below. absurd (omega (arith, below, is));
+}
 
 -- lowering by no guard, by one, and by those of two groups
 
@@ -322,6 +333,17 @@ first_is i steps v q n r first_at is = is ∙ sym (first_that_is i (is_guard i s
 pub first_read_is : (i : Tables) (steps : List Step) (v : Guard → ℕ) (q n : ℕ) (r : Option Newer) → IsFirstNumber i (reads_only i steps) v q n → r ≡ newer_of i v n → r ≡ first_newer_read i steps v q
 unfolding first_newer_read
 first_read_is i steps v q n r first_at is = is ∙ sym (first_that_is i (reads_only i steps) v q n first_at)
+
+-- past all guards there is none
+past_all : (i : Tables) (v : Guard → ℕ) → newer_of i v (machine_count i + service_count i) ≡ None
+unfolding newer_of
+past_all i v = cond-false _ _ _ (le-ltb (machine_count i + service_count i) (machine_count i + service_count i) (omega arith))
+
+pub first_none : (i : Tables) (steps : List Step) (t : VersionTable) (q : ℕ) → AreAtMost q t → None ≡ first_newer i steps (version_in t) q
+first_none i steps t q old = first_is i steps (version_in t) q _ None (all_old i (is_guard i steps) (version_in t) q _ old refl) (sym (past_all i (version_in t)))
+
+pub first_read_none : (i : Tables) (steps : List Step) (t : VersionTable) (q : ℕ) → AreAtMost q t → None ≡ first_newer_read i steps (version_in t) q
+first_read_none i steps t q old = first_read_is i steps (version_in t) q _ None (all_old i (reads_only i steps) (version_in t) q _ old refl) (sym (past_all i (version_in t)))
 
 -- a service, as it is looked at
 

@@ -1,5 +1,5 @@
 -- Versions that are kept in a table, entry after entry.
-use Rattle.std.specs.Prelude.{◌≡◌, ◌≢◌, ℕ, ◌<◌, List, length, Option, slice_index_or, Contains}
+use Rattle.std.specs.Prelude.{◌≡◌, ◌≢◌, ℕ, ◌<◌, ◌≤◌, List, length, Option, slice_index_or, Contains}
 use Rattle.ra_base.specs.declared.ids.Guard.{Guard}
 use Rattle.ra_base.specs.declared.ids.Guard.TheVariants as guard
 use Rattle.ra_model.specs.declared.raw.Tables.{Tables}
@@ -18,6 +18,10 @@ HasGuard v (guard.Service s) = s.0 < length v.services
 unfoldable pub version_in : VersionTable → Guard → ℕ
 version_in v (guard.Machine m) = slice_index_or v.machines m.0 0
 version_in v (guard.Service s) = slice_index_or v.services s.0 0
+
+-- no guard has a version above n
+abbrev pub AreAtMost : ℕ → VersionTable → Type 0
+AreAtMost n v = (g : Guard) → version_in v g ≤ n
 
 -- a table for so many machines and services, with each version 0
 pub record AreZero (machines services : ℕ) (v : VersionTable) : Type 0 where

@@ -24,8 +24,9 @@ pub struct Newer {
     pub at: u64,
 }
 
-/// The first of a move's guards, in guard order, that has a version above q.
-#[tactic(auto, using(crate::proofs::LowestLemmas::first_is))]
+/// The first of a move's guards, in guard order, that has a version above q. It answers at once if no guard at all has
+/// one, and else in the time of the move's guards and of the needs and dependants of its services.
+#[tactic(auto, using(crate::proofs::LowestLemmas::first_is, crate::proofs::LowestLemmas::first_none))]
 pub fn first_newer(
     topo: &Topology,
     inst: &Instance,
@@ -38,11 +39,15 @@ pub fn first_newer(
     requires sized { IsTableOf inst.now.tables versions.now }
     ensures { result ≡ first_newer inst.now.tables mv.now.steps (version_in versions.now) q }
 {
+    if versions.is_at_most(q) {
+        return None;
+    }
     newer_of(inst, versions, least_guard(topo, inst, mv, versions, q))
 }
 
-/// The first, in guard order, of a move's guards that aren't write guards, that has a version above q.
-#[tactic(auto, using(crate::proofs::LowestLemmas::first_read_is))]
+/// The first, in guard order, of a move's guards that aren't write guards, that has a version above q. Its time is as
+/// that of `first_newer`.
+#[tactic(auto, using(crate::proofs::LowestLemmas::first_read_is, crate::proofs::LowestLemmas::first_read_none))]
 pub fn first_newer_read(
     topo: &Topology,
     inst: &Instance,
@@ -55,6 +60,9 @@ pub fn first_newer_read(
     requires sized { IsTableOf inst.now.tables versions.now }
     ensures { result ≡ first_newer_read inst.now.tables mv.now.steps (version_in versions.now) q }
 {
+    if versions.is_at_most(q) {
+        return None;
+    }
     newer_of(inst, versions, least_read(topo, inst, mv, versions, q))
 }
 

@@ -1,5 +1,5 @@
-ghost use Rattle.std.specs.Prelude.{◌≡◌, All, IfOk};
-ghost use Rattle.ra_guards.specs.Kept.{HasGuard, version_in, AreZero, IsSet, IsTouched};
+ghost use Rattle.std.specs.Prelude.{◌≡◌, true, All, IfOk};
+ghost use Rattle.ra_guards.specs.Kept.{HasGuard, version_in, AreAtMost, AreZero, IsSet, IsTouched};
 
 use crate::written::WriteGuards;
 use ra_base::{Fixed, Guard, NoMemory};
@@ -12,6 +12,8 @@ use std::marker::Model;
 pub struct Versions {
     machines: Fixed<u64>,
     services: Fixed<u64>,
+    /// A number that no version is above.
+    newest: u64,
 }
 
 /// Lets all lists go in one call, so that the end of an owner is short to prove.
@@ -20,16 +22,21 @@ impl Drop for Versions {
         let Versions {
             machines: _,
             services: _,
+            newest: _,
         } = self;
     }
 }
 
 impl Model for Versions {
     ghost use Rattle.ra_guards.specs.VersionTable.{VersionTable};
+    ghost use Rattle.ra_guards.specs.Kept.{AreAtMost};
 
     ghost Value = { VersionTable };
 
     ghost view = { λ v. record { machines = v.machines.items; services = v.services.items } };
+
+    ghost invariant = { λ v. AreAtMost v.newest
+        (record { machines = v.machines.items; services = v.services.items }) };
 }
 
 impl Versions {
@@ -39,7 +46,11 @@ impl Versions {
     {
         let machines = copies(alloc, machines as usize, 0u64)?;
         let services = copies(alloc, services as usize, 0u64)?;
-        Ok(Versions { machines, services })
+        Ok(Versions {
+            machines,
+            services,
+            newest: 0,
+        })
     }
 
     /// The version of a guard.
@@ -51,6 +62,13 @@ impl Versions {
             Guard::Machine(m) => self.machines.get(m.0 as usize),
             Guard::Service(s) => self.services.get(s.0 as usize),
         }
+    }
+
+    /// Whether it is known at once that no guard has a version above a number.
+    pub(crate) fn is_at_most(&self, version: u64) -> bool
+        ensures { result ≡ true → AreAtMost version self.now }
+    {
+        self.newest <= version
     }
 
     /// Gives each of these guards a version, and leaves all others.
@@ -69,6 +87,7 @@ impl Versions {
         requires { HasGuard self.old guard }
         ensures { IsSet self.old self.new guard version }
     {
+        self.newest = self.newest.max(version);
         match guard {
             Guard::Machine(m) => self.machines.set(m.0 as usize, version),
             Guard::Service(s) => self.services.set(s.0 as usize, version),

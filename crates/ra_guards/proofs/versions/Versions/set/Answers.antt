@@ -1,4 +1,6 @@
-use Rattle.ra_guards.proofs.KeptLemmas.{has_machine, has_service, machine_set, service_set}
+use Rattle.std.proofs.Common.{subst, arith}
+use Rattle.ra_guards.proofs.KeptLemmas.{has_machine, has_service, machine_set, service_set, still_at_most}
+use Rattle.ra_guards.specs.Kept.{AreAtMost}
 use Rattle.ra_guards.proofs.versions.Versions.set.Goals as goal
 
 pub set-requires : goal.set-requires
@@ -12,3 +14,17 @@ returns-in-Machine c = machine_set c.args.self.now c.self.inside.machines.items 
 
 pub returns-in-Service : goal.returns-in-Service
 returns-in-Service c = service_set c.args.self.now c.self.inside.machines.items c.self.inside.services.items c.set-in-Service.new.self.items c.args.guard c.in-Service.s c.args.version c.self.view_is c.requires c.in-Service.is c.set-in-Service.ensures.items
+
+pub invariant_of-self : goal.invariant_of-self
+invariant_of-self c = still_at_most c.args.self.now _ c.args.guard c.args.version c.self.inside.newest _
+    (machine_set c.args.self.now c.self.inside.machines.items c.self.inside.services.items c.set.new.self.items c.args.guard c.in-Machine.m c.args.version c.self.view_is c.requires c.in-Machine.is c.set.ensures.items)
+    (subst (AreAtMost c.self.inside.newest) c.self.view_is c.self.invariant)
+    (omega (arith, c.max-self-inside.ensures))
+    (omega (arith, c.max-self-inside.ensures))
+
+pub invariant_of-self-in-Service : goal.invariant_of-self-in-Service
+invariant_of-self-in-Service c = still_at_most c.args.self.now _ c.args.guard c.args.version c.self.inside.newest _
+    (service_set c.args.self.now c.self.inside.machines.items c.self.inside.services.items c.set-in-Service.new.self.items c.args.guard c.in-Service.s c.args.version c.self.view_is c.requires c.in-Service.is c.set-in-Service.ensures.items)
+    (subst (AreAtMost c.self.inside.newest) c.self.view_is c.self.invariant)
+    (omega (arith, c.max-self-inside.ensures))
+    (omega (arith, c.max-self-inside.ensures))
