@@ -17,3 +17,4 @@ pub mod CommitLemmas
 pub mod StartLemmas
 pub mod PackingLemmas
 pub mod SoloLemmas
+pub mod Refusals

@@ -1,11 +1,12 @@
 -- What a turn in which a worker hands in its plan leaves.
-use Rattle.std.proofs.Common.{◌≡◌, ◌⊎◌, ℕ, ◌+◌, ◌-◌, ◌<◌, ◌≤◌, ◌&&◌, cond, ltb, Bool, true, false, List, [], ◌∷◌, ◌++◌, length, drop, slice_get, Option, Some, None, refl, ap, sym, subst, ◌∙◌, ⊎_elim, inl, inr, arith}
+use Rattle.std.proofs.Common.{◌≡◌, ◌⊎◌, ℕ, ◌+◌, ◌-◌, ◌<◌, ◌≤◌, ◌&&◌, cond, ltb, Bool, true, false, List, [], ◌∷◌, ◌++◌, length, drop, slice_get, Option, Some, None, refl, ap, sym, subst, ◌∙◌, ⊎_elim, inl, inr, lt-ltb, le-ltb, arith}
 use Rattle.std.proofs.Math.Seq.{drop-append_seam, drop-length}
-use Rattle.std.proofs.lemmas.Bool.{cases_lt, cases_Bool, and_parts, ltb-true}
+use Rattle.std.proofs.lemmas.Bool.{cases_lt, cases_Bool, cond-true, cond-false, and_parts, ltb-true}
 use Rattle.std.proofs.lemmas.List.{append-nil, length_push}
 use Rattle.std.proofs.lemmas.Option.{slice_get_within}
 use mathlib.Core.List.{IsPrefix}
 use Rattle.ra_base.specs.Searches.{first}
+use Rattle.ra_base.specs.declared.causes.Cause.{Cause}
 use Rattle.ra_base.specs.declared.ids.Guard.{Guard}
 use Rattle.ra_base.specs.declared.ids.Guard.TheVariants as guard
 use Rattle.ra_base.specs.declared.ids.Machine.{Machine}
@@ -34,15 +35,16 @@ use Rattle.ra_journal.specs.Entries.{entry_at, made_in, made_by, steps_made}
 use Rattle.ra_journal.proofs.EndLemmas.{next_is_planned}
 use Rattle.ra_journal.proofs.NewerLemmas.{committed_stale, committed_recorded}
 use Rattle.ra_journal.proofs.Places.{made_place, entry_added}
+use Rattle.ra_journal.proofs.Refusals.{broken_is_refused}
 use Rattle.ra_turn.specs.Notes.{touching, IsVersion, OnlyBy, HoldsAll}
 use Rattle.ra_turn.specs.declared.sight.Grip.{Grip}
 use Rattle.ra_turn.proofs.Lists.{prefix_self}
 use Rattle.ra_turn.proofs.Versions.{version_whole, version_kept, only_shorter}
 use Rattle.ra_shared.specs.declared.books.Opening.{Opening}
-use Rattle.ra_shared.specs.Books.{entry_touches, committed_in, KnowsOwn, IsCommitOf}
+use Rattle.ra_shared.specs.Books.{entry_touches, committed_in, KnowsOwn, IsCommitOf, IsStartOf, IsLegalSeen}
 use Rattle.ra_shared.specs.Holding.{HoldsWrites, then_version}
 use Rattle.ra_shared.specs.Laws.{RecordedStands, StaleStands}
-use Rattle.ra_shared.specs.Numbers.{number_of}
+use Rattle.ra_shared.specs.Numbers.{number_of, guard_count, touches_number}
 use Rattle.ra_shared.specs.Shares.{IsCommitted}
 use Rattle.ra_shared.proofs.Agree.{touches_agree}
 use Rattle.ra_shared.proofs.Gripping.{holds_touched}
@@ -84,6 +86,7 @@ pub record IsRecordedAt (o : Opening) (h : List Entry) (w : ℕ) (plan : Plan) (
   pub q : e.q ≡ plan.q
   pub k : e.k ≡ plan.k
   pub mv : e.mv ≡ plan.mv
+  pub judged : e.verdict ≡ (next_entry o.inst.tables o.a0.items o.lots h w plan.q).verdict
 
 abbrev pub Answered : Opening → List Entry → ℕ → Plan → Type 0
 Answered o h w plan = ((newer : Newer) × IsStaleAt o h w plan newer) ⊎ ((e : Entry) × IsRecordedAt o h w plan e)
@@ -105,6 +108,7 @@ answered_by o h w plan None commit is =
         q = added_q i a0 l h w plan commit;
         k = added_k i a0 l h w plan commit;
         mv = added_move i a0 l h w plan commit;
+        judged = refl;
       },
     )
 
@@ -124,6 +128,39 @@ may_give o h xs w plan grips commit holds is = ⊎_elim
       is ∙ done.1.journal,
       done.1.worker,
       holds_touched o done.0 plan.q grips (subst (λ (mv : MoveSteps). HoldsWrites o.inst.tables mv.steps plan.q grips) (sym done.1.mv) holds),
+    ))
+    (answered o h w plan commit)
+
+-- a refused entry touches nothing
+none_touched : (i : Tables) (n : ℕ) → touches_number i None n ≡ false
+unfolding touches_number touches
+none_touched i n = ⊎_elim
+    (λ (machine : n < machine_count i). cond-true _ _ _ (lt-ltb n (machine_count i) machine))
+    (λ (other : machine_count i ≤ n). cond-false _ _ _ (le-ltb n (machine_count i) other) ∙ ⊎_elim
+    (λ (service : n < guard_count i). cond-true _ _ _ (lt-ltb n (guard_count i) service))
+    (λ (past : guard_count i ≤ n). cond-false _ _ _ (le-ltb n (guard_count i) past))
+    (cases_lt n (guard_count i)))
+    (cases_lt n (machine_count i))
+
+refused_makes_none : (e : Entry) (cause : Cause) → e.verdict ≡ Refused cause → made_by e ≡ None
+unfolding made_by steps_made
+refused_makes_none e cause is = ap (λ (v : Verdict). steps_made v e.mv.steps) is
+
+refused_holds : (o : Opening) (e : Entry) (cause : Cause) (grips : List Grip) → e.verdict ≡ Refused cause → HoldsAll entry_touches o grips e
+refused_holds o e cause grips is guard touched =
+    let none : entry_touches o e guard ≡ false = ap (λ (made : Option (List Step)). touches_number o.inst.tables made guard) (refused_makes_none e cause is) ∙ none_touched o.inst.tables guard in
+    absurd (let clash : true ≡ false = sym touched ∙ none in cc clash)
+
+-- what may be given back of a plan whose move breaks a constraint: its entry touches nothing, so no guard is held for it
+pub may_give_refused : (o : Opening) (h xs : List Entry) (w : ℕ) (plan : Plan) (grips : List Grip) (cause : Cause) → IsStartOf o → IsLegalSeen o h → IsCommitOf o h w plan → plan.weighed.broken ≡ Some cause
+    → xs ≡ (committed_in o h w plan.q).journal → MayGive o grips w h xs
+may_give_refused o h xs w plan grips cause start legal commit broken is = ⊎_elim
+    (λ stale. inl (is ∙ stale.1.journal))
+    (λ done. inr (
+      done.0,
+      is ∙ done.1.journal,
+      done.1.worker,
+      refused_holds o done.0 cause grips (done.1.judged ∙ broken_is_refused o.inst.tables o.a0.items o.lots h w plan cause start legal commit done.1.none broken),
     ))
     (answered o h w plan commit)
 

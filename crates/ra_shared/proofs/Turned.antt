@@ -1,7 +1,8 @@
 -- A turn in which a worker hands in its plan, from what the lock tells of it.
-use Rattle.std.proofs.Common.{◌≡◌, ℕ, ◌-◌, ◌<◌, true, None, List, ◌++◌, length, drop, slice_get, ap, ap₂, sym, subst, ◌∙◌, arith}
+use Rattle.std.proofs.Common.{◌≡◌, ℕ, ◌-◌, ◌<◌, true, None, Some, List, ◌++◌, length, drop, slice_get, ap, ap₂, sym, subst, ◌∙◌, arith}
 use Rattle.std.proofs.lemmas.Option.{slice_get_within}
 use mathlib.Core.List.{IsPrefix}
+use Rattle.ra_base.specs.declared.causes.Cause.{Cause}
 use Rattle.ra_base.specs.declared.ids.Guard.{Guard}
 use Rattle.ra_moves.specs.declared.verdicts.Plan.{Plan}
 use Rattle.ra_guards.specs.Guards.{writes, AreWithin}
@@ -17,7 +18,7 @@ use Rattle.ra_shared.specs.Holding.{HoldsWrites}
 use Rattle.ra_shared.specs.Numbers.{number_of}
 use Rattle.ra_shared.specs.Shares.{IsCommitted}
 use Rattle.ra_shared.proofs.Gripping.{written_known, are_held, newer_there}
-use Rattle.ra_shared.proofs.Handing.{MayGive, may_give, only_stale}
+use Rattle.ra_shared.proofs.Handing.{MayGive, may_give, may_give_refused, only_stale}
 use Rattle.ra_shared.proofs.Own.{later_commit}
 
 -- the worker w, which had seen and made these entries, finds the history h in its turn
@@ -58,6 +59,15 @@ turned_gives o p w v u h found xs plan grips kept opened number worker here same
     let gives : MayGive o grips w h xs = may_give o h xs w plan grips commit holds (is ∙ ap₂ (λ (x : Opening) (n : ℕ). (committed_in x h n plan.q).journal) opened worker) in
     subst (λ (ks : List Grip). MayGive o ks v found xs) (sym same)
     (subst (λ (ys : List Entry). MayGive o grips v ys xs) (sym here) (subst (λ (n : ℕ). MayGive o grips n h xs) (sym number) gives))
+
+-- what may be given back of a plan whose move breaks a constraint
+pub turned_refused : (o p : Opening) (w v u : ℕ) (h found xs : List Entry) (plan : Plan) (kept : List Grip) (cause : Cause) → p ≡ o → v ≡ w → u ≡ w → found ≡ h → IsStartOf p → IsLegalSeen p h → IsCommitOf o h w plan
+    → plan.weighed.broken ≡ Some cause → xs ≡ (committed_in p h u plan.q).journal → MayGive o kept v found xs
+turned_refused o p w v u h found xs plan kept cause opened number worker here start legal commit broken is =
+    let start' : IsStartOf o = subst IsStartOf opened start in
+    let legal' : IsLegalSeen o h = subst (λ (x : Opening). IsLegalSeen x h) opened legal in
+    let gives : MayGive o kept w h xs = may_give_refused o h xs w plan kept cause start' legal' commit broken (is ∙ ap₂ (λ (x : Opening) (n : ℕ). (committed_in x h n plan.q).journal) opened worker) in
+    subst (λ (ys : List Entry). MayGive o kept v ys xs) (sym here) (subst (λ (n : ℕ). MayGive o kept n h xs) (sym number) gives)
 
 -- what is given back where a write guard was newer
 pub turned_stale : (o p : Opening) (w u : ℕ) (h found xs : List Entry) (plan : Plan) (g : Guard) (version : ℕ) → p ≡ o → u ≡ w → found ≡ h → IsStartOf p → IsLegalSeen p h → IsCommitOf o h w plan

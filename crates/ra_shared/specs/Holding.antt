@@ -1,5 +1,6 @@
 -- How a worker hands in a plan: it holds the write guards of its move, takes its turn, and gives them back.
-use Rattle.std.specs.Prelude.{◌≡◌, ℕ, ◌+◌, ◌<◌, ◌≤◌, true, List, [], length, All, Contains, Option, Some, None}
+use Rattle.std.specs.Prelude.{◌≡◌, ◌⊎◌, ℕ, ◌+◌, ◌<◌, ◌≤◌, true, List, [], length, All, Contains, Option, Some, None}
+use Rattle.ra_base.specs.declared.causes.Cause.{Cause}
 use Rattle.ra_base.specs.declared.ids.Guard.{Guard}
 use Rattle.ra_model.specs.declared.raw.Tables.{Tables}
 use Rattle.ra_moves.specs.declared.steps.Step.{Step}
@@ -71,6 +72,10 @@ module _ {g : Ghosts Book Entry Opening} where
     pub written : writes i plan.mv.steps guard ≡ true
     pub above : plan.q < version
     pub told : WillSee p (number_of i guard) version
+
+  -- No guard need be held to hand in the plan: its move breaks a constraint, so its entry touches nothing, or it will be found stale
+  abbrev pub NeedsNoGuard : Tables → Plan → Pass Book Entry Opening g → Type 0
+  NeedsNoGuard i plan p = ((cause : Cause) × (plan.weighed.broken ≡ Some cause)) ⊎ IsNewer i plan p
 
   -- the pass p, now q, was told so; it holds what it held, and has seen and made nothing
   pub record IsHeldUp (s : Shared) (plan : Plan) (p q : Pass Book Entry Opening g) : Type 0 where

@@ -39,7 +39,7 @@ impl<'a> Shared<'a> {
     ghost use Rattle.ra_journal.specs.Batches.{batch_from};
     ghost use Rattle.ra_journal.specs.Entries.{worker_count};
     ghost use Rattle.ra_shared.specs.Books.{opening_of_journal, IsCommitOf};
-    ghost use Rattle.ra_shared.specs.Holding.{HoldsFirst, HoldsWrites, MayHandIn, IsHandedIn, IsNewer, IsHeldUp};
+    ghost use Rattle.ra_shared.specs.Holding.{HoldsFirst, HoldsWrites, MayHandIn, IsHandedIn, NeedsNoGuard, IsHeldUp};
     ghost use Rattle.ra_shared.specs.Shares.{start_of, IsAtRest, IsNew, IsLast, IsCommitted};
 
     /// Shares a journal without entries, and gives each worker's pass, in order. At `Err` the journal was dropped.
@@ -87,7 +87,8 @@ impl<'a> Shared<'a> {
     }
 
     /// Hands in a plan in one turn: the worker's next proposal is recorded, judged at the state after all entries, unless
-    /// a guard of its move was touched since it was planned.
+    /// a guard of its move was touched since it was planned. It holds the write guards of the move meanwhile. For a plan
+    /// whose move breaks a constraint it holds none, since its entry touches nothing.
     pub fn commit<R: Wait>(&self, rt: &R, pass: &mut WorkerPass<'a>, plan: &Plan) -> Reply
         requires rest { IsAtRest self.now pass.old }
         requires left { 0 < pass.old.left }
@@ -99,10 +100,13 @@ impl<'a> Shared<'a> {
         ensures committed { IsCommitted (start_of self.now) pass.old.number plan.now.q
             (seen_by pass.old) (made_by pass.old) (seen_by pass.new) (made_by pass.new) result }
     {
+        if plan.weighed.broken.is_some() {
+            return self.commit_unheld(rt, pass, plan);
+        }
         let guards = writes(self.topo, self.inst, &plan.mv);
         match self.commit_from(rt, pass, plan, &guards, 0) {
             Some(reply) => reply,
-            None => self.commit_newer(rt, pass, plan),
+            None => self.commit_unheld(rt, pass, plan),
         }
     }
 
@@ -153,10 +157,10 @@ impl<'a> Shared<'a> {
         reply
     }
 
-    /// Hands the plan in where a write guard is newer, so that it is stale.
-    fn commit_newer<R: Wait>(&self, rt: &R, pass: &mut WorkerPass<'a>, plan: &Plan) -> Reply
+    /// Hands the plan in with no guard held for it, where its entry would touch none or it is stale.
+    fn commit_unheld<R: Wait>(&self, rt: &R, pass: &mut WorkerPass<'a>, plan: &Plan) -> Reply
         requires may { MayHandIn self.now plan.now pass.old }
-        requires newer { IsNewer (start_of self.now).inst.tables plan.now pass.old }
+        requires free { NeedsNoGuard (start_of self.now).inst.tables plan.now pass.old }
         ensures { IsHandedIn self.now plan.now pass.old pass.new result }
     {
         let worker = pass.number();

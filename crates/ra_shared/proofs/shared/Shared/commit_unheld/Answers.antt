@@ -1,4 +1,4 @@
-use Rattle.std.proofs.Common.{◌≡◌, inl, refl, ap, sym, ◌∙◌, subst, Contains, List, arith}
+use Rattle.std.proofs.Common.{◌≡◌, inl, ⊎_elim, refl, ap, sym, ◌∙◌, subst, Contains, List, arith}
 use Rattle.ra_journal.specs.declared.journal.Journal.{Journal}
 use Rattle.ra_turn.specs.declared.sight.Grip.{Grip}
 use Rattle.ra_turn.specs.Notes.{grip}
@@ -6,8 +6,8 @@ use Rattle.ra_shared.specs.declared.books.Opening.{Opening}
 use Rattle.ra_shared.specs.Books.{opening_of_journal}
 use Rattle.ra_shared.specs.Numbers.{number_of}
 use Rattle.ra_shared.specs.Shares.{start_of}
-use Rattle.ra_shared.proofs.Turned.{IsTurned, turned_by, turned_commit, turned_stale, turned_committed, legal_now}
-use Rattle.ra_shared.proofs.shared.Shared.commit_newer.Goals as goal
+use Rattle.ra_shared.proofs.Turned.{IsTurned, turned_by, turned_commit, turned_refused, turned_stale, turned_committed, legal_now}
+use Rattle.ra_shared.proofs.shared.Shared.commit_unheld.Goals as goal
 
 pub commit-reply-requires : goal.commit-reply-requires
 commit-reply-requires g c =
@@ -36,9 +36,11 @@ give-requires-clause-notes g c =
     let turned : IsTurned p.number p.seat.me.0.own.seen p.seat.me.0.own.mine j.book.entries.items =
     turned_by p.seat.me.0.own.number p.number q.number p.seat.me.0.own.seen p.seat.me.0.own.mine j.book.entries.items q.seat.me.0.own.seen q.seat.me.0.own.mine took.seen.1 seen p.owned p.numbered took.pass.1.2 took.made.1 took.made.0 in
     let commit = turned_commit o o p.number p.number p.seat.me.0.own.seen p.seat.me.0.own.mine j.book.entries.items c.args.plan.now refl refl turned may.commit in
-    let newer = c.requires.newer in
-    let told : Contains q.seat.me.0.news (grip (number_of o.inst.tables newer.guard) newer.version) = subst (λ (ks : List Grip). Contains ks (grip (number_of o.inst.tables newer.guard) newer.version)) (sym took.guards.0.1) newer.told in
-    inl (turned_stale o (opening_of_journal j) p.number c.number-worker.result j.book.entries.items q.seat.me.0.own.seen c.commit-reply.new.self.book.entries.items c.args.plan.now newer.guard newer.version opened c.number-worker.ensures seen j.start j.kept.legal commit newer.written newer.above (took.guards.2 (number_of o.inst.tables newer.guard) newer.version told) c.commit-reply.ensures.journal)
+    ⊎_elim
+    (λ broken. turned_refused o (opening_of_journal j) p.number q.number c.number-worker.result j.book.entries.items q.seat.me.0.own.seen c.commit-reply.new.self.book.entries.items c.args.plan.now q.seat.me.0.grips broken.0 opened took.pass.1.2 c.number-worker.ensures seen j.start j.kept.legal commit broken.1 c.commit-reply.ensures.journal)
+    (λ newer. let told : Contains q.seat.me.0.news (grip (number_of o.inst.tables newer.guard) newer.version) = subst (λ (ks : List Grip). Contains ks (grip (number_of o.inst.tables newer.guard) newer.version)) (sym took.guards.0.1) newer.told in
+    inl (turned_stale o (opening_of_journal j) p.number c.number-worker.result j.book.entries.items q.seat.me.0.own.seen c.commit-reply.new.self.book.entries.items c.args.plan.now newer.guard newer.version opened c.number-worker.ensures seen j.start j.kept.legal commit newer.written newer.above (took.guards.2 (number_of o.inst.tables newer.guard) newer.version told) c.commit-reply.ensures.journal))
+    c.requires.free
 
 pub returns : goal.returns
 returns g c =
