@@ -72,7 +72,7 @@ pinned_is_at_least i a0 = omega (arith, load_at_least i a0)
 -- what a program reads
 
 pub excess_fits : (pins : PinLists) (i : Tables) (load excess m r : ℕ) → WellFormed i → Small i → ArePinsOf pins i → ((a0 : List Machine) → ArePins pins i a0 → load ≡ pinned_load i a0 m r) → excess ≤ load → excess < 2 ^ 48
-excess_fits pins i load excess m r formed small of is few = omega (arith, is of.start of.stand, pinned_small i of.start m r formed small, few)
+excess_fits pins i load excess m r formed small of is few = omega (arith, is of.a0 of.stand, pinned_small i of.a0 m r formed small, few)
 
 pub overload_is : (i : Tables) (a0 : List Machine) (r together pinned : ℕ) → together ≡ overload i r → pinned ≡ total (machine_count i) (pinned_excess i a0 r) → max together pinned ≡ pinned_overload i a0 r
 unfolding pinned_overload

@@ -14,8 +14,8 @@ pub record ArePartTotals (columns n r : ℕ) (f : ℕ → ℕ → ℕ) (sums : L
   pub to_come : (j : ℕ) → j < columns → r ≤ j → slice_index_or sums j 0 ≡ total n (λ k. f k j)
 
 -- what all processes require of each resource
-abbrev pub AreRequired : Tables → List ℕ → Type 0
-AreRequired i sums = AreTotals (resource_count i) (process_count i) (requirement_of i) sums
+abbrev pub AreRequirementSums : Tables → List ℕ → Type 0
+AreRequirementSums i sums = AreTotals (resource_count i) (process_count i) (requirement_of i) sums
 
 -- the safety capacity of all machines for each resource
 abbrev pub AreSafeties : Tables → List ℕ → Type 0

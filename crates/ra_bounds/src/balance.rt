@@ -2,7 +2,7 @@ ghost use Rattle.std.specs.Prelude.{◌≡◌, ◌*◌, ◌^◌, ◌<◌, ◌≤
 ghost use Rattle.ra_base.specs.Whole.{above_zero};
 ghost use Rattle.ra_model.specs.Numbers.{resource_count, balance_count, balance_weight_of};
 ghost use Rattle.ra_bounds.specs.Bounds.{spare, lack, balance_bound};
-ghost use Rattle.ra_bounds.specs.Totals.{AreRequired, AreCapacities};
+ghost use Rattle.ra_bounds.specs.Totals.{AreRequirementSums, AreCapacities};
 
 use crate::sums::MOST_RESOURCES;
 use ra_base::Resource;
@@ -15,7 +15,7 @@ pub(crate) fn balance_bound(
     required: &[u64; MOST_RESOURCES],
     capacity: &[u64; MOST_RESOURCES],
 ) -> u128
-    requires required { AreRequired inst.now.tables required.now }
+    requires required { AreRequirementSums inst.now.tables required.now }
     requires capacity { AreCapacities inst.now.tables capacity.now }
     ensures value { result ≡ balance_bound inst.now.tables }
     ensures fits { result ≤ 10 * 2 ^ 114 }
@@ -36,7 +36,7 @@ fn weighed_lack(
     b: u32,
 ) -> u128
     requires objective { b < balance_count inst.now.tables }
-    requires required { AreRequired inst.now.tables required.now }
+    requires required { AreRequirementSums inst.now.tables required.now }
     requires capacity { AreCapacities inst.now.tables capacity.now }
     ensures value { result ≡ balance_weight_of inst.now.tables b * lack inst.now.tables b }
     ensures fits { result ≤ 2 ^ 114 }
@@ -53,7 +53,7 @@ fn lack(
     b: u32,
 ) -> u128
     requires objective { b < balance_count inst.now.tables }
-    requires required { AreRequired inst.now.tables required.now }
+    requires required { AreRequirementSums inst.now.tables required.now }
     requires capacity { AreCapacities inst.now.tables capacity.now }
     ensures value { result ≡ lack inst.now.tables b }
     ensures fits { result ≤ 2 ^ 82 }
@@ -83,7 +83,7 @@ fn spare(
     r: Resource,
 ) -> i128
     requires resource { r.0 < resource_count inst.now.tables }
-    requires required { AreRequired inst.now.tables required.now }
+    requires required { AreRequirementSums inst.now.tables required.now }
     requires capacity { AreCapacities inst.now.tables capacity.now }
     ensures value { result ≡ spare inst.now.tables r.0 }
     ensures near { unsigned_abs result ≤ 2 ^ 48 }

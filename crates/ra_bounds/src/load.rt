@@ -1,7 +1,7 @@
 ghost use Rattle.std.specs.Prelude.{◌≡◌, ◌*◌, ◌^◌, ◌<◌, ◌≤◌};
 ghost use Rattle.ra_model.specs.Numbers.{resource_count, load_weight_of};
 ghost use Rattle.ra_bounds.specs.Bounds.{overload, load_bound};
-ghost use Rattle.ra_bounds.specs.Totals.{AreRequired, AreSafeties};
+ghost use Rattle.ra_bounds.specs.Totals.{AreRequirementSums, AreSafeties};
 
 use crate::sums::MOST_RESOURCES;
 use ra_base::Resource;
@@ -14,7 +14,7 @@ pub(crate) fn load_bound(
     required: &[u64; MOST_RESOURCES],
     safety: &[u64; MOST_RESOURCES],
 ) -> u128
-    requires required { AreRequired inst.now.tables required.now }
+    requires required { AreRequirementSums inst.now.tables required.now }
     requires safety { AreSafeties inst.now.tables safety.now }
     ensures value { result ≡ load_bound inst.now.tables }
     ensures fits { result ≤ 20 * 2 ^ 96 }
@@ -34,7 +34,7 @@ fn weighed_overload(
     r: Resource,
 ) -> u128
     requires resource { r.0 < resource_count inst.now.tables }
-    requires required { AreRequired inst.now.tables required.now }
+    requires required { AreRequirementSums inst.now.tables required.now }
     requires safety { AreSafeties inst.now.tables safety.now }
     ensures value { result ≡ load_weight_of inst.now.tables r.0 * overload inst.now.tables r.0 }
     ensures fits { result ≤ 2 ^ 96 }

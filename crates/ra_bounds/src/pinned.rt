@@ -8,7 +8,7 @@ ghost use Rattle.ra_model.specs.Costs.{objective};
 ghost use Rattle.ra_pins.specs.Pins.{ArePins, ArePinsOf};
 ghost use Rattle.ra_bounds.specs.Bounds.{bound_of};
 ghost use Rattle.ra_bounds.specs.PinnedBounds.{pinned_excess, pinned_overload, pinned_load_bound, pinned_bound_of};
-ghost use Rattle.ra_bounds.specs.Totals.{AreRequired, AreSafeties};
+ghost use Rattle.ra_bounds.specs.Totals.{AreRequirementSums, AreSafeties};
 
 use crate::balance::balance_bound;
 use crate::costs::Bound;
@@ -51,7 +51,7 @@ fn pinned_load_bound(
     safety: &[u64; MOST_RESOURCES],
 ) -> u128
     requires pins { ArePinsOf pins.now inst.now.tables }
-    requires required { AreRequired inst.now.tables required.now }
+    requires required { AreRequirementSums inst.now.tables required.now }
     requires safety { AreSafeties inst.now.tables safety.now }
     ensures value { (a0 : List Machine) → ArePins pins.now inst.now.tables a0 →
         result ≡ pinned_load_bound inst.now.tables a0 }
@@ -75,7 +75,7 @@ fn weighed_overload(
 ) -> u128
     requires pins { ArePinsOf pins.now inst.now.tables }
     requires resource { r.0 < resource_count inst.now.tables }
-    requires required { AreRequired inst.now.tables required.now }
+    requires required { AreRequirementSums inst.now.tables required.now }
     requires safety { AreSafeties inst.now.tables safety.now }
     ensures value { (a0 : List Machine) → ArePins pins.now inst.now.tables a0 →
         result ≡ load_weight_of inst.now.tables r.0 * pinned_overload inst.now.tables a0 r.0 }

@@ -1,6 +1,6 @@
 ghost use Rattle.std.specs.Prelude.{◌≡◌, ◌+◌, ◌<◌};
 ghost use Rattle.ra_model.specs.Numbers.{resource_count, machine_count, process_count, requirement_of, safety_of, capacity_of};
-ghost use Rattle.ra_bounds.specs.Totals.{AreTotals, AreRequired, AreSafeties, AreCapacities};
+ghost use Rattle.ra_bounds.specs.Totals.{AreTotals, AreRequirementSums, AreSafeties, AreCapacities};
 
 use ra_base::{Machine, Process, Resource, Steps};
 use ra_model::Instance;
@@ -14,7 +14,7 @@ pub(crate) fn required_sums<L: Ledger>(inst: &Instance, blank: Blank) -> [u64; M
     requires name { blank.name ≡ L.name }
     requires parts { blank.parts ≡ L.parts }
     requires some { 0 < blank.parts }
-    ensures { AreRequired inst.now.tables result }
+    ensures { AreRequirementSums inst.now.tables result }
 {
     let mut steps = Steps::<L>::make(blank);
     let mut sums = [0; MOST_RESOURCES];

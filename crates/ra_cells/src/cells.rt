@@ -5,7 +5,7 @@ ghost use Rattle.ra_model.specs.Numbers.{machine_count, service_count, process_c
 ghost use Rattle.ra_model.specs.Assignments.{machine_at, IsAssignment};
 ghost use Rattle.ra_model.specs.Members.{AreMembers};
 ghost use Rattle.ra_model.specs.Services.{on_machine, in_location, in_neighbourhood, locations_of, moved_of};
-ghost use Rattle.ra_model.specs.Sorting.{start_of, AreStarts};
+ghost use Rattle.ra_model.specs.Sorting.{members_before, AreStarts};
 ghost use Rattle.ra_cells.specs.Marks.{away};
 ghost use Rattle.ra_cells.specs.Held.{held};
 ghost use Rattle.ra_cells.specs.Labels.{AreSorted, AreDifferent};
@@ -201,8 +201,8 @@ fn held_of(inst: &Instance, starts: &Fixed<u32>, labels: &Vec<u32>, s: Service, 
     requires starts { AreStarts inst.now.tables
         (service_count inst.now.tables + 1) starts.now.items }
     requires sorted { AreSorted inst.now.tables (service_count inst.now.tables) labels.now.items }
-    ensures count { result ≡ held labels.now.items (start_of inst.now.tables s.0)
-        (start_of inst.now.tables (s.0 + 1)) x }
+    ensures count { result ≡ held labels.now.items (members_before inst.now.tables s.0)
+        (members_before inst.now.tables (s.0 + 1)) x }
     ensures within { result ≤ process_count inst.now.tables }
 {
     let start = start_at(inst, starts, s.0);

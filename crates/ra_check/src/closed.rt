@@ -9,7 +9,7 @@ use ra_model::{Instance, machine_of};
 /// The first process that is put on a closed machine.
 #[tactic(auto, using(ra_base::proofs::Searches::searches), unfolding(ra_model::specs::Broken::broken_closed))]
 pub(crate) fn broken_closed(inst: &Instance, a0: &Assignment, a: &Assignment) -> Option<Cause>
-    requires start_fits { IsAssignment inst.now.tables a0.now.items }
+    requires a0_fits { IsAssignment inst.now.tables a0.now.items }
     requires fits { IsAssignment inst.now.tables a.now.items }
     ensures { result ≡ broken_closed inst.now.tables a0.now.items a.now.items }
 {
@@ -24,7 +24,7 @@ pub(crate) fn broken_closed(inst: &Instance, a0: &Assignment, a: &Assignment) ->
 /// One process, where it is put on a closed machine.
 fn closed_test(inst: &Instance, a0: &Assignment, a: &Assignment, p: Process) -> Option<Cause>
     requires process { p.0 < process_count inst.now.tables }
-    requires start_fits { IsAssignment inst.now.tables a0.now.items }
+    requires a0_fits { IsAssignment inst.now.tables a0.now.items }
     requires fits { IsAssignment inst.now.tables a.now.items }
     ensures { result ≡ closed_test inst.now.tables a0.now.items a.now.items p.0 }
 {

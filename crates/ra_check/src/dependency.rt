@@ -9,7 +9,7 @@ ghost use Rattle.ra_check.specs.Services.{AreServicesOf};
 ghost use Rattle.ra_check.specs.Stamps.{holds_site, AreSeated, ArePlaced, AreBelow, AreSet, TellTrue, far_seat};
 
 use crate::services::Services;
-use crate::stamps::{clear, is_stamped, neighbourhood_of, seat};
+use crate::stamps::{clear, is_stamped, neighbourhood_place, seat};
 use ra_base::{Assignment, Cause, Fixed, Machine, Process, Service};
 use ra_model::{Instance, Members, Places};
 
@@ -140,7 +140,7 @@ fn stamp_all(
         (holds_site places.now.neighbourhoods a.now.items processes.now) }
 {
     for k in 0..processes.len() {
-        let place = neighbourhood_of(places, a, processes, k);
+        let place = neighbourhood_place(places, a, processes, k);
         marks.set(place.0 as usize, stamp);
     }
 }
@@ -160,7 +160,7 @@ fn first_far(
         (far_seat marks.now.items stamp places.now.neighbourhoods a.now.items processes.now) }
 {
     for k in 0..processes.len() {
-        let place = neighbourhood_of(places, a, processes, k);
+        let place = neighbourhood_place(places, a, processes, k);
         if !is_stamped(marks, place, stamp) {
             return Some(seat(a, processes, k));
         }

@@ -25,7 +25,7 @@ pub fn first_broken(
     a: &Assignment,
     scratch: &mut Scratch,
 ) -> Option<Cause>
-    requires start_fits { IsAssignment inst.now.tables a0.now.items }
+    requires a0_fits { IsAssignment inst.now.tables a0.now.items }
     requires fits { IsAssignment inst.now.tables a.now.items }
     requires made { IsMadeFor scratch.old inst.now.tables }
     ensures first { result ≡ first_broken inst.now.tables a0.now.items a.now.items }
@@ -44,7 +44,7 @@ fn search_all(
     a: &Assignment,
     scratch: &mut Scratch,
 ) -> Option<Cause>
-    requires start_fits { IsAssignment inst.now.tables a0.now.items }
+    requires a0_fits { IsAssignment inst.now.tables a0.now.items }
     requires fits { IsAssignment inst.now.tables a.now.items }
     requires made { IsMadeFor scratch.old inst.now.tables }
     ensures first { result ≡ first_broken inst.now.tables a0.now.items a.now.items }

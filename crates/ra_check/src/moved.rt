@@ -16,7 +16,7 @@ pub(crate) fn service_cost(
     a: &Assignment,
     counts: &mut Fixed<u32>,
 ) -> u128
-    requires start_fits { IsAssignment inst.now.tables a0.now.items }
+    requires a0_fits { IsAssignment inst.now.tables a0.now.items }
     requires fits { IsAssignment inst.now.tables a.now.items }
     requires slots { length counts.old.items ≡ service_count inst.now.tables }
     ensures value { result ≡ service_cost inst.now.tables a0.now.items a.now.items }
@@ -42,7 +42,7 @@ fn most(counts: &Fixed<u32>) -> u32
 
 /// Writes the number of moved processes of each service into a list, whatever stands in it.
 fn count_moved(inst: &Instance, a0: &Assignment, a: &Assignment, counts: &mut Fixed<u32>)
-    requires start_fits { IsAssignment inst.now.tables a0.now.items }
+    requires a0_fits { IsAssignment inst.now.tables a0.now.items }
     requires fits { IsAssignment inst.now.tables a.now.items }
     requires slots { length counts.old.items ≡ service_count inst.now.tables }
     ensures counted { HasMoved inst.now.tables a0.now.items a.now.items
@@ -65,7 +65,7 @@ fn count_process(
     counts: &mut Fixed<u32>,
 )
     requires process { p.0 < process_count inst.now.tables }
-    requires start_fits { IsAssignment inst.now.tables a0.now.items }
+    requires a0_fits { IsAssignment inst.now.tables a0.now.items }
     requires fits { IsAssignment inst.now.tables a.now.items }
     requires slots { length counts.old.items ≡ service_count inst.now.tables }
     requires below { AreBelow 50000 counts.old.items }

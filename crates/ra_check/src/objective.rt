@@ -18,7 +18,7 @@ use std::sync::ledger::Blank;
 /// the cost of feasible assignments alone.
 #[tactic(auto, unfolding(ra_model::specs::Costs::parts_of, ra_model::specs::Costs::objective))]
 pub fn parts(inst: &Instance, a0: &Assignment, a: &Assignment, scratch: &mut Scratch) -> Parts
-    requires start_fits { IsAssignment inst.now.tables a0.now.items }
+    requires a0_fits { IsAssignment inst.now.tables a0.now.items }
     requires fits { IsAssignment inst.now.tables a.now.items }
     requires made { IsMadeFor scratch.old inst.now.tables }
     ensures value { result ≡ parts_of inst.now.tables a0.now.items a.now.items }

@@ -9,7 +9,7 @@ ghost use Rattle.ra_check.specs.Services.{AreServicesOf};
 ghost use Rattle.ra_check.specs.Stamps.{holds_site, AreSeated, ArePlaced, AreBelow};
 
 use crate::services::Services;
-use crate::stamps::{clear, location_of, stamp_place};
+use crate::stamps::{clear, location_place, stamp_place};
 use ra_base::{Assignment, Cause, Fixed, Process, Service};
 use ra_model::{Instance, Members, Places};
 
@@ -84,7 +84,7 @@ fn count_locations(
 {
     let mut has = 0;
     for k in 0..processes.len() {
-        let place = location_of(places, a, processes, k);
+        let place = location_place(places, a, processes, k);
         let again = stamp_place(marks, place, stamp);
         if !again {
             has += 1;

@@ -18,7 +18,7 @@ pub(crate) fn seat(a: &Assignment, processes: &[Process], k: usize) -> Machine
 
 /// The location of that machine.
 #[tactic(auto, unfolding(crate::specs::Stamps::site_of))]
-pub(crate) fn location_of(
+pub(crate) fn location_place(
     places: &Places,
     a: &Assignment,
     processes: &[Process],
@@ -34,7 +34,7 @@ pub(crate) fn location_of(
 
 /// The neighbourhood of that machine.
 #[tactic(auto, unfolding(crate::specs::Stamps::site_of))]
-pub(crate) fn neighbourhood_of(
+pub(crate) fn neighbourhood_place(
     places: &Places,
     a: &Assignment,
     processes: &[Process],

@@ -20,7 +20,7 @@ pub(crate) fn broken_transient(
     a: &Assignment,
     scratch: &mut Scratch,
 ) -> Option<Cause>
-    requires start_fits { IsAssignment inst.now.tables a0.now.items }
+    requires a0_fits { IsAssignment inst.now.tables a0.now.items }
     requires fits { IsAssignment inst.now.tables a.now.items }
     requires made { IsMadeFor scratch.old inst.now.tables }
     ensures cause { result ≡ broken_transient inst.now.tables a0.now.items a.now.items }

@@ -46,7 +46,7 @@ pub(crate) fn sum_transient<L: Ledger>(
     requires name { blank.name ≡ L.name }
     requires parts { blank.parts ≡ L.parts }
     requires some { 0 < blank.parts }
-    requires start_fits { IsAssignment inst.now.tables a0.now.items }
+    requires a0_fits { IsAssignment inst.now.tables a0.now.items }
     requires fits { IsAssignment inst.now.tables a.now.items }
     requires grid { IsGrid inst.now.tables table.old.items }
     ensures sums { IsTransientUse inst.now.tables a0.now.items a.now.items table.new.items }

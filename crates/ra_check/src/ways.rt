@@ -9,7 +9,7 @@ use ra_model::{Instance, machine_of};
 /// The process cost: what the moved processes cost, times its weight.
 #[tactic(auto, using(crate::proofs::CostLaws::times_small), unfolding(ra_model::specs::Costs::process_cost))]
 pub(crate) fn process_cost(inst: &Instance, a0: &Assignment, a: &Assignment) -> u128
-    requires start_fits { IsAssignment inst.now.tables a0.now.items }
+    requires a0_fits { IsAssignment inst.now.tables a0.now.items }
     requires fits { IsAssignment inst.now.tables a.now.items }
     ensures value { result ≡ process_cost inst.now.tables a0.now.items a.now.items }
     ensures bound { result ≤ 2 ^ 110 }
@@ -21,7 +21,7 @@ pub(crate) fn process_cost(inst: &Instance, a0: &Assignment, a: &Assignment) -> 
 /// The machine cost: what the ways of all processes cost, times its weight.
 #[tactic(auto, using(crate::proofs::CostLaws::times_small), unfolding(ra_model::specs::Costs::machine_cost))]
 pub(crate) fn machine_cost(inst: &Instance, a0: &Assignment, a: &Assignment) -> u128
-    requires start_fits { IsAssignment inst.now.tables a0.now.items }
+    requires a0_fits { IsAssignment inst.now.tables a0.now.items }
     requires fits { IsAssignment inst.now.tables a.now.items }
     ensures value { result ≡ machine_cost inst.now.tables a0.now.items a.now.items }
     ensures bound { result ≤ 2 ^ 110 }
@@ -33,7 +33,7 @@ pub(crate) fn machine_cost(inst: &Instance, a0: &Assignment, a: &Assignment) -> 
 /// The sum of what the moved processes cost.
 #[tactic(auto, using(ra_base::proofs::Sums::sums), unfolding(ra_model::specs::Assignments::tally))]
 fn moved_sum(inst: &Instance, a0: &Assignment, a: &Assignment) -> u64
-    requires start_fits { IsAssignment inst.now.tables a0.now.items }
+    requires a0_fits { IsAssignment inst.now.tables a0.now.items }
     requires fits { IsAssignment inst.now.tables a.now.items }
     ensures { result ≡ tally (process_count inst.now.tables)
         (process_share inst.now.tables a0.now.items) a.now.items }
@@ -48,7 +48,7 @@ fn moved_sum(inst: &Instance, a0: &Assignment, a: &Assignment) -> u64
 /// The sum of what the ways of all processes cost.
 #[tactic(auto, using(ra_base::proofs::Sums::sums), unfolding(ra_model::specs::Assignments::tally))]
 fn way_sum(inst: &Instance, a0: &Assignment, a: &Assignment) -> u64
-    requires start_fits { IsAssignment inst.now.tables a0.now.items }
+    requires a0_fits { IsAssignment inst.now.tables a0.now.items }
     requires fits { IsAssignment inst.now.tables a.now.items }
     ensures { result ≡ tally (process_count inst.now.tables)
         (way_share inst.now.tables a0.now.items) a.now.items }
@@ -63,7 +63,7 @@ fn way_sum(inst: &Instance, a0: &Assignment, a: &Assignment) -> u64
 /// What one process costs where it isn't on its initial machine.
 fn process_share(inst: &Instance, a0: &Assignment, a: &Assignment, p: Process) -> u32
     requires process { p.0 < process_count inst.now.tables }
-    requires start_fits { IsAssignment inst.now.tables a0.now.items }
+    requires a0_fits { IsAssignment inst.now.tables a0.now.items }
     requires fits { IsAssignment inst.now.tables a.now.items }
     ensures { result ≡ process_share inst.now.tables a0.now.items p.0 (machine_at a.now.items p.0) }
 {
@@ -77,7 +77,7 @@ fn process_share(inst: &Instance, a0: &Assignment, a: &Assignment, p: Process) -
 /// What the way of one process costs.
 fn way_share(inst: &Instance, a0: &Assignment, a: &Assignment, p: Process) -> u32
     requires process { p.0 < process_count inst.now.tables }
-    requires start_fits { IsAssignment inst.now.tables a0.now.items }
+    requires a0_fits { IsAssignment inst.now.tables a0.now.items }
     requires fits { IsAssignment inst.now.tables a.now.items }
     ensures { result ≡ way_share inst.now.tables a0.now.items p.0 (machine_at a.now.items p.0) }
 {

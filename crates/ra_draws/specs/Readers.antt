@@ -9,9 +9,9 @@ use Rattle.ra_draws.specs.declared.words.Reader.TheVariants.{Generator, List}
 use Rattle.ra_draws.specs.Words.{after_words, seed_stream}
 
 -- the generator stands where the stream of the seed is after the words of k proposals, or the list is the written one
-unfoldable pub Reads : Reader → Lot → ℕ → Type 0
-Reads (Generator state) lot k =
+unfoldable pub ReadsFrom : Reader → Lot → ℕ → Type 0
+ReadsFrom (Generator state) lot k =
     (seed : ℕ) × (lot.source ≡ Seed seed)
     × (stream_of (steps_u64_high plus_plus) state ≡ after_words (8 * k) (seed_stream seed))
-Reads (List words) lot k =
+ReadsFrom (List words) lot k =
     (lot.source ≡ Written words.now) × (length words.now.items ≡ 8 * lot.budget)

@@ -30,11 +30,11 @@ impl<'a> Model for Draws<'a> {
 
     ghost Value = { Drawn };
 
-    ghost use Rattle.ra_draws.specs.Readers.{Reads};
+    ghost use Rattle.ra_draws.specs.Readers.{ReadsFrom};
 
     ghost view = { λ d. record { lot = d.lot.now; made = d.made } };
 
-    ghost invariant = { λ d. (d.made ≤ d.lot.now.budget) × Reads d.reader d.lot.now d.made };
+    ghost invariant = { λ d. (d.made ≤ d.lot.now.budget) × ReadsFrom d.reader d.lot.now d.made };
 }
 
 impl<'a> Draws<'a> {

@@ -66,7 +66,7 @@ impl<'a> Draft<'a> {
         a: &Assignment,
         start: Parts,
     ) -> Result<Draft<'a>, NoMemory>
-        requires start_fits { IsAssignment inst.now.tables a0.now.items }
+        requires a0_fits { IsAssignment inst.now.tables a0.now.items }
         requires fits { IsAssignment inst.now.tables a.now.items }
         requires topology { IsTopologyOf topo.now inst.now.tables }
         requires unbroken { first_broken inst.now.tables a0.now.items a.now.items ≡ None }

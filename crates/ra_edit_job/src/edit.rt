@@ -198,7 +198,7 @@ fn edit_from<O: Sink>(
     edits: &Edits,
     out: &mut O,
 ) -> Result<(), Refusal>
-    requires start_fits { IsAssignment inst.now.tables initial.now.items }
+    requires a0_fits { IsAssignment inst.now.tables initial.now.items }
     requires fits { IsAssignment inst.now.tables current.now.items }
     requires edits { AreEditsFor inst.now.tables edits.now }
     ensures printed { OnOk result (IsEdited inst.now.tables initial.now.items current.now.items
@@ -229,7 +229,7 @@ fn edit_over<O: Sink>(
     edits: &Edits,
     out: &mut O,
 ) -> Result<(), Refusal>
-    requires start_fits { IsAssignment inst.now.tables initial.now.items }
+    requires a0_fits { IsAssignment inst.now.tables initial.now.items }
     requires fits { IsAssignment inst.now.tables current.now.items }
     requires edits { AreEditsFor inst.now.tables edits.now }
     requires topology { IsTopologyOf topo.now inst.now.tables }

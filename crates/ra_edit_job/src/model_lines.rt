@@ -82,7 +82,7 @@ pub(crate) fn add_machine<O: Sink>(text: &mut Gathered<'_, O>, inst: &Instance, 
     add_more(text, inst.location(m) as u64);
     add_capacities(text, inst, m);
     add_safeties(text, inst, m);
-    add_move_costs(text, inst, m);
+    add_way_costs(text, inst, m);
     text.add(b"\n")
 }
 
@@ -109,7 +109,7 @@ fn add_safeties<O: Sink>(text: &mut Gathered<'_, O>, inst: &Instance, m: Machine
 }
 
 /// Adds the costs of a move from a machine to each machine, with a space before each.
-fn add_move_costs<O: Sink>(text: &mut Gathered<'_, O>, inst: &Instance, m: Machine)
+fn add_way_costs<O: Sink>(text: &mut Gathered<'_, O>, inst: &Instance, m: Machine)
     requires { m.0 < machine_count inst.now.tables }
     ensures { Adds O.taken O.faults text.old text.new
         (spaced (machine_count inst.now.tables) (way_cost_of inst.now.tables m.0)) }

@@ -21,7 +21,7 @@ loads_pinned i a0 flags table m r exact sums w = sums.each m r w ∙ tally_same 
 
 pub pins_made : (i : Tables) (a0 : List Machine) (pins : PinLists) → IsAssignment i a0 → pins.machines ≡ machine_count i → pins.resources ≡ resource_count i → AreExact i a0 pins.flags → IsTally i (process_count i) (flagged_share i (flag_at pins.flags)) a0 pins.loads → ArePins pins i a0
 pins_made i a0 pins fits machines resources exact sums = record {
-  start = fits;
+  fits = fits;
   pinned = exact;
   machines = machines;
   resources = resources;

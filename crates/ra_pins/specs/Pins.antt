@@ -16,7 +16,7 @@ pub record AreExact (i : Tables) (a0 : List Machine) (flags : List Bool) : Type 
 -- pins of an instance and a start: the pinned processes, and the load of each resource of each machine by those of them
 -- that start there
 pub record ArePins (pins : PinLists) (i : Tables) (a0 : List Machine) : Type 0 where
-  pub start : IsAssignment i a0
+  pub fits : IsAssignment i a0
   pub pinned : AreExact i a0 pins.flags
   pub machines : pins.machines ≡ machine_count i
   pub resources : pins.resources ≡ resource_count i
@@ -25,5 +25,5 @@ pub record ArePins (pins : PinLists) (i : Tables) (a0 : List Machine) : Type 0 w
 
 -- pins of an instance and some start
 pub record ArePinsOf (pins : PinLists) (i : Tables) : Type 0 where
-  pub start : List Machine
-  pub stand : ArePins pins i start
+  pub a0 : List Machine
+  pub stand : ArePins pins i a0

@@ -19,7 +19,7 @@ use ra_model::{Instance, Members, machine_of};
 use std::sync::ledger::{Blank, Ledger};
 
 /// Passes over the processes until one flags nothing: then exactly the pinned processes are flagged.
-pub(crate) fn settle<L: Ledger>(
+pub(crate) fn find_pinned<L: Ledger>(
     inst: &Instance,
     a0: &Assignment,
     members: &Members,

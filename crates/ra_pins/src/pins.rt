@@ -9,7 +9,7 @@ ghost use Rattle.ra_pins.specs.Pins.{AreExact, ArePins};
 ghost use Rattle.ra_pins.specs.Loads.{IsTally};
 ghost use Rattle.ra_pins.specs.Laws.{Stays};
 
-use crate::looks::settle;
+use crate::looks::find_pinned;
 use crate::search::Search;
 use crate::tables::{Columns, add_row};
 use ra_base::{Assignment, Fixed, Machine, NoMemory, Process, Resource, Steps, read_cell};
@@ -108,7 +108,7 @@ fn flags_of(alloc: Global, inst: &Instance, a0: &Assignment) -> Result<Fixed<boo
 {
     let members = Members::make(alloc, inst)?;
     let mut search = Search::make(alloc, inst, a0)?;
-    settle::<Brand>(inst, a0, &members, &mut search, Blank::new(1));
+    find_pinned::<Brand>(inst, a0, &members, &mut search, Blank::new(1));
     Ok(search.into_flags())
 }
 

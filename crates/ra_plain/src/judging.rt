@@ -26,7 +26,7 @@ pub fn judge_plainly(
     mv: &Move,
     allowed: u64,
 ) -> Verdict
-    requires start_fits { IsAssignment inst.now.tables a0.now.items }
+    requires a0_fits { IsAssignment inst.now.tables a0.now.items }
     requires fits { IsAssignment inst.now.tables a.old.items }
     requires made { IsMadeFor scratch.old inst.now.tables }
     requires before { before ≡ objective inst.now.tables a0.now.items a.old.items }
@@ -55,7 +55,7 @@ fn judge_after(
     before: u128,
     allowed: u64,
 ) -> Verdict
-    requires start_fits { IsAssignment inst.now.tables a0.now.items }
+    requires a0_fits { IsAssignment inst.now.tables a0.now.items }
     requires fits { IsAssignment inst.now.tables after.now.items }
     requires made { IsMadeFor scratch.old inst.now.tables }
     requires small { before < 2 ^ 114 }

@@ -37,7 +37,7 @@ pub fn plan_plainly(
     drawing: Drawing,
     allowed: u64,
 ) -> Planned
-    requires start_fits { IsAssignment inst.now.tables a0.now.items }
+    requires a0_fits { IsAssignment inst.now.tables a0.now.items }
     requires fits { IsAssignment inst.now.tables a.now.items }
     requires same { other.old.items ≡ a.now.items }
     requires made { IsMadeFor scratch.old inst.now.tables }

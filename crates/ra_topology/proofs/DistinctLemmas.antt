@@ -11,7 +11,7 @@ use Rattle.ra_base.specs.declared.ids.Service.{Service}
 use Rattle.ra_model.specs.declared.raw.Tables.{Tables}
 use Rattle.ra_model.specs.Limits.{WellFormed}
 use Rattle.ra_model.specs.Numbers.{service_count, dependency_start, dependency_count, need_of}
-use Rattle.ra_model.specs.Parts.{parts_from, part_start, Ascend}
+use Rattle.ra_model.specs.Parts.{parts_from, part_start, AreEnds}
 use Rattle.ra_model.proofs.PartLemmas.{parts_length, part_at, part_start_next}
 use Rattle.ra_topology.specs.Lists.{service_at, services_of, AreDistinct, AreDistinctNeedsOf}
 use Rattle.ra_topology.specs.Fits.{AreDistinctNeeds}

@@ -7,7 +7,7 @@ use Rattle.ra_base.specs.declared.ids.Service.{Service}
 use Rattle.ra_model.specs.declared.raw.Tables.{Tables}
 use Rattle.ra_model.specs.Limits.{WellFormed}
 use Rattle.ra_model.specs.Numbers.{service_count, dependency_start, dependency_end, dependency_count, need_at, need_of}
-use Rattle.ra_model.specs.Parts.{parts_from, part_start, Ascend}
+use Rattle.ra_model.specs.Parts.{parts_from, part_start, AreEnds}
 use Rattle.ra_model.proofs.PartLemmas.{parts_length, part_at}
 use Rattle.ra_topology.specs.Lists.{service_at, services_of, AreNeedsOf}
 use Rattle.ra_topology.specs.Fits.{AreNeeds}
@@ -92,7 +92,7 @@ unfolding part_start dependency_start
 start_of_part i all ends n zero h within = refl
 start_of_part i all ends n (suc s) h within = h.end_each s (omega arith)
 
-pub needs_ascend : (i : Tables) (all : List Service) (ends : List ℕ) (n : ℕ) → WellFormed i → n ≡ service_count i → AreListed i n all ends → Ascend ends (length all)
+pub needs_ascend : (i : Tables) (all : List Service) (ends : List ℕ) (n : ℕ) → WellFormed i → n ≡ service_count i → AreListed i n all ends → AreEnds ends (length all)
 needs_ascend i all ends n formed whole h = record {
   ordered = λ s within. omega (arith, h.one_each, start_of_part i all ends n s h (omega (arith, h.one_each)), h.end_each s (omega (arith, h.one_each)), formed.in_order s (omega (arith, h.one_each)));
   within = λ s within. omega (arith, h.one_each, h.size, ap (dependency_start i) whole, formed.all_owned, h.end_each s (omega (arith, h.one_each)), formed.within s (omega (arith, h.one_each)));

@@ -1,6 +1,6 @@
 ghost use Rattle.std.specs.Prelude.{◌≡◌, ℕ, ◌<◌, length, slice_index};
 ghost use Rattle.std.specs.List.{slice_range};
-ghost use Rattle.ra_model.specs.Parts.{part_start, Ascend};
+ghost use Rattle.ra_model.specs.Parts.{part_start, AreEnds};
 ghost use Rattle.ra_topology.specs.Lists.{services_of};
 
 use ra_base::{Fixed, Service};
@@ -16,13 +16,13 @@ pub(crate) struct ServiceLists {
 impl Model for ServiceLists {
     ghost use Rattle.std.specs.Prelude.{List, length};
     ghost use Rattle.ra_base.specs.declared.ids.Service.{Service};
-    ghost use Rattle.ra_model.specs.Parts.{parts_from, Ascend};
+    ghost use Rattle.ra_model.specs.Parts.{parts_from, AreEnds};
 
     ghost Value = { List (List Service) };
 
     ghost view = { λ l. parts_from l.all.items 0 l.ends.items };
 
-    ghost invariant = { λ l. Ascend l.ends.items (length l.all.items) };
+    ghost invariant = { λ l. AreEnds l.ends.items (length l.all.items) };
 }
 
 impl ServiceLists {
@@ -40,7 +40,7 @@ impl ServiceLists {
 #[tactic(auto, using(ra_model::proofs::PartLemmas::part_bounds))]
 fn part<'a>(all: &'a Fixed<Service>, ends: &Fixed<u32>, k: u32) -> &'a [Service]
     requires there { k < length ends.now.items }
-    requires ascend { Ascend ends.now.items (length all.now.items) }
+    requires ascend { AreEnds ends.now.items (length all.now.items) }
     ensures { result.now ≡ slice_range all.now.items (part_start 0 ends.now.items k)
         (slice_index ends.now.items k) }
 {

@@ -9,7 +9,7 @@ use Rattle.ra_model.specs.Numbers as model
 use Rattle.ra_model_read.specs.FieldOrder.{joined, row_of, counted, resource_numbers, machine_numbers, service_numbers, process_numbers, balance_numbers, numbers_of}
 use Rattle.ra_trial.specs.InstanceNumbers.{HasNumbers}
 use Rattle.ra_trial.specs.Lines.{listed}
-use Rattle.ra_trial.specs.Numbers.{transient_of, requirement_of, capacity_of, safety_of, move_cost_of}
+use Rattle.ra_trial.specs.Numbers.{transient_of, requirement_of, capacity_of, safety_of, way_cost_of}
 use Rattle.ra_trial.specs.Trials.{resource_line, machine_front, machine_line, service_line, process_line, resource_lines, machine_lines, service_lines, process_lines, last_lines}
 
 -- all lines of the model file
@@ -45,17 +45,17 @@ module _ (g : ℕ → ℕ) (i : Tables) (has : HasNumbers g i) where
   machine_same : (m : ℕ) → m < 100 → machine_line g m ≡ machine_numbers i m
   unfolding machine_line machine_front machine_numbers
   machine_same m m_in =
-      ap₂ (λ n l. n ∷ l ∷ ((listed 4 (capacity_of g m) ++ listed 4 (safety_of g m)) ++ listed 100 (move_cost_of m))) (sym (has.neighbourhood m m_in)) (sym (has.location m m_in))
+      ap₂ (λ n l. n ∷ l ∷ ((listed 4 (capacity_of g m) ++ listed 4 (safety_of g m)) ++ listed 100 (way_cost_of m))) (sym (has.neighbourhood m m_in)) (sym (has.location m m_in))
       ∙ ap (λ xs. model.neighbourhood_of i m ∷ model.location_of i m ∷ xs)
-      (append_assoc (listed 4 (capacity_of g m)) (listed 4 (safety_of g m)) (listed 100 (move_cost_of m))
+      (append_assoc (listed 4 (capacity_of g m)) (listed 4 (safety_of g m)) (listed 100 (way_cost_of m))
       ∙ ap₂ (λ xs ys. xs ++ ys) (four (capacity_of g m) (model.capacity_of i m) (λ r r_in. has.capacity m r m_in r_in))
       (ap₂ (λ xs ys. xs ++ ys) (four (safety_of g m) (model.safety_of i m) (λ r r_in. has.safety m r m_in r_in)) (hundred (λ b b_in. has.move_cost m b m_in b_in))))
     where
       four : (f h : ℕ → ℕ) → ((r : ℕ) → r < 4 → h r ≡ f r) → listed 4 f ≡ row_of (model.resource_count i) h
       four f h same = row_same 4 f h (λ r r_in. sym (same r r_in)) ∙ ap (λ n. row_of n h) (sym has.resources)
 
-      hundred : ((b : ℕ) → b < 100 → model.way_cost_of i m b ≡ move_cost_of m b) → listed 100 (move_cost_of m) ≡ row_of (model.machine_count i) (model.way_cost_of i m)
-      hundred same = row_same 100 (move_cost_of m) (model.way_cost_of i m) (λ b b_in. sym (same b b_in)) ∙ ap (λ n. row_of n (model.way_cost_of i m)) (sym has.machines)
+      hundred : ((b : ℕ) → b < 100 → model.way_cost_of i m b ≡ way_cost_of m b) → listed 100 (way_cost_of m) ≡ row_of (model.machine_count i) (model.way_cost_of i m)
+      hundred same = row_same 100 (way_cost_of m) (model.way_cost_of i m) (λ b b_in. sym (same b b_in)) ∙ ap (λ n. row_of n (model.way_cost_of i m)) (sym has.machines)
 
   one_row : (n : ℕ) (h : ℕ → ℕ) → n ≡ 1 → n ∷ row_of n h ≡ 1 ∷ h 0 ∷ []
   unfolding joined

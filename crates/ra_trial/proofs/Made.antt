@@ -10,7 +10,7 @@ use Rattle.ra_model.specs.declared.raw.ServiceRow.{ServiceRow}
 use Rattle.ra_model.specs.Numbers.{all_open}
 use Rattle.ra_model_read.specs.Lists.{of_resource, of_machine, of_service, of_process, lists_of}
 use Rattle.ra_trial.specs.Lines.{listed}
-use Rattle.ra_trial.specs.Numbers.{requirement_of, process_cost_of, capacity_of, safety_of, move_cost_of, spread_of}
+use Rattle.ra_trial.specs.Numbers.{requirement_of, process_cost_of, capacity_of, safety_of, way_cost_of, spread_of}
 use Rattle.ra_trial.specs.Instances.{table_of, trial_resource, trial_machine, trial_machines, trial_service, trial_need, trial_services, trial_process, trial_processes, trial_balance, trial_lists, IsTrial}
 use Rattle.ra_trial.proofs.TrialBounds.{process_cost_low, spread_low}
 
@@ -53,7 +53,7 @@ made g = record {
   machines = full 100 (listed 100 made_machine);
   capacities = full 400 (table_of 100 4 (capacity_of g));
   safeties = full 400 (table_of 100 4 (safety_of g));
-  move_costs = full 10000 (table_of 100 100 move_cost_of);
+  move_costs = full 10000 (table_of 100 100 way_cost_of);
   services = full 250 (listed 250 (made_service g));
   dependencies = full 50 (listed 50 trial_need);
   processes = full 1000 (listed 1000 (made_process g));

@@ -2,14 +2,14 @@
 use Rattle.std.proofs.Common.{◌≡◌, ℕ, ◌+◌, ◌/◌, ◌%◌, List, [], ◌∷◌, ◌++◌, eqb, ◌≢◌, ap, ◌∙◌, sym, refl, eq-eqb, ne_eqb}
 use Rattle.std.proofs.lemmas.Bool.{cond-true, cond-false}
 use Rattle.ra_trial.specs.Lines.{listed, line_text}
-use Rattle.ra_trial.specs.Numbers.{requirement_of, process_cost_of, spread_of, move_cost_of}
+use Rattle.ra_trial.specs.Numbers.{requirement_of, process_cost_of, spread_of, way_cost_of}
 use Rattle.ra_trial.specs.Trials.{machine_front, machine_line, service_line, process_line}
 
 -- a machine: its front, and its move costs behind it
-pub machine_gathered : (g : ℕ → ℕ) (m : ℕ) (cleared some all front : List ℕ) → cleared ≡ [] → some ≡ cleared ++ front → front ≡ machine_front g m → all ≡ some ++ listed 100 (move_cost_of m) → all ≡ machine_line g m
+pub machine_gathered : (g : ℕ → ℕ) (m : ℕ) (cleared some all front : List ℕ) → cleared ≡ [] → some ≡ cleared ++ front → front ≡ machine_front g m → all ≡ some ++ listed 100 (way_cost_of m) → all ≡ machine_line g m
 unfolding machine_line
 machine_gathered g m cleared some all front none extended is costs =
-    costs ∙ ap (λ (t : List ℕ). t ++ listed 100 (move_cost_of m)) (extended ∙ ap (λ (t : List ℕ). t ++ front) none ∙ is)
+    costs ∙ ap (λ (t : List ℕ). t ++ listed 100 (way_cost_of m)) (extended ∙ ap (λ (t : List ℕ). t ++ front) none ∙ is)
 
 -- a service that depends on another, and one that doesn't
 pub service_depends : (g : ℕ → ℕ) (s wants : ℕ) → s % 5 ≡ 0 → wants ≡ spread_of g s → line_text (wants ∷ 1 ∷ (s + 25) % 250 ∷ []) ≡ line_text (service_line g s)

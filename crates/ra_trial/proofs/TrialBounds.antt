@@ -3,7 +3,7 @@ use Rattle.std.proofs.Common.{◌≡◌, ◌≢◌, ℕ, ◌+◌, ◌/◌, ◌%�
 use Rattle.std.proofs.lemmas.Bool.{cases_eq, cond-true, cond-false}
 use Rattle.ra_base.proofs.Sums.{total_bound}
 use Rattle.ra_trial.specs.Lines.{listed}
-use Rattle.ra_trial.specs.Numbers.{transient_of, requirement_of, process_cost_of, start_of, start_share, start_use_of, capacity_of, safety_of, move_cost_of, spread_of}
+use Rattle.ra_trial.specs.Numbers.{transient_of, requirement_of, process_cost_of, start_of, start_share, start_use_of, capacity_of, safety_of, way_cost_of, spread_of}
 use Rattle.ra_trial.specs.Trials.{resource_line, machine_front, machine_line, service_line, process_line, resource_lines, machine_lines, service_lines, process_lines, last_lines}
 use Rattle.ra_trial.proofs.LineNumbers.{all_lines}
 use Rattle.ra_trial.proofs.LineBounds.{IsShort, AreShort, one_short, short_append, group_short, numbers_short, number_short, none_short, numbers_append}
@@ -40,9 +40,9 @@ pub safety_low : (g : ℕ → ℕ) (m r : ℕ) → safety_of g m r ≤ 100299
 unfolding safety_of
 safety_low g m r = omega (arith, capacity_low g m r)
 
-pub move_cost_low : (a b : ℕ) → move_cost_of a b ≤ 5
-unfolding move_cost_of
-move_cost_low a b = chosen_low a b 0 (1 + (a + b) % 5) 5 (omega arith) (omega arith)
+pub way_cost_low : (a b : ℕ) → way_cost_of a b ≤ 5
+unfolding way_cost_of
+way_cost_low a b = chosen_low a b 0 (1 + (a + b) % 5) 5 (omega arith) (omega arith)
 
 -- the lines
 
@@ -53,12 +53,12 @@ resource_short r = number_short 1 2 _ _ (omega arith) (let low : cond (eqb r 0) 
 machine_short : (g : ℕ → ℕ) (m : ℕ) → m < 100 → IsShort 110 (machine_line g m)
 unfolding machine_line machine_front
 machine_short g m within =
-    numbers_append 10 100 110 _ (listed 100 (move_cost_of m)) (omega arith)
+    numbers_append 10 100 110 _ (listed 100 (way_cost_of m)) (omega arith)
     (number_short 9 10 (m / 20) _ (omega arith) (omega arith) (number_short 8 9 (m % 10) _ (omega arith) (omega arith)
     (numbers_append 4 4 8 (listed 4 (capacity_of g m)) (listed 4 (safety_of g m)) (omega arith)
     (numbers_short 4 (capacity_of g m) (λ r r_in. omega (arith, capacity_low g m r)))
     (numbers_short 4 (safety_of g m) (λ r r_in. omega (arith, safety_low g m r))))))
-    (numbers_short 100 (move_cost_of m) (λ b b_in. omega (arith, move_cost_low m b)))
+    (numbers_short 100 (way_cost_of m) (λ b b_in. omega (arith, way_cost_low m b)))
 
 service_short : (g : ℕ → ℕ) (s : ℕ) → s < 250 → IsShort 3 (service_line g s)
 unfolding service_line

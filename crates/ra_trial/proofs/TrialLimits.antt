@@ -29,7 +29,7 @@ module _ (g : ℕ → ℕ) (i : Tables) (is : IsTrial g i) where
     few_dependencies = omega (arith, lists.all_needs);
     capacities = lists.all_capacities ∙ sym (ap₂ (λ m r. m * r) has.machines has.resources);
     safeties = lists.all_safeties ∙ sym (ap₂ (λ m r. m * r) has.machines has.resources);
-    way_costs = lists.all_move_costs ∙ sym (ap₂ (λ m n. m * n) has.machines has.machines);
+    way_costs = lists.all_way_costs ∙ sym (ap₂ (λ m n. m * n) has.machines has.machines);
     requirements = lists.all_requirements ∙ sym (ap₂ (λ p r. p * r) has.processes has.resources);
     in_order = λ s s_in. let within : s < 250 = omega (arith, has.services) in omega (arith, needs_start g i is s (omega arith), lists.needs_end s within);
     within = λ s s_in. let within : s < 250 = omega (arith, has.services) in omega (arith, lists.needs_end s within, lists.all_needs);

@@ -7,7 +7,7 @@ use Rattle.ra_model.specs.declared.raw.Tables.{Tables}
 use Rattle.ra_model.specs.Numbers as model
 use Rattle.ra_model_read.specs.Lists.{of_resource, of_machine, of_service, of_process, of_balance}
 use Rattle.ra_trial.specs.Lines.{listed}
-use Rattle.ra_trial.specs.Numbers.{requirement_of, capacity_of, safety_of, move_cost_of}
+use Rattle.ra_trial.specs.Numbers.{requirement_of, capacity_of, safety_of, way_cost_of}
 use Rattle.ra_trial.specs.InstanceNumbers.{HasNumbers}
 use Rattle.ra_trial.specs.Instances.{trial_resource, trial_machine, trial_machines, trial_service, trial_need, trial_services, trial_process, trial_processes, trial_balance, trial_lists, table_of, IsTrial}
 use Rattle.ra_trial.proofs.LineLemmas.{length_listed, listed_at}
@@ -18,7 +18,7 @@ pub record HasLists (i : Tables) : Type 0 where
   pub all_needs : length i.raw.dependencies.items ≡ 50
   pub all_capacities : length i.raw.capacities.items ≡ 400
   pub all_safeties : length i.raw.safeties.items ≡ 400
-  pub all_move_costs : length i.raw.move_costs.items ≡ 10000
+  pub all_way_costs : length i.raw.move_costs.items ≡ 10000
   pub all_requirements : length i.raw.requirements.items ≡ 4000
   pub needs_end : (s : ℕ) → s < 250 → model.dependency_end i s ≡ s / 5 + 1
   pub need_at : (k : ℕ) → k < 50 → model.need_at i k ≡ (5 * k + 25) % 250
@@ -40,9 +40,9 @@ module _ (g : ℕ → ℕ) (i : Tables) (is : IsTrial g i) where
   unfolding trial_lists trial_machines
   safety_table = ap (λ l. l.machines.safeties) is.lists
 
-  move_cost_table : i.raw.move_costs.items ≡ table_of 100 100 move_cost_of
+  way_cost_table : i.raw.move_costs.items ≡ table_of 100 100 way_cost_of
   unfolding trial_lists trial_machines
-  move_cost_table = ap (λ l. l.machines.move_costs) is.lists
+  way_cost_table = ap (λ l. l.machines.move_costs) is.lists
 
   service_rows : map of_service i.raw.services.items ≡ listed 250 (trial_service g)
   unfolding trial_lists trial_services
@@ -86,7 +86,7 @@ module _ (g : ℕ → ℕ) (i : Tables) (is : IsTrial g i) where
     all_needs = ap length need_list ∙ length_listed 50 trial_need;
     all_capacities = ap length capacity_table ∙ table_many 100 4 (capacity_of g);
     all_safeties = ap length safety_table ∙ table_many 100 4 (safety_of g);
-    all_move_costs = ap length move_cost_table ∙ table_many 100 100 move_cost_of;
+    all_way_costs = ap length way_cost_table ∙ table_many 100 100 way_cost_of;
     all_requirements = ap length requirement_table ∙ table_many 1000 4 (requirement_of g);
     needs_end = λ s within. ap (λ row. row.dependency_end) (row_is of_service i.raw.services.items 250 (trial_service g) s _ service_rows within);
     need_at = λ k within. ap (λ (all : List Service). (get_or all k (record { 0 = 0 })).0) need_list ∙ ap (λ service. service.0) (listed_at 50 trial_need k (record { 0 = 0 }) within);
@@ -130,7 +130,7 @@ module _ (g : ℕ → ℕ) (i : Tables) (is : IsTrial g i) where
     location = λ m within. ap (λ row. row.location) (row_is of_machine i.raw.machines.items 100 trial_machine m _ machine_rows within);
     capacity = λ m r m_in r_in. cell_at _ 100 4 _ (capacity_of g) m r resource_many capacity_table m_in r_in;
     safety = λ m r m_in r_in. cell_at _ 100 4 _ (safety_of g) m r resource_many safety_table m_in r_in;
-    move_cost = λ a b a_in b_in. cell_at _ 100 100 _ move_cost_of a b machine_many move_cost_table a_in b_in;
+    move_cost = λ a b a_in b_in. cell_at _ 100 100 _ way_cost_of a b machine_many way_cost_table a_in b_in;
     spread = λ s within. ap (λ row. row.spread_min) (row_is of_service i.raw.services.items 250 (trial_service g) s _ service_rows within);
     dependencies = fifths_need;
     need = need_is;

@@ -2,7 +2,7 @@
 use Rattle.std.specs.Prelude.{◌≡◌, ℕ, ◌+◌, ◌/◌, ◌%◌, ◌<◌, ◌==◌, if◌then◌else◌, false}
 use Rattle.ra_model.specs.declared.raw.Tables.{Tables}
 use Rattle.ra_model.specs.Numbers as model
-use Rattle.ra_trial.specs.Numbers.{requirement_of, process_cost_of, capacity_of, safety_of, move_cost_of, spread_of}
+use Rattle.ra_trial.specs.Numbers.{requirement_of, process_cost_of, capacity_of, safety_of, way_cost_of, spread_of}
 
 pub record HasNumbers (g : ℕ → ℕ) (i : Tables) : Type 0 where
   pub resources : model.resource_count i ≡ 4
@@ -18,7 +18,7 @@ pub record HasNumbers (g : ℕ → ℕ) (i : Tables) : Type 0 where
   pub location : (m : ℕ) → m < 100 → model.location_of i m ≡ m % 10
   pub capacity : (m r : ℕ) → m < 100 → r < 4 → model.capacity_of i m r ≡ capacity_of g m r
   pub safety : (m r : ℕ) → m < 100 → r < 4 → model.safety_of i m r ≡ safety_of g m r
-  pub move_cost : (a b : ℕ) → a < 100 → b < 100 → model.way_cost_of i a b ≡ move_cost_of a b
+  pub move_cost : (a b : ℕ) → a < 100 → b < 100 → model.way_cost_of i a b ≡ way_cost_of a b
   pub spread : (s : ℕ) → s < 250 → model.spread_of i s ≡ spread_of g s
   -- each fifth service depends on one other, the service 25 numbers on
   pub dependencies : (s : ℕ) → s < 250 → model.dependency_count i s ≡ (if s % 5 == 0 then 1 else 0)

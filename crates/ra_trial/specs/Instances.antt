@@ -5,7 +5,7 @@ use Rattle.ra_base.specs.declared.ids.Service.{Service}
 use Rattle.ra_model.specs.declared.raw.Tables.{Tables}
 use Rattle.ra_model_read.specs.Lists.{ResourceNumbers, MachineNumbers, ServiceNumbers, ProcessNumbers, BalanceNumbers, MachineLists, ServiceLists, ProcessLists, Lists, lists_of}
 use Rattle.ra_trial.specs.Lines.{listed}
-use Rattle.ra_trial.specs.Numbers.{requirement_of, process_cost_of, capacity_of, safety_of, move_cost_of, spread_of}
+use Rattle.ra_trial.specs.Numbers.{requirement_of, process_cost_of, capacity_of, safety_of, way_cost_of, spread_of}
 use Rattle.ra_trial.specs.Trials.{start_machine}
 
 -- a table in one list, row after row: f row column
@@ -25,7 +25,7 @@ trial_machines g = record {
   rows = listed 100 trial_machine;
   capacities = table_of 100 4 (capacity_of g);
   safeties = table_of 100 4 (safety_of g);
-  move_costs = table_of 100 100 move_cost_of;
+  move_costs = table_of 100 100 way_cost_of;
 }
 
 -- a service: its spread; each fifth one has a dependency, so that s / 5 + 1 have ended with service s

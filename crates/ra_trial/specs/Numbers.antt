@@ -41,8 +41,8 @@ unfoldable pub safety_of : (ℕ → ℕ) → ℕ → ℕ → ℕ
 safety_of g m r = 3 * capacity_of g m r / 4
 
 -- the cost of a move from machine a to machine b
-unfoldable pub move_cost_of : ℕ → ℕ → ℕ
-move_cost_of a b = if a == b then 0 else 1 + (a + b) % 5
+unfoldable pub way_cost_of : ℕ → ℕ → ℕ
+way_cost_of a b = if a == b then 0 else 1 + (a + b) % 5
 
 -- how many locations service s wants, from words 5,400 to 5,649: 1 to 3
 unfoldable pub spread_of : (ℕ → ℕ) → ℕ → ℕ

@@ -3,7 +3,7 @@ use Rattle.std.specs.Prelude.{ℕ, ◌+◌, ◌/◌, ◌%◌, ◌==◌, if◌the
 use Rattle.ra_base.specs.declared.ids.Machine.{Machine}
 use Rattle.ra_assign.specs.Lists.{assignment_bytes}
 use Rattle.ra_trial.specs.Lines.{listed, lines_text}
-use Rattle.ra_trial.specs.Numbers.{trial_word, transient_of, requirement_of, process_cost_of, start_of, capacity_of, safety_of, move_cost_of, spread_of}
+use Rattle.ra_trial.specs.Numbers.{trial_word, transient_of, requirement_of, process_cost_of, start_of, capacity_of, safety_of, way_cost_of, spread_of}
 
 -- a resource: its transient flag and its load weight
 unfoldable pub resource_line : ℕ → List ℕ
@@ -15,7 +15,7 @@ machine_front g m = m / 20 ∷ m % 10 ∷ listed 4 (capacity_of g m) ++ listed 4
 
 -- and the costs of a move from it to each machine
 unfoldable pub machine_line : (ℕ → ℕ) → ℕ → List ℕ
-machine_line g m = machine_front g m ++ listed 100 (move_cost_of m)
+machine_line g m = machine_front g m ++ listed 100 (way_cost_of m)
 
 -- a service: its spread, and each fifth one depends on the service 25 numbers on
 unfoldable pub service_line : (ℕ → ℕ) → ℕ → List ℕ

@@ -1,6 +1,6 @@
 ghost use Rattle.std.specs.Prelude.{◌≡◌, ◌+◌, ◌<◌, ◌≤◌, ◌++◌, length, IfOk};
 ghost use Rattle.ra_trial.specs.Lines.{Adds, listed, line_text, lines_text};
-ghost use Rattle.ra_trial.specs.Numbers.{trial_word, move_cost_of};
+ghost use Rattle.ra_trial.specs.Numbers.{trial_word, way_cost_of};
 ghost use Rattle.ra_trial.specs.Trials.{machine_front, machine_line, machine_lines};
 
 use crate::lines::push_line;
@@ -55,7 +55,7 @@ fn gather_machine(line: &mut Fixed<u32>, words: &Words, m: u32)
 {
     line.clear();
     line.extend_from_slice(&front(words, m));
-    add_move_costs(line, m);
+    add_way_costs(line, m);
 }
 
 /// The numbers of machine `m` before its move costs.
@@ -85,10 +85,10 @@ fn front(words: &Words, m: u32) -> [u32; 10]
 }
 
 /// Adds the costs of a move from machine `m` to each machine.
-fn add_move_costs(line: &mut Fixed<u32>, m: u32)
+fn add_way_costs(line: &mut Fixed<u32>, m: u32)
     requires machine { m < 100 }
     requires room { length line.old.items + 100 ≤ line.old.room }
-    ensures items { line.new.items ≡ line.old.items ++ listed 100 (move_cost_of m) }
+    ensures items { line.new.items ≡ line.old.items ++ listed 100 (way_cost_of m) }
     ensures many { length line.new.items ≡ length line.old.items + 100 }
     ensures room { line.new.room ≡ line.old.room }
 {

@@ -1,5 +1,5 @@
 ghost use Rattle.std.specs.Prelude.{◌≡◌, ◌<◌, ◌≤◌};
-ghost use Rattle.ra_trial.specs.Numbers.{trial_word, requirement_of, process_cost_of, start_share, start_use_of, capacity_of, move_cost_of, spread_of};
+ghost use Rattle.ra_trial.specs.Numbers.{trial_word, requirement_of, process_cost_of, start_share, start_use_of, capacity_of, way_cost_of, spread_of};
 
 use crate::words::Words;
 
@@ -70,11 +70,11 @@ pub(crate) fn capacity(words: &Words, m: u32, r: u32) -> u32
 }
 
 /// The cost of a move from machine `a` to machine `b`.
-#[tactic(auto, unfolding(crate::specs::Numbers::move_cost_of))]
+#[tactic(auto, unfolding(crate::specs::Numbers::way_cost_of))]
 pub(crate) fn move_cost(a: u32, b: u32) -> u32
     requires from { a < 100 }
     requires to { b < 100 }
-    ensures { result ≡ move_cost_of a b }
+    ensures { result ≡ way_cost_of a b }
 {
     if a == b { 0 } else { 1 + (a + b) % 5 }
 }

@@ -10,7 +10,7 @@ returns-clause-value c = λ (a0 : List Machine) stand. bound_made c.args.inst.no
 
 pub returns-clause-at_least : goal.returns-clause-at_least
 unfolding pinned_bound_of
-returns-clause-at_least c = omega (arith, c.pinned_load_bound-load.ensures.value c.requires.pins.start c.requires.pins.stand, c.balance_bound-balance.ensures.value, pinned_is_at_least c.args.inst.now.tables c.requires.pins.start)
+returns-clause-at_least c = omega (arith, c.pinned_load_bound-load.ensures.value c.requires.pins.a0 c.requires.pins.stand, c.balance_bound-balance.ensures.value, pinned_is_at_least c.args.inst.now.tables c.requires.pins.a0)
 
 pub returns-clause-below : goal.returns-clause-below
 unfolding pinned_bound_of

@@ -3,14 +3,14 @@ use Rattle.ra_edit.specs.Keeping.{drafted}
 use Rattle.ra_edit.proofs.JudgeLaws.{initial_fits, current_fits, found_in, cost_in}
 use Rattle.ra_edit.proofs.judging.judge.Goals as goal
 
-pub first_broken-requires-clause-start_fits : goal.first_broken-requires-clause-start_fits
-first_broken-requires-clause-start_fits c = initial_fits (drafted c.args.inst.now.tables c.args.lists.now) _ c.in_ok-next.ensures c.requires.sound
+pub first_broken-requires-clause-a0_fits : goal.first_broken-requires-clause-a0_fits
+first_broken-requires-clause-a0_fits c = initial_fits (drafted c.args.inst.now.tables c.args.lists.now) _ c.in_ok-next.ensures c.requires.sound
 
 pub first_broken-requires-clause-fits : goal.first_broken-requires-clause-fits
 first_broken-requires-clause-fits c = current_fits (drafted c.args.inst.now.tables c.args.lists.now) _ c.in_ok-next.ensures c.requires.sound
 
-pub parts-cost-requires-clause-start_fits : goal.parts-cost-requires-clause-start_fits
-parts-cost-requires-clause-start_fits c = initial_fits (drafted c.args.inst.now.tables c.args.lists.now) _ c.in_ok-next.ensures c.requires.sound
+pub parts-cost-requires-clause-a0_fits : goal.parts-cost-requires-clause-a0_fits
+parts-cost-requires-clause-a0_fits c = initial_fits (drafted c.args.inst.now.tables c.args.lists.now) _ c.in_ok-next.ensures c.requires.sound
 
 pub parts-cost-requires-clause-fits : goal.parts-cost-requires-clause-fits
 parts-cost-requires-clause-fits c = current_fits (drafted c.args.inst.now.tables c.args.lists.now) _ c.in_ok-next.ensures c.requires.sound

@@ -13,5 +13,5 @@ returns g c =
     (adds_more g.O.Sink.taken g.O.Sink.faults c.add_digits.new.text c.add_more.new.text c.add.new.self (32 ∷ decimal (location_of i c.args.m.0)) ((spaced (resource_count i) (capacity_of i c.args.m.0)) ++ ((spaced (resource_count i) (safety_of i c.args.m.0)) ++ ((spaced (machine_count i) (way_cost_of i c.args.m.0)) ++ (10 ∷ [])))) (rw c.location.ensures at c.add_more.ensures)
     (adds_more g.O.Sink.taken g.O.Sink.faults c.add_more.new.text c.add_capacities.new.text c.add.new.self (spaced (resource_count i) (capacity_of i c.args.m.0)) ((spaced (resource_count i) (safety_of i c.args.m.0)) ++ ((spaced (machine_count i) (way_cost_of i c.args.m.0)) ++ (10 ∷ []))) c.add_capacities.ensures
     (adds_more g.O.Sink.taken g.O.Sink.faults c.add_capacities.new.text c.add_safeties.new.text c.add.new.self (spaced (resource_count i) (safety_of i c.args.m.0)) ((spaced (machine_count i) (way_cost_of i c.args.m.0)) ++ (10 ∷ [])) c.add_safeties.ensures
-    (adds_more g.O.Sink.taken g.O.Sink.faults c.add_safeties.new.text c.add_move_costs.new.text c.add.new.self (spaced (machine_count i) (way_cost_of i c.args.m.0)) (10 ∷ []) c.add_move_costs.ensures
+    (adds_more g.O.Sink.taken g.O.Sink.faults c.add_safeties.new.text c.add_way_costs.new.text c.add.new.self (spaced (machine_count i) (way_cost_of i c.args.m.0)) (10 ∷ []) c.add_way_costs.ensures
     c.add.ensures)))))

@@ -1,5 +1,5 @@
 -- The ledger is the one of the blank that is handed in.
 use Rattle.ra_pins.proofs.pins.flags_of.Given as goal
 
-abbrev pub ghosts-settle : goal.ghosts-settle
-ghosts-settle a = record { name = a.blank.name; parts = a.blank.parts }
+abbrev pub ghosts-find_pinned : goal.ghosts-find_pinned
+ghosts-find_pinned a = record { name = a.blank.name; parts = a.blank.parts }

@@ -1,6 +1,6 @@
 use Rattle.std.proofs.Common.{ℕ, length, refl, arith, ◌∙◌, ap, length-append}
 use Rattle.ra_trial.proofs.LineLemmas.{none_behind, listed_behind}
-use Rattle.ra_trial.proofs.machines.add_move_costs.Goals as goal
+use Rattle.ra_trial.proofs.machines.add_way_costs.Goals as goal
 
 pub loop-b-init : goal.loop-b-init
 loop-b-init c = record { items = none_behind _ _; many = omega arith; room = refl }

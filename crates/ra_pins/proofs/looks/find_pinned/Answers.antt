@@ -1,7 +1,7 @@
 -- No more passes flag a process than there are processes.
 use Rattle.std.proofs.Common.{arith}
 use Rattle.ra_pins.proofs.SearchLemmas.{count_within}
-use Rattle.ra_pins.proofs.looks.settle.Goals as goal
+use Rattle.ra_pins.proofs.looks.find_pinned.Goals as goal
 
 pub returns : goal.returns
 returns g c = absurd (omega (arith, count_within c.args.inst.now.tables c.loop-t.search, c.loop-t.invariant.flagged, c.loop-t-test.false, c.processes-t-end.ensures))

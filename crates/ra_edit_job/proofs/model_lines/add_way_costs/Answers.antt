@@ -1,7 +1,7 @@
 use Rattle.std.proofs.Common.{arith}
 use Rattle.ra_model.specs.Numbers.{machine_count, way_cost_of}
 use Rattle.ra_edit_job.proofs.ModelLines.{row_none, row_more, row_all}
-use Rattle.ra_edit_job.proofs.model_lines.add_move_costs.Goals as goal
+use Rattle.ra_edit_job.proofs.model_lines.add_way_costs.Goals as goal
 
 pub loop-b-init : goal.loop-b-init
 loop-b-init g c = row_none g.O.Sink.taken g.O.Sink.faults (way_cost_of c.args.inst.now.tables c.args.m.0) c.args.text.now
