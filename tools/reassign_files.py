@@ -65,7 +65,7 @@ def words_of(text):
     tool = os.path.basename(sys.argv[0])
     words = Words(prog=tool, description=text)
     words.add_argument("--program", metavar="FILE", help="the program to call (else the environment's REASSIGN, else "
-                       "./reassign of the repository, else `reassign` where commands are looked for)")
+                       "./reassign of the repository, else `reassign` beside the tool, or where commands are looked for)")
     return words
 
 
@@ -154,7 +154,8 @@ class Program:
     def __init__(self, named):
         named = named or os.environ.get("REASSIGN")
         here = os.path.normpath(os.path.join(ROOT, "reassign"))
-        self.name = named or (here if os.path.isfile(here) else shutil.which("reassign"))
+        beside = os.path.join(os.path.dirname(os.path.abspath(sys.argv[0])), "reassign")
+        self.name = named or next(filter(os.path.isfile, (here, beside)), shutil.which("reassign"))
         if not self.name or not os.path.isfile(self.name) or not os.access(self.name, os.X_OK):
             raise Problem(f"there is no program {self.name or 'reassign'}: name it with --program")
         if self.name == here:
