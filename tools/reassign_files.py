@@ -124,6 +124,7 @@ def run_tool(main):
 
 
 def stop(*_):
+    no_more_stops()
     raise Stopped
 
 
