@@ -176,7 +176,7 @@ class Program:
             raise Problem("the program was not made")
 
     def run(self, *words, keep=None, lines=None, endings=(0,)):
-        """Runs a command. Answers its status, the lines that it prints (the first ones, where their number is given), and
+        """Runs a command. Answers its status, the lines that it prints (the first ones, if their number is given), and
         its error line. Its output goes to the file `keep` too. Another status than those of `endings` ends the tool."""
         command = [self.name, *map(str, words)]
         how = {"stdin": subprocess.DEVNULL, "stdout": subprocess.PIPE, "stderr": subprocess.PIPE, "start_new_session": True}
