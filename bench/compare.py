@@ -456,6 +456,13 @@ def compare_instance(program, chance, kinds):
 
 
 def main():
+    if sys.argv[1:] in (["-h"], ["--help"]):
+        sys.exit(print(__doc__.strip()))
+    if len(sys.argv) != 4 or not all(word.isdigit() for word in sys.argv[2:]):
+        print("usage: compare.py PROGRAM FIRST_SEED INSTANCES", file=sys.stderr)
+        sys.exit(2)
+    if not os.access(sys.argv[1], os.X_OK):
+        sys.exit(f"compare.py: {sys.argv[1]} is no program")
     program, seed, instances = os.path.abspath(sys.argv[1]), int(sys.argv[2]), int(sys.argv[3])
     kinds = Counter()
     folder = tempfile.mkdtemp()

@@ -8,6 +8,7 @@ take a minute. The costs of the best and of the last state are summed from nothi
 
 usage: judge_report.py solve MODEL INITIAL [--slack N] [--closed FILE] [--draws N] LOT ... <REPORT
 """
+import re
 import sys
 from collections import Counter
 from itertools import islice
@@ -276,31 +277,67 @@ def lot_of(word):
     return [list(islice(stream, 8)) for _ in range(budget)]
 
 
-def main():
-    _, model, initial, *rest = sys.argv[1:]
+USAGE = "usage: judge_report.py solve MODEL INITIAL [--slack N] [--closed FILE] [--draws N] LOT ... <REPORT"
+
+
+def words_of(words):
+    """The files, the options and the lots of the words of a run, or None."""
+    if len(words) < 4 or words[0] != "solve":
+        return None
+    _, model, initial, *rest = words
     flags = {}
-    while rest[0].startswith("--"):
+    while rest and rest[0] in ("--slack", "--closed", "--draws"):
+        if len(rest) < 3:
+            return None
         flags[rest[0]], rest = rest[1], rest[2:]
+    is_lot = [re.fullmatch(r"\d{1,20}:\d{1,20}|w:\d{1,20}(,\d{1,20})*", word) for word in rest]
+    if not rest or not all(is_lot) or not all(flags.get(name, "0").isdigit() for name in ("--slack", "--draws")):
+        return None
+    return model, initial, flags, rest
+
+
+def judge(model, initial, flags, lots, printed):
+    """What is said of a report that is legal. Of another one the first fault is raised as a ValueError."""
     inst, start = read_model(model), numbers_in(initial)
     for m in numbers_in(flags["--closed"]) if "--closed" in flags else []:
         inst.closed[m] = True
     slack, drawing = int(flags.get("--slack", 0)), int(flags.get("--draws", 2))
-    printed = sys.stdin.read()
     order = order_of(printed)
-    best_at, best, told = judged(inst, start, slack, drawing, [lot_of(word) for word in rest], order)
+    best_at, best, told = judged(inst, start, slack, drawing, [lot_of(word) for word in lots], order)
     head = cost_lines(inst.parts(start, best))
     head += f"bound {inst.bound()[0]}\nbest_at {best_at}\n"
     head += f"assignment {joined(best)}\ndraws {drawing}\n"
     wanted = (head + "".join(told)).splitlines()
     for number, (want, got) in enumerate(zip(wanted, printed.splitlines())):
         if want != got:
-            sys.exit(f"line {number}\n  wanted {want}\n  got    {got}")
+            raise ValueError(f"line {number}\n  wanted {want}\n  got    {got}")
     if head + "".join(told) != printed:
-        sys.exit("the report is cut off")
+        raise ValueError("the report is cut off")
     done = sum(" done " in line for line in told)
     late = sum(q < place for place, (_, q) in enumerate(order))
-    print(f"legal: {len(told)} entries, {done} done, {late} planned before the entry that stands before them")
+    return f"legal: {len(told)} entries, {done} done, {late} planned before the entry that stands before them"
+
+
+def main():
+    if sys.argv[1:] in (["-h"], ["--help"]):
+        print(__doc__.strip())
+        return 0
+    words = words_of(sys.argv[1:])
+    if words is None:
+        print(USAGE, file=sys.stderr)
+        return 2
+    try:
+        print(judge(*words, sys.stdin.read()))
+    except (OSError, ValueError) as fault:
+        print(f"judge_report.py: {fault}", file=sys.stderr)
+        return 1
+    except (IndexError, StopIteration):
+        print("judge_report.py: a file isn't what it should be, or is cut off", file=sys.stderr)
+        return 1
+    except KeyboardInterrupt:
+        return 130
+    return 0
 
 
 if __name__ == "__main__":
-    main()
+    sys.exit(main())

@@ -13,6 +13,11 @@ import sys
 
 
 def main():
+    if sys.argv[1:] in (["-h"], ["--help"]):
+        sys.exit(print(__doc__.strip()))
+    if len(sys.argv) != 5 or not all(word.isdigit() and int(word) for word in sys.argv[2:]):
+        print("usage: make_pinned.py FOLDER MACHINES PROCESSES RESOURCES", file=sys.stderr)
+        sys.exit(2)
     folder, machines, processes, resources = sys.argv[1], *map(int, sys.argv[2:5])
     os.makedirs(folder, exist_ok=True)
     each = processes // machines

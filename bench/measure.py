@@ -12,7 +12,7 @@ import subprocess
 import sys
 from statistics import median
 
-ROUNDS = int(os.environ.get("ROUNDS", "15"))
+ROUNDS = os.environ.get("ROUNDS", "15")
 PROPOSALS = 40_000
 
 
@@ -71,10 +71,15 @@ def time_of(folder, program, command):
 
 
 def main():
+    if sys.argv[1:] in (["-h"], ["--help"]):
+        sys.exit(print(__doc__.strip()))
+    if len(sys.argv) not in (3, 4) or not ROUNDS.isdigit() or int(ROUNDS) == 0:
+        print("usage: [ROUNDS=N] measure.py FOLDER PROGRAM [OTHER]   (bench/run makes the folder, and calls this)", file=sys.stderr)
+        sys.exit(2)
     folder, *programs = sys.argv[1:]
     commands = list(commands_of(folder))
     runs = {(command, program): [] for command in commands for program in programs}
-    for _ in range(ROUNDS):
+    for _ in range(int(ROUNDS)):
         for (command, program), times in runs.items():
             times.append(time_of(folder, program, command))
     print("processor: median seconds of processor time; beside: its time divided by that of the plain loop, of `bound` of the")
