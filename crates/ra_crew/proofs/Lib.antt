@@ -1,4 +1,5 @@
 pub mod Seen
 pub mod Steps
+pub mod Owning
 pub mod Runs
 mod RunLemmas

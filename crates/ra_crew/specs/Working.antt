@@ -1,8 +1,11 @@
 -- A worker while it runs: its replica follows what its pass has seen of the journal.
-use Rattle.std.specs.Prelude.{◌≡◌, ℕ, ◌+◌, ◌*◌, ◌<◌, ◌≤◌, List, length}
+use Rattle.std.specs.Prelude.{◌≡◌, ℕ, ◌+◌, ◌*◌, ◌<◌, ◌≤◌, List, [], ◌∷◌, length}
 use Rattle.ra_moves.specs.declared.verdicts.Plan.{Plan}
 use Rattle.ra_moves.specs.Options.{plan_of}
 use Rattle.ra_moves.specs.Weighing.{weighed_of}
+use Rattle.ra_moves.specs.declared.verdicts.Verdict.{Verdict}
+use Rattle.ra_journal.specs.Batches.{batch_from}
+use Rattle.ra_journal.specs.declared.entries.Entry.{Entry}
 use Rattle.ra_journal.specs.declared.replies.Reply.{Reply}
 use Rattle.ra_journal.specs.declared.replies.Reply.TheVariants.{Recorded, Stale}
 use Rattle.ra_journal.specs.Entries.{entries_of, proposal_count, words, allowed}
@@ -60,6 +63,16 @@ pub record HasMoved (before after : Worker) : Type 0 where
   pub turns :
       before.pass.left + 2 * before.replica.place ≤ after.pass.left + 2 * after.replica.place
   pub fewer : after.pass.left < before.pass.left
+
+-- the entry of a worker's plan with a verdict
+abbrev pub entry_of : ℕ → Plan → Verdict → Entry
+entry_of worker plan verdict =
+    record { worker = worker; k = plan.k; q = plan.q; mv = plan.mv; verdict = verdict }
+
+-- what it has seen and not taken in is one entry: its own, of this plan
+pub record IsOwnNext (w : Worker) (plan : Plan) (verdict : Verdict) : Type 0 where
+  pub next :
+      batch_from (seen_by w.pass) w.replica.place ≡ entry_of w.pass.number plan verdict ∷ []
 
 -- the place of the entry that an answer shows
 unfoldable pub shown_in : Reply → ℕ

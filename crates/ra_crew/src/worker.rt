@@ -1,13 +1,14 @@
-ghost use Rattle.std.specs.Prelude.{◌≡◌, ◌+◌, ◌*◌, ◌<◌, ◌≤◌, true, false, length, IfOk};
+ghost use Rattle.std.specs.Prelude.{◌≡◌, ◌+◌, ◌*◌, ◌<◌, ◌≤◌, true, false, [], ◌∷◌, length, IfOk, IfSome};
 ghost use mathlib.Core.List.{IsPrefix};
+ghost use Rattle.ra_journal.specs.declared.replies.Reply.TheVariants.{Recorded};
 ghost use Rattle.ra_journal.specs.Entries.{budget};
 ghost use Rattle.ra_turn.specs.Passes.{seen_by, made_by};
 ghost use Rattle.ra_worker.specs.Replicas.{AreTold, HasTaken};
-ghost use Rattle.ra_crew.specs.Working.{IsNextPlan, IsAtWork, HasOwn, HasRoom, IsBehind, HasMoved, HasTurned, shown_in};
+ghost use Rattle.ra_crew.specs.Working.{IsNextPlan, IsAtWork, IsOwnNext, HasOwn, HasRoom, IsBehind, HasMoved, HasTurned, shown_in};
 
 use ra_base::{NoMemory, Steps};
-use ra_journal::{Batch, Reply};
-use ra_moves::Plan;
+use ra_journal::{Batch, Entry, Reply};
+use ra_moves::{Plan, Verdict};
 use ra_shared::{Shared, WorkerPass};
 use ra_worker::Replica;
 use std::alloc::Global;
@@ -83,8 +84,9 @@ impl<'a> Worker<'a> {
         offer::<Brand>(&self.replica, Blank::new(1))
     }
 
-    /// Hands in a plan of its next proposal. Then it catches up past the entry that the answer shows: its own, or the one
-    /// that made the plan stale.
+    /// Hands in a plan of its next proposal. If the plan was recorded at the replica's place, the worker knows that entry
+    /// and takes it in. Else it catches up past the entry that the answer shows: its own, or the one that made the plan
+    /// stale.
     pub(crate) fn hand_in<R: Wait>(&mut self, rt: &R, shared: &Shared<'a>, plan: &Plan)
         requires work { IsAtWork shared.now self.old }
         requires own { HasOwn self.old }
@@ -97,7 +99,28 @@ impl<'a> Worker<'a> {
         ensures moved { HasMoved self.old self.new }
     {
         let reply = shared.commit(rt, &mut self.pass, plan);
-        self.catch_up_past(rt, shared, shown_by(&reply));
+        match recorded_at(&reply, self.replica.place()) {
+            Some(verdict) => self.take_own(shared, plan, verdict),
+            None => self.catch_up_past(rt, shared, shown_by(&reply)),
+        }
+    }
+
+    /// Takes in the entry of its own plan, which is all that it has seen and not taken in.
+    fn take_own(&mut self, _shared: &Shared<'a>, plan: &Plan, verdict: Verdict)
+        requires work { IsAtWork _shared.now self.old }
+        requires own { IsOwnNext self.old plan.now verdict }
+        ensures work { IsAtWork _shared.now self.new }
+        ensures pass { self.new.pass ≡ self.old.pass }
+        ensures place { self.new.replica.place ≡ self.old.replica.place + 1 }
+    {
+        let entry = Entry {
+            worker: self.pass.number(),
+            k: plan.k,
+            q: plan.q,
+            mv: plan.mv,
+            verdict,
+        };
+        take_one::<Brand>(&mut self.replica, &entry, Blank::new(1));
     }
 
     /// Catches up past an entry that it has seen, where all that it has made stands at that place or before.
@@ -144,6 +167,16 @@ fn shown_by(reply: &Reply) -> u64
     }
 }
 
+/// The verdict, if an answer says that the plan was recorded at this place.
+fn recorded_at(reply: &Reply, place: u64) -> Option<Verdict>
+    ensures { IfSome result (λ verdict. reply.now ≡ Recorded place verdict) }
+{
+    match reply {
+        Reply::Recorded { at, verdict } if *at == place => Some(*verdict),
+        _ => None,
+    }
+}
+
 /// Plans a replica's next proposal.
 fn offer<L: Ledger>(replica: &Replica<'_>, blank: Blank) -> Plan
     requires name { blank.name ≡ L.name }
@@ -167,4 +200,16 @@ fn take_in<L: Ledger>(replica: &mut Replica<'_>, batch: &Batch, blank: Blank)
 {
     let mut steps = Steps::<L>::make(blank);
     replica.take_in(batch, &mut steps);
+}
+
+/// A replica takes in an entry that is known without a batch.
+fn take_one<L: Ledger>(replica: &mut Replica<'_>, entry: &Entry, blank: Blank)
+    requires name { blank.name ≡ L.name }
+    requires parts { blank.parts ≡ L.parts }
+    requires some { 0 < blank.parts }
+    requires told { AreTold replica.old (entry.now ∷ []) }
+    ensures { HasTaken replica.old replica.new (entry.now ∷ []) 1 }
+{
+    let mut steps = Steps::<L>::make(blank);
+    replica.take_one(entry, &mut steps);
 }

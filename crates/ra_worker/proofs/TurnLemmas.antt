@@ -24,7 +24,7 @@ pub batch_long : (h : List Entry) (at : ℕ) → length (batch_from h at) ≡ mi
 unfolding batch_from
 batch_long h at = length-take 1024 (drop at h) ∙ ap (λ n. min 1024 n) (length-drop at h)
 
-batch_entry : (h : List Entry) (at j : ℕ) → j < length (batch_from h at) → entry_at (batch_from h at) j ≡ entry_at h (at + j)
+pub batch_entry : (h : List Entry) (at j : ℕ) → j < length (batch_from h at) → entry_at (batch_from h at) j ≡ entry_at h (at + j)
 unfolding batch_from entry_at
 batch_entry h at j within = get_or-take 1024 (drop at h) j _ (omega (arith, within, length-take 1024 (drop at h))) ∙ get_or-drop at h j _
 

@@ -1,4 +1,4 @@
-ghost use Rattle.std.specs.Prelude.{◌≡◌, ◌+◌, ◌-◌, ◌*◌, ◌^◌, ◌<◌, ◌≤◌, ◌==◌, None, List, length, IfOk};
+ghost use Rattle.std.specs.Prelude.{◌≡◌, ◌+◌, ◌-◌, ◌*◌, ◌^◌, ◌<◌, ◌≤◌, ◌==◌, None, List, [], ◌∷◌, length, IfOk};
 ghost use Rattle.ra_base.specs.Sums.{one_if};
 ghost use Rattle.ra_base.specs.declared.causes.Drawing.TheVariants.{One, Two};
 ghost use Rattle.ra_model.specs.Numbers.{resource_count};
@@ -155,6 +155,15 @@ impl<'a> Replica<'a> {
             let entry = batch.entry(j);
             self.take_entry(&entry, steps);
         }
+    }
+
+    /// Takes in the next entry of the journal, if it is known without a batch. It stands for the state behind it
+    /// afterwards.
+    pub fn take_one<L: Ledger>(&mut self, entry: &Entry, steps: &mut Steps<L>)
+        requires told { AreTold self.old (entry.now ∷ []) }
+        ensures { HasTaken self.old self.new (entry.now ∷ []) 1 }
+    {
+        self.take_entry(entry, steps);
     }
 
     /// Takes in one entry, which was judged at the state for which it stands.
