@@ -12,6 +12,7 @@ use Rattle.ra_text.specs.declared.gathered.Gathered.{Gathered}
 use Rattle.ra_text.specs.declared.pieces.Piece.{Piece}
 use Rattle.ra_text.specs.Pieces.{bytes_of, piece_bytes, Breaks}
 use Rattle.ra_text.specs.Gathering.{Moves, Adds}
+use Rattle.ra_text.specs.Writes.{Writes}
 use Rattle.ra_text.proofs.PieceLemmas.{breaks_after, breaks_before, bytes_take, words_take}
 
 -- what stands behind two puts, one after the other
@@ -82,6 +83,18 @@ module _ {O : Type 0} (taken : O → Option (List ℕ)) (faults : O → ℕ) whe
   put_part old new a b c text r from to sound none first last =
       let all = adds_more taken faults a b c text [] first last in
       on_err_weaker r (λ (ill : c.failed ≡ true). rw to (ended_part _ _ _ _ c.waiting.items text (rw (append-nil, from, sound, none, ill) at all.2)))
+
+  -- from an empty text that is made to one that is finished
+  pub writes : {T E : Type 0} {old new : O} (a b c : Gathered O) {text : List ℕ} {r : Result T E} → a.to.now ≡ old → new ≡ c.to.now → a.failed ≡ false → a.waiting.items ≡ []
+      → Adds taken faults a b text → Adds taken faults b c [] → c.waiting.items ≡ [] → OnOk r (c.failed ≡ false) → OnErr r (c.failed ≡ true)
+      → Writes (record { taken = taken old; taken_after = taken new; before = faults old; after = faults new }) text r
+  writes {T} {E} {old} {new} a b c {text} {r} from to sound none first last empty well ill =
+      let all = adds_more taken faults a b c text [] first last in
+      record {
+        whole = put_whole old new a b c text r from to sound none first last empty well;
+        part = put_part old new a b c text r from to sound none first last ill;
+        never_falls = rw (← from, to) all.1;
+      }
 
 -- a put of a text, or a failed one
 pub moves_put : {T E : Type 0} (r : Result T E) (a b : Option (List ℕ)) (f g : ℕ) (text : List ℕ)

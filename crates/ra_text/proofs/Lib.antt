@@ -1,3 +1,4 @@
 pub mod PieceLemmas
 pub mod GatheringLemmas
 pub mod NumberTexts
+pub mod LineLemmas

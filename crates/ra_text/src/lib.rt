@@ -3,11 +3,15 @@
 #![tactic(auto)]
 
 mod gathered;
+mod line;
 mod notes;
 mod pieces;
 mod texts;
 
 pub use gathered::{Gathered, WriteFault};
+pub use line::{LINE_ROOM, Line};
 pub use notes::{Note, add_note};
 pub use pieces::{Piece, add_decimal, add_marked, add_pieces};
-pub use texts::{CauseWords, add_assignment, add_cause, add_machines, add_parts, cause_words};
+pub use texts::{
+    CauseWords, add_assignment, add_cause, add_machines, add_parts, cause_words, prepend_cause,
+};

@@ -1,9 +1,11 @@
 ghost use Rattle.std.specs.Prelude.{◌≡◌, ◌≤◌, length};
 ghost use Rattle.ra_text.specs.CauseTexts.{words_text, cause_name};
 ghost use Rattle.ra_text.specs.Gathering.{Adds};
+ghost use Rattle.ra_text.specs.Lines.{HasRoom, Prepends};
 ghost use Rattle.ra_text.specs.Texts.{parts_text, cause_text, machines_text, assignment_line, with_four};
 
 use crate::gathered::Gathered;
+use crate::line::Line;
 use crate::pieces::{Piece, add_marked, add_pieces};
 use ra_base::{Cause, Machine, Parts};
 use ra_io::Sink;
@@ -70,6 +72,44 @@ pub fn add_cause<O: Sink>(text: &mut Gathered<'_, O>, cause: &Cause)
                 Piece::Marked(b' ', allowed),
             ],
         ),
+    }
+}
+
+/// Writes a cause in front: its name and its numbers.
+pub fn prepend_cause(line: &mut Line, cause: &Cause)
+    requires { HasRoom line.old 105 }
+    ensures { Prepends line.old line.new (cause_text cause.now) 105 }
+{
+    match cause_words(cause) {
+        CauseWords::One(name, a) => {
+            line.prepend_marked(b' ', a as u64);
+            line.prepend(name.as_bytes())
+        }
+        CauseWords::Two(name, a, b) => {
+            line.prepend_marked(b' ', b as u64);
+            line.prepend_marked(b' ', a as u64);
+            line.prepend(name.as_bytes())
+        }
+        CauseWords::Three(name, a, b, c) => {
+            line.prepend_marked(b' ', c as u64);
+            line.prepend_marked(b' ', b as u64);
+            line.prepend_marked(b' ', a as u64);
+            line.prepend(name.as_bytes())
+        }
+        CauseWords::Four(name, a, b, c, d) => {
+            line.prepend_marked(b' ', d as u64);
+            line.prepend_marked(b' ', c);
+            line.prepend_marked(b' ', b as u64);
+            line.prepend_marked(b' ', a as u64);
+            line.prepend(name.as_bytes())
+        }
+        CauseWords::Rise(before, after, allowed) => {
+            line.prepend_marked(b' ', allowed);
+            line.prepend_wide(after);
+            line.prepend_byte(b' ');
+            line.prepend_wide(before);
+            line.prepend(b"rise ")
+        }
     }
 }
 
