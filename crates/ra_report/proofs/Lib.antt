@@ -8,3 +8,4 @@ pub mod FrontLaws
 pub mod ComparedLaws
 pub mod LineEnds
 pub mod TryTexts
+pub mod StepTexts

@@ -112,6 +112,13 @@ best_state j =
     state j.a0.now.items j.book.entries.items
     (best_of j.inst.now.tables j.a0.now.items j.book.entries.items)
 
+-- the parts of an assignment's cost, and the bound of the start with the load of the pinned processes
+abbrev pub parts_in : Journal → List Machine → Parts
+parts_in j a = parts_of j.inst.now.tables j.a0.now.items a
+
+abbrev pub bound_in : Journal → Bound
+bound_in j = pinned_bound_of j.inst.now.tables j.a0.now.items
+
 unfoldable pub text_of : Journal → List ℕ
 text_of j = report_text j.inst.now.tables j.a0.now.items j.lots.now j.book.entries.items
 

@@ -1,16 +1,16 @@
 ghost use Rattle.std.specs.Prelude.{◌≡◌, ◌≤◌, ◌↔◌, true, length, IfSome, IfNone};
 ghost use Rattle.ra_lines.specs.Lines.{FirstUnlike};
-ghost use Rattle.ra_model.specs.Costs.{parts_of};
-ghost use Rattle.ra_bounds.specs.PinnedBounds.{pinned_bound_of};
-ghost use Rattle.ra_report.specs.JournalTexts.{best_state, head_of, entry_line};
+ghost use Rattle.ra_report.specs.JournalTexts.{best_state, parts_in, bound_in, head_of, entry_line};
 ghost use Rattle.ra_report.specs.declared.lengths.TheConstants.{LONGEST_LINE};
 
+use crate::journal::write_line;
 use crate::lengths::entry_is_short;
-use crate::writing::{write_entry, write_head};
+use crate::writing::write_head;
 use ra_base::{Assignment, Parts};
 use ra_bounds::Bound;
 use ra_journal::{Entry, Journal};
 use ra_lines::Expected;
+use ra_text::Line;
 
 /// Whether some bytes are exactly the line of the entry at a place, counted from 0. No such line has more than
 /// `LONGEST_LINE` bytes, its LF among them.
@@ -19,9 +19,9 @@ pub fn is_entry_line(line: &[u8], at: u64, entry: &Entry) -> bool
     ensures short { length (entry_line at entry.now) ≤ LONGEST_LINE }
 {
     entry_is_short(at, entry);
-    let mut sink = Expected::make(line);
-    let _ = write_entry(&mut sink, at, entry);
-    sink.is_same()
+    let mut own = Line::new();
+    write_line(&mut own, at, entry);
+    line == own.as_slice()
 }
 
 /// The number of the first line, counted from 0, at which some bytes differ from the ten lines of a report before its
@@ -34,10 +34,8 @@ pub fn unlike_head(
     journal: &Journal<'_>,
 ) -> Option<usize>
     requires best { best.now.items ≡ best_state journal.now }
-    requires parts { parts.now ≡
-        parts_of journal.now.inst.now.tables journal.now.a0.now.items best.now.items }
-    requires bound { bound.now ≡
-        pinned_bound_of journal.now.inst.now.tables journal.now.a0.now.items }
+    requires parts { parts.now ≡ parts_in journal.now best.now.items }
+    requires bound { bound.now ≡ bound_in journal.now }
     ensures same { IfNone result (bytes.now ≡ head_of journal.now) }
     ensures unlike { IfSome result (FirstUnlike bytes.now (head_of journal.now)) }
     ensures few { IfSome result (λ n. n ≤ 10) }

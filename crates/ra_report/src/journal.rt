@@ -1,21 +1,23 @@
 ghost use Rattle.std.specs.Prelude.{◌≡◌, ◌++◌, length};
 ghost use Rattle.ra_text.specs.Gathering.{Adds};
+ghost use Rattle.ra_text.specs.Lines.{HasRoom, Prepends};
 ghost use Rattle.ra_text.specs.Texts.{space};
-ghost use Rattle.ra_report.specs.JournalTexts.{verdict_text, kind_text, step_text, steps_text, entry_front, entry_line, entries_text};
+ghost use Rattle.ra_report.specs.JournalTexts.{verdict_text, kind_text, step_word, steps_text, entry_front, entry_line, entries_text};
 
 use ra_io::Sink;
 use ra_journal::{Entries, Entry};
 use ra_moves::{Move, MoveKind, Step, Verdict};
-use ra_text::{Gathered, Piece, add_cause, add_decimal, add_marked, add_pieces};
+use ra_text::{Gathered, Line, prepend_cause};
 
 /// Adds a line for each entry, in order.
 pub(crate) fn add_entries<O: Sink>(text: &mut Gathered<'_, O>, entries: &Entries)
     ensures { Adds O.taken O.faults text.old text.new
         (entries_text entries.now.items (length entries.now.items)) }
 {
+    let mut line = Line::new();
     for place in 0..entries.len() {
         let entry = entries.get(place);
-        add_entry(text, place as u64, &entry);
+        add_line(text, &mut line, place as u64, &entry);
     }
 }
 
@@ -23,71 +25,89 @@ pub(crate) fn add_entries<O: Sink>(text: &mut Gathered<'_, O>, entries: &Entries
 pub(crate) fn add_entry<O: Sink>(text: &mut Gathered<'_, O>, place: u64, entry: &Entry)
     ensures { Adds O.taken O.faults text.old text.new (entry_line place entry.now) }
 {
-    add_front(text, place, entry);
-    add_steps(text, &entry.mv);
-    add_verdict(text, &entry.verdict);
-    text.add(b"\n")
+    let mut line = Line::new();
+    add_line(text, &mut line, place, entry)
 }
 
-/// Adds the words of an entry before its steps, with a space behind each.
-fn add_front<O: Sink>(text: &mut Gathered<'_, O>, place: u64, entry: &Entry)
-    ensures { Adds O.taken O.faults text.old text.new (entry_front place entry.now) }
+/// Adds the line of the entry at a place, which is written in `line` first.
+fn add_line<O: Sink>(text: &mut Gathered<'_, O>, line: &mut Line, place: u64, entry: &Entry)
+    ensures { Adds O.taken O.faults text.old text.new (entry_line place entry.now) }
 {
-    add_decimal(text, place);
-    add_pieces(
-        text,
-        &[
-            Piece::Marked(b' ', entry.worker as u64),
-            Piece::Marked(b' ', entry.k),
-            Piece::Marked(b' ', entry.q),
-            Piece::Text(" "),
-            Piece::Text(kind_name(entry.mv.kind())),
-            Piece::Text(" "),
-        ],
-    )
+    write_line(line, place, entry);
+    text.add(line.as_slice())
 }
 
-/// The printed name of a kind of moves.
-#[tactic(auto, unfolding(crate::specs::JournalTexts::kind_text))]
-pub(crate) fn kind_name(kind: MoveKind) -> &'static str
-    ensures { result.now ≡ kind_text kind }
+/// Writes the line of the entry at a place.
+pub(crate) fn write_line(line: &mut Line, place: u64, entry: &Entry)
+    ensures { line.new ≡ entry_line place entry.now }
+{
+    line.clear();
+    line.prepend_byte(b'\n');
+    prepend_verdict(line, &entry.verdict);
+    prepend_steps(line, &entry.mv);
+    prepend_front(line, place, entry)
+}
+
+/// Writes the words of an entry before its steps in front, with a space behind each.
+fn prepend_front(line: &mut Line, place: u64, entry: &Entry)
+    requires { HasRoom line.old 90 }
+    ensures { Prepends line.old line.new (entry_front place entry.now) 90 }
+{
+    prepend_kind(line, entry.mv.kind());
+    line.prepend_marked(b' ', entry.q);
+    line.prepend_marked(b' ', entry.k);
+    line.prepend_marked(b' ', entry.worker as u64);
+    line.prepend_number(place)
+}
+
+/// Writes the printed name of a kind of moves in front, between two spaces.
+pub(crate) fn prepend_kind(line: &mut Line, kind: MoveKind)
+    requires { HasRoom line.old 7 }
+    ensures { Prepends line.old line.new (space ++ kind_text kind ++ space) 7 }
 {
     match kind {
-        MoveKind::Shift => "shift",
-        MoveKind::Swap => "swap",
-        MoveKind::Chain => "chain",
+        MoveKind::Shift => line.prepend(b" shift "),
+        MoveKind::Swap => line.prepend(b" swap "),
+        MoveKind::Chain => line.prepend(b" chain "),
     }
 }
 
-/// Adds the steps of a move, with a space behind each.
-pub(crate) fn add_steps<O: Sink>(text: &mut Gathered<'_, O>, mv: &Move)
-    ensures { Adds O.taken O.faults text.old text.new (steps_text mv.now.steps) }
+/// Writes the steps of a move in front, with a space behind each.
+pub(crate) fn prepend_steps(line: &mut Line, mv: &Move)
+    requires { HasRoom line.old 189 }
+    ensures { Prepends line.old line.new (steps_text mv.now.steps) 189 }
 {
-    for i in 0..mv.steps() {
-        add_step(text, mv.step(i));
+    let mut left = mv.steps();
+    while left > 0 {
+        left -= 1;
+        prepend_step(line, mv.step(left));
     }
 }
 
-/// Adds a step, with a space behind it.
-fn add_step<O: Sink>(text: &mut Gathered<'_, O>, step: Step)
-    ensures { Adds O.taken O.faults text.old text.new (step_text step ++ space) }
+/// Writes a step in front, with a space behind it.
+fn prepend_step(line: &mut Line, step: Step)
+    requires { HasRoom line.old 63 }
+    ensures { Prepends line.old line.new (step_word step) 63 }
 {
-    add_decimal(text, step.process.0 as u64);
-    add_marked(text, b':', step.from.0 as u64);
-    add_marked(text, b'>', step.to.0 as u64);
-    text.add(b" ")
+    line.prepend_byte(b' ');
+    line.prepend_marked(b'>', step.to.0 as u64);
+    line.prepend_marked(b':', step.from.0 as u64);
+    line.prepend_number(step.process.0 as u64)
 }
 
-/// Adds a verdict.
-#[tactic(auto, unfolding(crate::specs::JournalTexts::verdict_text))]
-fn add_verdict<O: Sink>(text: &mut Gathered<'_, O>, verdict: &Verdict)
-    ensures { Adds O.taken O.faults text.old text.new (verdict_text verdict.now) }
+/// Writes a verdict in front.
+fn prepend_verdict(line: &mut Line, verdict: &Verdict)
+    requires { HasRoom line.old 113 }
+    ensures { Prepends line.old line.new (verdict_text verdict.now) 113 }
 {
     match verdict {
-        Verdict::Done { cost } => add_pieces(text, &[Piece::Text("done "), Piece::Number(*cost)]),
+        Verdict::Done { cost } => {
+            line.prepend_wide(*cost);
+            line.prepend(b"done ")
+        }
         Verdict::Refused { cause } => {
-            text.add(b"refused ");
-            add_cause(text, cause)
+            prepend_cause(line, cause);
+            line.prepend(b"refused ")
         }
     }
 }

@@ -1,17 +1,18 @@
-ghost use Rattle.std.specs.Prelude.{◌≡◌, ◌≤◌, length, OnOk, OnErr};
-ghost use Rattle.std.specs.Io.KnownBytes.{Appends};
+ghost use Rattle.std.specs.Prelude.{◌≡◌, ◌++◌, length};
+ghost use Rattle.ra_io.specs.Outside.{writing};
 ghost use Rattle.std.specs.Option.{option_copied};
-ghost use Rattle.ra_model.specs.Broken.{first_broken};
 ghost use Rattle.ra_text.specs.Gathering.{Adds};
-ghost use Rattle.ra_text.specs.Pieces.{Breaks};
+ghost use Rattle.ra_text.specs.Lines.{HasRoom, Prepends};
+ghost use Rattle.ra_text.specs.Writes.{Writes};
 ghost use Rattle.ra_text.specs.Notes.{note_text};
-ghost use Rattle.ra_report.specs.RepairTexts.{state_text, state_line, taken_text, try_front, try_back, try_line, tries_text, text_of_repair};
+ghost use Rattle.ra_text.specs.Texts.{space};
+ghost use Rattle.ra_report.specs.RepairTexts.{broken_after, state_text, state_line, taken_text, try_front, try_back, try_line, tries_text, text_of_repair};
 
-use crate::journal::{add_steps, kind_name};
+use crate::journal::{prepend_kind, prepend_steps};
 use ra_base::Cause;
 use ra_io::Sink;
 use ra_repair::{Repair, Try};
-use ra_text::{Gathered, Note, Piece, WriteFault, add_assignment, add_note, add_pieces};
+use ra_text::{Gathered, Line, Note, WriteFault, add_assignment, add_note};
 
 /// Writes the output of a repair: the line `feasible`, or `broken` and the cause, the line of its assignment, and a line
 /// for each try. `broken` is the first broken constraint of its assignment.
@@ -20,13 +21,8 @@ pub fn write_repair<O: Sink>(
     broken: Option<&Cause>,
     repair: &Repair<'_>,
 ) -> Result<(), WriteFault>
-    requires { option_copied broken ≡ first_broken repair.now.inst.now.tables
-        repair.now.start.now.items repair.now.kept.assignment.items }
-    ensures whole { OnOk result (Appends (O.taken sink.old) (O.taken sink.new)
-        (text_of_repair repair.now)) }
-    ensures part { OnErr result (Breaks (O.taken sink.old) (O.taken sink.new) (O.faults sink.old)
-        (O.faults sink.new) (text_of_repair repair.now)) }
-    ensures never_falls { O.faults sink.old ≤ O.faults sink.new }
+    requires { option_copied broken ≡ broken_after repair.now }
+    ensures { Writes (writing O.Sink sink.old sink.new) (text_of_repair repair.now) result }
 {
     let mut text = Gathered::make(sink);
     add_state(&mut text, broken);
@@ -60,58 +56,59 @@ fn add_tries<O: Sink>(text: &mut Gathered<'_, O>, repair: &Repair<'_>)
     ensures { Adds O.taken O.faults text.old text.new
         (tries_text repair.now.tries.items (length repair.now.tries.items)) }
 {
+    let mut line = Line::new();
     for place in 0..repair.tries() {
-        add_try(text, &repair.entry(place));
+        add_try(text, &mut line, &repair.entry(place));
     }
 }
 
-/// Adds the line of a try.
-fn add_try<O: Sink>(text: &mut Gathered<'_, O>, one: &Try)
+/// Adds the line of a try, which is written in `line` first.
+fn add_try<O: Sink>(text: &mut Gathered<'_, O>, line: &mut Line, one: &Try)
     ensures { Adds O.taken O.faults text.old text.new (try_line one.now) }
 {
-    add_front(text, one);
-    add_steps(text, &one.mv);
-    add_back(text, one)
+    write_try(line, one);
+    text.add(line.as_slice())
 }
 
-/// Adds the words of a try before its steps.
-#[tactic(auto, unfolding(crate::specs::RepairTexts::try_front))]
-fn add_front<O: Sink>(text: &mut Gathered<'_, O>, one: &Try)
-    ensures { Adds O.taken O.faults text.old text.new (try_front one.now) }
+/// Writes the line of a try.
+fn write_try(line: &mut Line, one: &Try)
+    ensures { line.new ≡ try_line one.now }
 {
-    add_pieces(
-        text,
-        &[
-            Piece::Number(u128::from(one.k)),
-            Piece::Text(" "),
-            Piece::Text(kind_name(one.mv.kind())),
-            Piece::Text(" "),
-        ],
-    )
+    line.clear();
+    prepend_back(line, one);
+    prepend_steps(line, &one.mv);
+    prepend_front(line, one)
 }
 
-/// Adds the words of a try behind its steps.
-#[tactic(auto, unfolding(crate::specs::RepairTexts::try_back))]
-fn add_back<O: Sink>(text: &mut Gathered<'_, O>, one: &Try)
-    ensures { Adds O.taken O.faults text.old text.new (try_back one.now) }
+/// Writes the words of a try before its steps in front.
+fn prepend_front(line: &mut Line, one: &Try)
+    requires { HasRoom line.old 27 }
+    ensures { Prepends line.old line.new (try_front one.now) 27 }
 {
-    add_pieces(
-        text,
-        &[
-            Piece::Text(taken_word(one.taken)),
-            Piece::Text(" "),
-            Piece::Number(one.before),
-            Piece::Text(" "),
-            Piece::Number(one.after),
-            Piece::Text("\n"),
-        ],
-    )
+    prepend_kind(line, one.mv.kind());
+    line.prepend_number(one.k)
 }
 
-/// The printed word for whether a move was taken.
-#[tactic(auto, unfolding(crate::specs::RepairTexts::taken_text))]
-fn taken_word(taken: bool) -> &'static str
-    ensures { result.now ≡ taken_text taken }
+/// Writes the words of a try behind its steps in front.
+fn prepend_back(line: &mut Line, one: &Try)
+    requires { HasRoom line.old 86 }
+    ensures { Prepends line.old line.new (try_back one.now) 86 }
 {
-    if taken { "taken" } else { "left" }
+    line.prepend_byte(b'\n');
+    line.prepend_wide(one.after);
+    line.prepend_byte(b' ');
+    line.prepend_wide(one.before);
+    prepend_taken(line, one.taken)
+}
+
+/// Writes in front whether a move was taken, and a space behind it.
+fn prepend_taken(line: &mut Line, taken: bool)
+    requires { HasRoom line.old 6 }
+    ensures { Prepends line.old line.new (taken_text taken ++ space) 6 }
+{
+    if taken {
+        line.prepend(b"taken ")
+    } else {
+        line.prepend(b"left ")
+    }
 }

@@ -1,10 +1,8 @@
-ghost use Rattle.std.specs.Prelude.{◌≡◌, ◌≤◌, OnOk, OnErr};
-ghost use Rattle.std.specs.Io.KnownBytes.{Appends};
+ghost use Rattle.std.specs.Prelude.{◌≡◌};
+ghost use Rattle.ra_io.specs.Outside.{writing};
 ghost use Rattle.ra_report.specs.FaultTexts.{CanBeTold, fault_text};
-ghost use Rattle.ra_model.specs.Costs.{parts_of};
-ghost use Rattle.ra_bounds.specs.PinnedBounds.{pinned_bound_of};
-ghost use Rattle.ra_report.specs.JournalTexts.{best_state, text_of, head_of, entry_line, accepted_line, bound_text};
-ghost use Rattle.ra_text.specs.Pieces.{Breaks};
+ghost use Rattle.ra_report.specs.JournalTexts.{best_state, parts_in, bound_in, text_of, head_of, entry_line, accepted_line, bound_text};
+ghost use Rattle.ra_text.specs.Writes.{Writes};
 ghost use Rattle.ra_report.specs.Summaries.{summary_of};
 ghost use Rattle.ra_text.specs.Texts.{parts_text, cause_text};
 
@@ -20,11 +18,7 @@ use ra_text::{Gathered, WriteFault, add_cause, add_parts};
 
 /// Writes the six lines of the parts: `cost`, `load`, `balance`, `process`, `service`, `machine`.
 pub fn write_parts<O: Sink>(sink: &mut O, parts: &Parts) -> Result<(), WriteFault>
-    ensures whole { OnOk result (Appends (O.taken sink.old) (O.taken sink.new)
-        (parts_text parts.now)) }
-    ensures part { OnErr result (Breaks (O.taken sink.old) (O.taken sink.new) (O.faults sink.old)
-        (O.faults sink.new) (parts_text parts.now)) }
-    ensures never_falls { O.faults sink.old ≤ O.faults sink.new }
+    ensures { Writes (writing O.Sink sink.old sink.new) (parts_text parts.now) result }
 {
     let mut text = Gathered::make(sink);
     add_parts(&mut text, parts);
@@ -33,11 +27,7 @@ pub fn write_parts<O: Sink>(sink: &mut O, parts: &Parts) -> Result<(), WriteFaul
 
 /// Writes a cause: its name and its numbers, with no end of the line.
 pub fn write_cause<O: Sink>(sink: &mut O, cause: &Cause) -> Result<(), WriteFault>
-    ensures whole { OnOk result (Appends (O.taken sink.old) (O.taken sink.new)
-        (cause_text cause.now)) }
-    ensures part { OnErr result (Breaks (O.taken sink.old) (O.taken sink.new) (O.faults sink.old)
-        (O.faults sink.new) (cause_text cause.now)) }
-    ensures never_falls { O.faults sink.old ≤ O.faults sink.new }
+    ensures { Writes (writing O.Sink sink.old sink.new) (cause_text cause.now) result }
 {
     let mut text = Gathered::make(sink);
     add_cause(&mut text, cause);
@@ -55,15 +45,9 @@ pub fn write_report<O: Sink>(
     journal: &Journal<'_>,
 ) -> Result<(), WriteFault>
     requires best { best.now.items ≡ best_state journal.now }
-    requires parts { parts.now ≡
-        parts_of journal.now.inst.now.tables journal.now.a0.now.items best.now.items }
-    requires bound { bound.now ≡
-        pinned_bound_of journal.now.inst.now.tables journal.now.a0.now.items }
-    ensures whole { OnOk result (Appends (O.taken sink.old) (O.taken sink.new)
-        (text_of journal.now)) }
-    ensures part { OnErr result (Breaks (O.taken sink.old) (O.taken sink.new) (O.faults sink.old)
-        (O.faults sink.new) (text_of journal.now)) }
-    ensures never_falls { O.faults sink.old ≤ O.faults sink.new }
+    requires parts { parts.now ≡ parts_in journal.now best.now.items }
+    requires bound { bound.now ≡ bound_in journal.now }
+    ensures { Writes (writing O.Sink sink.old sink.new) (text_of journal.now) result }
 {
     let drawing = journal.lots().drawing();
     let best_at = journal.best_at();
@@ -82,15 +66,9 @@ pub fn write_head<O: Sink>(
     journal: &Journal<'_>,
 ) -> Result<(), WriteFault>
     requires best { best.now.items ≡ best_state journal.now }
-    requires parts { parts.now ≡
-        parts_of journal.now.inst.now.tables journal.now.a0.now.items best.now.items }
-    requires bound { bound.now ≡
-        pinned_bound_of journal.now.inst.now.tables journal.now.a0.now.items }
-    ensures whole { OnOk result (Appends (O.taken sink.old) (O.taken sink.new)
-        (head_of journal.now)) }
-    ensures part { OnErr result (Breaks (O.taken sink.old) (O.taken sink.new) (O.faults sink.old)
-        (O.faults sink.new) (head_of journal.now)) }
-    ensures never_falls { O.faults sink.old ≤ O.faults sink.new }
+    requires parts { parts.now ≡ parts_in journal.now best.now.items }
+    requires bound { bound.now ≡ bound_in journal.now }
+    ensures { Writes (writing O.Sink sink.old sink.new) (head_of journal.now) result }
 {
     let drawing = journal.lots().drawing();
     let best_at = journal.best_at();
@@ -101,11 +79,7 @@ pub fn write_head<O: Sink>(
 
 /// Writes the line of the entry at a place, counted from 0.
 pub fn write_entry<O: Sink>(sink: &mut O, at: u64, entry: &Entry) -> Result<(), WriteFault>
-    ensures whole { OnOk result (Appends (O.taken sink.old) (O.taken sink.new)
-        (entry_line at entry.now)) }
-    ensures part { OnErr result (Breaks (O.taken sink.old) (O.taken sink.new) (O.faults sink.old)
-        (O.faults sink.new) (entry_line at entry.now)) }
-    ensures never_falls { O.faults sink.old ≤ O.faults sink.new }
+    ensures { Writes (writing O.Sink sink.old sink.new) (entry_line at entry.now) result }
 {
     let mut text = Gathered::make(sink);
     add_entry(&mut text, at, entry);
@@ -114,11 +88,7 @@ pub fn write_entry<O: Sink>(sink: &mut O, at: u64, entry: &Entry) -> Result<(), 
 
 /// Writes the line of a report that was found right: `accepted` and the number of its entries.
 pub fn write_accepted<O: Sink>(sink: &mut O, entries: u64) -> Result<(), WriteFault>
-    ensures whole { OnOk result (Appends (O.taken sink.old) (O.taken sink.new)
-        (accepted_line entries)) }
-    ensures part { OnErr result (Breaks (O.taken sink.old) (O.taken sink.new) (O.faults sink.old)
-        (O.faults sink.new) (accepted_line entries)) }
-    ensures never_falls { O.faults sink.old ≤ O.faults sink.new }
+    ensures { Writes (writing O.Sink sink.old sink.new) (accepted_line entries) result }
 {
     let mut text = Gathered::make(sink);
     add_number(&mut text, "accepted", entries as u128);
@@ -134,15 +104,9 @@ pub fn write_summary<O: Sink>(
     bound: &Bound,
     journal: &Journal<'_>,
 ) -> Result<(), WriteFault>
-    requires parts { parts.now ≡ parts_of
-        journal.now.inst.now.tables journal.now.a0.now.items (best_state journal.now) }
-    requires bound { bound.now ≡
-        pinned_bound_of journal.now.inst.now.tables journal.now.a0.now.items }
-    ensures whole { OnOk result (Appends (O.taken sink.old) (O.taken sink.new)
-        (summary_of journal.now)) }
-    ensures part { OnErr result (Breaks (O.taken sink.old) (O.taken sink.new) (O.faults sink.old)
-        (O.faults sink.new) (summary_of journal.now)) }
-    ensures never_falls { O.faults sink.old ≤ O.faults sink.new }
+    requires parts { parts.now ≡ parts_in journal.now (best_state journal.now) }
+    requires bound { bound.now ≡ bound_in journal.now }
+    ensures { Writes (writing O.Sink sink.old sink.new) (summary_of journal.now) result }
 {
     let best_at = journal.best_at();
     let entries = journal.entries();
@@ -153,11 +117,7 @@ pub fn write_summary<O: Sink>(
 
 /// Writes the three lines of a bound: its total, its load and its balance.
 pub fn write_bound<O: Sink>(sink: &mut O, bound: &Bound) -> Result<(), WriteFault>
-    ensures whole { OnOk result (Appends (O.taken sink.old) (O.taken sink.new)
-        (bound_text bound.now)) }
-    ensures part { OnErr result (Breaks (O.taken sink.old) (O.taken sink.new) (O.faults sink.old)
-        (O.faults sink.new) (bound_text bound.now)) }
-    ensures never_falls { O.faults sink.old ≤ O.faults sink.new }
+    ensures { Writes (writing O.Sink sink.old sink.new) (bound_text bound.now) result }
 {
     let mut text = Gathered::make(sink);
     add_bound(&mut text, bound);
@@ -167,11 +127,7 @@ pub fn write_bound<O: Sink>(sink: &mut O, bound: &Bound) -> Result<(), WriteFaul
 /// Writes the line of a fault.
 pub fn write_fault<E: Sink>(sink: &mut E, fault: &Fault<'_>) -> Result<(), WriteFault>
     requires { CanBeTold fault.now }
-    ensures whole { OnOk result (Appends (E.taken sink.old) (E.taken sink.new)
-        (fault_text fault.now)) }
-    ensures part { OnErr result (Breaks (E.taken sink.old) (E.taken sink.new) (E.faults sink.old)
-        (E.faults sink.new) (fault_text fault.now)) }
-    ensures never_falls { E.faults sink.old ≤ E.faults sink.new }
+    ensures { Writes (writing E.Sink sink.old sink.new) (fault_text fault.now) result }
 {
     let mut text = Gathered::make(sink);
     add_fault(&mut text, fault);

@@ -1,11 +1,6 @@
-use Rattle.std.proofs.Common.{sym}
-use Rattle.ra_report.specs.JournalTexts.{entry_line}
-use Rattle.ra_report.proofs.ComparedLaws.{was_given}
+use Rattle.std.proofs.lemmas.Bool.Decides.{Decides-eqb}
+use Rattle.std.proofs.lemmas.Slice.Eq.{slice_eq-Decides}
 use Rattle.ra_report.proofs.comparing.is_entry_line.Goals as goal
 
 pub returns-clause-exact : goal.returns-clause-exact
-returns-clause-exact c =
-    let line = c.args.line.now in
-    let told = entry_line c.args.at c.args.entry.now in
-    let is = c.is_same.ensures line told (was_given c.write_entry.result line _ _ told _ _ c.make-sink.ensures.none c.make-sink.ensures.sound c.write_entry.ensures.whole c.write_entry.ensures.part) in
-    (λ same. sym (is.0 same), λ same. is.1 (sym same))
+returns-clause-exact c = rw (c.as_slice.ensures, c.write_line.ensures) at (slice_eq-Decides Decides-eqb c.args.line.now c.as_slice.result.now c.eq.result c.eq.ensures)
