@@ -6,6 +6,7 @@ use Rattle.ra_base.specs.Sums.{pick, count}
 use Rattle.ra_base.specs.declared.ids.Machine.{Machine}
 use Rattle.ra_base.specs.declared.ids.Service.{Service}
 use Rattle.ra_base.proofs.Counts.{one_if_true, one_if_false}
+use Rattle.ra_base.proofs.Named.{is_named_at, is_named_from}
 use Rattle.ra_base.proofs.Picks.{pick_at, pick_place}
 use Rattle.ra_model.specs.declared.raw.Tables.{Tables}
 use Rattle.ra_model.specs.Numbers.{resource_count, service_count, process_count, service_of, transient_at, capacity_of, requirement_of, location_of, neighbourhood_of, dependency_count, need_of}
@@ -17,8 +18,8 @@ use Rattle.ra_model.specs.Relations.{depends}
 use Rattle.ra_model.proofs.TallyLemmas.{tally_term}
 use Rattle.ra_rows.specs.Rows.{IsUsageRow, IsTransientRow}
 use Rattle.ra_topology.proofs.NeedLemmas.{need_within}
-use Rattle.ra_topology.specs.Fits.{AreNeeds, AreDependants}
-use Rattle.ra_topology.specs.Lists.{services_of, numbers_of, service_at, is_dependant, AreNeedsOf, AreDependantsOf}
+use Rattle.ra_topology.specs.Fits.{AreDistinctNeeds, AreDependants}
+use Rattle.ra_topology.specs.Lists.{services_of, numbers_of, service_at, is_dependant, AreDistinctNeedsOf, AreDependantsOf}
 use Rattle.ra_shift.specs.Conditions.{HasRoom, HasRoomBetween, FindsNeeds, MayLeave}
 use Rattle.ra_shift.specs.Sharing.{AreRequired, use_without, use_with, locations_without}
 use Rattle.ra_shift.proofs.SpreadLaws.{some_location}
@@ -123,27 +124,35 @@ may_not_from i a p s label k n services s_is label_is are n_is few within other 
     omega (arith, some, none, ap (in_neighbourhood i a (service_at services k)) label_is)
 
 -- what is needed, by place
-pub needs_hold : (i : Tables) (a : List Machine) (p s to label : ℕ) (services : List Service) → s ≡ service_of i p → label ≡ neighbourhood_of i to → AreNeedsOf i s services → ((k : ℕ) → k < length services → service_at services k ≢ service_of i p → 0 < in_neighbourhood i a (service_at services k) label) → FindsNeeds i a p to
+-- each dependency is one of the needs that are listed once, and each of those is that of a dependency
+need_listed : (i : Tables) (s k : ℕ) (services : List Service) → AreDistinctNeedsOf i s services → k < dependency_count i s → (x : ℕ) × (x < length services) × (service_at services x ≡ need_of i s k)
+need_listed i s k services are within = is_named_from (length services) (service_at services) (need_of i s k) (are.same (need_of i s k) ∙ is_named_at (dependency_count i s) k (need_of i s) (need_of i s k) within refl)
+
+listed_need : (i : Tables) (s x : ℕ) (services : List Service) → AreDistinctNeedsOf i s services → x < length services → (k : ℕ) × (k < dependency_count i s) × (need_of i s k ≡ service_at services x)
+listed_need i s x services are within = is_named_from (dependency_count i s) (need_of i s) (service_at services x) (sym (are.same (service_at services x)) ∙ is_named_at (length services) x (service_at services) (service_at services x) within refl)
+
+pub needs_hold : (i : Tables) (a : List Machine) (p s to label : ℕ) (services : List Service) → s ≡ service_of i p → label ≡ neighbourhood_of i to → AreDistinctNeedsOf i s services → ((k : ℕ) → k < length services → service_at services k ≢ service_of i p → 0 < in_neighbourhood i a (service_at services k) label) → FindsNeeds i a p to
 needs_hold i a p s to label services s_is label_is are all = record {
   each = λ k within other.
-      let inside : k < length services = omega (arith, are.one_each, ap (dependency_count i) s_is) in
-      let here : service_at services k ≡ need_of i (service_of i p) k = are.each k (omega (arith, ap (dependency_count i) s_is)) ∙ ap (λ u. need_of i u k) s_is in
-      omega (arith, all k inside (λ e. other (sym here ∙ e)), ap₂ (in_neighbourhood i a) here label_is);
+      let listed = need_listed i s k services are (omega (arith, within, ap (dependency_count i) s_is)) in
+      let here : service_at services listed.0 ≡ need_of i (service_of i p) k = listed.2 ∙ ap (λ u. need_of i u k) s_is in
+      omega (arith, all listed.0 listed.1 (λ e. other (sym here ∙ e)), ap₂ (in_neighbourhood i a) here label_is);
 }
 
-pub needs_lack : (i : Tables) (a : List Machine) (p s to label k : ℕ) (services : List Service) → s ≡ service_of i p → label ≡ neighbourhood_of i to → AreNeedsOf i s services → k < length services → service_at services k ≢ service_of i p → in_neighbourhood i a (service_at services k) label ≡ 0 → FindsNeeds i a p to → ⊥
+pub needs_lack : (i : Tables) (a : List Machine) (p s to label k : ℕ) (services : List Service) → s ≡ service_of i p → label ≡ neighbourhood_of i to → AreDistinctNeedsOf i s services → k < length services → service_at services k ≢ service_of i p → in_neighbourhood i a (service_at services k) label ≡ 0 → FindsNeeds i a p to → ⊥
 needs_lack i a p s to label k services s_is label_is are within other none finds =
-    let here : service_at services k ≡ need_of i (service_of i p) k = are.each k (omega (arith, are.one_each)) ∙ ap (λ u. need_of i u k) s_is in
-    omega (arith, none, finds.each k (omega (arith, are.one_each, ap (dependency_count i) s_is)) (λ e. other (here ∙ e)), ap₂ (in_neighbourhood i a) here label_is)
+    let listed = listed_need i s k services are within in
+    let here : service_at services k ≡ need_of i (service_of i p) listed.0 = sym listed.2 ∙ ap (λ u. need_of i u listed.0) s_is in
+    omega (arith, none, finds.each listed.0 (omega (arith, listed.1, ap (dependency_count i) s_is)) (λ e. other (here ∙ e)), ap₂ (in_neighbourhood i a) here label_is)
 
 -- the lists of a topology
 pub dependants_there : (i : Tables) (lists : List (List Service)) (s : ℕ) (services : List Service) → AreDependants lists i → s < service_count i → services ≡ services_of lists s → AreDependantsOf i s services
 dependants_there i lists s services are within is = subst (λ (xs : List Service). AreDependantsOf i s xs) (sym is) (are.each s within)
 
-pub needs_there : (i : Tables) (lists : List (List Service)) (s : ℕ) (services : List Service) → AreNeeds lists i → s < service_count i → services ≡ services_of lists s → AreNeedsOf i s services
-needs_there i lists s services are within is = subst (λ (xs : List Service). AreNeedsOf i s xs) (sym is) (are.each s within)
+pub needs_there : (i : Tables) (lists : List (List Service)) (s : ℕ) (services : List Service) → AreDistinctNeeds lists i → s < service_count i → services ≡ services_of lists s → AreDistinctNeedsOf i s services
+needs_there i lists s services are within is = subst (λ (xs : List Service). AreDistinctNeedsOf i s xs) (sym is) (are.each s within)
 
-pub needs_within : (i : Tables) (s k : ℕ) (services : List Service) → WellFormed i → AreNeedsOf i s services → s < service_count i → k < length services → service_at services k < service_count i
+pub needs_within : (i : Tables) (s k : ℕ) (services : List Service) → WellFormed i → AreDistinctNeedsOf i s services → s < service_count i → k < length services → service_at services k < service_count i
 needs_within i s k services limits are within inside =
-    let at = are.each k (omega (arith, are.one_each)) in
-    omega (arith, at, need_within i s k limits within (omega (arith, are.one_each)))
+    let listed = listed_need i s k services are inside in
+    omega (arith, listed.2, need_within i s listed.0 limits within listed.1)

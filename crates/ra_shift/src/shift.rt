@@ -352,7 +352,7 @@ impl<'w, 'a> Shift<'w, 'a> {
             self.now.world.now.kept.assignment.items self.now.process.0 to.0 }
     {
         let label = self.world.instance().neighbourhood(to);
-        let needs = self.world.topology().needs(self.service);
+        let needs = self.world.topology().distinct_needs(self.service);
         for need in needs {
             if self.is_missing(*need, label) {
                 return false;
