@@ -6,7 +6,7 @@ use crate::lanes::{LANES, add_lacking, are_large, load, small_lanes, store, weig
 use std::simd::prelude::*;
 
 /// What is asked of one row: an amount, and where the row begins.
-#[derive(Clone, Copy)]
+#[derive(Clone, Copy, Default)]
 pub struct Term {
     /// The place of the row's first number.
     pub row: usize,

@@ -65,3 +65,7 @@ balance_more_is i a p m b weight target aim first second q1 q2 weight_is target_
 pub saved_by_is : (i : Tables) (p b weight target q1 q2 : ℕ) → weight ≡ balance_weight_of i b → target ≡ target_of i b → q1 ≡ requirement_of i p (first_of i b) → q2 ≡ requirement_of i p (second_of i b) → weight * (target * q1 - q2) ≡ first_asked i p b
 unfolding first_asked
 saved_by_is i p b weight target q1 q2 weight_is target_is q1_is q2_is = rw (weight_is, target_is, q1_is, q2_is) refl
+
+pub second_asked_is : (i : Tables) (p b weight target q1 q2 : ℕ) → weight ≡ balance_weight_of i b → target ≡ target_of i b → q1 ≡ requirement_of i p (first_of i b) → q2 ≡ requirement_of i p (second_of i b) → weight * (q2 - target * q1) ≡ second_asked i p b
+unfolding second_asked
+second_asked_is i p b weight target q1 q2 weight_is target_is q1_is q2_is = rw (weight_is, target_is, q1_is, q2_is) refl

@@ -7,3 +7,5 @@ pub mod ReadLaws
 pub mod ChangeLaws
 mod FilterLaws
 mod FilterReads
+pub mod TermLaws
+pub mod LaneLaws

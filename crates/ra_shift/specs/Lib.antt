@@ -1,5 +1,6 @@
 pub mod Arriving
 pub mod Conditions
 pub mod Filter
+pub mod Lanes
 pub mod Leaving
 pub mod Sharing

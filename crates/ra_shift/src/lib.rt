@@ -6,5 +6,7 @@ mod costs;
 mod filter;
 mod reads;
 mod shift;
+mod terms;
+mod windows;
 
 pub use shift::Shift;

@@ -1,11 +1,13 @@
-ghost use Rattle.std.specs.Prelude.{◌≡◌, ◌≢◌, ℕ, ◌+◌, ◌*◌, ◌^◌, ◌<◌, ◌≤◌, ◌↔◌, [], ◌∷◌, None, true, false, pos, ◌-ℤ◌};
+ghost use Rattle.std.specs.Prelude.{◌≡◌, ◌≢◌, ℕ, ◌+◌, ◌*◌, ◌^◌, ◌<◌, ◌≤◌, ◌↔◌, ◌-◌, [], ◌∷◌, None, IfSome, true, false};
 ghost use Rattle.ra_model.specs.Numbers.{resource_count, machine_count, process_count, service_of, neighbourhood_of, spread_of, closed_at, transient_at, capacity_of, service_count, process_weight_of, process_cost_of};
 ghost use Rattle.ra_shift.specs.Filter.{service_away};
 ghost use Rattle.ra_model.specs.Assignments.{machine_at};
 ghost use Rattle.ra_model.specs.Services.{on_machine, in_neighbourhood, locations_of, moved_of};
 ghost use Rattle.ra_moves.specs.Options.{leaving};
 ghost use Rattle.ra_moves.specs.Judging.{broken_by};
-ghost use Rattle.ra_shift.specs.Arriving.{BreaksNothing, cost_after, cost_now, service_now, cost_added, cost_taken, IsCostBelow, IsSumBelow};
+ghost use Rattle.ra_shift.specs.Arriving.{BreaksNothing, cost_after, cost_now, service_now, cost_added, cost_taken, IsCostBelow, IsSumBelow, sum_at};
+ghost use Rattle.ra_shift.specs.Lanes.{AreMarked};
+ghost use Rattle.ra_world.specs.Worlds.{tables_of, start_of};
 ghost use Rattle.ra_shift.specs.Conditions.{shifted, HasRoom, HasRoomBetween, FindsNeeds, MayLeave};
 ghost use Rattle.ra_shift.specs.Leaving.{machine_left, location_left, neighbourhood_left, spread_left, spread_wanted, MayGo, cost_left, cost_before};
 ghost use Rattle.ra_shift.specs.Sharing.{AreRequired, cost_of, way_cost};
@@ -13,6 +15,7 @@ ghost use Rattle.ra_shift.specs.Sharing.{AreRequired, cost_of, way_cost};
 use crate::costs::{cost_with, cost_without, way_cost};
 use crate::filter::{balance_above, load_above, saved, service_away, service_with};
 use crate::reads::{is_away, machine_of, may_leave, one_when, required_of, spread_without};
+use crate::windows::{limit_below, sums_of};
 use ra_base::{Machine, Process, Resource, Service, Steps};
 use ra_world::World;
 use std::sync::ledger::Ledger;
@@ -180,6 +183,75 @@ impl<'w, 'a> Shift<'w, 'a> {
             return None;
         }
         Some(self.added + sum - self.taken)
+    }
+
+    /// The same, where what the machine adds is known already, unless it is the initial one.
+    #[inline(always)]
+    pub fn cost_summed(&self, to: Machine, sum: u32, bound: u128) -> Option<u128>
+        requires machine { to.0 < machine_count (tables_of self.now.world.now) }
+        requires bound { bound ≤ 2 ^ 120 }
+        requires sum { machine_at (start_of self.now.world.now) self.now.process.0 ≢ to.0 →
+            sum ≡ sum_at self.now.world.now self.now.process.0 to.0 }
+        ensures { IsCostBelow self.now.world.now self.now.process.0 to.0 bound result }
+    {
+        if self.home.0 != to.0 {
+            self.cost_away_summed(to, u128::from(sum), bound)
+        } else {
+            self.cost_home(to, bound)
+        }
+    }
+
+    /// The same for a machine other than the initial one.
+    #[inline(always)]
+    fn cost_away_summed(&self, to: Machine, sum: u128, bound: u128) -> Option<u128>
+        requires machine { to.0 < machine_count (tables_of self.now.world.now) }
+        requires bound { bound ≤ 2 ^ 120 }
+        requires apart { machine_at (start_of self.now.world.now) self.now.process.0 ≢ to.0 }
+        requires sum { sum ≡ sum_at self.now.world.now self.now.process.0 to.0 }
+        ensures { IsCostBelow self.now.world.now self.now.process.0 to.0 bound result }
+    {
+        let room = self.room_below(bound);
+        if sum >= room {
+            return None;
+        }
+        if !self.fits(to) {
+            return None;
+        }
+        Some(self.added + sum - self.taken)
+    }
+
+    /// What a machine other than the initial one has to add less than, so that the cost is below a bound.
+    #[inline(always)]
+    fn room_below(&self, bound: u128) -> u128
+        requires { bound ≤ 2 ^ 120 }
+        ensures { result ≡ bound + cost_taken self.now.world.now self.now.process.0
+            - cost_added self.now.world.now self.now.process.0 }
+    {
+        (bound + self.taken).saturating_sub(self.added)
+    }
+
+    /// Marks those of sixty-four machines from one on to which the shift may cost less than a bound, the initial one
+    /// left out of account, with what each adds; or none where the numbers are too great to be added side by side.
+    pub fn marks(&self, first: u32, bound: u128, sums: &mut [u32; 64]) -> Option<u64>
+        requires first { first < machine_count (tables_of self.now.world.now) }
+        requires bound { bound ≤ 2 ^ 120 }
+        ensures { IfSome result (λ marks.
+            AreMarked self.now.world.now self.now.process.0 first bound marks sums.new) }
+    {
+        let room = self.room_below(bound);
+        if room == 0 {
+            return Some(0);
+        }
+        let limit = limit_below(room);
+        sums_of(self.world, &self.required, self.home, first, limit, sums)
+    }
+
+    /// The initial machine.
+    pub fn home(&self) -> Machine
+        ensures value { result.0 ≡ machine_at (start_of self.now.world.now) self.now.process.0 }
+        ensures within { result.0 < machine_count (tables_of self.now.world.now) }
+    {
+        self.home
     }
 
     /// What a machine adds, if that is below a bound.
