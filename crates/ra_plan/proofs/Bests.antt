@@ -4,6 +4,7 @@ use Rattle.std.proofs.lemmas.Bool.{ltb-true, ltb-false}
 use Rattle.ra_base.specs.Searches.{is_better, least, least_place, or_else}
 use Rattle.ra_base.specs.declared.causes.Cause.{Cause}
 use Rattle.ra_base.specs.declared.causes.Drawing.{Drawing}
+use Rattle.ra_base.specs.declared.causes.Drawing.TheVariants.{Two}
 use Rattle.ra_base.specs.declared.ids.Machine.{Machine}
 use Rattle.ra_base.proofs.Least.{least_none, least_place_none, least_more, least_place_more, least_better, least_kept, least_means, is_better_none, is_better_some}
 use Rattle.ra_base.proofs.Searches.{left_none}
@@ -246,3 +247,17 @@ best_found w x d allowed n p to cost best found is same below some =
     let here : f n ≡ Some cost = cost_comes w x d allowed n (leaving w.kept.assignment.items p to ∷ []) same (below.free cost some) low ∙ ap (λ (c : ℕ). Some c) (sym value) in
     let better = least_better n f (ap₂ is_better here (sym is.cost) ∙ better_at best.cost cost most under) in
     record { cost = some ∙ sym here ∙ sym better.0; option = sym better.1 }
+
+-- a cost that was found is the next bound, and lower than the one before
+pub bound_falls : (w : World) (p to most cost : ℕ) (least found : Option ℕ) → IsCostBelow w p to (bound_of least most) found → found ≡ Some cost → bound_of found most ≤ bound_of least most
+unfolding bound_of
+bound_falls w p to most cost least found below some =
+    let low = below.below cost some in
+    rw some (omega (arith, low))
+
+none_at : (o : Option ℕ) (most : ℕ) → o ≡ None → bound_of o most ≤ most
+unfolding bound_of
+none_at o most none = rw none (omega arith)
+
+pub none_low : (w : World) (best : Best) (most : ℕ) → IsBest w [] Two 0 0 best → bound_of best.cost most ≤ most
+none_low w best most is = none_at best.cost most (is.cost ∙ least_none (cost_in w [] Two 0))

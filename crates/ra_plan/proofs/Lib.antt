@@ -1,3 +1,5 @@
 pub mod OptionSizes
 pub mod Bests
 pub mod Weighed
+pub mod Marked
+pub mod RingPlaces

@@ -1,5 +1,5 @@
 -- The options by kind: how many steps each has, and what is read for all of them.
-use Rattle.std.proofs.Common.{◌≡◌, ◌≢◌, ℕ, zero, suc, ◌*◌, ◌<◌, ◌≤◌, arith, Bool, true, false, cond, [], ◌∷◌, List, length, Option, refl, sym, ap, ◌∙◌}
+use Rattle.std.proofs.Common.{◌≡◌, ◌≢◌, ℕ, zero, suc, ◌+◌, ◌*◌, ◌%◌, min, ◌<◌, ◌≤◌, arith, Bool, true, false, cond, [], ◌∷◌, List, length, Option, refl, sym, ap, ◌∙◌}
 use Rattle.std.specs.Prelude.{slice_index}
 use Rattle.ra_base.specs.Searches.{is_better, least, least_place}
 use Rattle.ra_base.specs.declared.ids.Machine.{Machine}
@@ -101,3 +101,12 @@ least_place_below (suc (suc n)) f some = by_test (is_better (f (suc n)) (least (
     by_test : (better : Bool) → least_place (suc n) f < suc n → cond better (suc n) (least_place (suc n) f) < suc (suc n)
     by_test true before = omega arith
     by_test false before = omega arith
+
+-- how many machines a window has
+pub window_count : (x : List ℕ) (m : ℕ) → kind_of x ≡ Shift → option_count x m Two ≡ min 64 m
+unfolding option_count count_of
+window_count x m is = rw is refl
+
+pub window_target : (x : List ℕ) (m n first k : ℕ) → m ≡ n → first ≡ slice_index x 2 % m → (first + k) % n ≡ target Two x m k
+unfolding target
+window_target x m n first k same is = rw (is, same) refl

@@ -1,10 +1,13 @@
 -- The best of the first options of a proposal.
-use Rattle.std.specs.Prelude.{◌≡◌, ℕ, List, Option, Some, None}
+use Rattle.std.specs.Prelude.{◌≡◌, ℕ, List, [], ◌∷◌, Option, Some, None}
 use Rattle.ra_base.specs.Searches.{least, least_place}
 use Rattle.ra_base.specs.declared.causes.Drawing.{Drawing}
+use Rattle.ra_base.specs.declared.causes.Drawing.TheVariants.{Two}
 use Rattle.ra_model.specs.Numbers.{machine_count}
-use Rattle.ra_moves.specs.Options.{option_at, option_cost}
+use Rattle.ra_moves.specs.Options.{leaving, option_at, option_cost}
 use Rattle.ra_moves.specs.declared.steps.Step.{Step}
+use Rattle.ra_shift.specs.Lanes.{machine_in}
+use Rattle.ra_world.specs.Worlds.{here_of}
 use Rattle.ra_world.specs.declared.world.World.{World}
 use Rattle.ra_plan.specs.declared.best.Best.{Best}
 
@@ -27,3 +30,7 @@ pub record IsBest (w : World) (x : List ℕ) (d : Drawing) (allowed n : ℕ) (be
   where
     pub cost : best.cost ≡ least n (cost_in w x d allowed)
     pub option : best.option ≡ least_place n (cost_in w x d allowed)
+
+-- option k of the words x is that process p goes to the k-th machine from a first one on
+pub record IsWindowOf (w : World) (x : List ℕ) (p first : ℕ) : Type 0 where
+  pub each : (k : ℕ) → steps_in w x Two k ≡ leaving (here_of w) p (machine_in w first k) ∷ []

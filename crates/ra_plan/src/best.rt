@@ -1,4 +1,4 @@
-ghost use Rattle.std.specs.Prelude.{◌≡◌, ℕ, ◌+◌, List, [], ◌∷◌, Option, Some, None, if◌then◌else◌};
+ghost use Rattle.std.specs.Prelude.{◌≡◌, ℕ, ◌+◌, ◌≤◌, List, [], ◌∷◌, Option, Some, None, if◌then◌else◌};
 ghost use Rattle.ra_base.specs.Searches.{is_better};
 ghost use Rattle.ra_base.specs.declared.causes.Drawing.{Drawing};
 ghost use Rattle.ra_moves.specs.Judging.{judge};
@@ -46,11 +46,14 @@ impl Best {
     /// Takes the next option, where a cost below the bound was found for it.
     #[inline(always)]
     pub(crate) fn or_found(self, option: u32, found: Option<u128>) -> Best
-        ensures { (w : World) (x : List ℕ) (d : Drawing) (allowed p to : ℕ)
+        ensures best { (w : World) (x : List ℕ) (d : Drawing) (allowed p to : ℕ)
             → IsBest w x d allowed option self
             → steps_in w x d option ≡ leaving w.kept.assignment.items p to ∷ []
             → IsCostBelow w p to (bound_of self.cost (cost_now w + allowed + 1)) found
             → IsBest w x d allowed (option + 1) result }
+        ensures bound { (w : World) (p to most : ℕ)
+            → IsCostBelow w p to (bound_of self.cost most) found
+            → bound_of result.cost most ≤ bound_of self.cost most }
     {
         match found {
             Some(_) => Best {

@@ -4,6 +4,7 @@
 #![tactic(auto)]
 
 mod best;
+mod marks;
 mod moves;
 mod planning;
 mod shifts;

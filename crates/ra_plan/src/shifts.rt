@@ -1,13 +1,18 @@
-ghost use Rattle.std.specs.Prelude.{◌≡◌, ◌+◌, ℕ, ◌%◌, ◌^◌, ◌<◌, ◌≤◌, List, [], ◌∷◌, length, slice_index};
+ghost use Rattle.std.specs.Prelude.{◌≡◌, ◌≢◌, ◌+◌, ℕ, ◌%◌, ◌^◌, ◌<◌, ◌≤◌, min, List, [], ◌∷◌, length, slice_index};
 ghost use Rattle.ra_model.specs.Numbers.{resource_count, machine_count, process_count};
 ghost use Rattle.ra_moves.specs.declared.steps.MoveKind.TheVariants as kind;
 ghost use Rattle.ra_moves.specs.Options.{kind_of, drawn, target, count_of, option_count};
 ghost use Rattle.ra_base.specs.declared.causes.Drawing.{Drawing};
 ghost use Rattle.ra_moves.specs.Options.{leaving};
-ghost use Rattle.ra_shift.specs.Arriving.{cost_now};
-ghost use Rattle.ra_plan.specs.Choosing.{IsBest, steps_in, bound_of};
+ghost use Rattle.ra_base.specs.declared.causes.Drawing.TheVariants.{Two};
+ghost use Rattle.ra_model.specs.Assignments.{machine_at};
+ghost use Rattle.ra_shift.specs.Arriving.{cost_now, sum_at};
+ghost use Rattle.ra_shift.specs.Lanes.{AreMarked};
+ghost use Rattle.ra_world.specs.Worlds.{tables_of, start_of, here_of};
+ghost use Rattle.ra_plan.specs.Choosing.{IsBest, IsWindowOf, steps_in, bound_of};
 
 use crate::best::Best;
+use crate::marks::{next_mark, with_mark};
 use ra_base::{Drawing, Machine, Process, Steps};
 use ra_moves::options;
 use ra_shift::Shift;
@@ -30,17 +35,113 @@ pub(crate) fn best_shift<L: Ledger>(
         (option_count words.now (machine_count world.now.inst.now.tables) drawing) result }
     ensures counted { steps.new ≡ steps.old + resource_count world.now.inst.now.tables }
 {
+    let shift = Shift::make(world, process, steps);
+    match drawing {
+        Drawing::One => best_in_order(world, &shift, words, Drawing::One, allowed),
+        Drawing::Two => best_in_window(world, &shift, words, allowed),
+    }
+}
+
+/// The best of all options of a shift, one after another.
+fn best_in_order(
+    world: &World<'_>,
+    shift: &Shift<'_, '_>,
+    words: &[u64; 8],
+    drawing: Drawing,
+    allowed: u64,
+) -> Best
+    requires world { shift.now.world.now ≡ world.now }
+    requires shift { kind_of words.now ≡ kind.Shift }
+    requires named { shift.now.process.0 ≡ drawn (here_of world.now) words.now 1 }
+    ensures { IsBest world.now words.now drawing allowed
+        (option_count words.now (machine_count (tables_of world.now)) drawing) result }
+{
     let machines = world.instance().machines();
     let first = (words[2] % machines as u64) as u32;
-    let shift = Shift::make(world, process, steps);
     let count = options(words, machines, drawing);
     let most = world.parts().total + u128::from(allowed) + 1;
     let mut best = Best::none();
     for option in 0..count {
         let to = target(words, drawing, machines, first, option);
-        best = with_shift(world, &shift, best, option, to, most);
+        best = with_shift(world, shift, best, option, to, most);
     }
     best
+}
+
+/// The same for a window of machines, whose sums are found side by side where their numbers allow it.
+fn best_in_window(world: &World<'_>, shift: &Shift<'_, '_>, words: &[u64; 8], allowed: u64) -> Best
+    requires world { shift.now.world.now ≡ world.now }
+    requires shift { kind_of words.now ≡ kind.Shift }
+    requires named { shift.now.process.0 ≡ drawn (here_of world.now) words.now 1 }
+    ensures { IsBest world.now words.now Two allowed
+        (option_count words.now (machine_count (tables_of world.now)) Two) result }
+{
+    let machines = world.instance().machines();
+    let first = (words[2] % machines as u64) as u32;
+    let most = world.parts().total + u128::from(allowed) + 1;
+    let mut sums = [0; 64];
+    match shift.marks(first, most, &mut sums) {
+        Some(marks) => best_marked(world, shift, first, most, marks, &sums),
+        None => best_in_order(world, shift, words, Drawing::Two, allowed),
+    }
+}
+
+/// The best of a window of machines from one on. Those are marked that may cost less than `most`, the first cost that is
+/// too high, and the initial machine is weighed in its place as well.
+fn best_marked(
+    world: &World<'_>,
+    shift: &Shift<'_, '_>,
+    first: u32,
+    most: u128,
+    marks: u64,
+    sums: &[u32; 64],
+) -> Best
+    requires world { shift.now.world.now ≡ world.now }
+    requires first { first < machine_count (tables_of world.now) }
+    requires most { most ≤ 2 ^ 120 }
+    requires marked { AreMarked world.now shift.now.process.0 first most marks sums.now }
+    ensures { (x : List ℕ) (allowed : ℕ) → most ≡ cost_now world.now + allowed + 1
+        → IsWindowOf world.now x shift.now.process.0 first
+        → IsBest world.now x Two allowed (min 64 (machine_count (tables_of world.now))) result }
+{
+    let machines = world.instance().machines();
+    let count = machines.min(64);
+    let all = with_mark(marks, first, shift.home(), machines);
+    let mut best = Best::none();
+    let mut option = next_mark(all, 0, count);
+    while option < count {
+        let to = Machine(wrapped(first + option, machines));
+        best = with_sum(world, shift, best, option, to, sums[option as usize], most);
+        option = next_mark(all, option + 1, count);
+    }
+    best
+}
+
+/// The best with one more machine, whose sum is known unless it is the initial one.
+#[inline(always)]
+fn with_sum(
+    world: &World<'_>,
+    shift: &Shift<'_, '_>,
+    best: Best,
+    option: u32,
+    to: Machine,
+    sum: u32,
+    most: u128,
+) -> Best
+    requires world { shift.now.world.now ≡ world.now }
+    requires machine { to.0 < machine_count (tables_of world.now) }
+    requires most { most ≤ 2 ^ 120 }
+    requires bound { bound_of best.cost most ≤ most }
+    requires sum { machine_at (start_of world.now) shift.now.process.0 ≢ to.0 →
+        sum ≡ sum_at world.now shift.now.process.0 to.0 }
+    ensures best { (x : List ℕ) (allowed : ℕ) → most ≡ cost_now world.now + allowed + 1
+        → IsBest world.now x Two allowed option best
+        → steps_in world.now x Two option
+        ≡ leaving (here_of world.now) shift.now.process.0 to.0 ∷ []
+        → IsBest world.now x Two allowed (option + 1) result }
+    ensures bound { bound_of result.cost most ≤ most }
+{
+    best.or_found(option, shift.cost_summed(to, sum, best.bound(most)))
 }
 
 /// The best with one more machine to which the process may go. `most` is the first cost that is too high.

@@ -1,6 +1,0 @@
--- The best of the options so far.
-use Rattle.ra_plan.specs.Choosing.{IsBest}
-use Rattle.ra_plan.proofs.shifts.best_shift.Given as goal
-
-abbrev pub invariant-loop-option : goal.invariant-loop-option
-invariant-loop-option g l = IsBest l.world l.words l.drawing l.allowed l.option l.best
