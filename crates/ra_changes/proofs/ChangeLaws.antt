@@ -54,7 +54,7 @@ row_stays i a steps m limits move none =
     let no_end = ends_are_named steps m ∙ none in
     ap₂ (λ x y. x + y) (sym (load_stays i a steps m move no_end)) (sym (balance_stays i a steps m limits move no_end))
 
-rows_change : (i : Tables) (a : List Machine) (steps : List Step) → WellFormed i → IsMove i a steps → (load_cost i (applied a steps) + balance_cost i (applied a steps)) + total (end_count steps) (fresh (end_in steps) (row_cost i a)) ≡ (load_cost i a + balance_cost i a) + total (end_count steps) (fresh (end_in steps) (row_cost i (applied a steps)))
+pub rows_change : (i : Tables) (a : List Machine) (steps : List Step) → WellFormed i → IsMove i a steps → (load_cost i (applied a steps) + balance_cost i (applied a steps)) + total (end_count steps) (fresh (end_in steps) (row_cost i a)) ≡ (load_cost i a + balance_cost i a) + total (end_count steps) (fresh (end_in steps) (row_cost i (applied a steps)))
 rows_change i a steps limits move =
     let change = total_change_named (machine_count i) (end_count steps) (end_in steps) (row_cost i a) (row_cost i (applied a steps)) (λ j within. end_known i a steps j move within) (λ m within none. row_stays i a steps m limits move none) in
     omega (arith, change, rows_sum i a, rows_sum i (applied a steps))
@@ -67,7 +67,7 @@ places_sum i a0 a =
     ap₂ (λ x y. x + y) (sym (total_times (process_count i) (process_weight_of i) (λ p. process_share i a0 p (machine_at a p)))) (sym (total_times (process_count i) (machine_weight_of i) (λ p. way_share i a0 p (machine_at a p))))
     ∙ sym (total_of_sum (process_count i) (λ p. process_weight_of i * process_share i a0 p (machine_at a p)) (λ p. machine_weight_of i * way_share i a0 p (machine_at a p)))
 
-places_change : (i : Tables) (a0 a : List Machine) (steps : List Step) → IsMove i a steps → (process_cost i a0 (applied a steps) + machine_cost i a0 (applied a steps)) + total (length steps) (gone (place_cost i a0) steps) ≡ (process_cost i a0 a + machine_cost i a0 a) + total (length steps) (come (place_cost i a0) steps)
+pub places_change : (i : Tables) (a0 a : List Machine) (steps : List Step) → IsMove i a steps → (process_cost i a0 (applied a steps) + machine_cost i a0 (applied a steps)) + total (length steps) (gone (place_cost i a0) steps) ≡ (process_cost i a0 a + machine_cost i a0 a) + total (length steps) (come (place_cost i a0) steps)
 places_change i a0 a steps move = omega (arith, tally_applied i a steps (place_cost i a0) move, places_sum i a0 a, places_sum i a0 (applied a steps))
 
 pub place_come : (i : Tables) (a0 : List Machine) (steps : List Step) (j p to sum cost : ℕ) → sum ≡ total j (come (place_cost i a0) steps) → cost ≡ place_cost i a0 p to → p ≡ process_in steps j → to ≡ to_in steps j → sum + cost ≡ total (j + 1) (come (place_cost i a0) steps)

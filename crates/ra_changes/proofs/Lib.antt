@@ -3,3 +3,5 @@ pub mod RowLemmas
 pub mod RowUse
 pub mod MovedNext
 pub mod ChangeLaws
+pub mod CostLaws
+pub mod RoomLemmas

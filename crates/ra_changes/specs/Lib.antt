@@ -1,3 +1,4 @@
 pub mod RowChanges
 pub mod PlaceCosts
 pub mod CountLists
+pub mod Room

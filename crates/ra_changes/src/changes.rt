@@ -4,11 +4,10 @@ ghost use Rattle.ra_moves.specs.Judging.{broken_by};
 ghost use Rattle.ra_moves.specs.Moving.{IsMove};
 ghost use Rattle.ra_moves.specs.Weighing.{weighed_of};
 
-use crate::amounts::difference;
 use crate::counts::counts_of;
 use crate::ends::change_at_ends;
 use crate::ways::change_of_ways;
-use ra_base::Steps;
+use ra_base::{Steps, difference};
 use ra_moves::{Move, Weighed};
 use ra_world::{World, requirements};
 use std::sync::ledger::Ledger;

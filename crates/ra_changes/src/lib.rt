@@ -4,9 +4,13 @@
 
 mod amounts;
 mod changes;
+mod costs;
 mod counts;
 mod ends;
+mod room;
 mod rows;
 mod ways;
 
 pub use changes::changed_by;
+pub use costs::cost_after_move;
+pub use room::has_room;

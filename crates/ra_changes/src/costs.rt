@@ -1,0 +1,53 @@
+ghost use Rattle.std.specs.Prelude.{◌≡◌, ◌^◌, ◌<◌, length};
+ghost use Rattle.ra_model.specs.Costs.{service_cost, objective};
+ghost use Rattle.ra_moves.specs.Replacing.{applied};
+ghost use Rattle.ra_moves.specs.Moving.{IsMove};
+ghost use Rattle.ra_world.specs.Required.{AreRequired};
+ghost use Rattle.ra_world.specs.Worlds.{tables_of, start_of, here_of};
+
+use crate::amounts::Change;
+use crate::counts::counts_of;
+use crate::ends::change_at_ends;
+use crate::ways::change_of_ways;
+use ra_moves::Move;
+use ra_world::World;
+
+/// The cost after a move, whatever it breaks, from what its processes require. The time grows with the number of
+/// resources alone, and no memory is taken.
+pub fn cost_after_move(world: &World<'_>, mv: &Move, required: &[u32; 60]) -> u128
+    requires moves { IsMove (tables_of world.now) (here_of world.now) mv.now.steps }
+    requires required { AreRequired (tables_of world.now) mv.now.steps
+        (length mv.now.steps) required.now }
+    ensures { result ≡ objective (tables_of world.now) (start_of world.now)
+        (applied (here_of world.now) mv.now.steps) }
+{
+    let kept = world.parts().total;
+    let ends = change_at_ends(world, mv, required);
+    let ways = change_of_ways(world, mv);
+    let service = change_of_service(world, mv);
+    let added = kept + ends.added + ways.added + service.added;
+    let taken = ends.taken + ways.taken + service.taken;
+    added - taken
+}
+
+/// The service cost after the move, and that now.
+#[inline(always)]
+fn change_of_service(world: &World<'_>, mv: &Move) -> Change
+    requires { IsMove (tables_of world.now) (here_of world.now) mv.now.steps }
+    ensures added { result.added ≡ service_cost (tables_of world.now) (start_of world.now)
+        (applied (here_of world.now) mv.now.steps) }
+    ensures taken { result.taken ≡ service_cost (tables_of world.now) (start_of world.now)
+        (here_of world.now) }
+    ensures added_few { result.added < 2 ^ 48 }
+    ensures taken_few { result.taken < 2 ^ 48 }
+{
+    let counts = counts_of(world, mv);
+    let greatest = world.cells().greatest();
+    let after = greatest.greatest_after(counts[0], counts[1], counts[2]);
+    let now = greatest.greatest();
+    let weight = u128::from(world.instance().service_weight());
+    Change {
+        added: weight * u128::from(after),
+        taken: weight * u128::from(now),
+    }
+}
