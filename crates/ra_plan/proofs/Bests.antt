@@ -21,7 +21,7 @@ use Rattle.ra_model.proofs.BoundLemmas.{objective_under}
 use Rattle.ra_model.proofs.BrokenLemmas.{cause_free}
 use Rattle.ra_moves.specs.Judging.{judge, broken_by, repeat_of, rise_test, verdict_of}
 use Rattle.ra_moves.specs.Replacing.{applied}
-use Rattle.ra_shift.specs.Arriving.{BreaksNothing, cost_after, cost_now, IsCostBelow}
+use Rattle.ra_shift.specs.Arriving.{cost_after, cost_now, IsCostBelow}
 use Rattle.ra_moves.proofs.Repeats.{distinct_from_none}
 use Rattle.ra_moves.proofs.OptionLemmas.{option_stands, option_reaches}
 use Rattle.ra_moves.specs.Moving.{IsMove, IsOffered}
@@ -205,20 +205,20 @@ unfolding bound_of
 bound_low None most low = omega arith
 bound_low (Some b) most low = omega (arith, low b refl)
 
-best_within : (w : World) (x : List ℕ) (d : Drawing) (allowed n : ℕ) (best : Best) → IsBest w x d allowed n best → bound_of best.cost (cost_now w + allowed + 1) ≤ cost_now w + allowed + 1
+pub best_within : (w : World) (x : List ℕ) (d : Drawing) (allowed n : ℕ) (best : Best) → IsBest w x d allowed n best → bound_of best.cost (cost_now w + allowed + 1) ≤ cost_now w + allowed + 1
 best_within w x d allowed n best is = bound_low best.cost (cost_now w + allowed + 1) (λ b there. omega (arith, (best_means w x d allowed n b best (steps_in w x d best.option) is refl there).2))
 
 pub bound_fits : (w : World) (x : List ℕ) (d : Drawing) (allowed n most : ℕ) (best : Best) → IsBest w x d allowed n best → most ≡ cost_now w + allowed + 1 → allowed < 2 ^ 64 → bound_of best.cost most ≤ 2 ^ 120
 bound_fits w x d allowed n most best is most_is few = rw most_is (omega (arith, best_within w x d allowed n best is, few, objective_under w.inst.now.tables w.start.now.items w.kept.assignment.items w.inst.now.well_formed w.inst.now.small))
 
 -- an option without a cost below the bound changes nothing
-worse_at : (here least : Option ℕ) (most : ℕ) → ((c : ℕ) → here ≡ Some c → (bound_of least most ≤ c) × (c < most)) → is_better here least ≡ false
+pub worse_at : (here least : Option ℕ) (most : ℕ) → ((c : ℕ) → here ≡ Some c → (bound_of least most ≤ c) × (c < most)) → is_better here least ≡ false
 unfolding bound_of
 worse_at None least most above = is_better_none least
 worse_at (Some c) None most above = absurd (omega (arith, (above c refl).0, (above c refl).1))
 worse_at (Some c) (Some b) most above = is_better_some c b ∙ not_above c b (ltb c b) refl (above c refl).0
 
-better_at : (least : Option ℕ) (c most : ℕ) → c < bound_of least most → is_better (Some c) least ≡ true
+pub better_at : (least : Option ℕ) (c most : ℕ) → c < bound_of least most → is_better (Some c) least ≡ true
 unfolding bound_of is_better
 better_at None c most below = refl
 better_at (Some b) c most below = is_above c b (ltb c b) refl below

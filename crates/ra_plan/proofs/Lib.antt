@@ -3,3 +3,4 @@ pub mod Bests
 pub mod Weighed
 pub mod Marked
 pub mod RingPlaces
+pub mod Below

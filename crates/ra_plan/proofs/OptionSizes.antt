@@ -33,6 +33,10 @@ pub option_length : (a : List Machine) (x : List ℕ) (m : ℕ) (d : Drawing) (i
 unfolding option_at
 option_length a x m d i = length_in (kind_of x) a x m d i
 
+pub shift_length : (a : List Machine) (x : List ℕ) (m : ℕ) (d : Drawing) (i : ℕ) (mv : MoveSteps) → mv ≡ option_at a x m d i → kind_of x ≡ Shift → length mv.steps ≡ 1
+unfolding step_count
+shift_length a x m d i mv option is = ap (λ (v : MoveSteps). length v.steps) option ∙ option_length a x m d i ∙ ap step_count is
+
 few_steps : (k : MoveKind) → step_count k ≤ 3
 unfolding step_count
 few_steps Shift = omega arith
@@ -42,16 +46,17 @@ few_steps Chain = omega arith
 pub option_few : (a : List Machine) (x : List ℕ) (m : ℕ) (d : Drawing) (i : ℕ) → length (option_at a x m d i).steps ≤ 3
 option_few a x m d i = omega (arith, option_length a x m d i, few_steps (kind_of x))
 
--- what is read for all options of a swap or a chain, where two numbers are read for each step and each of r resources
-few_reads : (k : MoveKind) (d : Drawing) (m r : ℕ) → k ≢ Shift → count_of k d m * (2 * (step_count k * r)) ≤ 16 * r
+-- what is read for all options of a swap or a chain but one, where two numbers are read for each step and each of r
+-- resources
+rest_reads_of : (k : MoveKind) (d : Drawing) (m r : ℕ) → k ≢ Shift → count_of k d m * (2 * (step_count k * r)) ≤ 12 * r + 2 * (step_count k * r)
 unfolding count_of step_count
-few_reads Shift d m r other = absurd (other refl)
-few_reads Swap d m r other = omega arith
-few_reads Chain d m r other = omega arith
+rest_reads_of Shift d m r other = absurd (other refl)
+rest_reads_of Swap d m r other = omega arith
+rest_reads_of Chain d m r other = omega arith
 
-pub all_reads : (x : List ℕ) (m : ℕ) (d : Drawing) (r : ℕ) → kind_of x ≢ Shift → option_count x m d * (2 * (step_count (kind_of x) * r)) ≤ 16 * r
+pub rest_reads : (x : List ℕ) (m : ℕ) (d : Drawing) (r : ℕ) → kind_of x ≢ Shift → option_count x m d * (2 * (step_count (kind_of x) * r)) ≤ 12 * r + 2 * (step_count (kind_of x) * r)
 unfolding option_count
-all_reads x m d r other = few_reads (kind_of x) d m r other
+rest_reads x m d r other = rest_reads_of (kind_of x) d m r other
 
 some_options : (k : MoveKind) (d : Drawing) (m : ℕ) → 1 ≤ m → 0 < count_of k d m
 unfolding count_of

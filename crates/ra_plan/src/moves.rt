@@ -1,64 +1,97 @@
-ghost use Rattle.std.specs.Prelude.{◌≡◌, ℕ, ◌+◌, ◌*◌, ◌<◌, ◌≤◌, List, length};
+ghost use Rattle.std.specs.Prelude.{◌≡◌, ℕ, ◌+◌, ◌*◌, ◌≤◌, List, length};
 ghost use Rattle.ra_base.specs.declared.causes.Drawing.{Drawing};
 ghost use Rattle.ra_model.specs.Numbers.{resource_count, machine_count};
 ghost use Rattle.ra_moves.specs.MoveSteps.{step_count};
+ghost use Rattle.ra_moves.specs.declared.steps.Step.{Step};
 ghost use Rattle.ra_moves.specs.Options.{kind_of, option_count};
 ghost use Rattle.ra_moves.specs.Moving.{IsOffered};
-ghost use Rattle.ra_plan.specs.Choosing.{IsBest, steps_in};
+ghost use Rattle.ra_shift.specs.Arriving.{cost_now};
+ghost use Rattle.ra_world.specs.Worlds.{tables_of, here_of};
+ghost use Rattle.ra_world.specs.declared.world.World.{World};
+ghost use Rattle.ra_plan.specs.Choosing.{IsBest, steps_in, bound_of};
+ghost use Rattle.ra_plan.specs.Deciding.{IsMoveBelow};
 
 use crate::best::Best;
-use crate::verdicts::verdict;
 use ra_base::{Drawing, Steps};
 use ra_causes::is_unbroken;
-use ra_changes::changed_by;
-use ra_moves::{Move, options, resolve};
-use ra_world::World;
+use ra_changes::{cost_after_move, has_room};
+use ra_moves::{Move, options, repeat_of, resolve};
+use ra_world::{World, requirements};
 use std::sync::ledger::Ledger;
 
-/// The best of all options, each weighed by itself.
+/// The best of all options of a swap or a chain, from the first of them, which has been judged.
 pub(crate) fn best_move<L: Ledger>(
     world: &World<'_>,
     words: &[u64; 8],
     drawing: Drawing,
     allowed: u64,
+    first: Best,
     steps: &mut Steps<L>,
 ) -> Best
+    requires first { IsBest world.now words.now drawing allowed 1 first }
     ensures best { IsBest world.now words.now drawing allowed
-        (option_count words.now (machine_count world.now.inst.now.tables) drawing) result }
-    ensures counted { steps.new ≤ steps.old
-        + option_count words.now (machine_count world.now.inst.now.tables) drawing
-        * (2 * (step_count (kind_of words.now) * resource_count world.now.inst.now.tables)) }
+        (option_count words.now (machine_count (tables_of world.now)) drawing) result }
+    ensures counted { steps.new + 2 * (step_count (kind_of words.now) * resource_count (tables_of world.now))
+        ≤ steps.old + option_count words.now (machine_count (tables_of world.now)) drawing
+        * (2 * (step_count (kind_of words.now) * resource_count (tables_of world.now))) }
 {
     let machines = world.instance().machines();
     let count = options(words, machines, drawing);
-    let mut best = Best::none();
-    for option in 0..count {
+    let most = world.parts().total + u128::from(allowed) + 1;
+    let mut best = first;
+    for option in 1..count {
         let mv = resolve(world.assignment(), words, machines, drawing, option);
-        best = with_option(world, best, option, &mv, allowed, steps);
+        let found = cost_below(world, &mv, best.bound(most), steps);
+        best = or_below(best, option, found);
     }
     best
 }
 
-/// The best with one more option.
-fn with_option<L: Ledger>(
+/// The cost after a move, if it breaks nothing and costs less than a bound. Room on the machines that it enters is tested
+/// first, since that takes the least time, then the cost; only a move that can still win is looked up.
+#[inline(always)]
+fn cost_below<L: Ledger>(
     world: &World<'_>,
-    best: Best,
-    option: u32,
     mv: &Move,
-    allowed: u64,
+    bound: u128,
     steps: &mut Steps<L>,
-) -> Best
-    requires offered { IsOffered world.now.inst.now.tables world.now.kept.assignment.items
-        mv.now.steps }
-    ensures best { (x : List ℕ) (d : Drawing) → IsBest world.now x d allowed option best
-        → steps_in world.now x d option ≡ mv.now.steps
-        → IsBest world.now x d allowed (option + 1) result }
+) -> Option<u128>
+    requires offered { IsOffered (tables_of world.now) (here_of world.now) mv.now.steps }
+    ensures below { IsMoveBelow world.now mv.now.steps bound result }
     ensures counted { steps.new ≤ steps.old
-        + 2 * (length mv.now.steps * resource_count world.now.inst.now.tables) }
+        + 2 * (length mv.now.steps * resource_count (tables_of world.now)) }
 {
-    if !is_unbroken(world, mv, steps) {
-        return best;
+    if let Some(_cause) = repeat_of(mv) {
+        return None;
     }
-    let weighed = changed_by(world, mv, steps);
-    best.consider(option, &verdict(world, &weighed, allowed))
+    let required = requirements(world.instance(), mv, steps);
+    if !has_room(world, mv, &required) {
+        return None;
+    }
+    let cost = cost_after_move(world, mv, &required);
+    if bound <= cost {
+        return None;
+    }
+    if !is_unbroken(world, mv, steps) {
+        return None;
+    }
+    Some(cost)
+}
+
+/// The best with one more option, if a cost below the bound was found for it.
+#[inline(always)]
+fn or_below(best: Best, option: u32, found: Option<u128>) -> Best
+    ensures { (w : World) (x : List ℕ) (d : Drawing) (allowed : ℕ) (steps : List Step)
+        → IsBest w x d allowed option best
+        → steps_in w x d option ≡ steps
+        → IsMoveBelow w steps (bound_of best.cost (cost_now w + allowed + 1)) found
+        → IsBest w x d allowed (option + 1) result }
+{
+    match found {
+        Some(_) => Best {
+            cost: found,
+            option,
+        },
+        None => best,
+    }
 }

@@ -1,21 +1,31 @@
-ghost use Rattle.std.specs.Prelude.{◌≡◌, ℕ, Some, None, ◌+◌, ◌*◌, ◌≤◌};
+ghost use Rattle.std.specs.Prelude.{◌≡◌, ◌≢◌, ℕ, Some, None, ◌+◌, ◌*◌, ◌<◌, ◌≤◌};
 ghost use Rattle.ra_base.specs.declared.causes.Drawing.TheVariants.{One, Two};
 ghost use Rattle.ra_model.specs.Numbers.{resource_count, machine_count};
-ghost use Rattle.ra_moves.specs.Judging.{broken_by};
-ghost use Rattle.ra_moves.specs.Options.{plan_of, option_count};
+ghost use Rattle.ra_moves.specs.declared.steps.MoveKind.TheVariants as kind;
+ghost use Rattle.ra_moves.specs.Options.{kind_of, plan_of, option_at, option_count};
 ghost use Rattle.ra_moves.specs.Moving.{IsOffered};
 ghost use Rattle.ra_moves.specs.Weighing.{weighed_of};
+ghost use Rattle.ra_world.specs.Worlds.{tables_of, start_of, here_of};
 ghost use Rattle.ra_plan.specs.Choosing.{IsBest};
+ghost use Rattle.ra_plan.specs.Deciding.{cause_at, weighed_at, IsPlanned};
 
 use crate::best::Best;
 use crate::moves::best_move;
 use crate::shifts::best_shift;
+use crate::verdicts::verdict;
 use crate::weighing::weigh;
 use ra_base::{Drawing, Steps};
 use ra_changes::changed_by;
 use ra_moves::{Move, MoveKind, Plan, Weighed, resolve};
 use ra_world::World;
 use std::sync::ledger::Ledger;
+
+/// A move and its weighing.
+#[derive(Clone, Copy)]
+struct Planned {
+    mv: Move,
+    weighed: Weighed,
+}
 
 /// What the eight words of a proposal make of the assignment of a world: of the options that they name, the first of
 /// least cost among those that are judged Done, and option 0 where there is none; with its weighing, and with the
@@ -43,46 +53,110 @@ pub fn plan<L: Ledger>(
     ensures counted_two { drawing ≡ Two → steps.new ≤ steps.old + 384 * resource_count
         world.now.inst.now.tables }
 {
-    let best = best_option(world, words, drawing, allowed, steps);
     let machines = world.instance().machines();
-    let mv = resolve(world.assignment(), words, machines, drawing, best.option);
-    let weighed = weighing(world, &best, &mv, steps);
+    let first = resolve(world.assignment(), words, machines, drawing, 0);
+    let Planned { mv, weighed } = planned_by(world, &first, words, drawing, allowed, steps);
     Plan { q, k, mv, weighed }
 }
 
-/// The weighing of the move that is planned: of the best option, or of option 0 where none is done.
-fn weighing<L: Ledger>(world: &World<'_>, best: &Best, mv: &Move, steps: &mut Steps<L>) -> Weighed
-    requires offered { IsOffered world.now.inst.now.tables world.now.kept.assignment.items
-        mv.now.steps }
-    requires best { (cost : ℕ) → best.now.cost ≡ Some cost →
-        broken_by world.now.inst.now.tables world.now.start.now.items
-        world.now.kept.assignment.items mv.now.steps ≡ None }
-    ensures value { result ≡ weighed_of world.now.inst.now.tables
-        world.now.start.now.items world.now.kept.assignment.items mv.now.steps }
-    ensures counted { steps.new ≤ steps.old + 6 * resource_count world.now.inst.now.tables }
-{
-    match best.cost {
-        Some(_) => changed_by(world, mv, steps),
-        None => weigh(world, mv, steps),
-    }
-}
-
-/// The best of all options that the words name.
-fn best_option<L: Ledger>(
+/// The plan of words, where option 0 is at hand.
+fn planned_by<L: Ledger>(
     world: &World<'_>,
+    first: &Move,
     words: &[u64; 8],
     drawing: Drawing,
     allowed: u64,
     steps: &mut Steps<L>,
-) -> Best
-    ensures best { IsBest world.now words.now drawing allowed
-        (option_count words.now (machine_count world.now.inst.now.tables) drawing) result }
-    ensures counted { steps.new ≤ steps.old + 16 * resource_count world.now.inst.now.tables }
+) -> Planned
+    requires { first.now ≡
+        option_at (here_of world.now) words.now (machine_count (tables_of world.now)) drawing 0 }
+    ensures planned { IsPlanned world.now words.now drawing allowed result.mv result.weighed }
+    ensures counted { steps.new ≤ steps.old + 24 * resource_count (tables_of world.now) }
 {
-    let machines = world.instance().machines();
-    let first = resolve(world.assignment(), words, machines, drawing, 0);
     match first.kind() {
-        MoveKind::Shift => best_shift(world, first.step(0).process, words, drawing, allowed, steps),
-        _ => best_move(world, words, drawing, allowed, steps),
+        MoveKind::Shift => planned_shift(world, first, words, drawing, allowed, steps),
+        _ => planned_move(world, first, words, drawing, allowed, steps),
+    }
+}
+
+/// The plan of words that ask for a shift. Option 0 is weighed at the end, if none is done.
+fn planned_shift<L: Ledger>(
+    world: &World<'_>,
+    first: &Move,
+    words: &[u64; 8],
+    drawing: Drawing,
+    allowed: u64,
+    steps: &mut Steps<L>,
+) -> Planned
+    requires first { first.now ≡
+        option_at (here_of world.now) words.now (machine_count (tables_of world.now)) drawing 0 }
+    requires shift { kind_of words.now ≡ kind.Shift }
+    ensures planned { IsPlanned world.now words.now drawing allowed result.mv result.weighed }
+    ensures counted { steps.new ≤ steps.old + 24 * resource_count (tables_of world.now) }
+{
+    let best = best_shift(world, first.step(0).process, words, drawing, allowed, steps);
+    let mv = move_of(world, first, words, drawing, best.option);
+    let weighed = weighing(world, &best, &mv, steps);
+    Planned { mv, weighed }
+}
+
+/// The plan of words that ask for a swap or a chain. Option 0 is weighed first and once, since most of these plans are
+/// for it: the others have to cost less.
+fn planned_move<L: Ledger>(
+    world: &World<'_>,
+    first: &Move,
+    words: &[u64; 8],
+    drawing: Drawing,
+    allowed: u64,
+    steps: &mut Steps<L>,
+) -> Planned
+    requires first { first.now ≡
+        option_at (here_of world.now) words.now (machine_count (tables_of world.now)) drawing 0 }
+    requires other { kind_of words.now ≢ kind.Shift }
+    ensures planned { IsPlanned world.now words.now drawing allowed result.mv result.weighed }
+    ensures counted { steps.new ≤ steps.old + 24 * resource_count (tables_of world.now) }
+{
+    let weighed = weigh(world, first, steps);
+    let judged = Best::none().consider(0, &verdict(world, &weighed, allowed));
+    let best = best_move(world, words, drawing, allowed, judged, steps);
+    if best.option == 0 {
+        return Planned {
+            mv: *first,
+            weighed,
+        };
+    }
+    let mv = move_of(world, first, words, drawing, best.option);
+    Planned {
+        mv,
+        weighed: weighing(world, &best, &mv, steps),
+    }
+}
+
+/// An option, where option 0 is at hand.
+fn move_of(world: &World<'_>, first: &Move, words: &[u64; 8], drawing: Drawing, option: u32) -> Move
+    requires first { first.now ≡
+        option_at (here_of world.now) words.now (machine_count (tables_of world.now)) drawing 0 }
+    requires named { option <
+        option_count words.now (machine_count (tables_of world.now)) drawing }
+    ensures { result ≡ option_at (here_of world.now) words.now
+        (machine_count (tables_of world.now)) drawing option }
+{
+    if option == 0 {
+        return *first;
+    }
+    let machines = world.instance().machines();
+    resolve(world.assignment(), words, machines, drawing, option)
+}
+
+/// The weighing of the move that is planned: of the best option, or of option 0 where none is done.
+fn weighing<L: Ledger>(world: &World<'_>, best: &Best, mv: &Move, steps: &mut Steps<L>) -> Weighed
+    requires offered { IsOffered (tables_of world.now) (here_of world.now) mv.now.steps }
+    requires best { (cost : ℕ) → best.now.cost ≡ Some cost → cause_at world.now mv.now.steps ≡ None }
+    ensures value { result ≡ weighed_at world.now mv.now.steps }
+    ensures counted { steps.new ≤ steps.old + 6 * resource_count (tables_of world.now) }
+{
+    match best.cost {
+        Some(_) => changed_by(world, mv, steps),
+        None => weigh(world, mv, steps),
     }
 }

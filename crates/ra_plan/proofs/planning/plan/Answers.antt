@@ -1,24 +1,13 @@
-use Rattle.std.proofs.Common.{◌≡◌, ◌<◌, ◌≤◌, arith, length, sym, ap, ◌∙◌}
+use Rattle.std.proofs.Common.{◌≡◌}
 use Rattle.ra_model.specs.Numbers.{machine_count}
-use Rattle.ra_plan.proofs.Bests.{best_below, best_planned, best_unbroken, option_in}
+use Rattle.ra_plan.proofs.OptionSizes.{option_some}
 use Rattle.ra_plan.proofs.planning.plan.Goals as goal
 
-pub resolve-mv-requires-clause-named : goal.resolve-mv-requires-clause-named
-resolve-mv-requires-clause-named g c =
-    let world = c.args.world.now in
-    let machines : c.machines-machines.result ≡ machine_count world.inst.now.tables = rw c.instance.ensures at c.machines-machines.ensures in
-    best_below world _ _ _ _ _ machines (omega (arith, world.inst.now.well_formed.some_machine)) c.best_option-best.ensures.best
+pub resolve-first-requires-clause-named : goal.resolve-first-requires-clause-named
+resolve-first-requires-clause-named g c = option_some _ _ _ (rw (c.machines-machines.ensures) c.instance.result.now.well_formed.some_machine)
 
-pub weighing-weighed-requires-clause-best : goal.weighing-weighed-requires-clause-best
-weighing-weighed-requires-clause-best g c = λ cost there.
+pub planned_by-mv-requires : goal.planned_by-mv-requires
+planned_by-mv-requires g c =
     let world = c.args.world.now in
     let machines : c.machines-machines.result ≡ machine_count world.inst.now.tables = rw c.instance.ensures at c.machines-machines.ensures in
-    let option = rw c.assignment.ensures.value at c.resolve-mv.ensures.option in
-    best_unbroken world _ _ _ _ cost _ _ c.best_option-best.ensures.best (option_in world _ _ _ _ _ machines option) there
-
-pub returns-clause-planned : goal.returns-clause-planned
-returns-clause-planned g c =
-    let world = c.args.world.now in
-    let machines : c.machines-machines.result ≡ machine_count world.inst.now.tables = rw c.instance.ensures at c.machines-machines.ensures in
-    let option = rw c.assignment.ensures.value at c.resolve-mv.ensures.option in
-    best_planned world _ _ _ _ _ _ machines c.best_option-best.ensures.best option
+    rw (c.assignment.ensures.value, machines) at c.resolve-first.ensures.option
