@@ -18,8 +18,9 @@ use std::sync::ledger::{Blank, Ledger};
 /// One trial.
 #[derive(Clone, Copy)]
 pub(super) enum Trial {
-    /// Plans are compared along a walk; at least so many with each drawing are done, and so many moves followed.
-    Plans { least: u32 },
+    /// Plans of so many proposals are compared along a walk; at least so many with each drawing are done, and so many
+    /// moves followed.
+    Plans { proposals: u32, least: u32 },
     /// What the world tells is compared after each of many moves.
     Telling,
     /// A process of the sample leaves and comes home.
@@ -79,7 +80,9 @@ fn passes<L: Ledger>(
 {
     let mut steps = Steps::<L>::make(blank);
     match trial {
-        Trial::Plans { least } => plans_agree(rt, alloc, beside, least, &mut steps),
+        Trial::Plans { proposals, least } => {
+            plans_agree(rt, alloc, beside, proposals, least, &mut steps)
+        }
         Trial::Telling => tells_plainly(beside, &mut steps),
         Trial::ComingHome => comes_home(beside, &mut steps),
         Trial::Weighing => weighs_shift(beside, &mut steps),

@@ -28,18 +28,19 @@ fn allowance_from(seed: u64) -> u64 {
     }
 }
 
-/// Makes three hundred proposals, compares their plans with both drawings, and follows the moves that they ask for where
-/// these are done. Whether all plans are the same, at least so many with each drawing are done, and so many moves followed.
+/// Makes so many proposals, compares their plans with both drawings, and follows the moves that they ask for where these
+/// are done. Whether all plans are the same, at least so many with each drawing are done, and so many moves followed.
 pub(super) fn plans_agree<L: Ledger>(
     rt: &impl Abort,
     alloc: Global,
     beside: &mut Beside<'_>,
+    proposals: u32,
     least: u32,
     steps: &mut Steps<L>,
 ) -> bool {
     let mut seed = 1u64;
     let (mut ones, mut twos, mut followed) = (0u32, 0u32, 0u32);
-    for _ in 0..300 {
+    for _ in 0..proposals {
         let words = words_from(&mut seed);
         let allowed = allowance_from(seed);
         let world = beside.world();
