@@ -13,9 +13,9 @@ ghost use Rattle.ra_cells.specs.Labels.{AreSorted, AreDifferent};
 use crate::greatest::Greatest;
 use crate::held::held_in;
 use crate::making::{labels_of, spreads_of, start_at, starts_of};
-use crate::marks::{Mark, one_when};
+use crate::marks::Mark;
 use crate::sifting::{relabel, replace};
-use ra_base::{Assignment, Fixed, Machine, NoMemory, Process, Service};
+use ra_base::{Assignment, Fixed, Machine, NoMemory, Process, Service, one_when};
 use ra_model::{Instance, Members};
 use std::alloc::Global;
 

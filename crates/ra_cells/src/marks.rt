@@ -1,5 +1,4 @@
 ghost use Rattle.std.specs.Prelude.{◌≡◌, ◌<◌};
-ghost use Rattle.ra_base.specs.Sums.{one_if};
 ghost use Rattle.ra_model.specs.Numbers.{machine_count};
 ghost use Rattle.ra_cells.specs.Marks.{mark_of};
 
@@ -25,11 +24,4 @@ pub(crate) fn mark_of(inst: &Instance, mark: Mark, m: Machine) -> u32
         Mark::InLocation => inst.location(m),
         Mark::InNeighbourhood => inst.neighbourhood(m),
     }
-}
-
-/// 1 where a test holds, and else 0.
-pub(crate) fn one_when(test: bool) -> u32
-    ensures { result ≡ one_if test }
-{
-    if test { 1 } else { 0 }
 }
