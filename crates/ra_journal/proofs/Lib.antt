@@ -10,6 +10,7 @@ pub mod MadeLemmas
 pub mod Offers
 pub mod StandingLemmas
 pub mod EndLemmas
+pub mod HeldLemmas
 pub mod KeepingLemmas
 pub mod RecordingLemmas
 pub mod NewerLemmas
@@ -18,3 +19,4 @@ pub mod StartLemmas
 pub mod PackingLemmas
 pub mod SoloLemmas
 pub mod Refusals
+pub mod AllowedLemmas

@@ -2,10 +2,12 @@ pub mod Batches
 pub mod Best
 pub mod Committing
 pub mod Entries
+pub mod Journals
 pub mod Keeping
 pub mod Laws
 pub mod Legal
 pub mod Packing
 pub mod Recording
 pub mod Solo
+pub mod Starts
 pub mod States

@@ -1,14 +1,6 @@
-ghost use Rattle.std.specs.Prelude.{◌≡◌, ◌-◌, ◌<◌, ◌≤◌, min, None, Some, [], length, IfOk};
-ghost use Rattle.ra_model.specs.Assignments.{IsAssignment};
-ghost use Rattle.ra_model.specs.Broken.{first_broken};
-ghost use Rattle.ra_model.specs.Costs.{parts_of};
+ghost use Rattle.std.specs.Prelude.{◌≡◌, ◌≤◌};
 ghost use Rattle.ra_topology.specs.Fits.{IsTopologyOf};
-ghost use Rattle.ra_guards.specs.declared.newest.Newer.{Newer as Touched};
-ghost use Rattle.ra_journal.specs.Entries.{entry_at, entries_of, worker_count, proposal_count};
-ghost use Rattle.ra_journal.specs.States.{kept_cost, cost_at};
-ghost use Rattle.ra_journal.specs.Best.{best_of};
-ghost use Rattle.ra_journal.specs.Batches.{batch_from};
-ghost use Rattle.ra_journal.specs.Committing.{committed, newer_since, AreHeld, IsCommit};
+ghost use Rattle.ra_journal.specs.Entries.{proposal_count};
 ghost use Rattle.ra_journal.specs.Keeping.{IsStart, IsKept};
 
 use crate::batch::Batch;
@@ -20,7 +12,7 @@ use crate::replies::Reply;
 use ra_base::{Assignment, NoMemory, Parts};
 use ra_cells::Greatest;
 use ra_draws::Lots;
-use ra_guards::{Newer, Versions, first_newer, first_newer_read};
+use ra_guards::{Newer, Versions, WriteGuards, first_newer, first_newer_read};
 use ra_model::Instance;
 use ra_moves::Plan;
 use ra_topology::Topology;
@@ -41,6 +33,14 @@ pub struct Journal<'a> {
 }
 
 impl<'a> Journal<'a> {
+    ghost use Rattle.std.specs.Prelude.{◌≡◌, ◌-◌, ◌<◌, ◌≤◌, min, length, option_copied, IfSome, IfOk};
+    ghost use Rattle.ra_journal.specs.Batches.{batch_from};
+    ghost use Rattle.ra_journal.specs.Best.{best_of};
+    ghost use Rattle.ra_journal.specs.Entries.{entry_at, entries_of, worker_count};
+    ghost use Rattle.ra_journal.specs.Journals.{instance_in, tables_in, topology_in, start_in, lots_in, list_in, entries_in, newer_in, MayHandIn, HasHeld, IsOpened, Answers};
+    ghost use Rattle.ra_journal.specs.Starts.{IsFeasibleStart};
+    ghost use Rattle.ra_journal.specs.States.{kept_cost, cost_at};
+
     /// The journal without entries, over an initial assignment that is feasible, whose cost has these parts.
     pub fn make(
         alloc: Global,
@@ -50,15 +50,8 @@ impl<'a> Journal<'a> {
         start: Parts,
         lots: &'a Lots,
     ) -> Result<Journal<'a>, NoMemory>
-        requires fits { IsAssignment inst.now.tables a0.now.items }
-        requires topology { IsTopologyOf topo.now inst.now.tables }
-        requires unbroken { first_broken inst.now.tables a0.now.items a0.now.items ≡ None }
-        requires parts { start ≡ parts_of inst.now.tables a0.now.items a0.now.items }
-        ensures instance { IfOk result (λ journal. journal.inst.now ≡ inst.now) }
-        ensures topology { IfOk result (λ journal. journal.topo.now ≡ topo.now) }
-        ensures initial { IfOk result (λ journal. journal.a0.now ≡ a0.now) }
-        ensures lots { IfOk result (λ journal. journal.lots.now ≡ lots.now) }
-        ensures entries { IfOk result (λ journal. journal.book.entries.items ≡ []) }
+        requires { IsFeasibleStart inst.now.tables topo.now a0.now.items start }
+        ensures { IfOk result (IsOpened inst.now topo.now a0.now lots.now) }
     {
         let entries = Entries::make(alloc, proposals(lots) as usize)?;
         let versions = Versions::make(alloc, inst.machines(), inst.services())?;
@@ -84,77 +77,23 @@ impl<'a> Journal<'a> {
     /// Records a worker's next proposal, judged at the state after all entries, unless a guard of its move was touched
     /// since it was planned.
     pub fn commit(&mut self, worker: u32, plan: &Plan) -> Reply
-        requires commit { IsCommit self.old.inst.now.tables self.old.a0.now.items self.old.lots.now
-            self.old.book.entries.items worker plan.now }
-        ensures journal { self.new.book.entries.items ≡
-            (committed self.old.inst.now.tables self.old.a0.now.items self.old.lots.now
-            self.old.book.entries.items worker plan.now.q).journal }
-        ensures reply { result ≡
-            (committed self.old.inst.now.tables self.old.a0.now.items self.old.lots.now
-            self.old.book.entries.items worker plan.now.q).reply }
-        ensures stale { (one : Touched) → newer_since self.old.inst.now.tables
-            self.old.book.entries.items plan.now.q plan.now.mv.steps ≡ Some one
-            → self.new ≡ self.old }
-        ensures instance { self.new.inst.now ≡ self.old.inst.now }
-        ensures topology { self.new.topo.now ≡ self.old.topo.now }
-        ensures initial { self.new.a0.now ≡ self.old.a0.now }
-        ensures lots { self.new.lots.now ≡ self.old.lots.now }
+        requires commit { MayHandIn self.old worker plan.now }
+        ensures { Answers self.old self.new worker plan.now result }
     {
-        let newer = first_newer(self.topo, self.inst, &plan.mv, &self.book.versions, plan.q);
-        self.answer(newer, worker, plan)
+        self.commit_with(worker, plan, None)
     }
 
-    /// The same where it is known that no write guard of the move was touched since it was planned: it compares the other
-    /// guards alone.
-    pub fn commit_held(&mut self, worker: u32, plan: &Plan) -> Reply
-        requires commit { IsCommit self.old.inst.now.tables self.old.a0.now.items self.old.lots.now
-            self.old.book.entries.items worker plan.now }
-        requires held { AreHeld self.old.inst.now.tables self.old.book.entries.items plan.now.q
-            plan.now.mv.steps }
-        ensures journal { self.new.book.entries.items ≡
-            (committed self.old.inst.now.tables self.old.a0.now.items self.old.lots.now
-            self.old.book.entries.items worker plan.now.q).journal }
-        ensures reply { result ≡
-            (committed self.old.inst.now.tables self.old.a0.now.items self.old.lots.now
-            self.old.book.entries.items worker plan.now.q).reply }
-        ensures stale { (one : Touched) → newer_since self.old.inst.now.tables
-            self.old.book.entries.items plan.now.q plan.now.mv.steps ≡ Some one
-            → self.new ≡ self.old }
-        ensures instance { self.new.inst.now ≡ self.old.inst.now }
-        ensures topology { self.new.topo.now ≡ self.old.topo.now }
-        ensures initial { self.new.a0.now ≡ self.old.a0.now }
-        ensures lots { self.new.lots.now ≡ self.old.lots.now }
+    /// The same for a worker that may hold guards. If it gives the write guards of the move, none of which was touched
+    /// since the move was planned, the other guards alone are compared, and the write guards aren't gathered again.
+    pub fn commit_with(&mut self, worker: u32, plan: &Plan, held: Option<&WriteGuards>) -> Reply
+        requires commit { MayHandIn self.old worker plan.now }
+        requires held { IfSome (option_copied held) (HasHeld self.old plan.now) }
+        ensures { Answers self.old self.new worker plan.now result }
     {
-        let newer = first_newer_read(self.topo, self.inst, &plan.mv, &self.book.versions, plan.q);
-        self.answer(newer, worker, plan)
-    }
-
-    /// Answers a worker by the first guard of its move that was touched since, and records its proposal where there is
-    /// none.
-    fn answer(&mut self, newer: Option<Newer>, worker: u32, plan: &Plan) -> Reply
-        requires commit { IsCommit self.old.inst.now.tables self.old.a0.now.items self.old.lots.now
-            self.old.book.entries.items worker plan.now }
-        requires newer { newer ≡
-            newer_since self.old.inst.now.tables self.old.book.entries.items plan.now.q
-            plan.now.mv.steps }
-        ensures journal { self.new.book.entries.items ≡
-            (committed self.old.inst.now.tables self.old.a0.now.items self.old.lots.now
-            self.old.book.entries.items worker plan.now.q).journal }
-        ensures reply { result ≡
-            (committed self.old.inst.now.tables self.old.a0.now.items self.old.lots.now
-            self.old.book.entries.items worker plan.now.q).reply }
-        ensures stale { (one : Touched) → newer_since self.old.inst.now.tables
-            self.old.book.entries.items plan.now.q plan.now.mv.steps ≡ Some one
-            → self.new ≡ self.old }
-        ensures instance { self.new.inst.now ≡ self.old.inst.now }
-        ensures topology { self.new.topo.now ≡ self.old.topo.now }
-        ensures initial { self.new.a0.now ≡ self.old.a0.now }
-        ensures lots { self.new.lots.now ≡ self.old.lots.now }
-    {
-        match newer {
-            Some(guard) => Reply::Stale {
-                guard: guard.guard,
-                at: guard.at,
+        match self.first_newer(worker, plan, held) {
+            Some(newer) => Reply::Stale {
+                guard: newer.guard,
+                at: newer.at,
             },
             None => record(
                 self.inst,
@@ -164,93 +103,103 @@ impl<'a> Journal<'a> {
                 &mut self.book,
                 worker,
                 plan,
+                held,
             ),
+        }
+    }
+
+    /// The first guard of a worker's move that was touched since it was planned. Write guards that are given were not.
+    fn first_newer(&self, worker: u32, plan: &Plan, held: Option<&WriteGuards>) -> Option<Newer>
+        requires commit { MayHandIn self.now worker plan.now }
+        requires held { IfSome (option_copied held) (HasHeld self.now plan.now) }
+        ensures { result ≡ newer_in self.now plan.now }
+    {
+        let versions = &self.book.versions;
+        match held {
+            Some(_) => first_newer_read(self.topo, self.inst, &plan.mv, versions, plan.q),
+            None => first_newer(self.topo, self.inst, &plan.mv, versions, plan.q),
         }
     }
 
     /// Fills a batch with the entries from a place on, as many as it has room for, and tells their number.
     pub fn copy_from(&self, at: u64, batch: &mut Batch) -> u64
-        requires { at ≤ length self.now.book.entries.items }
-        ensures entries { batch.new ≡ batch_from self.now.book.entries.items at }
-        ensures number { result ≡ min 1024 (length self.now.book.entries.items - at) }
+        requires { at ≤ length (entries_in self.now) }
+        ensures entries { batch.new ≡ batch_from (entries_in self.now) at }
+        ensures number { result ≡ min 1024 (length (entries_in self.now) - at) }
     {
         batch.fill(&self.book.entries, at as usize)
     }
 
     /// How many entries there are.
     pub fn len(&self) -> u64
-        ensures { result ≡ length self.now.book.entries.items }
+        ensures { result ≡ length (entries_in self.now) }
     {
         self.book.entries.len() as u64
     }
 
     /// The entry at a place, counted from 0.
     pub fn entry(&self, at: u64) -> Entry
-        requires { at < length self.now.book.entries.items }
-        ensures { result ≡ entry_at self.now.book.entries.items at }
+        requires { at < length (entries_in self.now) }
+        ensures { result ≡ entry_at (entries_in self.now) at }
     {
         self.book.entries.get(at as usize)
     }
 
     /// All entries, in order.
     pub fn entries(&self) -> &Entries
-        ensures { result.now ≡ self.now.book.entries }
+        ensures { result.now ≡ list_in self.now }
     {
         &self.book.entries
     }
 
     /// How many entries a worker has made.
     pub fn made_by(&self, worker: u32) -> u64
-        requires { worker < worker_count self.now.lots.now }
-        ensures { result ≡
-            entries_of self.now.book.entries.items (length self.now.book.entries.items) worker }
+        requires { worker < worker_count (lots_in self.now) }
+        ensures { result ≡ entries_of (entries_in self.now) (length (entries_in self.now)) worker }
     {
         self.book.made[worker as usize]
     }
 
     /// The cost of the state after all entries.
     pub fn kept_cost(&self) -> u128
-        ensures { result ≡
-            kept_cost self.now.inst.now.tables self.now.a0.now.items self.now.book.entries.items
-            (length self.now.book.entries.items) }
+        ensures { result ≡ kept_cost (tables_in self.now) (start_in self.now) (entries_in self.now)
+            (length (entries_in self.now)) }
     {
         self.book.kept
     }
 
     /// How many entries stand before the first state of least cost.
     pub fn best_at(&self) -> u64
-        ensures { result ≡
-            best_of self.now.inst.now.tables self.now.a0.now.items self.now.book.entries.items }
+        ensures { result ≡ best_of (tables_in self.now) (start_in self.now) (entries_in self.now) }
     {
         self.book.best_at
     }
 
     /// The cost of that state.
     pub fn best_cost(&self) -> u128
-        ensures { result ≡
-            cost_at self.now.inst.now.tables self.now.a0.now.items self.now.book.entries.items
-            (best_of self.now.inst.now.tables self.now.a0.now.items self.now.book.entries.items) }
+        ensures { result ≡ cost_at (tables_in self.now) (start_in self.now) (entries_in self.now)
+            (best_of (tables_in self.now) (start_in self.now) (entries_in self.now)) }
     {
         self.book.best_cost
     }
 
     /// The instance.
     pub fn instance(&self) -> &'a Instance
-        ensures { result.now ≡ self.now.inst.now }
+        ensures { result.now ≡ instance_in self.now }
     {
         self.inst
     }
 
     /// Its topology.
     pub fn topology(&self) -> &'a Topology
-        ensures { result.now ≡ self.now.topo.now }
+        ensures { result.now ≡ topology_in self.now }
     {
         self.topo
     }
 
     /// The lots of the workers.
     pub fn lots(&self) -> &'a Lots
-        ensures { result.now ≡ self.now.lots.now }
+        ensures { result.now ≡ lots_in self.now }
     {
         self.lots
     }

@@ -2,6 +2,7 @@
 //! whole, and what follows from that.
 #![tactic(auto)]
 
+mod allowances;
 mod batch;
 mod book;
 mod entries;
@@ -13,6 +14,7 @@ mod recording;
 mod replies;
 mod states;
 
+pub use allowances::allowed;
 pub use batch::Batch;
 pub use entries::Entry;
 pub use journal::Journal;

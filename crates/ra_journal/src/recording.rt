@@ -1,8 +1,9 @@
-ghost use Rattle.std.specs.Prelude.{◌≡◌, ◌<◌, ◌≤◌, ◌^◌, [], ◌∷◌, ◌++◌, Some, None, length, slice_index};
+ghost use Rattle.std.specs.Prelude.{◌≡◌, ◌<◌, ◌≤◌, ◌^◌, [], ◌∷◌, ◌++◌, Some, None, length, slice_index, option_copied, IfSome};
 ghost use Rattle.ra_topology.specs.Fits.{IsTopologyOf};
 ghost use Rattle.ra_moves.specs.Judging.{judge};
 ghost use Rattle.ra_guards.specs.Guards.{AreWithin};
 ghost use Rattle.ra_guards.specs.Kept.{IsTableOf};
+ghost use Rattle.ra_guards.specs.Order.{AreWrites};
 ghost use Rattle.ra_journal.specs.Committing.{newer_since, next_entry, IsCommit};
 ghost use Rattle.ra_journal.specs.Entries.{allowed, steps_made};
 ghost use Rattle.ra_journal.specs.Keeping.{IsStart, IsKept};
@@ -11,18 +12,20 @@ ghost use Rattle.ra_journal.specs.Recording.{IsAdded, AreChangesOf, AreTouched, 
 ghost use Rattle.ra_journal.specs.States.{state};
 ghost use Rattle.ra_journal.specs.declared.replies.Reply.TheVariants.{Recorded};
 
+use crate::allowances::allowed;
 use crate::book::Book;
 use crate::entries::Entry;
 use crate::replies::Reply;
 use ra_base::Assignment;
-use ra_draws::{Lots, allow};
-use ra_guards::{Versions, writes};
+use ra_draws::Lots;
+use ra_guards::{Versions, WriteGuards, writes};
 use ra_model::Instance;
-use ra_moves::{Move, Plan, Verdict, Weighed};
+use ra_moves::{Move, Plan, Verdict};
 use ra_settle::{change_counts, settle_now};
 use ra_topology::Topology;
 
-/// Records a worker's next proposal, of whose move no guard was touched since it was planned.
+/// Records a worker's next proposal, of whose move no guard was touched since it was planned. Guards that are given are
+/// its write guards.
 pub(crate) fn record(
     inst: &Instance,
     topo: &Topology,
@@ -31,6 +34,7 @@ pub(crate) fn record(
     book: &mut Book,
     worker: u32,
     plan: &Plan,
+    held: Option<&WriteGuards>,
 ) -> Reply
     requires topology { IsTopologyOf topo.now inst.now.tables }
     requires start { IsStart inst.now.tables a0.now.items }
@@ -39,6 +43,7 @@ pub(crate) fn record(
         plan.now }
     requires untouched { newer_since inst.now.tables book.old.entries.items plan.now.q
         plan.now.mv.steps ≡ None }
+    requires held { IfSome (option_copied held) (AreWrites inst.now.tables plan.now.mv.steps) }
     ensures kept { IsKept inst.now.tables a0.now.items lots.now book.new }
     ensures journal { book.new.entries.items ≡ book.old.entries.items
         ++ next_entry inst.now.tables a0.now.items lots.now book.old.entries.items worker plan.now.q
@@ -57,7 +62,7 @@ pub(crate) fn record(
         verdict,
     };
     add(book, &entry);
-    take_in(inst, topo, book, &plan.mv, &plan.weighed, &verdict);
+    take_in(inst, topo, book, plan, held, &verdict);
     keep_best(book);
     Reply::Recorded { at, verdict }
 }
@@ -82,8 +87,8 @@ fn judge_now(
         (state a0.now.items book.now.entries.items (length book.now.entries.items))
         plan.now.mv.steps (allowed lots.now worker plan.now.k) }
 {
-    let allowed = allow(lots.slack(), lots.lot(worker).budget, plan.k);
-    settle_now(inst, &book.greatest, book.kept, &plan.weighed, allowed)
+    let rise = allowed(lots, worker, plan.k);
+    settle_now(inst, &book.greatest, book.kept, &plan.weighed, rise)
 }
 
 /// Adds an entry at the end, which its worker has made.
@@ -100,33 +105,61 @@ fn add(book: &mut Book, entry: &Entry)
     book.entries.push(entry);
 }
 
-/// Takes the last entry, which has this move and this verdict, into the versions, the moved counts and the cost.
+/// Takes the last entry, which is this plan's and has this verdict, into the versions, the moved counts and the cost.
 fn take_in(
     inst: &Instance,
     topo: &Topology,
     book: &mut Book,
-    mv: &Move,
-    weighed: &Weighed,
+    plan: &Plan,
+    held: Option<&WriteGuards>,
     verdict: &Verdict,
 )
-    requires within { AreWithin inst.now.tables mv.now.steps }
+    requires within { AreWithin inst.now.tables plan.now.mv.steps }
+    requires held { IfSome (option_copied held) (AreWrites inst.now.tables plan.now.mv.steps) }
     requires sized { IsTableOf inst.now.tables book.old.versions }
-    requires counts { AreChangesOf book.old.greatest weighed.now }
-    ensures { IsTakenIn inst.now.tables mv.now.steps weighed.now verdict.now book.old book.new }
+    requires counts { AreChangesOf book.old.greatest plan.now.weighed }
+    ensures { IsTakenIn inst.now.tables plan.now.mv.steps plan.now.weighed verdict.now book.old
+        book.new }
 {
     match verdict {
         Verdict::Done { cost } => {
             let version = book.entries.len() as u64;
-            touch(inst, topo, &mut book.versions, mv, version);
-            change_counts(&mut book.greatest, weighed);
+            touch(inst, topo, &mut book.versions, &plan.mv, held, version);
+            change_counts(&mut book.greatest, &plan.weighed);
             book.kept = *cost;
         }
         Verdict::Refused { .. } => {}
     }
 }
 
-/// Gives the write guards of a move a version.
-fn touch(inst: &Instance, topo: &Topology, versions: &mut Versions, mv: &Move, version: u64)
+/// Gives the write guards of a move a version. They are gathered only if they aren't given.
+fn touch(
+    inst: &Instance,
+    topo: &Topology,
+    versions: &mut Versions,
+    mv: &Move,
+    held: Option<&WriteGuards>,
+    version: u64,
+)
+    requires within { AreWithin inst.now.tables mv.now.steps }
+    requires held { IfSome (option_copied held) (AreWrites inst.now.tables mv.now.steps) }
+    requires sized { IsTableOf inst.now.tables versions.old }
+    ensures { AreTouched inst.now.tables (Some mv.now.steps) version versions.old versions.new }
+{
+    match held {
+        Some(guards) => versions.touch(guards, version),
+        None => touch_gathered(inst, topo, versions, mv, version),
+    }
+}
+
+/// Gathers the write guards of a move, and gives them a version.
+fn touch_gathered(
+    inst: &Instance,
+    topo: &Topology,
+    versions: &mut Versions,
+    mv: &Move,
+    version: u64,
+)
     requires within { AreWithin inst.now.tables mv.now.steps }
     requires sized { IsTableOf inst.now.tables versions.old }
     ensures { AreTouched inst.now.tables (Some mv.now.steps) version versions.old versions.new }

@@ -18,3 +18,6 @@ invariant_of-result c =
       start = record { limits = c.args.inst.now.well_formed; fits = c.requires.fits; unbroken = c.requires.unbroken };
       kept = kept_start i c.args.a0.now.items c.args.lots.now _ c.in_ok-entries.ensures.items (c.in_ok-entries.ensures.room ∙ c.proposals.ensures.value) zero_versions c.in_ok-greatest.ensures.counts c.in_ok-greatest.ensures.limit refl cost refl cost;
     }
+
+pub returns : goal.returns
+returns c = record { instance = refl; topology = refl; initial = refl; lots = refl; entries = c.in_ok-entries.ensures.items }
