@@ -44,9 +44,9 @@ use Rattle.ra_shared.specs.declared.books.Opening.{Opening}
 use Rattle.ra_shared.specs.Books.{entry_touches, committed_in, KnowsOwn, IsCommitOf, IsStartOf, IsLegalSeen}
 use Rattle.ra_shared.specs.Holding.{HoldsWrites, then_version}
 use Rattle.ra_shared.specs.Laws.{RecordedStands, StaleStands}
-use Rattle.ra_shared.specs.Numbers.{number_of, guard_count, touches_number}
+use Rattle.ra_shared.specs.Numbers.{first_number, place_count, touches_place, number_of, touches_number}
 use Rattle.ra_shared.specs.Shares.{IsCommitted}
-use Rattle.ra_shared.proofs.Agree.{touches_agree}
+use Rattle.ra_shared.proofs.Agree.{touches_agree, none_before, of_place}
 use Rattle.ra_shared.proofs.Gripping.{holds_touched}
 use Rattle.ra_shared.proofs.Own.{later_commit}
 
@@ -132,15 +132,21 @@ may_give o h xs w plan grips commit holds is = ⊎_elim
     (answered o h w plan commit)
 
 -- a refused entry touches nothing
-none_touched : (i : Tables) (n : ℕ) → touches_number i None n ≡ false
-unfolding touches_number touches
-none_touched i n = ⊎_elim
+no_place_touched : (i : Tables) (n : ℕ) → touches_place i None n ≡ false
+unfolding touches_place touches
+no_place_touched i n = ⊎_elim
     (λ (machine : n < machine_count i). cond-true _ _ _ (lt-ltb n (machine_count i) machine))
     (λ (other : machine_count i ≤ n). cond-false _ _ _ (le-ltb n (machine_count i) other) ∙ ⊎_elim
-    (λ (service : n < guard_count i). cond-true _ _ _ (lt-ltb n (guard_count i) service))
-    (λ (past : guard_count i ≤ n). cond-false _ _ _ (le-ltb n (guard_count i) past))
-    (cases_lt n (guard_count i)))
+    (λ (service : n < place_count i). cond-true _ _ _ (lt-ltb n (place_count i) service))
+    (λ (past : place_count i ≤ n). cond-false _ _ _ (le-ltb n (place_count i) past))
+    (cases_lt n (place_count i)))
     (cases_lt n (machine_count i))
+
+none_touched : (i : Tables) (n : ℕ) → touches_number i None n ≡ false
+none_touched i n = ⊎_elim
+    (λ (before : n < first_number). none_before i None n before)
+    (λ (from : first_number ≤ n). of_place i None n from ∙ no_place_touched i (n - first_number))
+    (cases_lt n first_number)
 
 refused_makes_none : (e : Entry) (cause : Cause) → e.verdict ≡ Refused cause → made_by e ≡ None
 unfolding made_by steps_made

@@ -5,3 +5,4 @@ pub mod Handing
 pub mod Resting
 pub mod Turned
 pub mod Back
+pub mod Known

@@ -5,6 +5,7 @@ use Rattle.ra_journal.specs.declared.entries.Entry.{Entry}
 use Rattle.ra_journal.specs.declared.journal.Journal.{Journal}
 use Rattle.ra_journal.specs.Committing.{committed, Committed, IsCommit}
 use Rattle.ra_journal.specs.Entries.{made_by}
+use Rattle.ra_journal.specs.Journals.{instance_in, initial_in, lots_in, entries_in}
 use Rattle.ra_journal.specs.Keeping.{IsStart}
 use Rattle.ra_journal.specs.Legal.{Legal}
 use Rattle.ra_turn.specs.Notes.{by}
@@ -14,14 +15,14 @@ use Rattle.ra_shared.specs.Numbers.{touches_number}
 
 -- what a journal was opened with
 abbrev pub opening_of_journal : Journal → Opening
-opening_of_journal j = record { inst = j.inst.now; a0 = j.a0.now; lots = j.lots.now }
+opening_of_journal j = record { inst = instance_in j; a0 = initial_in j; lots = lots_in j }
 
 abbrev pub opened_by : Book → Opening
 opened_by b = opening_of_journal b.journal.value
 
 -- its entries
-abbrev pub entries_in : Book → List Entry
-entries_in b = b.journal.value.book.entries.items
+abbrev pub notes_in : Book → List Entry
+notes_in b = entries_in b.journal.value
 
 -- what an entry makes touches the guard of a number; there is none from the guard count on
 abbrev pub entry_touches : Opening → Entry → ℕ → Bool

@@ -7,7 +7,7 @@ use Rattle.ra_moves.specs.declared.steps.Step.{Step}
 use Rattle.ra_moves.specs.declared.verdicts.Plan.{Plan}
 use Rattle.ra_moves.specs.declared.verdicts.Verdict.TheVariants.{Done}
 use Rattle.ra_guards.specs.Guards.{writes}
-use Rattle.ra_guards.specs.Order.{guard_at}
+use Rattle.ra_guards.specs.Order.{guard_at, AreWrites}
 use Rattle.ra_journal.specs.declared.entries.Entry.{Entry}
 use Rattle.ra_journal.specs.declared.replies.Reply.{Reply}
 use Rattle.ra_journal.specs.declared.replies.Reply.TheVariants.{Recorded}
@@ -76,6 +76,12 @@ module _ {g : Ghosts Book Entry Opening} where
   -- No guard need be held to hand in the plan: its move breaks a constraint, so its entry touches nothing, or it will be found stale
   abbrev pub NeedsNoGuard : Tables → Plan → Pass Book Entry Opening g → Type 0
   NeedsNoGuard i plan p = ((cause : Cause) × (plan.weighed.broken ≡ Some cause)) ⊎ IsNewer i plan p
+
+  -- What is known of the guards that are given to hand in the plan: they are the write guards of its move, and the pass holds each. If none are given, none need be held
+  abbrev pub KnowsGuards : Tables → Plan → Pass Book Entry Opening g → Option (List Guard) → Type 0
+  KnowsGuards i plan p (Some guards) =
+      AreWrites i plan.mv.steps guards × HoldsWrites i plan.mv.steps plan.q (grips_of p)
+  KnowsGuards i plan p None = NeedsNoGuard i plan p
 
   -- the pass p, now q, was told so; it holds what it held, and has seen and made nothing
   pub record IsHeldUp (s : Shared) (plan : Plan) (p q : Pass Book Entry Opening g) : Type 0 where

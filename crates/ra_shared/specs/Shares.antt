@@ -1,11 +1,11 @@
 -- A journal that workers share, and their passes.
-use Rattle.std.specs.Prelude.{◌≡◌, ℕ, List, [], ◌++◌, length, drop}
+use Rattle.std.specs.Prelude.{◌≡◌, ℕ, ◌+◌, List, [], ◌++◌, length, drop}
 use mathlib.Core.List.{IsPrefix}
 use Rattle.ra_journal.specs.declared.entries.Entry.{Entry}
 use Rattle.ra_journal.specs.declared.replies.Reply.{Reply}
 use Rattle.ra_turn.specs.declared.pass.Pass.{Pass}
 use Rattle.ra_turn.specs.declared.story.Story.{Ghosts}
-use Rattle.ra_turn.specs.Passes.{opening_of, seen_by, made_by, grips_of, IsReady}
+use Rattle.ra_turn.specs.Passes.{opening_of, seen_by, made_by, grips_of, IsReady, Shut}
 use Rattle.ra_shared.specs.declared.books.Book.{Book}
 use Rattle.ra_shared.specs.declared.books.Opening.{Opening}
 use Rattle.ra_shared.specs.declared.shared.Shared.{Shared}
@@ -16,6 +16,21 @@ abbrev pub start_of : Shared → Opening
 start_of s = opening_of opened_by s.turn
 
 module _ {g : Ghosts Book Entry Opening} where
+  -- the worker whose pass it is, and how many turns it has left
+  abbrev pub worker_of : Pass Book Entry Opening g → ℕ
+  worker_of p = p.number
+
+  abbrev pub turns_left : Pass Book Entry Opening g → ℕ
+  turns_left p = p.left
+
+  -- no other worker's entry touches a guard that the pass holds
+  abbrev pub ShutsOut : Shared → Pass Book Entry Opening g → Type 0
+  ShutsOut s p = Shut s.turn p
+
+  -- the pass p is q after one turn
+  abbrev pub HasTakenTurn : Pass Book Entry Opening g → Pass Book Entry Opening g → Type 0
+  HasTakenTurn p q = (worker_of q ≡ worker_of p) × (turns_left q + 1 ≡ turns_left p)
+
   -- A pass of these between two calls: it has no turn and holds no guard, it knows which entries it has made, and what it has seen is a legal journal
   pub record IsAtRest (s : Shared) (p : Pass Book Entry Opening g) : Type 0 where
     pub ready : IsReady s.turn p

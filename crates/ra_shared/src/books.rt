@@ -25,7 +25,7 @@ pub struct Book<'a> {
 pub type WorkerPass<'a> = Pass<Book<'a>>;
 
 impl<'a> Story for Book<'a> {
-    ghost use Rattle.ra_shared.specs.Books.{opened_by, entries_in, entry_touches};
+    ghost use Rattle.ra_shared.specs.Books.{opened_by, notes_in, entry_touches};
 
     type Note = Entry;
 
@@ -33,7 +33,7 @@ impl<'a> Story for Book<'a> {
 
     ghost opening = { opened_by };
 
-    ghost notes = { entries_in };
+    ghost notes = { notes_in };
 
     ghost author = { λ entry. entry.worker };
 

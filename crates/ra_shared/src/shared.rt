@@ -5,7 +5,7 @@ ghost use Rattle.ra_shared.specs.Books.{opened_by, IsStartOf};
 ghost use Rattle.ra_shared.specs.Numbers.{guard_count};
 
 use crate::books::{Book, WorkerPass};
-use crate::numbering::{number_of, then_version};
+use crate::numbering::{FIRST_NUMBER, number_of, then_version};
 use ra_base::NoMemory;
 use ra_guards::{WriteGuards, writes};
 use ra_journal::{Batch, Journal, Reply};
@@ -32,30 +32,31 @@ pub struct Shared<'a> {
 }
 
 impl<'a> Shared<'a> {
-    ghost use Rattle.std.specs.Prelude.{◌≡◌, ◌+◌, ◌-◌, ◌<◌, ◌≤◌, [], length, min, All, IfOk, IfSome, IfNone};
+    ghost use Rattle.std.specs.Prelude.{◌≡◌, ◌-◌, ◌<◌, ◌≤◌, [], length, min, option_copied, All, IfOk, IfSome, IfNone};
     ghost use mathlib.Core.List.{IsPrefix};
     ghost use Rattle.ra_guards.specs.Order.{AreWrites};
-    ghost use Rattle.ra_turn.specs.Passes.{seen_by, made_by, grips_of, EachAt, IsPartOf, Shut};
+    ghost use Rattle.ra_turn.specs.Passes.{seen_by, made_by, grips_of, EachAt, IsPartOf};
     ghost use Rattle.ra_journal.specs.Batches.{batch_from};
     ghost use Rattle.ra_journal.specs.Entries.{worker_count};
+    ghost use Rattle.ra_journal.specs.Journals.{lots_in, entries_in};
     ghost use Rattle.ra_shared.specs.Books.{opening_of_journal, IsCommitOf};
-    ghost use Rattle.ra_shared.specs.Holding.{HoldsFirst, HoldsWrites, MayHandIn, IsHandedIn, NeedsNoGuard, IsHeldUp};
-    ghost use Rattle.ra_shared.specs.Shares.{start_of, IsAtRest, IsNew, IsLast, IsCommitted};
+    ghost use Rattle.ra_shared.specs.Holding.{HoldsFirst, MayHandIn, IsHandedIn, KnowsGuards, IsHeldUp};
+    ghost use Rattle.ra_shared.specs.Shares.{start_of, worker_of, turns_left, ShutsOut, HasTakenTurn, IsAtRest, IsNew, IsLast, IsCommitted};
 
     /// Shares a journal without entries, and gives each worker's pass, in order. At `Err` the journal was dropped.
     pub fn make(
         alloc: Global,
         journal: Journal<'a>,
     ) -> Result<(Shared<'a>, Vec<WorkerPass<'a>>), NoMemory>
-        requires { journal.book.entries.items ≡ [] }
+        requires { entries_in journal ≡ [] }
         ensures opened { IfOk result (λ r. start_of r.0 ≡ opening_of_journal journal.entry) }
-        ensures count { IfOk result (λ r. length r.1.items ≡ worker_count journal.entry.lots.now) }
+        ensures count { IfOk result (λ r. length r.1.items ≡ worker_count (lots_in journal.entry)) }
         ensures passes { IfOk result (λ r. EachAt (IsNew r.0) r.1.items) }
     {
         let inst = journal.instance();
         let topo = journal.topology();
         let workers = journal.lots().len();
-        let guards = inst.machines() + inst.services();
+        let guards = FIRST_NUMBER + (inst.machines() + inst.services());
         let journal = Box::new(alloc, journal)?;
         let (turn, passes) = Turn::make(alloc, Book { journal }, workers, TURNS, guards)?;
         Ok((Shared { turn, inst, topo }, passes))
@@ -71,10 +72,10 @@ impl<'a> Shared<'a> {
         batch: &mut Batch,
     ) -> u64
         requires rest { IsAtRest self.now pass.old }
-        requires left { 0 < pass.old.left }
+        requires left { 0 < turns_left pass.old }
         requires place { at ≤ length (seen_by pass.old) }
         ensures rest { IsAtRest self.now pass.new }
-        ensures turn { (pass.new.number ≡ pass.old.number) × (pass.new.left + 1 ≡ pass.old.left) }
+        ensures turn { HasTakenTurn pass.old pass.new }
         ensures seen { IsPrefix (seen_by pass.old) (seen_by pass.new) }
         ensures made { made_by pass.new ≡ made_by pass.old }
         ensures batch { batch.new ≡ batch_from (seen_by pass.new) at }
@@ -91,22 +92,22 @@ impl<'a> Shared<'a> {
     /// whose move breaks a constraint it holds none, since its entry touches nothing.
     pub fn commit<R: Wait>(&self, rt: &R, pass: &mut WorkerPass<'a>, plan: &Plan) -> Reply
         requires rest { IsAtRest self.now pass.old }
-        requires left { 0 < pass.old.left }
-        requires commit { IsCommitOf (start_of self.now) (seen_by pass.old) pass.old.number
+        requires left { 0 < turns_left pass.old }
+        requires commit { IsCommitOf (start_of self.now) (seen_by pass.old) (worker_of pass.old)
             plan.now }
         ensures rest { IsAtRest self.now pass.new }
-        ensures turn { (pass.new.number ≡ pass.old.number) × (pass.new.left + 1 ≡ pass.old.left) }
+        ensures turn { HasTakenTurn pass.old pass.new }
         ensures seen { IsPrefix (seen_by pass.old) (seen_by pass.new) }
-        ensures committed { IsCommitted (start_of self.now) pass.old.number plan.now.q
+        ensures committed { IsCommitted (start_of self.now) (worker_of pass.old) plan.now.q
             (seen_by pass.old) (made_by pass.old) (seen_by pass.new) (made_by pass.new) result }
     {
         if plan.weighed.broken.is_some() {
-            return self.commit_unheld(rt, pass, plan);
+            return self.commit_once(rt, pass, plan, None);
         }
         let guards = writes(self.topo, self.inst, &plan.mv);
         match self.commit_from(rt, pass, plan, &guards, 0) {
             Some(reply) => reply,
-            None => self.commit_unheld(rt, pass, plan),
+            None => self.commit_once(rt, pass, plan, None),
         }
     }
 
@@ -126,11 +127,11 @@ impl<'a> Shared<'a> {
             (grips_of pass.old) }
         requires place { k ≤ length guards.now }
         ensures some { IfSome result (IsHandedIn self.now plan.now pass.old pass.new) }
-        ensures shut { IfSome result (λ _. Shut self.now.turn pass.new) }
+        ensures shut { IfSome result (λ _. ShutsOut self.now pass.new) }
         ensures none { IfNone result (IsHeldUp self.now plan.now pass.old pass.new) }
     {
         if k == guards.len() {
-            return Some(self.commit_held(rt, pass, plan));
+            return Some(self.commit_once(rt, pass, plan, Some(guards)));
         }
         let guard = number_of(self.inst, guards.guard(k));
         let Hold::Held { version } = self.turn.hold(rt, pass, guard, plan.q) else {
@@ -142,30 +143,23 @@ impl<'a> Shared<'a> {
         reply
     }
 
-    /// Hands the plan in where all write guards are held.
-    fn commit_held<R: Wait>(&self, rt: &R, pass: &mut WorkerPass<'a>, plan: &Plan) -> Reply
+    /// Hands the plan in, in one turn. The guards are the write guards of its move, if the pass holds them.
+    fn commit_once<R: Wait>(
+        &self,
+        rt: &R,
+        pass: &mut WorkerPass<'a>,
+        plan: &Plan,
+        guards: Option<&WriteGuards>,
+    ) -> Reply
         requires may { MayHandIn self.now plan.now pass.old }
-        requires held { HoldsWrites (start_of self.now).inst.tables plan.now.mv.steps plan.now.q
-            (grips_of pass.old) }
+        requires guards { KnowsGuards (start_of self.now).inst.tables plan.now pass.old
+            (option_copied guards) }
         ensures done { IsHandedIn self.now plan.now pass.old pass.new result }
-        ensures shut { Shut self.now.turn pass.new }
+        ensures shut { ShutsOut self.now pass.new }
     {
         let worker = pass.number();
         let mut held = self.turn.take(rt, pass);
-        let reply = held.value.journal.commit_held(worker, plan);
-        self.turn.give(pass, held);
-        reply
-    }
-
-    /// Hands the plan in with no guard held for it, where its entry would touch none or it is stale.
-    fn commit_unheld<R: Wait>(&self, rt: &R, pass: &mut WorkerPass<'a>, plan: &Plan) -> Reply
-        requires may { MayHandIn self.now plan.now pass.old }
-        requires free { NeedsNoGuard (start_of self.now).inst.tables plan.now pass.old }
-        ensures { IsHandedIn self.now plan.now pass.old pass.new result }
-    {
-        let worker = pass.number();
-        let mut held = self.turn.take(rt, pass);
-        let reply = held.value.journal.commit(worker, plan);
+        let reply = held.value.journal.commit_with(worker, plan, guards);
         self.turn.give(pass, held);
         reply
     }
@@ -175,7 +169,7 @@ impl<'a> Shared<'a> {
         requires count { length passes.items ≡ worker_count (start_of self).lots }
         requires passes { EachAt (IsLast self) passes.items }
         ensures opened { opening_of_journal result ≡ start_of self.entry }
-        ensures passes { All (IsPartOf result.book.entries.items) passes.entry.items }
+        ensures passes { All (IsPartOf (entries_in result)) passes.entry.items }
     {
         let Shared {
             turn,

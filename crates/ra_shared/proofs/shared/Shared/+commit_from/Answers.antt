@@ -19,8 +19,8 @@ use Rattle.ra_shared.proofs.Back.{grips_back, longer_back, version_back, handed_
 use Rattle.ra_shared.proofs.Gripping.{number_below, listed_known, listed_written, holds_more, holds_all}
 use Rattle.ra_shared.proofs.shared.Shared.+commit_from.Goals as goal
 
-pub commit_held-requires-clause-held : goal.commit_held-requires-clause-held
-commit_held-requires-clause-held g t c =
+pub commit_once-requires-clause-guards : goal.commit_once-requires-clause-guards
+commit_once-requires-clause-guards g t c =
     let s = c.args.self.now in
     let o : Opening = start_of s in
     let p = c.args.pass.now in
@@ -29,7 +29,7 @@ commit_held-requires-clause-held g t c =
     let guards = c.args.guards.now in
     let within : AreWithin o.inst.tables plan.mv.steps = planned_within o.inst.tables o.a0.items o.lots p.seat.me.0.own.seen p.number plan s.started may.legal may.commit in
     let all : c.args.k ≡ length guards = (let b = c.len.ensures.value in let d = c.if-k-len.true in omega arith) in
-    holds_all o.inst.tables plan.mv.steps guards plan.q s.started.limits within c.requires.guards c.args.k p.seat.me.0.grips c.requires.held all
+    (c.requires.guards, holds_all o.inst.tables plan.mv.steps guards plan.q s.started.limits within c.requires.guards c.args.k p.seat.me.0.grips c.requires.held all)
 
 pub number_of-guard-requires : goal.number_of-guard-requires
 number_of-guard-requires g t c =

@@ -4,13 +4,13 @@ use Rattle.ra_journal.specs.declared.journal.Journal.{Journal}
 use Rattle.ra_journal.specs.Entries.{worker_count}
 use Rattle.ra_turn.specs.Passes.{opening_of}
 use Rattle.ra_shared.specs.Books.{opened_by, opening_of_journal, IsStartOf}
-use Rattle.ra_shared.specs.Numbers.{guard_count}
+use Rattle.ra_shared.specs.Numbers.{first_number, place_count, guard_count}
 use Rattle.ra_shared.specs.declared.books.Opening.{Opening}
 use Rattle.ra_shared.proofs.Resting.{new_pass}
 use Rattle.ra_shared.proofs.shared.Shared.make.Goals as goal
 
 pub invariant_of-result : goal.invariant_of-result
-unfolding guard_count worker_count
+unfolding guard_count place_count first_number worker_count
 invariant_of-result c =
     let opened : opening_of opened_by c.in_ok-turn.turn ≡ opening_of_journal c.args.journal =
     c.in_ok-turn.ensures.turn.0 ∙ ap (λ (j : Journal). opening_of_journal j) c.in_ok-journal.ensures.ok in
