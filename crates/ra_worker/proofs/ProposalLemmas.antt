@@ -1,16 +1,15 @@
--- The words of a worker's next proposal, and the rise that it is allowed.
+-- The words of a worker's next proposal.
 use Rattle.std.proofs.Common.{◌≡◌, ℕ, ◌+◌, ◌<◌, ◌≤◌, List, length, refl, sym, ap, ◌∙◌, arith}
 use Rattle.ra_base.specs.declared.causes.Drawing.{Drawing}
 use Rattle.ra_base.specs.declared.ids.Machine.{Machine}
 use Rattle.ra_draws.specs.declared.budgets.Lots.{Lots}
 use Rattle.ra_draws.specs.declared.sources.Lot.{Lot}
-use Rattle.ra_draws.specs.Allowance.{allowance}
 use Rattle.ra_draws.specs.Drawn.{Drawn}
-use Rattle.ra_draws.specs.Lots.{lot_at, budget_of, words_of, allowance_of}
+use Rattle.ra_draws.specs.Lots.{lot_at, budget_of, words_of}
 use Rattle.ra_draws.specs.Words.{proposal_words}
 use Rattle.ra_model.specs.declared.raw.Tables.{Tables}
 use Rattle.ra_moves.specs.Options.{plan_of}
-use Rattle.ra_journal.specs.Entries.{worker_count, budget, words, allowed}
+use Rattle.ra_journal.specs.Entries.{worker_count, budget, words}
 use Rattle.ra_worker.specs.Proposals.{AreDrawn}
 
 -- the budget of a worker is its lot's
@@ -33,11 +32,6 @@ drawn_next l w k lot before after x exists within lot_is before_lot after_lot ma
       made = λ left. made (omega (arith, left, same));
       words = λ left. drawn (omega (arith, left, same)) ∙ lot_words l w k lot lot_is;
     }
-
--- the rise that a proposal is allowed
-pub rise_allowed : (l : Lots) (w k slack most rise : ℕ) → rise ≡ allowance slack most k → slack ≡ l.slack → most ≡ budget l w → rise ≡ allowed l w k
-unfolding allowed allowance_of budget
-rise_allowed l w k slack most rise is slack_is most_is = rw (← slack_is, ← most_is) is
 
 -- what is planned from the same words
 pub plan_alike : (i : Tables) (a0 a : List Machine) (x y : List ℕ) (d e : Drawing) (r s : ℕ) → x ≡ y → d ≡ e → r ≡ s → plan_of i a0 a x d r ≡ plan_of i a0 a y e s

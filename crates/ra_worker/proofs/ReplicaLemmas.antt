@@ -86,7 +86,10 @@ next_left before r b h j e next taken within e_is own =
     let numbered = (next.legal.each r.place (place_there before r b h j next taken within)).numbered in
     let here : (entry_at h r.place).worker ≡ r.proposals.worker = ap (λ (x : Entry). x.worker) (sym there) ∙ own in
     let left : entries_of h r.place (entry_at h r.place).worker < budget before.proposals.lots.now (entry_at h r.place).worker = omega (arith, numbered.number, numbered.budget) in
-    rw (at.number, at.lots) (subst (λ w. entries_of h r.place w < budget before.proposals.lots.now w) here left)
+    let number : r.proposals.number ≡ entries_of h r.place r.proposals.worker = at.number in
+    let lots : r.proposals.lots.now ≡ before.proposals.lots.now = at.lots in
+    let some : entries_of h r.place r.proposals.worker < budget before.proposals.lots.now r.proposals.worker = subst (λ w. entries_of h r.place w < budget before.proposals.lots.now w) here left in
+    omega (arith, number, some, ap (λ (l : Lots). budget l r.proposals.worker) lots)
 
 -- and there are few entries
 pub place_few : (before r : Replica) (b h : List Entry) (j : ℕ) → AreNext before b h → HasTaken before r b j → j < length b → r.place < 2 ^ 63

@@ -77,12 +77,16 @@ may_commit i a0 l h r plan at not_skipped q_is k_is mv weighed =
     let w = r.proposals.worker in
     let parts = or_parts (has_used l h w) (is_behind h w r.place) not_skipped in
     let exists : w < worker_count l = subst (λ m. w < worker_count m) at.lots r.proposals.drawn.worker in
+    let instance : r.world.inst.now.tables ≡ i = at.instance in
+    let initial : r.world.start.now.items ≡ a0 = at.initial in
+    let here : r.world.kept.assignment.items ≡ state a0 h r.place = at.state in
+    let lots : r.proposals.lots.now ≡ l = at.lots in
     record {
       worker = exists;
       number = k_is ∙ at.number ∙ not_behind h w r.place at.place parts.1;
       within = omega (arith, k_is, at.number, not_behind h w r.place at.place parts.1, some_left l h w parts.0);
       place = omega (arith, q_is, at.place);
       seen = λ j there own. omega (arith, q_is, seen_before h w r.place parts.1 j there own);
-      planned = rw (q_is, k_is) (rw (at.instance, at.initial, at.state, at.lots) at mv);
-      weighed = rw q_is (rw (at.instance, at.initial, at.state) at weighed);
+      planned = rw (q_is, k_is) (rw (instance, initial, here, lots) at mv);
+      weighed = rw q_is (rw (instance, initial, here) at weighed);
     }

@@ -1,24 +1,86 @@
 -- A replica of a worker, which stands for a state of a journal. It keeps no journal.
-use Rattle.std.specs.Prelude.{◌≡◌, ℕ, ◌+◌, ◌<◌, ◌≤◌, List, length}
+use Rattle.std.specs.Prelude.{◌≡◌, ℕ, ◌+◌, ◌<◌, ◌≤◌, ◌==◌, List, length}
+use Rattle.ra_base.specs.Listed.{Listed}
+use Rattle.ra_base.specs.Sums.{one_if}
 use Rattle.ra_base.specs.declared.ids.Machine.{Machine}
 use Rattle.ra_draws.specs.declared.budgets.Lots.{Lots}
+use Rattle.ra_model.specs.declared.numbers.Instance.{Instance}
 use Rattle.ra_model.specs.declared.raw.Tables.{Tables}
+use Rattle.ra_moves.specs.declared.verdicts.Plan.{Plan}
+use Rattle.ra_moves.specs.Options.{plan_of}
+use Rattle.ra_moves.specs.Weighing.{weighed_of}
 use Rattle.ra_journal.specs.declared.entries.Entry.{Entry}
-use Rattle.ra_journal.specs.Entries.{entry_at, entries_of}
+use Rattle.ra_journal.specs.Entries.{entry_at, entries_of, budget, words, allowed, made_by}
 use Rattle.ra_journal.specs.Legal.{Legal}
-use Rattle.ra_journal.specs.States.{state}
+use Rattle.ra_journal.specs.States.{state, after_made}
 use Rattle.ra_worker.specs.declared.replica.Replica.{Replica}
+
+-- its instance, and the tables of it
+abbrev pub instance_at : Replica → Instance
+instance_at r = r.world.inst.now
+
+abbrev pub tables_at : Replica → Tables
+tables_at r = r.world.inst.now.tables
+
+-- the initial assignment, with the room of its list, and as a list of machines
+abbrev pub initial_at : Replica → Listed Machine
+initial_at r = r.world.start.now
+
+abbrev pub start_at : Replica → List Machine
+start_at r = r.world.start.now.items
+
+-- the assignment for which it stands
+abbrev pub here_at : Replica → List Machine
+here_at r = r.world.kept.assignment.items
+
+-- the lots of the workers, and which of them its own is
+abbrev pub lots_at : Replica → Lots
+lots_at r = r.proposals.lots.now
+
+abbrev pub worker_at : Replica → ℕ
+worker_at r = r.proposals.worker
+
+-- the number of its worker's next proposal, and how many its worker makes in all
+abbrev pub next_at : Replica → ℕ
+next_at r = r.proposals.number
+
+abbrev pub budget_at : Replica → ℕ
+budget_at r = budget r.proposals.lots.now r.proposals.worker
+
+-- how many entries of the journal it has taken in
+abbrev pub place_at : Replica → ℕ
+place_at r = r.place
+
+-- the plan of its worker's next proposal, made at its place for the words and the allowance of that
+pub record IsNextPlan (r : Replica) (plan : Plan) : Type 0 where
+  pub place : plan.q ≡ place_at r
+  pub number : plan.k ≡ next_at r
+  pub planned :
+      plan.mv ≡ plan_of (tables_at r) (start_at r) (here_at r)
+      (words (lots_at r) (worker_at r) (next_at r)) (lots_at r).drawing
+      (allowed (lots_at r) (worker_at r) (next_at r))
+  pub weighed : plan.weighed ≡ weighed_of (tables_at r) (start_at r) (here_at r) plan.mv.steps
+
+-- a replica has taken in one entry: its place has grown by one, and its worker's number if the entry is that worker's
+pub record HasFollowed (before after : Replica) (e : Entry) : Type 0 where
+  pub assignment : here_at after ≡ after_made (here_at before) (made_by e)
+  pub instance : instance_at after ≡ instance_at before
+  pub initial : initial_at after ≡ initial_at before
+  pub lots : lots_at after ≡ lots_at before
+  pub worker : worker_at after ≡ worker_at before
+  pub number : next_at after ≡ next_at before + one_if (e.worker == worker_at before)
+  pub place : place_at after ≡ place_at before + 1
 
 -- a replica is at a state of a journal: it is of the same instance, initial assignment and lots, its assignment is the
 -- state at its place, and its worker has made as many proposals as it has entries before that
 pub record IsAt (i : Tables) (a0 : List Machine) (l : Lots) (h : List Entry) (r : Replica) : Type 0
   where
-    pub instance : r.world.inst.now.tables ≡ i
-    pub initial : r.world.start.now.items ≡ a0
-    pub lots : r.proposals.lots.now ≡ l
-    pub place : r.place ≤ length h
-    pub state : r.world.kept.assignment.items ≡ state a0 h r.place
-    pub number : r.proposals.number ≡ entries_of h r.place r.proposals.worker
+    pub instance : tables_at r ≡ i
+    pub initial : start_at r ≡ a0
+    pub lots : lots_at r ≡ l
+    pub place : place_at r ≤ length h
+    pub state : here_at r ≡ state a0 h (place_at r)
+    pub number : next_at r ≡ entries_of h (place_at r) (worker_at r)
 
 -- entries are those of a journal from a place on, one after another
 pub record ArePartOf (h : List Entry) (at : ℕ) (entries : List Entry) : Type 0 where
@@ -27,9 +89,9 @@ pub record ArePartOf (h : List Entry) (at : ℕ) (entries : List Entry) : Type 0
 
 -- a replica is at a state of a legal journal, and entries are that journal's from its place on
 pub record AreNext (r : Replica) (entries h : List Entry) : Type 0 where
-  pub legal : Legal r.world.inst.now.tables r.world.start.now.items r.proposals.lots.now h
-  pub here : IsAt r.world.inst.now.tables r.world.start.now.items r.proposals.lots.now h r
-  pub part : ArePartOf h r.place entries
+  pub legal : Legal (tables_at r) (start_at r) (lots_at r) h
+  pub here : IsAt (tables_at r) (start_at r) (lots_at r) h r
+  pub part : ArePartOf h (place_at r) entries
 
 -- they are so of some journal
 pub record AreTold (r : Replica) (entries : List Entry) : Type 0 where
@@ -39,11 +101,10 @@ pub record AreTold (r : Replica) (entries : List Entry) : Type 0 where
 -- a replica has taken in the first n of these entries: its place has grown by n, and it is at a state of each legal
 -- journal that they are next of
 pub record HasTaken (before after : Replica) (entries : List Entry) (n : ℕ) : Type 0 where
-  pub instance : after.world.inst.now ≡ before.world.inst.now
-  pub initial : after.world.start.now ≡ before.world.start.now
-  pub lots : after.proposals.lots.now ≡ before.proposals.lots.now
-  pub worker : after.proposals.worker ≡ before.proposals.worker
-  pub place : after.place ≡ before.place + n
+  pub instance : instance_at after ≡ instance_at before
+  pub initial : initial_at after ≡ initial_at before
+  pub lots : lots_at after ≡ lots_at before
+  pub worker : worker_at after ≡ worker_at before
+  pub place : place_at after ≡ place_at before + n
   pub at : (h : List Entry) → AreNext before entries h
-      → IsAt before.world.inst.now.tables before.world.start.now.items before.proposals.lots.now h
-      after
+      → IsAt (tables_at before) (start_at before) (lots_at before) h after

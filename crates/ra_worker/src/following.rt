@@ -1,6 +1,7 @@
 ghost use Rattle.std.specs.Prelude.{◌≡◌};
 ghost use Rattle.ra_journal.specs.Entries.{steps_made};
 ghost use Rattle.ra_journal.specs.States.{after_made};
+ghost use Rattle.ra_world.specs.Worlds.{instance_of, tables_of, topology_of, initial_of, start_of, here_of};
 ghost use Rattle.ra_worker.specs.Following.{IsJudged};
 
 use ra_base::Steps;
@@ -15,13 +16,13 @@ pub(crate) fn follow<L: Ledger>(
     verdict: &Verdict,
     steps: &mut Steps<L>,
 )
-    requires judged { IsJudged world.old.inst.now.tables world.old.start.now.items
-        world.old.kept.assignment.items mv.now.steps verdict.now }
-    ensures assignment { world.new.kept.assignment.items ≡
-        after_made world.old.kept.assignment.items (steps_made verdict.now mv.now.steps) }
-    ensures instance { world.new.inst.now ≡ world.old.inst.now }
-    ensures topology { world.new.topo.now ≡ world.old.topo.now }
-    ensures initial { world.new.start.now ≡ world.old.start.now }
+    requires judged { IsJudged (tables_of world.old) (start_of world.old) (here_of world.old)
+        mv.now.steps verdict.now }
+    ensures assignment { here_of world.new ≡
+        after_made (here_of world.old) (steps_made verdict.now mv.now.steps) }
+    ensures instance { instance_of world.new ≡ instance_of world.old }
+    ensures topology { topology_of world.new ≡ topology_of world.old }
+    ensures initial { initial_of world.new ≡ initial_of world.old }
 {
     match verdict {
         Verdict::Done { .. } => world.apply(mv, steps),

@@ -1,4 +1,6 @@
 ghost use Rattle.std.specs.Prelude.{◌≡◌, ◌+◌, ◌<◌, ◌≤◌, length};
+ghost use Rattle.ra_world.specs.Worlds.{instance_of, topology_of, initial_of, here_of};
+ghost use Rattle.ra_journal.specs.Journals.{instance_in, initial_in, start_in, entries_in};
 ghost use Rattle.ra_journal.specs.States.{state};
 
 use crate::following::follow;
@@ -14,15 +16,15 @@ pub fn replay<'a, L: Ledger>(
     world: &mut World<'a>,
     steps: &mut Steps<L>,
 )
-    requires instance { world.old.inst.now ≡ journal.now.inst.now }
-    requires initial { world.old.start.now ≡ journal.now.a0.now }
-    requires at_start { world.old.kept.assignment.items ≡ journal.now.a0.now.items }
-    requires within { upto ≤ length journal.now.book.entries.items }
-    ensures assignment { world.new.kept.assignment.items ≡
-        state journal.now.a0.now.items journal.now.book.entries.items upto }
-    ensures instance { world.new.inst.now ≡ world.old.inst.now }
-    ensures topology { world.new.topo.now ≡ world.old.topo.now }
-    ensures initial { world.new.start.now ≡ world.old.start.now }
+    requires instance { instance_of world.old ≡ instance_in journal.now }
+    requires initial { initial_of world.old ≡ initial_in journal.now }
+    requires at_start { here_of world.old ≡ start_in journal.now }
+    requires within { upto ≤ length (entries_in journal.now) }
+    ensures assignment { here_of world.new ≡
+        state (start_in journal.now) (entries_in journal.now) upto }
+    ensures instance { instance_of world.new ≡ instance_of world.old }
+    ensures topology { topology_of world.new ≡ topology_of world.old }
+    ensures initial { initial_of world.new ≡ initial_of world.old }
 {
     for at in 0..upto {
         replay_entry(journal, at, world, steps);
@@ -36,16 +38,16 @@ fn replay_entry<L: Ledger>(
     world: &mut World<'_>,
     steps: &mut Steps<L>,
 )
-    requires instance { world.old.inst.now ≡ journal.now.inst.now }
-    requires initial { world.old.start.now ≡ journal.now.a0.now }
-    requires here { world.old.kept.assignment.items ≡
-        state journal.now.a0.now.items journal.now.book.entries.items at }
-    requires within { at < length journal.now.book.entries.items }
-    ensures assignment { world.new.kept.assignment.items ≡
-        state journal.now.a0.now.items journal.now.book.entries.items (at + 1) }
-    ensures instance { world.new.inst.now ≡ world.old.inst.now }
-    ensures topology { world.new.topo.now ≡ world.old.topo.now }
-    ensures initial { world.new.start.now ≡ world.old.start.now }
+    requires instance { instance_of world.old ≡ instance_in journal.now }
+    requires initial { initial_of world.old ≡ initial_in journal.now }
+    requires here { here_of world.old ≡
+        state (start_in journal.now) (entries_in journal.now) at }
+    requires within { at < length (entries_in journal.now) }
+    ensures assignment { here_of world.new ≡
+        state (start_in journal.now) (entries_in journal.now) (at + 1) }
+    ensures instance { instance_of world.new ≡ instance_of world.old }
+    ensures topology { topology_of world.new ≡ topology_of world.old }
+    ensures initial { initial_of world.new ≡ initial_of world.old }
 {
     let entry = journal.entry(at);
     follow(world, &entry.mv, &entry.verdict, steps);

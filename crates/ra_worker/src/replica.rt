@@ -1,24 +1,18 @@
-ghost use Rattle.std.specs.Prelude.{◌≡◌, ◌+◌, ◌-◌, ◌*◌, ◌^◌, ◌<◌, ◌≤◌, ◌==◌, None, List, [], ◌∷◌, length, IfOk};
+ghost use Rattle.std.specs.Prelude.{◌≡◌, ◌+◌, ◌*◌, ◌^◌, ◌<◌, ◌≤◌, ◌-◌, ◌==◌, List, [], ◌∷◌, length, IfOk};
 ghost use Rattle.ra_base.specs.Sums.{one_if};
 ghost use Rattle.ra_base.specs.declared.causes.Drawing.TheVariants.{One, Two};
 ghost use Rattle.ra_model.specs.Numbers.{resource_count};
-ghost use Rattle.ra_model.specs.Assignments.{IsAssignment};
-ghost use Rattle.ra_model.specs.Broken.{first_broken};
-ghost use Rattle.ra_model.specs.Costs.{parts_of};
-ghost use Rattle.ra_topology.specs.Fits.{IsTopologyOf};
-ghost use Rattle.ra_moves.specs.Options.{plan_of};
-ghost use Rattle.ra_moves.specs.Weighing.{weighed_of};
 ghost use Rattle.ra_journal.specs.declared.entries.Entry.{Entry as Recorded};
-ghost use Rattle.ra_journal.specs.Entries.{worker_count, budget, words, allowed, made_by};
-ghost use Rattle.ra_journal.specs.States.{after_made};
+ghost use Rattle.ra_journal.specs.Entries.{worker_count, budget};
+ghost use Rattle.ra_journal.specs.Starts.{IsFeasibleStart};
 ghost use Rattle.ra_worker.specs.Following.{IsJudged};
-ghost use Rattle.ra_worker.specs.Replicas.{IsAt, AreTold, HasTaken};
+ghost use Rattle.ra_worker.specs.Replicas.{tables_at, start_at, here_at, lots_at, worker_at, next_at, budget_at, place_at, IsNextPlan, HasFollowed, IsAt, AreTold, HasTaken};
 
 use crate::following::follow;
 use crate::proposals::Proposals;
 use ra_base::{Assignment, NoMemory, Parts, Steps};
-use ra_draws::{Lots, allow};
-use ra_journal::{Batch, Entry};
+use ra_draws::Lots;
+use ra_journal::{Batch, Entry, allowed};
 use ra_model::Instance;
 use ra_moves::Plan;
 use ra_plan::plan;
@@ -57,13 +51,10 @@ impl<'a> Replica<'a> {
         lots: &'a Lots,
         worker: u32,
     ) -> Result<Replica<'a>, NoMemory>
-        requires fits { IsAssignment inst.now.tables a0.now.items }
-        requires topology { IsTopologyOf topo.now inst.now.tables }
-        requires unbroken { first_broken inst.now.tables a0.now.items a0.now.items ≡ None }
-        requires parts { start ≡ parts_of inst.now.tables a0.now.items a0.now.items }
+        requires start { IsFeasibleStart inst.now.tables topo.now a0.now.items start }
         requires worker { worker < worker_count lots.now }
-        ensures place { IfOk result (λ replica. replica.place ≡ 0) }
-        ensures worker { IfOk result (λ replica. replica.proposals.worker ≡ worker) }
+        ensures place { IfOk result (λ replica. place_at replica ≡ 0) }
+        ensures worker { IfOk result (λ replica. worker_at replica ≡ worker) }
         ensures at { IfOk result (λ replica. (h : List Recorded) →
             IsAt inst.now.tables a0.now.items lots.now h replica) }
     {
@@ -78,68 +69,57 @@ impl<'a> Replica<'a> {
 
     /// How many entries it has taken in.
     pub fn place(&self) -> u64
-        ensures { result ≡ self.now.place }
+        ensures { result ≡ place_at self.now }
     {
         self.place
     }
 
     /// The number of its worker's next proposal, counted from 0.
     pub fn next(&self) -> u64
-        ensures { result ≡ self.now.proposals.number }
+        ensures { result ≡ next_at self.now }
     {
         self.proposals.number
     }
 
     /// How many proposals its worker has left.
     pub fn left(&self) -> u64
-        ensures { result ≡ budget self.now.proposals.lots.now self.now.proposals.worker -
-            self.now.proposals.number }
+        ensures { result ≡ budget_at self.now - next_at self.now }
     {
         self.proposals.budget() - self.proposals.number
     }
 
     /// How many proposals its worker makes.
     pub fn budget(&self) -> u64
-        ensures { result ≡ budget self.now.proposals.lots.now self.now.proposals.worker }
+        ensures { result ≡ budget_at self.now }
     {
         self.proposals.budget()
     }
 
     /// The worker.
     pub fn worker(&self) -> u32
-        ensures value { result ≡ self.now.proposals.worker }
-        ensures exists { result < worker_count self.now.proposals.lots.now }
+        ensures value { result ≡ worker_at self.now }
+        ensures exists { result < worker_count (lots_at self.now) }
     {
         self.proposals.worker
     }
 
     /// Plans its worker's next proposal, with its number and with how many entries it has taken in.
     pub fn offer<L: Ledger>(&self, steps: &mut Steps<L>) -> Plan
-        requires left { self.now.proposals.number <
-            budget self.now.proposals.lots.now self.now.proposals.worker }
-        ensures place { result.q ≡ self.now.place }
-        ensures number { result.k ≡ self.now.proposals.number }
-        ensures planned { result.mv ≡ plan_of self.now.world.inst.now.tables
-            self.now.world.start.now.items self.now.world.kept.assignment.items
-            (words self.now.proposals.lots.now self.now.proposals.worker self.now.proposals.number)
-            self.now.proposals.lots.now.drawing
-            (allowed self.now.proposals.lots.now self.now.proposals.worker
-            self.now.proposals.number) }
-        ensures weighed { result.weighed ≡ weighed_of self.now.world.inst.now.tables
-            self.now.world.start.now.items self.now.world.kept.assignment.items result.mv.steps }
-        ensures counted_one { self.now.proposals.lots.now.drawing ≡ One →
-            steps.new ≤ steps.old + 24 * resource_count self.now.world.inst.now.tables }
-        ensures counted_two { self.now.proposals.lots.now.drawing ≡ Two →
-            steps.new ≤ steps.old + 384 * resource_count self.now.world.inst.now.tables }
+        requires left { next_at self.now < budget_at self.now }
+        ensures next { IsNextPlan self.now result }
+        ensures counted_one { (lots_at self.now).drawing ≡ One →
+            steps.new ≤ steps.old + 24 * resource_count (tables_at self.now) }
+        ensures counted_two { (lots_at self.now).drawing ≡ Two →
+            steps.new ≤ steps.old + 384 * resource_count (tables_at self.now) }
     {
         let lots = self.proposals.lots;
         let number = self.proposals.number;
-        let allowed = allow(lots.slack(), self.proposals.budget(), number);
+        let rise = allowed(lots, self.proposals.worker, number);
         plan(
             &self.world,
             &self.proposals.words,
             lots.drawing(),
-            allowed,
+            rise,
             self.place,
             number,
             steps,
@@ -168,20 +148,12 @@ impl<'a> Replica<'a> {
 
     /// Takes in one entry, which was judged at the state for which it stands.
     pub fn take_entry<L: Ledger>(&mut self, entry: &Entry, steps: &mut Steps<L>)
-        requires judged { IsJudged self.old.world.inst.now.tables self.old.world.start.now.items
-            self.old.world.kept.assignment.items entry.now.mv.steps entry.now.verdict }
-        requires left { entry.now.worker ≡ self.old.proposals.worker → self.old.proposals.number <
-            budget self.old.proposals.lots.now self.old.proposals.worker }
-        requires few { self.old.place < 2 ^ 63 }
-        ensures assignment { self.new.world.kept.assignment.items ≡
-            after_made self.old.world.kept.assignment.items (made_by entry.now) }
-        ensures instance { self.new.world.inst.now ≡ self.old.world.inst.now }
-        ensures initial { self.new.world.start.now ≡ self.old.world.start.now }
-        ensures lots { self.new.proposals.lots.now ≡ self.old.proposals.lots.now }
-        ensures worker { self.new.proposals.worker ≡ self.old.proposals.worker }
-        ensures number { self.new.proposals.number ≡
-            self.old.proposals.number + one_if (entry.now.worker == self.old.proposals.worker) }
-        ensures place { self.new.place ≡ self.old.place + 1 }
+        requires judged { IsJudged (tables_at self.old) (start_at self.old) (here_at self.old)
+            entry.now.mv.steps entry.now.verdict }
+        requires left { entry.now.worker ≡ worker_at self.old →
+            next_at self.old < budget_at self.old }
+        requires few { place_at self.old < 2 ^ 63 }
+        ensures { HasFollowed self.old self.new entry.now }
     {
         follow(&mut self.world, &entry.mv, &entry.verdict, steps);
         count_own(&mut self.proposals, entry.worker);
