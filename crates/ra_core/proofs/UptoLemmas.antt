@@ -24,7 +24,10 @@ here_left i a0 l h r e legal at within e_is own =
     let numbered = (legal.each r.place within).numbered in
     let here : (entry_at h r.place).worker ≡ r.proposals.worker = ap (λ (x : Entry). x.worker) (sym e_is) ∙ own in
     let left : entries_of h r.place (entry_at h r.place).worker < budget l (entry_at h r.place).worker = omega (arith, numbered.number, numbered.budget) in
-    rw (at.number, at.lots) (subst (λ w. entries_of h r.place w < budget l w) here left)
+    let number : r.proposals.number ≡ entries_of h r.place r.proposals.worker = at.number in
+    let lots : r.proposals.lots.now ≡ l = at.lots in
+    let some : entries_of h r.place r.proposals.worker < budget l r.proposals.worker = subst (λ w. entries_of h r.place w < budget l w) here left in
+    omega (arith, number, some, ap (λ (m : Lots). budget m r.proposals.worker) lots)
 
 -- and there are few entries
 pub here_few : (i : Tables) (a0 : List Machine) (l : Lots) (h : List Entry) (r : Replica) → Legal i a0 l h → r.place < length h → r.place < 2 ^ 63

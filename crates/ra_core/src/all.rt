@@ -1,9 +1,6 @@
-ghost use Rattle.std.specs.Prelude.{◌≡◌, None, List, IfOk};
-ghost use Rattle.ra_model.specs.Assignments.{IsAssignment};
-ghost use Rattle.ra_model.specs.Broken.{first_broken};
-ghost use Rattle.ra_model.specs.Costs.{parts_of};
-ghost use Rattle.ra_topology.specs.Fits.{IsTopologyOf};
+ghost use Rattle.std.specs.Prelude.{List, IfOk};
 ghost use Rattle.ra_journal.specs.declared.entries.Entry.{Entry as Recorded};
+ghost use Rattle.ra_journal.specs.Starts.{IsFeasibleStart};
 ghost use Rattle.ra_core.specs.Replicas.{AreAt};
 
 use ra_base::{Assignment, NoMemory, Parts};
@@ -22,10 +19,7 @@ pub fn make_replicas<'a>(
     start: Parts,
     lots: &'a Lots,
 ) -> Result<Vec<Replica<'a>>, NoMemory>
-    requires fits { IsAssignment inst.now.tables a0.now.items }
-    requires topology { IsTopologyOf topo.now inst.now.tables }
-    requires unbroken { first_broken inst.now.tables a0.now.items a0.now.items ≡ None }
-    requires parts { start ≡ parts_of inst.now.tables a0.now.items a0.now.items }
+    requires { IsFeasibleStart inst.now.tables topo.now a0.now.items start }
     ensures { IfOk result (λ replicas. (h : List Recorded) →
         AreAt inst.now.tables a0.now.items lots.now h replicas.items) }
 {

@@ -1,8 +1,9 @@
 ghost use Rattle.std.specs.Prelude.{◌≡◌, ◌+◌, ◌-◌, ◌<◌, ◌≤◌, min, false, length, slice_set};
 ghost use Rattle.ra_journal.specs.Committing.{committed};
 ghost use Rattle.ra_journal.specs.Entries.{worker_count};
+ghost use Rattle.ra_journal.specs.Journals.{instance_in, tables_in, topology_in, initial_in, start_in, lots_in, entries_in};
 ghost use Rattle.ra_worker.specs.Skipping.{is_skipped};
-ghost use Rattle.ra_worker.specs.Replicas.{IsAt};
+ghost use Rattle.ra_worker.specs.Replicas.{worker_at, place_at, IsAt};
 ghost use Rattle.ra_core.specs.Core.{place_of, turn};
 ghost use Rattle.ra_core.specs.declared.events.CoreReply.TheVariants.{Answer};
 ghost use Rattle.ra_core.specs.Replicas.{AreAt, core_of};
@@ -22,25 +23,25 @@ pub fn take_turn_at<'a>(
     worker: u32,
     q: u64,
 ) -> CoreReply
-    requires at { AreAt journal.old.inst.now.tables journal.old.a0.now.items journal.old.lots.now
-        journal.old.book.entries.items replicas.old.items }
-    requires exists { worker < worker_count journal.old.lots.now }
-    requires ahead { place_of (core_of journal.old.book.entries.items replicas.old.items) worker
+    requires at { AreAt (tables_in journal.old) (start_in journal.old) (lots_in journal.old)
+        (entries_in journal.old) replicas.old.items }
+    requires exists { worker < worker_count (lots_in journal.old) }
+    requires ahead { place_of (core_of (entries_in journal.old) replicas.old.items) worker
         ≤ q }
-    requires within { q ≤ length journal.old.book.entries.items }
-    ensures journal { journal.new.book.entries.items ≡ (turn journal.old.inst.now.tables
-        journal.old.a0.now.items journal.old.lots.now journal.old.book.entries.items worker
+    requires within { q ≤ length (entries_in journal.old) }
+    ensures journal { entries_in journal.new ≡ (turn (tables_in journal.old)
+        (start_in journal.old) (lots_in journal.old) (entries_in journal.old) worker
         q).journal }
-    ensures reply { result ≡ (turn journal.old.inst.now.tables journal.old.a0.now.items
-        journal.old.lots.now journal.old.book.entries.items worker q).reply }
-    ensures places { (core_of journal.new.book.entries.items replicas.new.items).places ≡ slice_set
-        (core_of journal.old.book.entries.items replicas.old.items).places worker q }
-    ensures at { AreAt journal.old.inst.now.tables journal.old.a0.now.items journal.old.lots.now
-        journal.new.book.entries.items replicas.new.items }
-    ensures instance { journal.new.inst.now ≡ journal.old.inst.now }
-    ensures topology { journal.new.topo.now ≡ journal.old.topo.now }
-    ensures initial { journal.new.a0.now ≡ journal.old.a0.now }
-    ensures lots { journal.new.lots.now ≡ journal.old.lots.now }
+    ensures reply { result ≡ (turn (tables_in journal.old) (start_in journal.old)
+        (lots_in journal.old) (entries_in journal.old) worker q).reply }
+    ensures places { (core_of (entries_in journal.new) replicas.new.items).places ≡ slice_set
+        (core_of (entries_in journal.old) replicas.old.items).places worker q }
+    ensures at { AreAt (tables_in journal.old) (start_in journal.old) (lots_in journal.old)
+        (entries_in journal.new) replicas.new.items }
+    ensures instance { instance_in journal.new ≡ instance_in journal.old }
+    ensures topology { topology_in journal.new ≡ topology_in journal.old }
+    ensures initial { initial_in journal.new ≡ initial_in journal.old }
+    ensures lots { lots_in journal.new ≡ lots_in journal.old }
 {
     let replica = &mut replicas[worker as usize];
     follow_to::<Brand>(journal, replica, q, Blank::new(1));
@@ -57,14 +58,14 @@ fn follow_to<'a, L: Ledger>(
     requires name { blank.name ≡ L.name }
     requires parts { blank.parts ≡ L.parts }
     requires some { 0 < blank.parts }
-    requires at { IsAt journal.now.inst.now.tables journal.now.a0.now.items journal.now.lots.now
-        journal.now.book.entries.items replica.old }
-    requires ahead { replica.old.place ≤ place }
-    requires within { place ≤ length journal.now.book.entries.items }
-    ensures place { replica.new.place ≡ place }
-    ensures worker { replica.new.proposals.worker ≡ replica.old.proposals.worker }
-    ensures at { IsAt journal.now.inst.now.tables journal.now.a0.now.items journal.now.lots.now
-        journal.now.book.entries.items replica.new }
+    requires at { IsAt (tables_in journal.now) (start_in journal.now) (lots_in journal.now)
+        (entries_in journal.now) replica.old }
+    requires ahead { place_at replica.old ≤ place }
+    requires within { place ≤ length (entries_in journal.now) }
+    ensures place { place_at replica.new ≡ place }
+    ensures worker { worker_at replica.new ≡ worker_at replica.old }
+    ensures at { IsAt (tables_in journal.now) (start_in journal.now) (lots_in journal.now)
+        (entries_in journal.now) replica.new }
 {
     let mut steps = Steps::<L>::make(blank);
     for at in replica.place()..place {
@@ -83,13 +84,13 @@ pub fn catch_up<'a, L: Ledger>(
     requires name { blank.name ≡ L.name }
     requires parts { blank.parts ≡ L.parts }
     requires some { 0 < blank.parts }
-    requires at { IsAt journal.now.inst.now.tables journal.now.a0.now.items journal.now.lots.now
-        journal.now.book.entries.items replica.old }
-    ensures count { result ≡ min 1024 (length journal.now.book.entries.items - replica.old.place) }
-    ensures place { replica.new.place ≡ replica.old.place + result }
-    ensures worker { replica.new.proposals.worker ≡ replica.old.proposals.worker }
-    ensures at { IsAt journal.now.inst.now.tables journal.now.a0.now.items journal.now.lots.now
-        journal.now.book.entries.items replica.new }
+    requires at { IsAt (tables_in journal.now) (start_in journal.now) (lots_in journal.now)
+        (entries_in journal.now) replica.old }
+    ensures count { result ≡ min 1024 (length (entries_in journal.now) - place_at replica.old) }
+    ensures place { place_at replica.new ≡ place_at replica.old + result }
+    ensures worker { worker_at replica.new ≡ worker_at replica.old }
+    ensures at { IsAt (tables_in journal.now) (start_in journal.now) (lots_in journal.now)
+        (entries_in journal.now) replica.new }
 {
     let mut steps = Steps::<L>::make(blank);
     let place = replica.place();
@@ -108,18 +109,18 @@ pub fn hand_in<'a, L: Ledger>(
     requires name { blank.name ≡ L.name }
     requires parts { blank.parts ≡ L.parts }
     requires some { 0 < blank.parts }
-    requires at { IsAt journal.old.inst.now.tables journal.old.a0.now.items journal.old.lots.now
-        journal.old.book.entries.items replica.now }
-    ensures journal { journal.new.book.entries.items ≡ (turn journal.old.inst.now.tables
-        journal.old.a0.now.items journal.old.lots.now journal.old.book.entries.items
-        replica.now.proposals.worker replica.now.place).journal }
-    ensures reply { result ≡ (turn journal.old.inst.now.tables
-        journal.old.a0.now.items journal.old.lots.now journal.old.book.entries.items
-        replica.now.proposals.worker replica.now.place).reply }
-    ensures instance { journal.new.inst.now ≡ journal.old.inst.now }
-    ensures topology { journal.new.topo.now ≡ journal.old.topo.now }
-    ensures initial { journal.new.a0.now ≡ journal.old.a0.now }
-    ensures lots { journal.new.lots.now ≡ journal.old.lots.now }
+    requires at { IsAt (tables_in journal.old) (start_in journal.old) (lots_in journal.old)
+        (entries_in journal.old) replica.now }
+    ensures journal { entries_in journal.new ≡ (turn (tables_in journal.old)
+        (start_in journal.old) (lots_in journal.old) (entries_in journal.old)
+        (worker_at replica.now) (place_at replica.now)).journal }
+    ensures reply { result ≡ (turn (tables_in journal.old)
+        (start_in journal.old) (lots_in journal.old) (entries_in journal.old)
+        (worker_at replica.now) (place_at replica.now)).reply }
+    ensures instance { instance_in journal.new ≡ instance_in journal.old }
+    ensures topology { topology_in journal.new ≡ topology_in journal.old }
+    ensures initial { initial_in journal.new ≡ initial_in journal.old }
+    ensures lots { lots_in journal.new ≡ lots_in journal.old }
 {
     if skipped(journal, replica) {
         CoreReply::Skipped
@@ -130,10 +131,10 @@ pub fn hand_in<'a, L: Ledger>(
 
 /// Whether a worker has used its budget or has not taken in all of its own entries.
 fn skipped(journal: &Journal<'_>, replica: &Replica<'_>) -> bool
-    requires at { IsAt journal.now.inst.now.tables journal.now.a0.now.items journal.now.lots.now
-        journal.now.book.entries.items replica.now }
-    ensures { result ≡ is_skipped journal.now.lots.now journal.now.book.entries.items
-        replica.now.proposals.worker replica.now.place }
+    requires at { IsAt (tables_in journal.now) (start_in journal.now) (lots_in journal.now)
+        (entries_in journal.now) replica.now }
+    ensures { result ≡ is_skipped (lots_in journal.now) (entries_in journal.now)
+        (worker_at replica.now) (place_at replica.now) }
 {
     let made = journal.made_by(replica.worker());
     let budget = replica.budget();
@@ -150,20 +151,20 @@ fn commit_next<'a, L: Ledger>(
     requires name { blank.name ≡ L.name }
     requires parts { blank.parts ≡ L.parts }
     requires some { 0 < blank.parts }
-    requires at { IsAt journal.old.inst.now.tables journal.old.a0.now.items journal.old.lots.now
-        journal.old.book.entries.items replica.now }
-    requires not_skipped { is_skipped journal.old.lots.now journal.old.book.entries.items
-        replica.now.proposals.worker replica.now.place ≡ false }
-    ensures journal { journal.new.book.entries.items ≡ (committed journal.old.inst.now.tables
-        journal.old.a0.now.items journal.old.lots.now journal.old.book.entries.items
-        replica.now.proposals.worker replica.now.place).journal }
-    ensures reply { result ≡ Answer (committed journal.old.inst.now.tables
-        journal.old.a0.now.items journal.old.lots.now journal.old.book.entries.items
-        replica.now.proposals.worker replica.now.place).reply }
-    ensures instance { journal.new.inst.now ≡ journal.old.inst.now }
-    ensures topology { journal.new.topo.now ≡ journal.old.topo.now }
-    ensures initial { journal.new.a0.now ≡ journal.old.a0.now }
-    ensures lots { journal.new.lots.now ≡ journal.old.lots.now }
+    requires at { IsAt (tables_in journal.old) (start_in journal.old) (lots_in journal.old)
+        (entries_in journal.old) replica.now }
+    requires not_skipped { is_skipped (lots_in journal.old) (entries_in journal.old)
+        (worker_at replica.now) (place_at replica.now) ≡ false }
+    ensures journal { entries_in journal.new ≡ (committed (tables_in journal.old)
+        (start_in journal.old) (lots_in journal.old) (entries_in journal.old)
+        (worker_at replica.now) (place_at replica.now)).journal }
+    ensures reply { result ≡ Answer (committed (tables_in journal.old)
+        (start_in journal.old) (lots_in journal.old) (entries_in journal.old)
+        (worker_at replica.now) (place_at replica.now)).reply }
+    ensures instance { instance_in journal.new ≡ instance_in journal.old }
+    ensures topology { topology_in journal.new ≡ topology_in journal.old }
+    ensures initial { initial_in journal.new ≡ initial_in journal.old }
+    ensures lots { lots_in journal.new ≡ lots_in journal.old }
 {
     let mut steps = Steps::<L>::make(blank);
     let plan = replica.offer(&mut steps);

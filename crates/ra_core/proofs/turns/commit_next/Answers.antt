@@ -10,4 +10,4 @@ offer-plan-requires g c = record { left = next_within c.args.journal.now.inst.no
 pub commit-reply-requires : goal.commit-reply-requires
 commit-reply-requires g c =
     let j = c.args.journal.now in
-    record { commit = subst (λ w. IsCommit j.inst.now.tables j.a0.now.items j.lots.now j.book.entries.items w c.offer-plan.result) (sym c.worker.ensures.value) (may_commit j.inst.now.tables j.a0.now.items j.lots.now j.book.entries.items c.args.replica.now c.offer-plan.result c.requires.at c.requires.not_skipped c.offer-plan.ensures.place c.offer-plan.ensures.number c.offer-plan.ensures.planned c.offer-plan.ensures.weighed) }
+    record { commit = subst (λ w. IsCommit j.inst.now.tables j.a0.now.items j.lots.now j.book.entries.items w c.offer-plan.result) (sym c.worker.ensures.value) (may_commit j.inst.now.tables j.a0.now.items j.lots.now j.book.entries.items c.args.replica.now c.offer-plan.result c.requires.at c.requires.not_skipped c.offer-plan.ensures.next.place c.offer-plan.ensures.next.number c.offer-plan.ensures.next.planned c.offer-plan.ensures.next.weighed) }
