@@ -15,8 +15,9 @@ use Rattle.ra_shared.specs.Laws.{IsRecorded}
 use Rattle.ra_shared.specs.Shares.{start_of, IsCommitted}
 use Rattle.ra_shared.proofs.Handing.{recorded_stands}
 use Rattle.ra_worker.proofs.TurnLemmas.{batch_long, batch_entry}
+use Rattle.ra_worker.specs.Replicas.{IsNextPlan}
 use Rattle.ra_crew.specs.declared.worker.Worker.{Worker}
-use Rattle.ra_crew.specs.Working.{IsNextPlan, IsAtWork, IsOwnNext, IsBehind, HasOwn, HasTurned, entry_of, shown_in}
+use Rattle.ra_crew.specs.Working.{IsAtWork, IsOwnNext, IsBehind, HasOwn, HasTurned, entry_of, shown_in}
 use Rattle.ra_crew.proofs.Steps.{next_commit}
 
 one_left : (xs : List Entry) (e : Entry) → length xs ≡ 1 → entry_at xs 0 ≡ e → xs ≡ e ∷ []

@@ -21,10 +21,10 @@ use Rattle.ra_shared.specs.Shares.{start_of, IsCommitted, IsAtRest}
 use Rattle.ra_shared.proofs.Handing.{recorded_stands, stale_stands}
 use Rattle.ra_worker.specs.declared.replica.Replica.{Replica}
 use Rattle.ra_worker.specs.Skipping.{has_used, is_behind, is_skipped}
-use Rattle.ra_worker.specs.Replicas.{IsAt, AreNext, AreTold, HasTaken}
+use Rattle.ra_worker.specs.Replicas.{IsNextPlan, IsAt, AreNext, AreTold, HasTaken}
 use Rattle.ra_worker.proofs.TurnLemmas.{may_commit, batch_next, batch_long, taken_at}
 use Rattle.ra_crew.specs.declared.worker.Worker.{Worker}
-use Rattle.ra_crew.specs.Working.{IsNextPlan, IsAtWork, HasOwn, HasRoom, IsBehind, HasTurned, HasMoved, shown_in}
+use Rattle.ra_crew.specs.Working.{IsAtWork, HasOwn, HasRoom, IsBehind, HasTurned, HasMoved, shown_in}
 use Rattle.ra_crew.proofs.Seen.{legal_few, prefix_long, prefix_at, prefix_entries, entries_grow, own_count}
 
 -- a worker that has some budget left, and all its entries before a place, isn't skipped there

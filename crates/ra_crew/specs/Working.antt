@@ -1,34 +1,17 @@
 -- A worker while it runs: its replica follows what its pass has seen of the journal.
 use Rattle.std.specs.Prelude.{◌≡◌, ℕ, ◌+◌, ◌*◌, ◌<◌, ◌≤◌, List, [], ◌∷◌, length}
 use Rattle.ra_moves.specs.declared.verdicts.Plan.{Plan}
-use Rattle.ra_moves.specs.Options.{plan_of}
-use Rattle.ra_moves.specs.Weighing.{weighed_of}
 use Rattle.ra_moves.specs.declared.verdicts.Verdict.{Verdict}
 use Rattle.ra_journal.specs.Batches.{batch_from}
 use Rattle.ra_journal.specs.declared.entries.Entry.{Entry}
 use Rattle.ra_journal.specs.declared.replies.Reply.{Reply}
 use Rattle.ra_journal.specs.declared.replies.Reply.TheVariants.{Recorded, Stale}
-use Rattle.ra_journal.specs.Entries.{entries_of, proposal_count, words, allowed}
+use Rattle.ra_journal.specs.Entries.{entries_of, proposal_count}
 use Rattle.ra_turn.specs.Passes.{seen_by, made_by}
 use Rattle.ra_shared.specs.declared.shared.Shared.{Shared}
 use Rattle.ra_shared.specs.Shares.{start_of, IsAtRest}
-use Rattle.ra_worker.specs.declared.replica.Replica.{Replica}
 use Rattle.ra_worker.specs.Replicas.{IsAt}
 use Rattle.ra_crew.specs.declared.worker.Worker.{Worker}
-
--- the plan of a replica's next proposal, made at its place
-pub record IsNextPlan (r : Replica) (plan : Plan) : Type 0 where
-  pub place : plan.q ≡ r.place
-  pub number : plan.k ≡ r.proposals.number
-  pub planned :
-      plan.mv ≡ plan_of r.world.inst.now.tables r.world.start.now.items
-      r.world.kept.assignment.items
-      (words r.proposals.lots.now r.proposals.worker r.proposals.number)
-      r.proposals.lots.now.drawing
-      (allowed r.proposals.lots.now r.proposals.worker r.proposals.number)
-  pub weighed :
-      plan.weighed ≡ weighed_of r.world.inst.now.tables r.world.start.now.items
-      r.world.kept.assignment.items plan.mv.steps
 
 -- a worker that has no turn: its pass is at rest, and its replica is the same worker's, at a state of what that has seen
 pub record IsAtWork (s : Shared) (w : Worker) : Type 0 where

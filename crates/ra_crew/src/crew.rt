@@ -1,10 +1,8 @@
-ghost use Rattle.std.specs.Prelude.{◌≡◌, ◌<◌, ◌≤◌, None, [], ◌++◌, length, map, vec_capacity, All, IfOk};
-ghost use Rattle.ra_model.specs.Assignments.{IsAssignment};
-ghost use Rattle.ra_model.specs.Broken.{first_broken};
-ghost use Rattle.ra_model.specs.Costs.{parts_of};
-ghost use Rattle.ra_topology.specs.Fits.{IsTopologyOf};
+ghost use Rattle.std.specs.Prelude.{◌≡◌, ◌<◌, ◌≤◌, [], ◌++◌, length, map, vec_capacity, All, IfOk};
 ghost use Rattle.ra_journal.specs.Entries.{worker_count};
+ghost use Rattle.ra_journal.specs.Journals.{lots_in, entries_in};
 ghost use Rattle.ra_journal.specs.Legal.{Whole};
+ghost use Rattle.ra_journal.specs.Starts.{IsFeasibleStart};
 ghost use Rattle.ra_shared.specs.Books.{opening_of_journal};
 ghost use Rattle.ra_shared.specs.Shares.{start_of};
 ghost use Rattle.ra_crew.specs.Crews.{IsFresh, AreReady, HaveRun};
@@ -45,10 +43,7 @@ impl<'a> Crew<'a> {
         start: Parts,
         lots: &'a Lots,
     ) -> Result<Crew<'a>, NoMemory>
-        requires fits { IsAssignment inst.now.tables a0.now.items }
-        requires topology { IsTopologyOf topo.now inst.now.tables }
-        requires unbroken { first_broken inst.now.tables a0.now.items a0.now.items ≡ None }
-        requires parts { start ≡ parts_of inst.now.tables a0.now.items a0.now.items }
+        requires { IsFeasibleStart inst.now.tables topo.now a0.now.items start }
         ensures instance { IfOk result (λ crew. (start_of crew.shared).inst ≡ inst.now) }
         ensures initial { IfOk result (λ crew. (start_of crew.shared).a0 ≡ a0.now) }
         ensures lots { IfOk result (λ crew. (start_of crew.shared).lots ≡ lots.now) }
@@ -67,7 +62,7 @@ impl<'a> Crew<'a> {
     /// the gate between making a plan and committing it. It may wait.
     pub fn run<R: Threads + Wait + Sync, G: Gate>(self, rt: &R, gate: &G) -> Journal<'a>
         ensures opened { opening_of_journal result ≡ start_of self.entry.shared }
-        ensures whole { Whole result.lots.now result.book.entries.items }
+        ensures whole { Whole (lots_in result) (entries_in result) }
     {
         let Crew {
             shared,
@@ -90,10 +85,7 @@ fn make_workers<'a>(
     lots: &'a Lots,
     passes: &mut Vec<WorkerPass<'a>>,
 ) -> Result<Vec<Worker<'a>>, NoMemory>
-    requires fits { IsAssignment inst.now.tables a0.now.items }
-    requires topology { IsTopologyOf topo.now inst.now.tables }
-    requires unbroken { first_broken inst.now.tables a0.now.items a0.now.items ≡ None }
-    requires parts { start ≡ parts_of inst.now.tables a0.now.items a0.now.items }
+    requires start { IsFeasibleStart inst.now.tables topo.now a0.now.items start }
     requires exist { All (λ pass. pass.number < worker_count lots.now) passes.old.items }
     ensures passes { IfOk result (λ workers. map (λ w. w.pass) workers.items ≡ passes.old.items) }
     ensures taken { IfOk result (λ workers. passes.new.items ≡ []) }
@@ -120,10 +112,7 @@ fn make_worker<'a>(
     lots: &'a Lots,
     pass: WorkerPass<'a>,
 ) -> Result<Worker<'a>, NoMemory>
-    requires fits { IsAssignment inst.now.tables a0.now.items }
-    requires topology { IsTopologyOf topo.now inst.now.tables }
-    requires unbroken { first_broken inst.now.tables a0.now.items a0.now.items ≡ None }
-    requires parts { start ≡ parts_of inst.now.tables a0.now.items a0.now.items }
+    requires start { IsFeasibleStart inst.now.tables topo.now a0.now.items start }
     requires exists { pass.number < worker_count lots.now }
     ensures pass { IfOk result (λ worker. worker.pass ≡ pass.entry) }
     ensures fresh { IfOk result (λ worker.

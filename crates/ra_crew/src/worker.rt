@@ -3,8 +3,8 @@ ghost use mathlib.Core.List.{IsPrefix};
 ghost use Rattle.ra_journal.specs.declared.replies.Reply.TheVariants.{Recorded};
 ghost use Rattle.ra_journal.specs.Entries.{budget};
 ghost use Rattle.ra_turn.specs.Passes.{seen_by, made_by};
-ghost use Rattle.ra_worker.specs.Replicas.{AreTold, HasTaken};
-ghost use Rattle.ra_crew.specs.Working.{IsNextPlan, IsAtWork, IsOwnNext, HasOwn, HasRoom, IsBehind, HasMoved, HasTurned, shown_in};
+ghost use Rattle.ra_worker.specs.Replicas.{IsNextPlan, AreTold, HasTaken};
+ghost use Rattle.ra_crew.specs.Working.{IsAtWork, IsOwnNext, HasOwn, HasRoom, IsBehind, HasMoved, HasTurned, shown_in};
 
 use ra_base::{NoMemory, Steps};
 use ra_journal::{Batch, Entry, Reply};
