@@ -171,7 +171,7 @@ fn answers_on_sample<R: Abort + Wait>(rt: &R, alloc: Global, inst: &Instance) ->
 }
 
 /// The entry of worker 0: process 1 goes from machine 3 to machine 2.
-fn away() -> Entry {
+pub(super) fn away() -> Entry {
     let step = Step {
         process: Process(1),
         from: Machine(3),

@@ -2,14 +2,15 @@
 ghost use Rattle.ra_core.specs.Replicas.{AreAt};
 
 use super::first::start_parts;
+use super::passes::away;
 use super::{AWAY, done, shift, stale};
 use ra_base::{Cause, Fixed, Guard, Machine, Resource};
 use ra_core::{CoreEvent, CoreReply, make_replicas};
 use ra_draws::Lots;
-use ra_journal::{Batch, Journal, Reply};
+use ra_journal::{Batch, Entry, Journal, Reply};
 use ra_model::Instance;
 use ra_moves::Verdict;
-use ra_play::{are_named, play};
+use ra_play::{are_named, play, round_robin};
 use ra_samples::{assignment, list, one_lot, sample, two_lots};
 use ra_topology::Topology;
 use ra_worker::Replica;
@@ -50,6 +51,20 @@ fn answers_on(
     let mut journal = Journal::make(alloc, inst, &topo, &a0, start, lots).expect(rt, "no memory");
     let mut replicas = make_replicas(alloc, inst, &topo, &a0, start, lots).expect(rt, "no memory");
     play_all(rt, alloc, &mut journal, &mut replicas, events)
+}
+
+/// The entries of the journal that two workers with these lots make on the sample, if they are played in turn.
+fn entries_of_both(rt: &impl Abort, alloc: Global, inst: &Instance, lots: &Lots) -> [Entry; 2] {
+    let a0 = assignment(alloc, &[0, 3, 0]).expect(rt, "no memory");
+    assert!(rt; inst.is_assignment(&a0));
+    let topo = Topology::make(alloc, inst).expect(rt, "no memory");
+    let start = start_parts(rt, alloc, inst, &a0);
+    let mut journal = Journal::make(alloc, inst, &topo, &a0, start, lots).expect(rt, "no memory");
+    let mut replicas = make_replicas(alloc, inst, &topo, &a0, start, lots).expect(rt, "no memory");
+    let mut batch = Batch::make(alloc).expect(rt, "no memory");
+    round_robin(&mut journal, &mut replicas, &mut batch);
+    assert!(rt; journal.len() == 2);
+    [journal.entry(0), journal.entry(1)]
 }
 
 fn expect_answers(rt: &impl Abort, answers: &Fixed<CoreReply>, wanted: &[CoreReply]) {
@@ -102,10 +117,24 @@ fn a_worker_without_budget_is_skipped(rt: &impl Abort, alloc: Global, inst: &Ins
     expect_answers(rt, &answers, &wanted);
 }
 
+/// Worker 0 brings process 1 to machine 2. Worker 1 plans behind that entry, so its plan isn't stale.
+fn workers_in_turn_make_a_whole_journal(rt: &impl Abort, alloc: Global, inst: &Instance) {
+    let lots = two_lots(alloc, 0, 1, &AWAY, &shift(2, 2)).expect(rt, "no memory");
+    let [first, second] = entries_of_both(rt, alloc, inst, &lots);
+    assert_eq!(rt; first, away());
+    assert_eq!(rt; [u64::from(second.worker), second.k, second.q], [1, 0, 1]);
+    let reply = Reply::Recorded {
+        at: 1,
+        verdict: second.verdict,
+    };
+    assert_eq!(rt; reply, over_capacity());
+}
+
 #[test]
 fn turns_on_the_sample(rt: HostRuntime) {
     let inst = sample(rt.alloc()).expect(&rt, "no instance");
     a_stale_worker_catches_up(&rt, rt.alloc(), &inst);
     a_worker_without_budget_is_skipped(&rt, rt.alloc(), &inst);
+    workers_in_turn_make_a_whole_journal(&rt, rt.alloc(), &inst);
     drop(inst);
 }
