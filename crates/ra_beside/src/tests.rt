@@ -80,6 +80,19 @@ fn the_greatest_numbers(rt: HostRuntime) {
     try_on(&rt, rt.alloc(), inst, &[0, 1], &trials);
 }
 
+// The closed machine is the initial one of a process.
+#[test]
+fn coming_home_to_a_closed_machine(rt: HostRuntime) {
+    let flags = list(rt.alloc(), &[false, false, false, false, true]).expect(&rt, "no memory");
+    let inst = busy(rt.alloc()).expect(&rt, "no instance");
+    let closed = closing(&rt, inst, flags);
+    let trials = [Trial::Plans {
+        proposals: 300,
+        least: 1,
+    }];
+    try_on(&rt, rt.alloc(), closed, &[0, 2, 3, 0, 4, 1, 3, 2], &trials);
+}
+
 #[test]
 fn a_world_tells_what_a_check_from_scratch_does(rt: HostRuntime) {
     let inst = busy(rt.alloc()).expect(&rt, "no instance");
