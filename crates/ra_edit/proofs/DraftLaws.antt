@@ -25,7 +25,9 @@ use Rattle.ra_edit.specs.SameLists.{AreSameLists}
 use Rattle.ra_edit.specs.Keeping.{IsSound, IsKept}
 use Rattle.ra_edit.proofs.RowLaws.{process_same}
 use Rattle.ra_edit.proofs.JudgeLaws.{current_fits}
+use Rattle.ra_edit.specs.Kinds.{IsEdited}
 use Rattle.ra_edit.proofs.SoundLaws.{edited_sound}
+use Rattle.ra_edit.proofs.VerdictLaws.{edited_is}
 use Rattle.ra_edit.proofs.SameLaws.{same_well, same_broken, same_parts}
 
 -- a row with a small move cost is a process
@@ -122,3 +124,10 @@ unfolding edit_at
 next_sound d old next e k same sound fits within free is width =
     let here = subst (λ (o : Drafted). AreEditsFor o.origin e) (sym same) fits in
     subst IsSound (sym is) (edited_sound d (edit_at e k) (row_of e.width e.requirements k) sound free (here.each k within) (width ∙ here.width))
+
+-- and it is what the kind of the edit says
+pub next_edited : (d old next : Drafted) (e : EditLists) (k : ℕ) (edit : Edit) → d ≡ old → IsSound d → AreEditsFor old.origin e → k < length e.edits → edit ≡ edit_at e k → barred (length d.rows) (edit_at e k) ≡ None → next ≡ edited d (edit_at e k) (row_of e.width e.requirements k) → length (row_of e.width e.requirements k) ≡ e.width → IsEdited d edit next
+unfolding edit_at
+next_edited d old next e k edit same sound fits within is free made width =
+    let fits_d : AreEditsFor d.origin e = subst (λ (o : Drafted). AreEditsFor o.origin e) (sym same) fits in
+    subst (λ (x : Edit). IsEdited d x next) (sym is) (edited_is d next (edit_at e k) (row_of e.width e.requirements k) sound free (fits_d.each k within) (width ∙ fits_d.width) made)

@@ -8,3 +8,9 @@ pub mod JudgeLaws
 pub mod DraftLaws
 pub mod ListsLaws
 pub mod RunLaws
+pub mod OneMoreLaws
+pub mod ShareLaws
+pub mod BrokenLaws
+pub mod ScanLaws
+pub mod TestLaws
+pub mod VerdictLaws

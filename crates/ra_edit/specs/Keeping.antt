@@ -5,8 +5,8 @@ use Rattle.ra_model.specs.declared.raw.Tables.{Tables}
 use Rattle.ra_model.specs.Limits.{WellFormed}
 use Rattle.ra_model.specs.Assignments.{IsAssignment}
 use Rattle.ra_model.specs.Costs.{parts_of}
-use Rattle.ra_edit.specs.declared.judging.Judged.{Judged}
-use Rattle.ra_edit.specs.declared.judging.Judged.TheVariants.{Refused, Fine}
+use Rattle.ra_edit.specs.declared.verdicts.Judged.{Judged}
+use Rattle.ra_edit.specs.declared.verdicts.Judged.TheVariants.{Refused, Fine}
 use Rattle.ra_edit.specs.declared.lists.Lists.{Lists}
 use Rattle.ra_edit.specs.Drafts.{Drafted, instance_of}
 use Rattle.ra_edit.specs.Replies.{broken_in}
@@ -21,6 +21,10 @@ drafted i l =
       initial = l.initial.items;
       current = l.current.items;
     }
+
+-- the instance of an instance's other lists and the lists of its processes
+abbrev pub tables_with : Tables → Lists → Tables
+tables_with i l = instance_of (drafted i l)
 
 -- an instance within the limits, and two lists that fit it
 pub record IsSound (d : Drafted) : Type 0 where

@@ -3,3 +3,9 @@ pub mod Editing
 pub mod Replies
 pub mod SameLists
 pub mod Keeping
+pub mod OneMore
+pub mod Touched
+pub mod Spots
+pub mod MachineCosts
+pub mod Locality
+pub mod Kinds

@@ -11,7 +11,7 @@ ghost use Rattle.ra_edit.specs.SameLists.{AreSameLists};
 
 use crate::base::Base;
 use crate::building::build;
-use crate::judging::{Judged, judge};
+use crate::verdicts::{Judged, judge};
 use crate::lists::Lists;
 use crate::replies::EditReply;
 use ra_base::{Assignment, NoMemory, Parts};
@@ -104,7 +104,15 @@ impl<'a> Draft<'a> {
         let next = self
             .lists
             .edited(alloc, self.inst, edit, edits.requirements_of(i))?;
-        match judge(alloc, self.inst, &self.base, &next)? {
+        match judge(
+            alloc,
+            self.inst,
+            &self.base,
+            &self.lists,
+            self.parts,
+            &next,
+            edit,
+        )? {
             Judged::Refused(cause) => Ok(EditReply::Broken { cause }),
             Judged::Fine(parts) => {
                 self.lists = next;

@@ -1,38 +1,223 @@
-ghost use Rattle.std.specs.Prelude.{IfOk};
-ghost use Rattle.ra_edit.specs.SameLists.{IsBaseOf};
-ghost use Rattle.ra_edit.specs.Keeping.{drafted, IsSound, IsJudged};
+//! What an edit breaks, found where it can break something.
+ghost use Rattle.std.specs.Prelude.{◌≡◌, ℕ, ◌<◌};
+ghost use Rattle.ra_base.specs.Searches.{or_else, first};
+ghost use Rattle.ra_model.specs.Numbers.{resource_count, machine_count, service_count, dependency_count, need_of, neighbourhood_of};
+ghost use Rattle.ra_model.specs.Broken.{capacity_test, row_capacity, transient_test, row_transient, conflict_test};
+ghost use Rattle.ra_edit.specs.Keeping.{drafted, tables_with, IsSound};
+ghost use Rattle.ra_edit.specs.Touched.{far_from, added_breaks, resized_breaks};
 
-use crate::base::Base;
-use crate::building::build;
 use crate::lists::Lists;
-use ra_base::{Cause, NoMemory, Parts};
-use ra_check::{Scratch, first_broken, parts};
+use crate::scanning::{Spot, members, transient_at, use_at};
+use ra_base::{Cause, Machine, Resource, Service};
 use ra_model::Instance;
-use std::alloc::Global;
 
-/// What is found of the current list of a draft: the first constraint that it breaks, or what it costs.
-#[derive(Clone, Copy)]
-pub(crate) enum Judged {
-    Refused(Cause),
-    Fine(Parts),
+/// What a process more breaks, which stands on its initial machine.
+#[tactic(auto, using(ra_base::proofs::Searches::choices), unfolding(crate::specs::Touched::added_breaks))]
+pub(crate) fn added_breaks(
+    inst: &Instance,
+    lists: &Lists,
+    s: Service,
+    m: Machine,
+) -> Option<Cause>
+    requires sound { IsSound (drafted inst.now.tables lists.now) }
+    requires service { s.0 < service_count inst.now.tables }
+    requires machine { m.0 < machine_count inst.now.tables }
+    ensures { result ≡ added_breaks (tables_with inst.now.tables lists.now)
+        lists.now.initial.items lists.now.current.items s.0 m.0 }
+{
+    if let Some(cause) = row_capacity(inst, lists, m) {
+        return Some(cause);
+    }
+    if let Some(cause) = row_transient(inst, lists, m) {
+        return Some(cause);
+    }
+    if let Some(cause) = conflict_test(inst, lists, s, m) {
+        return Some(cause);
+    }
+    far_needs(inst, lists, s, m)
 }
 
-/// Whether the current list breaks a constraint, and what it costs, summed anew.
-pub(crate) fn judge(
-    alloc: Global,
+/// What other requirements of a process on a machine break.
+#[tactic(auto, using(ra_base::proofs::Searches::choices), unfolding(crate::specs::Touched::resized_breaks))]
+pub(crate) fn resized_breaks(
     inst: &Instance,
-    base: &Base,
     lists: &Lists,
-) -> Result<Judged, NoMemory>
-    requires base { IsBaseOf base.now inst.now.tables }
+    home: Machine,
+    here: Machine,
+) -> Option<Cause>
     requires sound { IsSound (drafted inst.now.tables lists.now) }
-    ensures { IfOk result (IsJudged (drafted inst.now.tables lists.now)) }
+    requires home { home.0 < machine_count inst.now.tables }
+    requires here { here.0 < machine_count inst.now.tables }
+    ensures { result ≡ resized_breaks (tables_with inst.now.tables lists.now)
+        lists.now.initial.items lists.now.current.items home.0 here.0 }
 {
-    let next = build(alloc, inst, base, &lists.rows, &lists.requirements)?;
-    let mut scratch = Scratch::make(alloc, &next)?;
-    if let Some(cause) = first_broken(&next, &lists.initial, &lists.current, &mut scratch) {
-        return Ok(Judged::Refused(cause));
+    if let Some(cause) = row_capacity(inst, lists, here) {
+        return Some(cause);
     }
-    let cost = parts(&next, &lists.initial, &lists.current, &mut scratch);
-    Ok(Judged::Fine(cost))
+    if home.0 < here.0 {
+        two_transients(inst, lists, home, here)
+    } else {
+        two_transients(inst, lists, here, home)
+    }
+}
+
+/// The first transient use above a capacity at one machine, then at another.
+#[tactic(auto, using(ra_base::proofs::Searches::choices))]
+fn two_transients(inst: &Instance, lists: &Lists, m: Machine, n: Machine) -> Option<Cause>
+    requires sound { IsSound (drafted inst.now.tables lists.now) }
+    requires first { m.0 < machine_count inst.now.tables }
+    requires second { n.0 < machine_count inst.now.tables }
+    ensures { result ≡ or_else
+        (row_transient (tables_with inst.now.tables lists.now) lists.now.initial.items
+        lists.now.current.items m.0)
+        (row_transient (tables_with inst.now.tables lists.now) lists.now.initial.items
+        lists.now.current.items n.0) }
+{
+    if let Some(cause) = row_transient(inst, lists, m) {
+        return Some(cause);
+    }
+    row_transient(inst, lists, n)
+}
+
+/// The first use on a machine that is above its capacity.
+#[tactic(auto, using(ra_base::proofs::Searches::searches))]
+fn row_capacity(inst: &Instance, lists: &Lists, m: Machine) -> Option<Cause>
+    requires sound { IsSound (drafted inst.now.tables lists.now) }
+    requires machine { m.0 < machine_count inst.now.tables }
+    ensures { result ≡
+        row_capacity (tables_with inst.now.tables lists.now) lists.now.current.items m.0 }
+{
+    for r in 0..inst.resources() {
+        if let Some(cause) = capacity_test(inst, lists, m, Resource(r)) {
+            return Some(cause);
+        }
+    }
+    None
+}
+
+/// The use of a resource of a machine, where it is above its capacity.
+#[tactic(auto, using(crate::proofs::TestLaws::capacities))]
+fn capacity_test(inst: &Instance, lists: &Lists, m: Machine, r: Resource) -> Option<Cause>
+    requires sound { IsSound (drafted inst.now.tables lists.now) }
+    requires machine { m.0 < machine_count inst.now.tables }
+    requires resource { r.0 < resource_count inst.now.tables }
+    ensures { result ≡
+        capacity_test (tables_with inst.now.tables lists.now) lists.now.current.items m.0 r.0 }
+{
+    let used = use_at(inst, lists, m, r);
+    let cap = inst.capacity(m, r);
+    if u64::from(cap) < used {
+        Some(Cause::Capacity {
+            machine: m,
+            resource: r,
+            used,
+            cap,
+        })
+    } else {
+        None
+    }
+}
+
+/// The first transient use on a machine that is above its capacity.
+#[tactic(auto, using(ra_base::proofs::Searches::searches))]
+fn row_transient(inst: &Instance, lists: &Lists, m: Machine) -> Option<Cause>
+    requires sound { IsSound (drafted inst.now.tables lists.now) }
+    requires machine { m.0 < machine_count inst.now.tables }
+    ensures { result ≡ row_transient (tables_with inst.now.tables lists.now)
+        lists.now.initial.items lists.now.current.items m.0 }
+{
+    for r in 0..inst.resources() {
+        if let Some(cause) = transient_test(inst, lists, m, Resource(r)) {
+            return Some(cause);
+        }
+    }
+    None
+}
+
+/// The transient use of a resource of a machine, where it is above its capacity.
+#[tactic(auto, using(crate::proofs::TestLaws::transients))]
+fn transient_test(inst: &Instance, lists: &Lists, m: Machine, r: Resource) -> Option<Cause>
+    requires sound { IsSound (drafted inst.now.tables lists.now) }
+    requires machine { m.0 < machine_count inst.now.tables }
+    requires resource { r.0 < resource_count inst.now.tables }
+    ensures { result ≡ transient_test (tables_with inst.now.tables lists.now)
+        lists.now.initial.items lists.now.current.items m.0 r.0 }
+{
+    if !inst.transient(r) {
+        return None;
+    }
+    let used = transient_at(inst, lists, m, r);
+    let cap = inst.capacity(m, r);
+    if u64::from(cap) < used {
+        Some(Cause::Transient {
+            machine: m,
+            resource: r,
+            used,
+            cap,
+        })
+    } else {
+        None
+    }
+}
+
+/// More than one process of a service on a machine.
+#[tactic(auto, using(crate::proofs::TestLaws::conflicts))]
+fn conflict_test(inst: &Instance, lists: &Lists, s: Service, m: Machine) -> Option<Cause>
+    requires sound { IsSound (drafted inst.now.tables lists.now) }
+    ensures { result ≡ conflict_test (tables_with inst.now.tables lists.now)
+        lists.now.current.items s.0 m.0 }
+{
+    let count = members(inst, lists, s, Spot::OnMachine(m));
+    if 1 < count {
+        Some(Cause::Conflict {
+            service: s,
+            machine: m,
+        })
+    } else {
+        None
+    }
+}
+
+/// The first dependency of a service that no process is near to on a machine.
+#[tactic(auto, using(ra_base::proofs::Searches::searches))]
+fn far_needs(inst: &Instance, lists: &Lists, s: Service, m: Machine) -> Option<Cause>
+    requires sound { IsSound (drafted inst.now.tables lists.now) }
+    requires service { s.0 < service_count inst.now.tables }
+    requires machine { m.0 < machine_count inst.now.tables }
+    ensures { result ≡ first (dependency_count (tables_with inst.now.tables lists.now) s.0)
+        (far_from (tables_with inst.now.tables lists.now) lists.now.current.items s.0
+        (neighbourhood_of (tables_with inst.now.tables lists.now) m.0)) }
+{
+    let label = inst.neighbourhood(m);
+    let needs = inst.depends(s);
+    for k in 0..needs.len() {
+        if let Some(cause) = far_need(inst, lists, s, needs[k], label) {
+            return Some(cause);
+        }
+    }
+    None
+}
+
+/// A service that has no process in a neighbourhood where it is needed.
+#[tactic(auto, using(crate::proofs::TestLaws::needs))]
+fn far_need(
+    inst: &Instance,
+    lists: &Lists,
+    s: Service,
+    need: Service,
+    label: u32,
+) -> Option<Cause>
+    requires { IsSound (drafted inst.now.tables lists.now) }
+    ensures { (k : ℕ) → need.0 ≡ need_of (tables_with inst.now.tables lists.now) s.0 k →
+        result ≡ far_from (tables_with inst.now.tables lists.now) lists.now.current.items s.0 label k }
+{
+    if members(inst, lists, need, Spot::InNeighbourhood(label)) == 0 {
+        Some(Cause::Dependency {
+            service: s,
+            needs: need,
+            neighbourhood: label,
+        })
+    } else {
+        None
+    }
 }

@@ -4,12 +4,17 @@
 
 mod base;
 mod building;
+mod costs;
 mod draft;
 mod judging;
+mod laws;
 mod lists;
 mod replies;
 mod running;
+mod scanning;
 mod tables;
+mod verdicts;
 
 pub use draft::{Draft, Edited};
+pub use laws::edits_are_local;
 pub use replies::EditReply;

@@ -5,7 +5,7 @@ use Rattle.ra_edit.specs.Drafts.{Drafted}
 use Rattle.ra_edit.specs.Editing.{edited}
 use Rattle.ra_edit.specs.Replies.{barred, edit_answer, after_edit}
 use Rattle.ra_edit.specs.Keeping.{drafted}
-use Rattle.ra_edit.proofs.DraftLaws.{answered_barred, kept_barred, answered_broken, kept_broken, answered_done, kept_done, next_sound}
+use Rattle.ra_edit.proofs.DraftLaws.{answered_barred, kept_barred, answered_broken, kept_broken, answered_done, kept_done, next_sound, next_edited}
 use Rattle.ra_edit.proofs.draft.Draft.edit.Goals as goal
 
 pub returns-in-Some-clause-reply : goal.returns-in-Some-clause-reply
@@ -23,6 +23,12 @@ judge-requires-clause-sound c =
     let d = drafted c.self.inside.inst.now.tables c.self.inside.lists in
     let next = drafted c.self.inside.inst.now.tables c.in_ok-next.next in
     (next_sound d c.args.self.now next c.args.edits.now c.args.i c.self.view_is c.self.invariant.1.sound c.requires.fits c.requires.edit (ap (barred (length d.rows)) (sym c.edit-edit.ensures) ∙ sym c.barred.ensures ∙ c.in_default.is) (c.in_ok-next.ensures ∙ ap (λ e. edited d e c.requirements_of.result.now) c.edit-edit.ensures ∙ ap (edited d (edit_at c.args.edits.now c.args.i)) c.requirements_of.ensures.row) (ap length (sym c.requirements_of.ensures.row) ∙ c.requirements_of.ensures.one_each))
+
+pub judge-requires-clause-edited : goal.judge-requires-clause-edited
+judge-requires-clause-edited c =
+    let d = drafted c.self.inside.inst.now.tables c.self.inside.lists in
+    let next = drafted c.self.inside.inst.now.tables c.in_ok-next.next in
+    (next_edited d c.args.self.now next c.args.edits.now c.args.i c.edit-edit.result c.self.view_is c.self.invariant.1.sound c.requires.fits c.requires.edit c.edit-edit.ensures (ap (barred (length d.rows)) (sym c.edit-edit.ensures) ∙ sym c.barred.ensures ∙ c.in_default.is) (c.in_ok-next.ensures ∙ ap (λ e. edited d e c.requirements_of.result.now) c.edit-edit.ensures ∙ ap (edited d (edit_at c.args.edits.now c.args.i)) c.requirements_of.ensures.row) (ap length (sym c.requirements_of.ensures.row) ∙ c.requirements_of.ensures.one_each))
 
 pub invariant_of-self : goal.invariant_of-self
 invariant_of-self c =

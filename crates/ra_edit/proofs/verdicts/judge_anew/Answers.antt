@@ -1,7 +1,7 @@
 use Rattle.std.proofs.Common.{sym, ◌∙◌}
 use Rattle.ra_edit.specs.Keeping.{drafted}
 use Rattle.ra_edit.proofs.JudgeLaws.{initial_fits, current_fits, found_in, cost_in}
-use Rattle.ra_edit.proofs.judging.judge.Goals as goal
+use Rattle.ra_edit.proofs.verdicts.judge_anew.Goals as goal
 
 pub first_broken-requires-clause-a0_fits : goal.first_broken-requires-clause-a0_fits
 first_broken-requires-clause-a0_fits c = initial_fits (drafted c.args.inst.now.tables c.args.lists.now) _ c.in_ok-next.ensures c.requires.sound

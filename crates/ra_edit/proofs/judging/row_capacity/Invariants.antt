@@ -1,0 +1,9 @@
+-- Nothing so far.
+use Rattle.std.proofs.Common.{◌≡◌, None}
+use Rattle.ra_base.specs.Searches.{first}
+use Rattle.ra_model.specs.Broken.{capacity_test}
+use Rattle.ra_edit.specs.Keeping.{tables_with}
+use Rattle.ra_edit.proofs.judging.row_capacity.Given as goal
+
+abbrev pub invariant-loop-r : goal.invariant-loop-r
+invariant-loop-r l = first l.r (capacity_test (tables_with l.inst.tables l.lists) l.lists.current.items l.m.0) ≡ None

@@ -1,0 +1,26 @@
+-- One resource after another.
+use Rattle.std.proofs.Common.{◌≡◌, ◌<◌, ◌∙◌, sym, ap, arith}
+use Rattle.ra_base.proofs.Searches.{first_none, first_more_none, first_found}
+use Rattle.ra_model.specs.Numbers.{resource_count}
+use Rattle.ra_model.specs.Broken.{transient_test, row_transient}
+use Rattle.ra_edit.specs.Keeping.{tables_with}
+use Rattle.ra_edit.proofs.TestLaws.{resources_in}
+use Rattle.ra_edit.proofs.judging.row_transient.Goals as goal
+
+pub loop-r-init : goal.loop-r-init
+loop-r-init c = first_none _
+
+pub returns-in-Some : goal.returns-in-Some
+unfolding row_transient
+returns-in-Some c =
+    let within : c.loop-r.r < resource_count (tables_with c.args.inst.now.tables c.args.lists.now) = omega (arith, c.loop-r-test.true, c.resources-r-end.ensures, resources_in c.args.inst.now.tables c.args.lists.now) in
+    sym (first_found c.loop-r.r (resource_count (tables_with c.args.inst.now.tables c.args.lists.now)) _ c.in-Some.cause within c.loop-r.invariant (sym c.transient_test.ensures ∙ c.in-Some.is))
+
+pub loop-r-preserved : goal.loop-r-preserved
+loop-r-preserved c = first_more_none c.loop-r.r _ c.loop-r.invariant (sym c.transient_test.ensures ∙ c.in_default.is)
+
+pub returns : goal.returns
+unfolding row_transient
+returns c =
+    let all : c.loop-r.r ≡ resource_count (tables_with c.args.inst.now.tables c.args.lists.now) = omega (arith, c.loop-r-test.false, c.loop-r.auto.r-end, c.resources-r-end.ensures, resources_in c.args.inst.now.tables c.args.lists.now) in
+    sym (rw all at c.loop-r.invariant)

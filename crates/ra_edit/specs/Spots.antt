@@ -1,0 +1,12 @@
+-- Where the processes of a service are looked for.
+use Rattle.std.specs.Prelude.{ℕ, Bool, ◌==◌}
+use Rattle.ra_model.specs.declared.raw.Tables.{Tables}
+use Rattle.ra_model.specs.Numbers.{neighbourhood_of, location_of}
+use Rattle.ra_edit.specs.declared.scanning.Spot.{Spot}
+use Rattle.ra_edit.specs.declared.scanning.Spot.TheVariants.{OnMachine, InNeighbourhood, InLocation}
+
+-- whether a process on machine `at` is there
+abbrev pub is_there : Tables → Spot → ℕ → ℕ → Bool
+is_there i (OnMachine m) p at = at == m.0
+is_there i (InNeighbourhood label) p at = neighbourhood_of i at == label
+is_there i (InLocation label) p at = location_of i at == label

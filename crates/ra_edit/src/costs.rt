@@ -1,0 +1,100 @@
+//! What the lists cost after an edit, by what it touches.
+ghost use Rattle.std.specs.Prelude.{◌≡◌, ℕ, ◌+◌, ◌^◌, ◌<◌, ◌≤◌, length, slice_index, IfOk};
+ghost use Rattle.ra_model.specs.Numbers.{resource_count, machine_count};
+ghost use Rattle.ra_model.specs.Usage.{use_of};
+ghost use Rattle.ra_edit.specs.Keeping.{drafted, tables_with, IsSound};
+ghost use Rattle.ra_edit.specs.MachineCosts.{AreCostsOn};
+
+use crate::lists::Lists;
+use crate::scanning::use_at;
+use ra_base::{Fixed, Machine, NoMemory, Parts, Resource};
+use ra_model::Instance;
+use ra_world::{row_balance, row_load};
+use std::alloc::Global;
+
+/// The load cost and the balance cost of a machine.
+#[derive(Clone, Copy)]
+pub(crate) struct MachineCosts {
+    pub(crate) load: u128,
+    pub(crate) balance: u128,
+}
+
+/// What a machine costs.
+pub(crate) fn costs_on(
+    alloc: Global,
+    inst: &Instance,
+    lists: &Lists,
+    m: Machine,
+) -> Result<MachineCosts, NoMemory>
+    requires sound { IsSound (drafted inst.now.tables lists.now) }
+    requires machine { m.0 < machine_count inst.now.tables }
+    ensures { IfOk result (AreCostsOn (drafted inst.now.tables lists.now) m.0) }
+{
+    let row = use_row(alloc, inst, lists, m)?;
+    Ok(MachineCosts {
+        load: row_load(inst, m, row.as_slice()),
+        balance: row_balance(inst, m, row.as_slice()),
+    })
+}
+
+/// The use of each resource of a machine.
+fn use_row(
+    alloc: Global,
+    inst: &Instance,
+    lists: &Lists,
+    m: Machine,
+) -> Result<Fixed<u64>, NoMemory>
+    requires sound { IsSound (drafted inst.now.tables lists.now) }
+    ensures one_each { IfOk result (λ row. length row.items ≡ resource_count inst.now.tables) }
+    ensures each { IfOk result (λ row. (r : ℕ) → r < resource_count inst.now.tables →
+        slice_index row.items r ≡
+        use_of (tables_with inst.now.tables lists.now) lists.now.current.items m.0 r) }
+{
+    let mut row = Fixed::make(alloc, inst.resources() as usize)?;
+    for r in 0..inst.resources() {
+        row.push(use_at(inst, lists, m, Resource(r)));
+    }
+    Ok(row)
+}
+
+/// A sum in which one term is replaced.
+pub(crate) fn replaced(sum: u128, before: u128, after: u128) -> u128
+    requires counted { before ≤ sum }
+    requires fits { sum + after < 2 ^ 128 }
+    ensures { result + before ≡ sum + after }
+{
+    sum - before + after
+}
+
+/// Five parts with their sum.
+pub(crate) fn summed(
+    load: u128,
+    balance: u128,
+    process: u128,
+    service: u128,
+    machine: u128,
+) -> Parts
+    requires load { load < 2 ^ 120 }
+    requires balance { balance < 2 ^ 120 }
+    requires process { process < 2 ^ 120 }
+    requires service { service < 2 ^ 120 }
+    requires machine { machine < 2 ^ 120 }
+    ensures { result ≡
+        record {
+          load = load;
+          balance = balance;
+          process = process;
+          service = service;
+          machine = machine;
+          total = load + balance + process + service + machine;
+        } }
+{
+    Parts {
+        load,
+        balance,
+        process,
+        service,
+        machine,
+        total: load + balance + process + service + machine,
+    }
+}

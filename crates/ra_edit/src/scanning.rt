@@ -1,0 +1,182 @@
+//! Sums over the processes of some lists.
+ghost use Rattle.std.specs.Prelude.{◌≡◌, ℕ, ◌^◌, ◌<◌, ◌≤◌, length, slice_index};
+ghost use Rattle.ra_model.specs.Assignments.{machine_at, tally};
+ghost use Rattle.ra_model.specs.Limits.{Small};
+ghost use Rattle.ra_model.specs.Numbers.{resource_count, machine_count, service_of, requirement_of};
+ghost use Rattle.ra_model.specs.Services.{of_service, members_at};
+ghost use Rattle.ra_model.specs.Usage.{use_share, use_of, transient_share, transient_of};
+ghost use Rattle.ra_edit.specs.Keeping.{drafted, tables_with, IsSound};
+ghost use Rattle.ra_edit.specs.Spots.{is_there};
+
+use crate::lists::Lists;
+use ra_base::{Fixed, Machine, Process, Resource, Service};
+use ra_model::{Instance, machine_of};
+
+/// Where processes are looked for: on a machine, or on one with a label.
+#[derive(Clone, Copy)]
+pub(crate) enum Spot {
+    OnMachine(Machine),
+    InNeighbourhood(u32),
+    InLocation(u32),
+}
+
+/// How many processes there are.
+#[tactic(auto, using(crate::proofs::ScanLaws::readings))]
+pub(crate) fn processes(inst: &Instance, lists: &Lists) -> u32
+    requires { IsSound (drafted inst.now.tables lists.now) }
+    ensures value { result ≡ length lists.now.rows.items }
+    ensures bound { result ≤ 50000 }
+{
+    lists.rows.len() as u32
+}
+
+/// What a process requires of a resource.
+#[tactic(auto, using(crate::proofs::ScanLaws::readings))]
+pub(crate) fn requirement(inst: &Instance, lists: &Lists, p: Process, r: Resource) -> u32
+    requires sound { IsSound (drafted inst.now.tables lists.now) }
+    requires process { p.0 < length lists.now.rows.items }
+    requires resource { r.0 < resource_count inst.now.tables }
+    ensures { result ≡ requirement_of (tables_with inst.now.tables lists.now) p.0 r.0 }
+{
+    let _within = lists.requirements.len();
+    let place = p.0 as usize * inst.resources() as usize + r.0 as usize;
+    lists.requirements.get(place)
+}
+
+/// The use of a resource of a machine.
+#[tactic(auto, using(ra_base::proofs::Sums::sums), unfolding(ra_model::specs::Assignments::tally))]
+pub(crate) fn use_at(inst: &Instance, lists: &Lists, m: Machine, r: Resource) -> u64
+    requires sound { IsSound (drafted inst.now.tables lists.now) }
+    requires resource { r.0 < resource_count inst.now.tables }
+    ensures value { result ≡
+        use_of (tables_with inst.now.tables lists.now) lists.now.current.items m.0 r.0 }
+    ensures bound { result < 2 ^ 48 }
+{
+    let mut sum: u64 = 0;
+    for p in 0..processes(inst, lists) {
+        sum += u64::from(use_share(inst, lists, Process(p), m, r));
+    }
+    sum
+}
+
+/// What a process uses of a resource of a machine.
+fn use_share(inst: &Instance, lists: &Lists, p: Process, m: Machine, r: Resource) -> u32
+    requires sound { IsSound (drafted inst.now.tables lists.now) }
+    requires process { p.0 < length lists.now.rows.items }
+    requires resource { r.0 < resource_count inst.now.tables }
+    ensures { result ≡ use_share (tables_with inst.now.tables lists.now) m.0 r.0 p.0
+        (machine_at lists.now.current.items p.0) }
+{
+    if machine_of(&lists.current, p).0 == m.0 {
+        requirement(inst, lists, p, r)
+    } else {
+        0
+    }
+}
+
+/// The transient use of a resource of a machine.
+#[tactic(auto, using(ra_base::proofs::Sums::sums), unfolding(ra_model::specs::Assignments::tally))]
+pub(crate) fn transient_at(inst: &Instance, lists: &Lists, m: Machine, r: Resource) -> u64
+    requires sound { IsSound (drafted inst.now.tables lists.now) }
+    requires resource { r.0 < resource_count inst.now.tables }
+    ensures value { result ≡ transient_of (tables_with inst.now.tables lists.now)
+        lists.now.initial.items lists.now.current.items m.0 r.0 }
+    ensures bound { result < 2 ^ 48 }
+{
+    let mut sum: u64 = 0;
+    for p in 0..processes(inst, lists) {
+        sum += u64::from(transient_share(inst, lists, Process(p), m, r));
+    }
+    sum
+}
+
+/// What a process uses of a resource of a machine in between.
+fn transient_share(inst: &Instance, lists: &Lists, p: Process, m: Machine, r: Resource) -> u32
+    requires sound { IsSound (drafted inst.now.tables lists.now) }
+    requires process { p.0 < length lists.now.rows.items }
+    requires resource { r.0 < resource_count inst.now.tables }
+    ensures { result ≡ transient_share (tables_with inst.now.tables lists.now)
+        lists.now.initial.items m.0 r.0 p.0 (machine_at lists.now.current.items p.0) }
+{
+    if machine_of(&lists.initial, p).0 == m.0 {
+        return requirement(inst, lists, p, r);
+    }
+    if machine_of(&lists.current, p).0 == m.0 {
+        requirement(inst, lists, p, r)
+    } else {
+        0
+    }
+}
+
+/// How many processes of a service are at a spot.
+#[tactic(auto, using(ra_base::proofs::Sums::sums), unfolding(ra_model::specs::Assignments::tally))]
+pub(crate) fn members(inst: &Instance, lists: &Lists, s: Service, spot: Spot) -> u32
+    requires sound { IsSound (drafted inst.now.tables lists.now) }
+    ensures value { result ≡ members_at (tables_with inst.now.tables lists.now)
+        lists.now.current.items s.0 (is_there inst.now.tables spot) }
+    ensures bound { result ≤ 50000 }
+{
+    let mut count: u32 = 0;
+    for p in 0..processes(inst, lists) {
+        count += member_share(inst, lists, s, spot, Process(p));
+    }
+    count
+}
+
+/// 1 for a process of a service that is at a spot.
+fn member_share(inst: &Instance, lists: &Lists, s: Service, spot: Spot, p: Process) -> u32
+    requires sound { IsSound (drafted inst.now.tables lists.now) }
+    requires process { p.0 < length lists.now.rows.items }
+    ensures value { result ≡ of_service (tables_with inst.now.tables lists.now) s.0
+        (is_there inst.now.tables spot) p.0 (machine_at lists.now.current.items p.0) }
+    ensures bound { result ≤ 1 }
+{
+    if service_of(inst, lists, p).0 != s.0 {
+        return 0;
+    }
+    if is_there(inst, spot, machine_of(&lists.current, p)) {
+        1
+    } else {
+        0
+    }
+}
+
+/// The service of a process.
+#[tactic(auto, using(crate::proofs::ScanLaws::readings))]
+pub(crate) fn service_of(inst: &Instance, lists: &Lists, p: Process) -> Service
+    requires sound { IsSound (drafted inst.now.tables lists.now) }
+    requires process { p.0 < length lists.now.rows.items }
+    ensures { result.0 ≡ service_of (tables_with inst.now.tables lists.now) p.0 }
+{
+    let _within = lists.rows.len();
+    lists.rows.get(p.0 as usize).service
+}
+
+/// Whether a process on a machine is at a spot.
+fn is_there(inst: &Instance, spot: Spot, at: Machine) -> bool
+    requires { at.0 < machine_count inst.now.tables }
+    ensures { (p : ℕ) → result ≡ is_there inst.now.tables spot p at.0 }
+{
+    match spot {
+        Spot::OnMachine(m) => at.0 == m.0,
+        Spot::InNeighbourhood(label) => inst.neighbourhood(at) == label,
+        Spot::InLocation(label) => inst.location(at) == label,
+    }
+}
+
+/// All numbers of the lists are below 2^32, by their types.
+pub(crate) fn small(inst: &Instance, lists: &Lists)
+    ensures { Small (tables_with inst.now.tables lists.now) }
+{
+    let _numbers = numbers_in(&lists.requirements);
+}
+
+/// The numbers of a table, each below 2^32 by its type.
+fn numbers_in(table: &Fixed<u32>) -> &[u32]
+    ensures same { result.now ≡ table.now.items }
+    ensures small { (k : ℕ) → slice_index table.now.items k < 2 ^ 32 }
+{
+    let numbers = table.as_slice();
+    let _count = numbers.len();
+    numbers
+}
