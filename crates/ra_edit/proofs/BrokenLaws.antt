@@ -1,18 +1,16 @@
 -- An edit breaks what it touches, or nothing.
-use Rattle.std.proofs.Common.{◌≡◌, ◌≢◌, ◌⊎◌, inl, inr, ℕ, zero, suc, ◌+◌, ◌^◌, ◌<◌, ◌≤◌, Bool, true, false, cond, eqb, ltb, ◌&&◌, not, List, length, Option, Some, None, IsTrue, refl, sym, ap, ◌∙◌, subst, ⊎_elim, arith, eq-eqb, ne_eqb, add-one}
-use Rattle.std.proofs.lemmas.Bool.{cases_lt, cases_eq, cases_Bool, cond-true, cond-false, lt-ltb, le-ltb, ltb-false, ltb-true, eqb-true, eqb-false}
+use Rattle.std.proofs.Common.{◌≡◌, ◌≢◌, ◌⊎◌, inl, inr, ℕ, zero, suc, ◌+◌, ◌^◌, ◌<◌, ◌≤◌, Bool, true, false, cond, eqb, ltb, ◌&&◌, List, length, Option, Some, None, IsTrue, refl, sym, ap, ◌∙◌, ⊎_elim, arith, eq-eqb, ne_eqb}
+use Rattle.std.proofs.lemmas.Bool.{cases_lt, cases_eq, cases_Bool, cond-true, cond-false, lt-ltb, le-ltb, ltb-false, eqb-true}
 use Rattle.ra_base.specs.Searches.{or_else, first}
 use Rattle.ra_base.specs.Sums.{one_if, is_named}
 use Rattle.ra_base.specs.declared.ids.Machine.{Machine}
 use Rattle.ra_base.specs.declared.causes.Cause.{Cause}
 use Rattle.ra_base.specs.declared.causes.Cause.TheVariants.{Dependency}
-use Rattle.ra_base.proofs.Searches.{or_else_none, or_else_none_right, first_none, first_more, first_skip, first_none_from, first_same, first_none_at, left_none}
-use Rattle.ra_base.proofs.Named.{is_named_none, is_named_more}
+use Rattle.ra_base.proofs.Searches.{or_else_none, or_else_none_right, first_more, first_skip, first_none_from, first_same, first_none_at}
 use Rattle.ra_model.specs.declared.raw.ProcessRow.{ProcessRow}
 use Rattle.ra_model.specs.declared.raw.Tables.{Tables}
-use Rattle.ra_model.specs.Limits.{WellFormed, Small}
-use Rattle.ra_model.specs.Numbers.{resource_count, machine_count, service_count, process_count, machine_row, resource_row, service_row, process_row, transient_at, capacity_of, spread_of, dependency_count, dependency_start, dependency_end, need_of, need_at, service_of, location_of, neighbourhood_of, closed_at, requirement_of}
-use Rattle.ra_model.specs.Assignments.{IsAssignment, machine_at, tally}
+use Rattle.ra_model.specs.Numbers.{resource_count, machine_count, service_count, process_count, machine_row, resource_row, service_row, process_row, transient_at, capacity_of, spread_of, dependency_count, dependency_start, dependency_end, need_of, need_at, service_of, location_of, neighbourhood_of, closed_at}
+use Rattle.ra_model.specs.Assignments.{machine_at, tally}
 use Rattle.ra_model.specs.Usage.{use_of, transient_of}
 use Rattle.ra_model.specs.Services.{is_of, of_service, members_at, on_machine, in_location, in_neighbourhood, locations_of}
 use Rattle.ra_model.specs.Relations.{depends}
@@ -22,7 +20,7 @@ use Rattle.ra_edit.specs.Drafts.{Drafted, with_processes, instance_of}
 use Rattle.ra_edit.specs.OneMore.{IsSame, OneMore}
 use Rattle.ra_edit.specs.Touched.{far_from, added_breaks, left_alone, retired_breaks, first_of_two, resized_breaks}
 use Rattle.ra_edit.specs.Locality.{AddsAreLocal, RetiresAreLocal, ResizesAreLocal}
-use Rattle.ra_edit.proofs.ShareLaws.{neighbourhood_with, location_with, use_more, transient_more, machine_more, neighbourhood_more, location_more, locations_other, locations_more}
+use Rattle.ra_edit.proofs.ShareLaws.{neighbourhood_with, use_more, transient_more, machine_more, neighbourhood_more, locations_other, locations_more}
 
 -- searches
 
@@ -249,6 +247,7 @@ added_dependency d e p s m more fine mine here s_in = one_dependency d e p s mor
   where
     far_here : (k : ℕ) → far_test (instance_of e) e.current s k p ≡ far_from (instance_of e) e.current s (neighbourhood_of (instance_of e) m) k
     far_here k = rw here refl
+
     each_need : service_dependency (instance_of e) e.current s ≡ first (dependency_count (instance_of e) s) (far_from (instance_of e) e.current s (neighbourhood_of (instance_of e) m))
     each_need = first_same (dependency_count (instance_of e) s) (pair_dependency (instance_of e) e.current s) (far_from (instance_of e) e.current s (neighbourhood_of (instance_of e) m)) (λ k k_in. added_pair d e p s k more fine mine s_in (omega (arith, k_in, dependencies_with e s, ap (λ (i : Tables). dependency_count i s) more.origin)) ∙ far_here k)
 
@@ -269,14 +268,17 @@ pub added_law : AddsAreLocal
 unfolding first_broken added_breaks
 added_law d e p s m more unbroken mine home here s_in m_in =
     let fine : Fine (instance_of d) d.initial d.current = fine_from_unbroken (instance_of d) d.initial d.current unbroken in
-    rw (capacity_only d e m more.origin fine.capacity m_in (λ k r column apart. omega (arith, use_elsewhere d e p k r more column (λ same. apart (sym same ∙ here)))),
-    transient_only d e m m more.origin fine.transient m_in m_in (λ k r column apart _. omega (arith, transient_elsewhere d e p k r more column (λ same. apart (sym same ∙ home)) (λ same. apart (sym same ∙ here)))),
-    first_same_two m (row_transient (instance_of e) e.initial e.current),
-    added_conflict d e p s m more fine.conflict mine here s_in m_in,
-    added_spread d e p (location_of d.origin (machine_at e.current p)) more refl (location_small d.origin (machine_at e.current p)) fine.spread,
-    added_dependency d e p s m more fine.dependency mine here s_in,
-    added_closed d e p more fine.closed (home ∙ sym here),
-    or_else_none, or_else_none_right) refl
+    rw (
+      capacity_only d e m more.origin fine.capacity m_in (λ k r column apart. omega (arith, use_elsewhere d e p k r more column (λ same. apart (sym same ∙ here)))),
+      transient_only d e m m more.origin fine.transient m_in m_in (λ k r column apart _. omega (arith, transient_elsewhere d e p k r more column (λ same. apart (sym same ∙ home)) (λ same. apart (sym same ∙ here)))),
+      first_same_two m (row_transient (instance_of e) e.initial e.current),
+      added_conflict d e p s m more fine.conflict mine here s_in m_in,
+      added_spread d e p (location_of d.origin (machine_at e.current p)) more refl (location_small d.origin (machine_at e.current p)) fine.spread,
+      added_dependency d e p s m more fine.dependency mine here s_in,
+      added_closed d e p more fine.closed (home ∙ sym here),
+      or_else_none,
+      or_else_none_right,
+    ) refl
 
 -- a process less
 
@@ -326,12 +328,12 @@ left_test d e p s u k q more fine u_in k_in q_in mine near_enough = ⊎_elim
     let need = need_with d u k in
     let label = neighbourhood_with d.origin d.rows d.requirements (machine_at d.current q) in
     let some : 0 < in_neighbourhood (instance_of d) d.current (need_of d.origin u k) (neighbourhood_of d.origin (machine_at d.current q)) = ⊎_elim
-        (λ (needs : need_of d.origin u k ≡ s). ⊎_elim
-        (λ (there : neighbourhood_of d.origin (machine_at d.current q) ≡ neighbourhood_of d.origin (machine_at e.current p)). rw (needs, there) (near_enough needs of there))
-        (λ (away : neighbourhood_of d.origin (machine_at d.current q) ≢ neighbourhood_of d.origin (machine_at e.current p)). retired_near d e p s u k q more fine u_in k_in q_in of mine (λ a b. away b))
-        (cases_eq (neighbourhood_of d.origin (machine_at d.current q)) (neighbourhood_of d.origin (machine_at e.current p))))
-        (λ (other : need_of d.origin u k ≢ s). retired_near d e p s u k q more fine u_in k_in q_in of mine (λ a b. other a))
-        (cases_eq (need_of d.origin u k) s) in
+    (λ (needs : need_of d.origin u k ≡ s). ⊎_elim
+    (λ (there : neighbourhood_of d.origin (machine_at d.current q) ≡ neighbourhood_of d.origin (machine_at e.current p)). rw (needs, there) (near_enough needs of there))
+    (λ (away : neighbourhood_of d.origin (machine_at d.current q) ≢ neighbourhood_of d.origin (machine_at e.current p)). retired_near d e p s u k q more fine u_in k_in q_in of mine (λ a b. away b))
+    (cases_eq (neighbourhood_of d.origin (machine_at d.current q)) (neighbourhood_of d.origin (machine_at e.current p))))
+    (λ (other : need_of d.origin u k ≢ s). retired_near d e p s u k q more fine u_in k_in q_in of mine (λ a b. other a))
+    (cases_eq (need_of d.origin u k) s) in
     let here : 0 < in_neighbourhood (instance_of d) d.current (need_of (instance_of d) u k) (neighbourhood_of (instance_of d) (machine_at d.current q)) = rw (need, label) some in
     cond-true _ _ _ member ∙ cause_free _ _ (ne_eqb (in_neighbourhood (instance_of d) d.current (need_of (instance_of d) u k) (neighbourhood_of (instance_of d) (machine_at d.current q))) 0 (λ none. omega (arith, none, here))))
     (λ (other : eqb (service_of (instance_of d) q) u ≡ false). cond-false _ _ _ other)

@@ -1,7 +1,7 @@
 -- A draft and the same draft with one process more.
-use Rattle.std.proofs.Common.{◌≡◌, ◌≢◌, ℕ, suc, ◌+◌, ◌-◌, ◌*◌, ◌<◌, ◌≤◌, List, [], ◌∷◌, ◌++◌, length, take, drop, set, get_or, refl, sym, ap, ◌∙◌, subst, ⊎_elim, arith, length-append, length-take-le, length-drop, add-one, get_or-set_same, get_or-set_other}
+use Rattle.std.proofs.Common.{◌≡◌, ◌≢◌, ℕ, ◌+◌, ◌-◌, ◌*◌, ◌<◌, ◌≤◌, List, [], ◌∷◌, ◌++◌, length, take, drop, set, get_or, refl, sym, ap, ◌∙◌, subst, ⊎_elim, arith, length-append, length-take-le, get_or-set_same, get_or-set_other}
 use Rattle.std.specs.List.{swap_remove}
-use Rattle.std.proofs.Math.Seq.{get_or-append_seam, get_or-append_right}
+use Rattle.std.proofs.Math.Seq.{get_or-append_right}
 use Rattle.std.proofs.lemmas.Bool.{cases_lt, cases_eq}
 use Rattle.std.proofs.lemmas.List.{get_or_append_left, get_or-append-add, get_or-take, get_or-drop, get_or_default}
 use Rattle.ra_base.specs.Sums.{total}
@@ -15,10 +15,10 @@ use Rattle.ra_model.specs.Numbers.{resource_count, process_row, service_of, proc
 use Rattle.ra_model.specs.Assignments.{machine_at}
 use Rattle.ra_edits_read.specs.EditLists.{row_of}
 use Rattle.ra_edit.specs.Drafts.{Drafted, with_processes, instance_of}
-use Rattle.ra_edit.specs.Editing.{process_of, put_row, drop_row, added, retired, resized}
+use Rattle.ra_edit.specs.Editing.{process_of, put_row, drop_row, retired}
 use Rattle.ra_edit.specs.OneMore.{IsSame, OneMore}
 use Rattle.ra_edits_read.proofs.ListLaws.{row_within, row_length}
-use Rattle.ra_edit.proofs.ListLaws.{removed_length, put_length}
+use Rattle.ra_edit.proofs.ListLaws.{removed_length}
 
 -- reads of an instance with other processes
 
@@ -195,14 +195,14 @@ more_retired d h p origin rows initial current cells size first now within =
       sums = λ f g each.
           let last : total n g ≡ total (n - 1) g + g (n - 1) = ap (λ m. total m g) (omega arith) ∙ total_more (n - 1) g in
           let start : total (n - 1) f + g p ≡ total n g = ⊎_elim
-              (λ (here : p ≡ n - 1).
-              let front : total (n - 1) f ≡ total (n - 1) g = total_same (n - 1) f g (λ k left. each k k (omega (arith, few)) (omega (arith, all)) (same k left (λ (e : k ≡ p). omega (arith, e, here)))) in
-              omega (arith, last, front, ap g here))
-              (λ (apart : p ≢ n - 1).
-              let left : p < n - 1 = omega arith in
-              let swapped = total_change (n - 1) p f g left (λ k k_in other. each k k (omega (arith, few)) (omega (arith, all)) (same k k_in other)) in
-              let moved = each p (n - 1) (omega (arith, few)) (omega (arith, all)) (renamed left) in
-              omega (arith, last, swapped, moved))
-              (cases_eq p (n - 1)) in
+          (λ (here : p ≡ n - 1).
+          let front : total (n - 1) f ≡ total (n - 1) g = total_same (n - 1) f g (λ k left. each k k (omega (arith, few)) (omega (arith, all)) (same k left (λ (e : k ≡ p). omega (arith, e, here)))) in
+          omega (arith, last, front, ap g here))
+          (λ (apart : p ≢ n - 1).
+          let left : p < n - 1 = omega arith in
+          let swapped = total_change (n - 1) p f g left (λ k k_in other. each k k (omega (arith, few)) (omega (arith, all)) (same k k_in other)) in
+          let moved = each p (n - 1) (omega (arith, few)) (omega (arith, all)) (renamed left) in
+          omega (arith, last, swapped, moved))
+          (cases_eq p (n - 1)) in
           ap (λ m. total m g) all ∙ sym start ∙ ap (λ m. total m f + g p) (sym few);
     }

@@ -1,7 +1,6 @@
 -- What is read of the lists of a draft.
-use Rattle.std.proofs.Common.{◌≡◌, ◌≢◌, ℕ, ◌+◌, ◌*◌, ◌^◌, ◌<◌, ◌≤◌, lit<, true, false, cond, eqb, ◌&&◌, ◌||◌, List, length, get_or, refl, sym, ap, ◌∙◌, arith, eq-eqb, ne_eqb, Bool}
-use Rattle.std.proofs.lemmas.List.{get_or_read, get_or_default}
-use Rattle.ra_base.specs.Sums.{one_if}
+use Rattle.std.proofs.Common.{◌≡◌, ◌≢◌, ℕ, ◌+◌, ◌*◌, ◌^◌, ◌<◌, lit<, true, false, List, length, get_or, refl, sym, ap, ◌∙◌, arith, eq-eqb, ne_eqb, Bool}
+use Rattle.std.proofs.lemmas.List.{get_or_read}
 use Rattle.ra_base.specs.Tables.{cell}
 use Rattle.ra_base.specs.declared.ids.Machine.{Machine}
 use Rattle.ra_base.proofs.Tables.{place_within, cell_is}
@@ -12,7 +11,6 @@ use Rattle.ra_model.specs.Limits.{Small}
 use Rattle.ra_model.specs.Assignments.{machine_at, tally}
 use Rattle.ra_model.specs.Usage.{use_share, use_of, transient_share, transient_of}
 use Rattle.ra_model.specs.Services.{is_of, of_service, members_at, on_machine, in_location, in_neighbourhood}
-use Rattle.ra_edit.specs.declared.scanning.Spot.{Spot}
 use Rattle.ra_edit.specs.declared.scanning.Spot.TheVariants.{OnMachine, InNeighbourhood, InLocation}
 use Rattle.ra_edit.specs.declared.lists.Lists.{Lists}
 use Rattle.ra_edit.specs.Drafts.{Drafted, with_processes, instance_of}

@@ -1,14 +1,13 @@
 -- What one process more adds to each sum over the processes.
-use Rattle.std.proofs.Common.{◌≡◌, ◌≢◌, ℕ, ◌+◌, ◌*◌, ◌^◌, ◌<◌, ◌≤◌, Bool, true, false, cond, eqb, ltb, ◌&&◌, ◌||◌, List, length, refl, sym, ap, ◌∙◌, subst, ⊎_elim, arith, eq-eqb, ne_eqb}
-use Rattle.std.proofs.lemmas.Bool.{cases_lt, cases_eq, lt-ltb, le-ltb}
-use Rattle.ra_base.specs.Sums.{total, count, one_if}
-use Rattle.ra_base.specs.declared.ids.Machine.{Machine}
+use Rattle.std.proofs.Common.{◌≡◌, ◌≢◌, ℕ, ◌+◌, ◌*◌, ◌^◌, ◌<◌, ◌≤◌, Bool, true, false, cond, eqb, ltb, ◌&&◌, ◌||◌, List, length, refl, sym, ap, ◌∙◌, arith, eq-eqb, ne_eqb}
+use Rattle.std.proofs.lemmas.Bool.{lt-ltb}
+use Rattle.ra_base.specs.Sums.{total, one_if}
 use Rattle.ra_base.proofs.Sums.{total_change, total_term}
 use Rattle.ra_base.proofs.Counts.{count_change, count_same}
 use Rattle.ra_model.specs.declared.raw.ProcessRow.{ProcessRow}
 use Rattle.ra_model.specs.declared.raw.Tables.{Tables}
 use Rattle.ra_model.specs.Limits.{WellFormed}
-use Rattle.ra_model.specs.Numbers.{resource_count, machine_count, service_count, process_count, balance_count, machine_row, resource_row, location_of, neighbourhood_of, service_of, requirement_of, process_cost_of, way_cost_of, process_weight_of, machine_weight_of, capacity_of, safety_of, load_weight_of, balance_row, first_of, second_of, target_of, balance_weight_of}
+use Rattle.ra_model.specs.Numbers.{resource_count, machine_count, process_count, balance_count, machine_row, resource_row, location_of, neighbourhood_of, service_of, requirement_of, process_cost_of, way_cost_of, process_weight_of, machine_weight_of, capacity_of, safety_of, load_weight_of, balance_row, first_of, second_of, target_of, balance_weight_of}
 use Rattle.ra_model.specs.Assignments.{machine_at, tally}
 use Rattle.ra_model.specs.Usage.{use_share, use_of, transient_share, transient_of}
 use Rattle.ra_model.specs.Services.{is_of, of_service, members_at, on_machine, in_location, in_neighbourhood, locations_of, moved_of}
@@ -110,6 +109,7 @@ locations_more d e p s x more mine is within =
   where
     here : in_location (instance_of e) e.current s x ≡ in_location (instance_of d) d.current s x + 1
     here = let h = location_more d e p s x more in let a = eq-eqb (service_of (instance_of e) p) s mine in let b = eq-eqb (location_of d.origin (machine_at e.current p)) x is in let g = rw (a, b) at h in g
+
     elsewhere : (y : ℕ) → y ≢ x → in_location (instance_of e) e.current s y ≡ in_location (instance_of d) d.current s y
     elsewhere y apart = let h = location_more d e p s y more in let a = eq-eqb (service_of (instance_of e) p) s mine in let b = ne_eqb (location_of d.origin (machine_at e.current p)) y (λ same. apart (sym same ∙ is)) in let g = rw (a, b) at h in omega (arith, g)
 
@@ -157,12 +157,12 @@ pub process_more : (d e : Drafted) (p : ℕ) → OneMore d e p → process_cost 
 unfolding process_cost tally process_share process_count with_processes process_weight_of
 process_more d e p more =
     let sums = more.sums
-        (λ k. cond (eqb (machine_at d.current k) (machine_at d.initial k)) 0 (process_cost_of (instance_of d) k))
-        (λ q. cond (eqb (machine_at e.current q) (machine_at e.initial q)) 0 (process_cost_of (instance_of e) q))
-        (λ k q k_in q_in same.
-        ap (λ x. cond (eqb x (machine_at d.initial k)) 0 (process_cost_of (instance_of d) k)) same.here
-        ∙ ap (λ x. cond (eqb (machine_at e.current q) x) 0 (process_cost_of (instance_of d) k)) same.home
-        ∙ ap (λ x. cond (eqb (machine_at e.current q) (machine_at e.initial q)) 0 x) same.cost) in
+    (λ k. cond (eqb (machine_at d.current k) (machine_at d.initial k)) 0 (process_cost_of (instance_of d) k))
+    (λ q. cond (eqb (machine_at e.current q) (machine_at e.initial q)) 0 (process_cost_of (instance_of e) q))
+    (λ k q k_in q_in same.
+    ap (λ x. cond (eqb x (machine_at d.initial k)) 0 (process_cost_of (instance_of d) k)) same.here
+    ∙ ap (λ x. cond (eqb (machine_at e.current q) x) 0 (process_cost_of (instance_of d) k)) same.home
+    ∙ ap (λ x. cond (eqb (machine_at e.current q) (machine_at e.initial q)) 0 x) same.cost) in
     weighted (process_weight_of e.origin) (process_weight_of d.origin) _ _ _ (ap process_weight_of more.origin) sums
   where
     weighted : (v w x y z : ℕ) → v ≡ w → x ≡ y + z → v * x ≡ w * y + w * z
@@ -172,12 +172,12 @@ pub way_more : (d e : Drafted) (p : ℕ) → OneMore d e p → machine_cost (ins
 unfolding machine_cost tally way_share process_count with_processes machine_weight_of way_cost_of machine_count
 way_more d e p more =
     let sums = more.sums
-        (λ k. way_cost_of d.origin (machine_at d.initial k) (machine_at d.current k))
-        (λ q. way_cost_of e.origin (machine_at e.initial q) (machine_at e.current q))
-        (λ k q k_in q_in same.
-        ap (λ x. way_cost_of d.origin x (machine_at d.current k)) same.home
-        ∙ ap (λ x. way_cost_of d.origin (machine_at e.initial q) x) same.here
-        ∙ ap (λ (i : Tables). way_cost_of i (machine_at e.initial q) (machine_at e.current q)) (sym more.origin)) in
+    (λ k. way_cost_of d.origin (machine_at d.initial k) (machine_at d.current k))
+    (λ q. way_cost_of e.origin (machine_at e.initial q) (machine_at e.current q))
+    (λ k q k_in q_in same.
+    ap (λ x. way_cost_of d.origin x (machine_at d.current k)) same.home
+    ∙ ap (λ x. way_cost_of d.origin (machine_at e.initial q) x) same.here
+    ∙ ap (λ (i : Tables). way_cost_of i (machine_at e.initial q) (machine_at e.current q)) (sym more.origin)) in
     weighted (machine_weight_of e.origin) (machine_weight_of d.origin) _ _ _ (ap machine_weight_of more.origin) (sums ∙ ap (λ (i : Tables). total (length d.rows) (λ k. way_cost_of d.origin (machine_at d.initial k) (machine_at d.current k)) + way_cost_of i (machine_at e.initial p) (machine_at e.current p)) more.origin)
   where
     weighted : (v w x y z : ℕ) → v ≡ w → x ≡ y + z → v * x ≡ w * y + w * z

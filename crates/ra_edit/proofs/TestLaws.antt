@@ -1,7 +1,6 @@
 -- What the numbers that were found say of each test.
-use Rattle.std.proofs.Common.{◌≡◌, ◌≢◌, ℕ, zero, suc, ◌<◌, ◌≤◌, Bool, true, false, eqb, ltb, ◌&&◌, List, Option, Some, None, refl, sym, ap, ◌∙◌, arith, lt-ltb, le-ltb, ne_eqb, eq-eqb}
+use Rattle.std.proofs.Common.{◌≡◌, ◌≢◌, ℕ, zero, suc, ◌<◌, ◌≤◌, Bool, true, false, Option, Some, None, refl, sym, ◌∙◌, arith, lt-ltb, le-ltb, ne_eqb, eq-eqb}
 use Rattle.std.proofs.lemmas.Bool.{cond-true, cond-false, and_from, and_left, and_right}
-use Rattle.ra_base.specs.declared.ids.Machine.{Machine}
 use Rattle.ra_base.specs.declared.causes.Cause.{Cause}
 use Rattle.ra_base.specs.declared.causes.Cause.TheVariants.{Capacity, Transient, Conflict, Spread, Dependency}
 use Rattle.ra_model.specs.declared.raw.Tables.{Tables}
@@ -9,10 +8,9 @@ use Rattle.ra_model.specs.Numbers.{resource_row, service_row, machine_row, resou
 use Rattle.ra_model.specs.Usage.{use_of, transient_of}
 use Rattle.ra_model.specs.Services.{on_machine, in_neighbourhood, locations_of}
 use Rattle.ra_model.specs.Broken.{cause_if, capacity_test, row_capacity, transient_test, row_transient, conflict_test, spread_test}
-use Rattle.ra_edit.specs.declared.scanning.Spot.TheVariants.{OnMachine, InNeighbourhood}
 use Rattle.ra_edit.specs.declared.lists.Lists.{Lists}
-use Rattle.ra_edit.specs.Drafts.{with_processes, instance_of}
-use Rattle.ra_edit.specs.Keeping.{drafted, tables_with}
+use Rattle.ra_edit.specs.Drafts.{with_processes}
+use Rattle.ra_edit.specs.Keeping.{tables_with}
 use Rattle.ra_edit.specs.Touched.{far_from, left_alone, first_of_two, resized_breaks}
 use Rattle.ra_base.specs.Searches.{or_else}
 use Rattle.ra_base.proofs.Searches.{or_else_none}

@@ -1,8 +1,7 @@
 -- What is found after an edit is what the edited draft breaks, or what it costs.
-use Rattle.std.proofs.Common.{◌≡◌, ◌≢◌, ℕ, ◌+◌, ◌*◌, ◌^◌, ◌<◌, ◌≤◌, Bool, true, false, cond, eqb, ◌&&◌, List, [], ◌∷◌, ◌++◌, length, get_or, Option, Some, None, refl, sym, ap, ◌∙◌, subst, arith, eq-eqb}
+use Rattle.std.proofs.Common.{◌≡◌, ℕ, ◌+◌, ◌*◌, ◌^◌, ◌<◌, ◌≤◌, Bool, true, false, eqb, ◌&&◌, List, [], ◌∷◌, ◌++◌, length, get_or, None, refl, sym, ap, ◌∙◌, subst, arith, eq-eqb}
 use Rattle.std.proofs.lemmas.Nat.{mul-lt}
-use Rattle.ra_base.specs.Sums.{total, greatest, one_if}
-use Rattle.ra_base.specs.declared.causes.Cause.{Cause}
+use Rattle.ra_base.specs.Sums.{greatest, one_if}
 use Rattle.ra_base.specs.declared.costs.Parts.{Parts}
 use Rattle.std.proofs.Math.Seq.{get_or-append_seam}
 use Rattle.ra_base.specs.declared.ids.Machine.{Machine}
@@ -11,13 +10,12 @@ use Rattle.ra_base.proofs.Greatest.{greatest_same}
 use Rattle.ra_model.specs.declared.raw.ProcessRow.{ProcessRow}
 use Rattle.ra_model.specs.declared.raw.Tables.{Tables}
 use Rattle.ra_model.specs.Limits.{WellFormed, Small}
-use Rattle.ra_model.specs.Numbers.{resource_count, machine_count, service_count, process_count, process_row, service_of, process_cost_of, requirement_of, way_cost_of, process_weight_of, service_weight_of, machine_weight_of}
+use Rattle.ra_model.specs.Numbers.{resource_count, machine_count, service_count, process_count, process_row, service_of, process_cost_of, way_cost_of, process_weight_of, service_weight_of, machine_weight_of}
 use Rattle.ra_model.specs.Assignments.{machine_at, tally}
 use Rattle.ra_model.specs.Usage.{use_of}
 use Rattle.ra_model.specs.Services.{is_of, of_service, members_at, moved_of}
 use Rattle.ra_model.specs.Costs.{load_cost, balance_cost, process_share, process_cost, service_cost, way_share, machine_cost, objective, parts_of}
 use Rattle.ra_model.specs.MachineCosts.{row_load, row_balance}
-use Rattle.ra_model.proofs.InstanceLemmas.{well_formed_with}
 use Rattle.ra_model.proofs.BoundLemmas.{load_under, balance_under, process_under, service_under, machine_under}
 use Rattle.ra_edits_read.specs.declared.edits.Edit.{Edit}
 use Rattle.ra_edits_read.specs.declared.edits.Edit.TheVariants.{Add, Retire, Resize}
@@ -163,8 +161,8 @@ service_same : (d e : Drafted) (p : ℕ) → OneMore d e p → machine_at e.init
 unfolding service_cost
 service_same d e p more home =
     let counts : greatest (service_count (instance_of e)) (moved_of (instance_of e) e.initial e.current) ≡ greatest (service_count (instance_of d)) (moved_of (instance_of d) d.initial d.current) =
-        greatest_same (service_count (instance_of e)) (moved_of (instance_of e) e.initial e.current) (moved_of (instance_of d) d.initial d.current) (λ s s_in. moved_same d e p s more home)
-        ∙ ap (λ n. greatest n (moved_of (instance_of d) d.initial d.current)) (services_both d e more.origin) in
+    greatest_same (service_count (instance_of e)) (moved_of (instance_of e) e.initial e.current) (moved_of (instance_of d) d.initial d.current) (λ s s_in. moved_same d e p s more home)
+    ∙ ap (λ n. greatest n (moved_of (instance_of d) d.initial d.current)) (services_both d e more.origin) in
     rw (weight_both d e more.origin, counts) refl
 
 process_same : (d e : Drafted) (p : ℕ) → OneMore d e p → machine_at e.initial p ≡ machine_at e.current p → process_cost (instance_of e) e.initial e.current ≡ process_cost (instance_of d) d.initial d.current

@@ -11,9 +11,9 @@ ghost use Rattle.ra_edit.specs.SameLists.{AreSameLists};
 
 use crate::base::Base;
 use crate::building::build;
-use crate::verdicts::{Judged, judge};
 use crate::lists::Lists;
 use crate::replies::EditReply;
+use crate::verdicts::{Judged, judge};
 use ra_base::{Assignment, NoMemory, Parts};
 use ra_edits_read::{Edit, Edits};
 use ra_model::Instance;

@@ -13,12 +13,7 @@ use ra_model::Instance;
 
 /// What a process more breaks, which stands on its initial machine.
 #[tactic(auto, using(ra_base::proofs::Searches::choices), unfolding(crate::specs::Touched::added_breaks))]
-pub(crate) fn added_breaks(
-    inst: &Instance,
-    lists: &Lists,
-    s: Service,
-    m: Machine,
-) -> Option<Cause>
+pub(crate) fn added_breaks(inst: &Instance, lists: &Lists, s: Service, m: Machine) -> Option<Cause>
     requires sound { IsSound (drafted inst.now.tables lists.now) }
     requires service { s.0 < service_count inst.now.tables }
     requires machine { m.0 < machine_count inst.now.tables }
@@ -200,13 +195,7 @@ fn far_needs(inst: &Instance, lists: &Lists, s: Service, m: Machine) -> Option<C
 
 /// A service that has no process in a neighbourhood where it is needed.
 #[tactic(auto, using(crate::proofs::TestLaws::needs))]
-fn far_need(
-    inst: &Instance,
-    lists: &Lists,
-    s: Service,
-    need: Service,
-    label: u32,
-) -> Option<Cause>
+fn far_need(inst: &Instance, lists: &Lists, s: Service, need: Service, label: u32) -> Option<Cause>
     requires { IsSound (drafted inst.now.tables lists.now) }
     ensures { (k : ℕ) → need.0 ≡ need_of (tables_with inst.now.tables lists.now) s.0 k →
         result ≡ far_from (tables_with inst.now.tables lists.now) lists.now.current.items s.0 label k }

@@ -6,5 +6,4 @@ pub fn edits_are_local()
     ensures adds { AddsAreLocal }
     ensures retires { RetiresAreLocal }
     ensures resizes { ResizesAreLocal }
-{
-}
+{}

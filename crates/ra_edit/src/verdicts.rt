@@ -45,7 +45,9 @@ pub(crate) fn judge(
 {
     match edit {
         Edit::Add {
-            service, machine, ..
+            service,
+            machine,
+            ..
         } => judge_added(alloc, inst, lists, cost, next, service, machine),
         Edit::Retire { .. } => judge_anew(alloc, inst, base, next),
         Edit::Resize { process } => {
@@ -80,7 +82,13 @@ fn judge_added(
     let load = replaced(cost.load, before.load, after.load);
     let balance = replaced(cost.balance, before.balance, after.balance);
     let way = u128::from(inst.machine_weight()) * u128::from(inst.move_cost(m, m));
-    let cost = summed(load, balance, cost.process, cost.service, cost.machine + way);
+    let cost = summed(
+        load,
+        balance,
+        cost.process,
+        cost.service,
+        cost.machine + way,
+    );
     Ok(Judged::Fine(cost))
 }
 

@@ -2,7 +2,6 @@
 use Rattle.std.proofs.Common.{◌≡◌, ℕ, ◌∙◌, ◌<◌, slice_index, get_or, ap}
 use Rattle.ra_model.specs.Numbers.{resource_count}
 use Rattle.ra_model.specs.Usage.{use_of}
-use Rattle.ra_model.specs.MachineCosts.{row_load, row_balance}
 use Rattle.ra_model.proofs.MachineLemmas.{row_load_same, row_balance_same}
 use Rattle.ra_edit.specs.Keeping.{tables_with}
 use Rattle.ra_edit.proofs.costs.costs_on.Goals as goal

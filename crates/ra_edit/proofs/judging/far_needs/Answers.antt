@@ -2,7 +2,7 @@
 use Rattle.std.proofs.Common.{◌≡◌, ◌<◌, ◌∙◌, sym, ap, arith}
 use Rattle.ra_base.specs.Searches.{first}
 use Rattle.ra_base.proofs.Searches.{first_none, first_more_none, first_found}
-use Rattle.ra_model.specs.Numbers.{dependency_count, neighbourhood_of}
+use Rattle.ra_model.specs.Numbers.{dependency_count}
 use Rattle.ra_edit.specs.Keeping.{tables_with}
 use Rattle.ra_edit.specs.Touched.{far_from}
 use Rattle.ra_edit.proofs.TestLaws.{dependencies_in, label_in, need_same}

@@ -1,5 +1,5 @@
 -- The machines in the order of their numbers.
-use Rattle.std.proofs.Common.{◌≡◌, ◌∙◌, sym, arith}
+use Rattle.std.proofs.Common.{◌∙◌, sym, arith}
 use Rattle.ra_edit.proofs.TestLaws.{resized_up, resized_down}
 use Rattle.ra_edit.proofs.judging.resized_breaks.Goals as goal
 

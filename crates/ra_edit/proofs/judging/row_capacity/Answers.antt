@@ -1,8 +1,8 @@
 -- One resource after another.
-use Rattle.std.proofs.Common.{◌≡◌, ◌<◌, ◌∙◌, sym, ap, arith}
+use Rattle.std.proofs.Common.{◌≡◌, ◌<◌, ◌∙◌, sym, arith}
 use Rattle.ra_base.proofs.Searches.{first_none, first_more_none, first_found}
 use Rattle.ra_model.specs.Numbers.{resource_count}
-use Rattle.ra_model.specs.Broken.{capacity_test, row_capacity}
+use Rattle.ra_model.specs.Broken.{row_capacity}
 use Rattle.ra_edit.specs.Keeping.{tables_with}
 use Rattle.ra_edit.proofs.TestLaws.{resources_in}
 use Rattle.ra_edit.proofs.judging.row_capacity.Goals as goal

@@ -1,5 +1,5 @@
 -- The service and the machine read are those of the process.
-use Rattle.std.proofs.Common.{◌≡◌, ◌∙◌, sym, ap, arith}
+use Rattle.std.proofs.Common.{◌∙◌, sym, ap, arith}
 use Rattle.ra_model.specs.Assignments.{machine_at}
 use Rattle.ra_edit.specs.Keeping.{drafted, tables_with}
 use Rattle.ra_edit.specs.Spots.{is_there}

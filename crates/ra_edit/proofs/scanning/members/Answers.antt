@@ -1,5 +1,5 @@
 -- The count over all processes is that of the definition.
-use Rattle.std.proofs.Common.{◌≡◌, arith}
+use Rattle.std.proofs.Common.{arith}
 use Rattle.ra_edit.specs.Spots.{is_there}
 use Rattle.ra_edit.proofs.ScanLaws.{members_told}
 use Rattle.ra_edit.proofs.scanning.members.Goals as goal

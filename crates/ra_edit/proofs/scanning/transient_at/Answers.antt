@@ -1,5 +1,5 @@
 -- The sum over all processes is that of the definition.
-use Rattle.std.proofs.Common.{◌≡◌, arith}
+use Rattle.std.proofs.Common.{arith}
 use Rattle.ra_edit.proofs.ScanLaws.{transient_told}
 use Rattle.ra_edit.proofs.scanning.transient_at.Goals as goal
 

@@ -1,5 +1,5 @@
 -- The machines read are those of the process.
-use Rattle.std.proofs.Common.{◌≡◌, ◌∙◌, sym, arith}
+use Rattle.std.proofs.Common.{◌∙◌, sym, arith}
 use Rattle.ra_model.specs.Assignments.{machine_at}
 use Rattle.ra_edit.specs.Keeping.{tables_with}
 use Rattle.ra_edit.proofs.ScanLaws.{few, between_home, between_here, between_away}

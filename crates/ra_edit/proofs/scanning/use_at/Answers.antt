@@ -1,5 +1,5 @@
 -- The sum over all processes is that of the definition.
-use Rattle.std.proofs.Common.{◌≡◌, arith}
+use Rattle.std.proofs.Common.{arith}
 use Rattle.ra_edit.proofs.ScanLaws.{use_told}
 use Rattle.ra_edit.proofs.scanning.use_at.Goals as goal
 

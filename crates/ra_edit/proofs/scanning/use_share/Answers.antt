@@ -1,5 +1,5 @@
 -- The machine read is that of the process.
-use Rattle.std.proofs.Common.{◌≡◌, ◌∙◌, sym, arith}
+use Rattle.std.proofs.Common.{◌∙◌, sym, arith}
 use Rattle.ra_model.specs.Assignments.{machine_at}
 use Rattle.ra_edit.specs.Keeping.{tables_with}
 use Rattle.ra_edit.proofs.ScanLaws.{few, use_here, use_away}

@@ -1,5 +1,5 @@
 -- A process that requires something else: what it touches, or what it costs.
-use Rattle.std.proofs.Common.{◌≡◌, ◌∙◌, ◌<◌, length, sym, arith}
+use Rattle.std.proofs.Common.{◌∙◌, ◌<◌, sym, arith}
 use Rattle.ra_model.specs.Numbers.{machine_count}
 use Rattle.ra_edit.specs.Keeping.{drafted}
 use Rattle.ra_edit.proofs.VerdictLaws.{HasParts, parts_told, other_broken, other_parts, load_counted, balance_counted, here_in, home_in}
