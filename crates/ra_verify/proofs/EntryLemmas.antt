@@ -1,5 +1,5 @@
 -- One entry line after another of a report.
-use Rattle.std.proofs.Common.{◌≡◌, ℕ, ◌+◌, ◌-◌, ◌<◌, ◌≤◌, ◌⊎◌, Bool, true, false, cond, eqb, unwrap_or, Result, Ok, Err, IsOk, List, [], ◌∷◌, ◌++◌, length, take, drop, Option, Some, None, IfSome, refl, sym, ap, ◌∙◌, subst, ⊎_elim, arith, take-append-drop, length-take}
+use Rattle.std.proofs.Common.{◌≡◌, ℕ, ◌+◌, ◌-◌, ◌<◌, ◌≤◌, ◌⊎◌, Bool, true, false, cond, eqb, unwrap_or, Result, Ok, Err, IsOk, List, [], ◌∷◌, ◌++◌, length, take, drop, Option, Some, None, IfSome, IfErr, refl, sym, ap, ◌∙◌, subst, ⊎_elim, arith, take-append-drop, length-take}
 use Rattle.std.proofs.lemmas.Bool.{cases_lt}
 use Rattle.std.proofs.lemmas.List.{length_push, take-append-le}
 use Rattle.std.proofs.lemmas.Option.{slice_get_within}
@@ -191,3 +191,15 @@ same_fault a b same = (cc)
 
 pub ok_is : {X : Type 0} (r : Result X VerifyFault) (x : X) → r ≡ Ok x → IsOk r
 ok_is r x is = rw is refl
+
+-- what is answered of a line is a line or that it is wrong
+pub not_end : (r : Result Bool VerifyFault) → (IsOk r → r ≡ Ok true) → r ≡ Ok false → ⊥
+not_end r line is = let both : Ok true ≡ Ok false = sym (line (ok_is r false is)) ∙ is in cc
+
+pub not_fault : {X : Type 0} (r : Result X VerifyFault) (n : ℕ) (Q : Type 0) → IfErr r (λ why. (why ≡ fault.Wrong n) × Q) → r ≡ Err fault.ReadFault → ⊥
+not_fault (Ok x) n Q wrong is = cc
+not_fault (Err why) n Q wrong is = let at = wrong.0 in cc
+
+pub not_memory : {X : Type 0} (r : Result X VerifyFault) (n : ℕ) (Q : Type 0) → IfErr r (λ why. (why ≡ fault.Wrong n) × Q) → r ≡ Err fault.NoMemory → ⊥
+not_memory (Ok x) n Q wrong is = cc
+not_memory (Err why) n Q wrong is = let at = wrong.0 in cc

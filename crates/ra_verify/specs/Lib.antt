@@ -3,3 +3,4 @@ pub mod Laws
 pub mod Checking
 pub mod Judging
 pub mod Reading
+pub mod Verdicts

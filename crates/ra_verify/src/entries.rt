@@ -1,12 +1,11 @@
-ghost use Rattle.std.specs.Prelude.{◌≡◌, ◌≢◌, ◌+◌, ◌*◌, ◌<◌, ◌≤◌, ◌++◌, ℕ, List, [], Ok, Err, true, false, length, IfSome, IfErr, IsOk, OnOk};
-ghost use Rattle.ra_io.specs.Faults.{Rose};
-ghost use Rattle.ra_lines.specs.Lines.{lines_of};
+ghost use Rattle.std.specs.Prelude.{◌≡◌, ◌≢◌, ◌+◌, ◌*◌, ◌≤◌, ◌++◌, ℕ, List, [], Ok, true, length, IfSome, IfErr, IsOk};
+ghost use Rattle.ra_io.specs.Outside.{reading};
 ghost use Rattle.ra_lines.specs.Reading.{Reads};
 ghost use Rattle.ra_journal.specs.declared.entries.Entry.{Entry as Recorded};
 ghost use Rattle.ra_report.specs.JournalTexts.{entry_line};
-ghost use Rattle.ra_verify.specs.Checking.{entries_in, IsOpen, MayFollow, IsSameRun, HasMore, HasTakenLine};
-ghost use Rattle.ra_verify.specs.Reading.{AreLines, AreFirst, AreRead, IsWrongNext};
-ghost use Rattle.ra_verify.specs.WrongLines.{AreAllRight};
+ghost use Rattle.ra_verify.specs.Checking.{entries_in, IsOpen, MayFollow, IsSameRun, HasTakenLine};
+ghost use Rattle.ra_verify.specs.Reading.{AreLines, AreFirst};
+ghost use Rattle.ra_verify.specs.Verdicts.{AreReadBy, ReadsEntries, ReadsEntry};
 ghost use Rattle.ra_verify.specs.declared.faults.VerifyFault.TheVariants as fault;
 
 use crate::checker::Checker;
@@ -33,21 +32,8 @@ pub(crate) fn read_rest<F: Files>(
     requires room { line.old.room ≡ LONGEST_LINE }
     requires ready { IsOpen checker.old }
     requires none { entries_in checker.old ≡ [] }
-    ensures right { IfSome (F.held files.old reader.old.name) (λ bytes. OnOk result
-        (AreAllRight checker.old.journal.inst.now.tables checker.old.journal.a0.now.items
-        checker.old.journal.lots.now bytes (entries_in checker.new))) }
-    ensures lines { IfSome (F.held files.old reader.old.name) (λ bytes. OnOk result
-        (length (lines_of bytes) ≡ lines + length (entries_in checker.new))) }
-    ensures wrong { IfSome (F.held files.old reader.old.name) (λ bytes. (n : ℕ)
-        → result ≡ Err (fault.Wrong n) → (h : List Recorded) ×
-        IsWrongNext checker.old.journal.inst.now.tables checker.old.journal.a0.now.items
-        checker.old.journal.lots.now bytes h n) }
-    ensures fault { result ≡ Err fault.ReadFault →
-        Rose (F.faults files.old reader.old.name) (F.faults files.new reader.old.name) }
-    ensures memory { result ≢ Err fault.NoMemory }
-    ensures same { IsSameRun checker.old checker.new }
-    ensures kept { (other : List ℕ) → F.held files.new other ≡ F.held files.old other }
-    ensures never_fall { (other : List ℕ) → F.faults files.old other ≤ F.faults files.new other }
+    ensures { ReadsEntries (reading F.Files files.old files.new) reader.old.name lines
+        checker.old checker.new result }
 {
     if lines == 10 {
         read_entries(files, reader, line, checker)
@@ -70,21 +56,8 @@ fn read_entries<F: Files>(
     requires room { line.old.room ≡ LONGEST_LINE }
     requires ready { IsOpen checker.old }
     requires none { entries_in checker.old ≡ [] }
-    ensures right { IfSome (F.held files.old reader.old.name) (λ bytes. OnOk result
-        (AreAllRight checker.old.journal.inst.now.tables checker.old.journal.a0.now.items
-        checker.old.journal.lots.now bytes (entries_in checker.new))) }
-    ensures wrong { IfSome (F.held files.old reader.old.name) (λ bytes. (n : ℕ)
-        → result ≡ Err (fault.Wrong n) → (h : List Recorded) ×
-        IsWrongNext checker.old.journal.inst.now.tables checker.old.journal.a0.now.items
-        checker.old.journal.lots.now bytes h n) }
-    ensures lines { IfSome (F.held files.old reader.old.name) (λ bytes. OnOk result
-        (length (lines_of bytes) ≡ 10 + length (entries_in checker.new))) }
-    ensures fault { result ≡ Err fault.ReadFault →
-        Rose (F.faults files.old reader.old.name) (F.faults files.new reader.old.name) }
-    ensures memory { result ≢ Err fault.NoMemory }
-    ensures same { IsSameRun checker.old checker.new }
-    ensures kept { (other : List ℕ) → F.held files.new other ≡ F.held files.old other }
-    ensures never_fall { (other : List ℕ) → F.faults files.old other ≤ F.faults files.new other }
+    ensures { ReadsEntries (reading F.Files files.old files.new) reader.old.name 10
+        checker.old checker.new result }
 {
     while read_entry(files, reader, line, checker)? {}
     Ok(())
@@ -99,32 +72,14 @@ fn read_entry<F: Files>(
 ) -> Result<bool, VerifyFault>
     requires reads { Reads (F.held files.old reader.old.name) reader.old }
     requires read { IfSome (F.held files.old reader.old.name) (λ bytes.
-        AreRead checker.old.journal.inst.now.tables checker.old.journal.a0.now.items
-        checker.old.journal.lots.now bytes reader.old.place (entries_in checker.old)) }
+        AreReadBy checker.old bytes reader.old.place checker.old) }
     requires near { reader.old.place ≤ HEAD_BYTES + LONGEST_LINE * length (entries_in checker.old) }
     requires room { line.old.room ≡ LONGEST_LINE }
     requires ready { IsOpen checker.old }
-    ensures reads { Reads (F.held files.new reader.new.name) reader.new }
-    ensures more { result ≡ Ok true → HasMore checker.old checker.new }
-    ensures read { IfSome (F.held files.old reader.old.name) (λ bytes. result ≡ Ok true →
-        AreRead checker.old.journal.inst.now.tables checker.old.journal.a0.now.items
-        checker.old.journal.lots.now bytes reader.new.place (entries_in checker.new)) }
+    ensures entry { ReadsEntry (reading F.Files files.old files.new) reader.old reader.new
+        checker.old checker.new result }
     ensures near { reader.new.place ≤ reader.old.place + LONGEST_LINE }
-    ensures none { result ≡ Ok false → checker.new ≡ checker.old }
-    ensures end { IfSome (F.held files.old reader.old.name) (λ bytes. result ≡ Ok false →
-        length (lines_of bytes) ≡ 10 + length (entries_in checker.old)) }
-    ensures wrong { IfSome (F.held files.old reader.old.name) (λ bytes. (n : ℕ)
-        → result ≡ Err (fault.Wrong n) →
-        IsWrongNext checker.old.journal.inst.now.tables checker.old.journal.a0.now.items
-        checker.old.journal.lots.now bytes (entries_in checker.old) n) }
-    ensures fault { result ≡ Err fault.ReadFault →
-        Rose (F.faults files.old reader.old.name) (F.faults files.new reader.old.name) }
-    ensures memory { result ≢ Err fault.NoMemory }
     ensures room { line.new.room ≡ line.old.room }
-    ensures same { IsSameRun checker.old checker.new }
-    ensures name { reader.new.name ≡ reader.old.name }
-    ensures kept { (other : List ℕ) → F.held files.new other ≡ F.held files.old other }
-    ensures never_fall { (other : List ℕ) → F.faults files.old other ≤ F.faults files.new other }
 {
     line.clear();
     match reader.next(files, LONGEST_LINE - 1, line)? {

@@ -1,9 +1,8 @@
-ghost use Rattle.std.specs.Prelude.{◌≡◌, ◌≢◌, ◌+◌, ◌<◌, ◌≤◌, ℕ, List, [], Err, Some, None, length, IfSome, IfOk};
-ghost use Rattle.ra_io.specs.Faults.{Rose};
+ghost use Rattle.std.specs.Prelude.{◌≡◌, ◌≢◌, ◌≤◌, [], IfOk};
+ghost use Rattle.ra_io.specs.Outside.{reading};
 ghost use Rattle.ra_lines.specs.Reading.{Reads};
-ghost use Rattle.ra_verify.specs.Reading.{IsHead};
-ghost use Rattle.ra_verify.specs.WrongLines.{most_bytes, first_over_long};
-ghost use Rattle.ra_verify.specs.declared.faults.VerifyFault.TheVariants as fault;
+ghost use Rattle.ra_verify.specs.Verdicts.{ReadsHead};
+ghost use Rattle.ra_verify.specs.WrongLines.{most_bytes};
 
 use crate::faults::VerifyFault;
 use ra_base::Fixed;
@@ -23,19 +22,9 @@ pub(crate) fn read_head<F: Files>(
     requires start { reader.old.place ≡ 0 }
     requires empty { head.old.items ≡ [] }
     requires room { head.old.room ≡ HEAD_BYTES }
-    ensures reads { Reads (F.held files.new reader.new.name) reader.new }
-    ensures head { IfSome (F.held files.old reader.old.name) (λ bytes.
-        IfOk result (λ n. IsHead bytes reader.new.place n head.new.items)) }
-    ensures long { IfSome (F.held files.old reader.old.name) (λ bytes.
-        (n : ℕ) → result ≡ Err (fault.Wrong n) → first_over_long bytes ≡ Some n) }
-    ensures fault { result ≡ Err fault.ReadFault →
-        Rose (F.faults files.old reader.old.name) (F.faults files.new reader.old.name) }
-    ensures memory { result ≢ Err fault.NoMemory }
-    ensures few { IfOk result (λ n. n ≤ 10) }
+    ensures head { ReadsHead (reading F.Files files.old files.new) reader.old reader.new
+        head.new.items result }
     ensures near { IfOk result (λ n. reader.new.place ≤ HEAD_BYTES) }
-    ensures name { reader.new.name ≡ reader.old.name }
-    ensures kept { (other : List ℕ) → F.held files.new other ≡ F.held files.old other }
-    ensures never_fall { (other : List ℕ) → F.faults files.old other ≤ F.faults files.new other }
 {
     for n in 0..10 {
         match reader.next(files, most_bytes(n), head)? {

@@ -1,13 +1,12 @@
-ghost use Rattle.std.specs.Prelude.{◌≡◌, ◌≤◌, ℕ, List, [], Option, None, Some, Err, IfSome, IfOk};
+ghost use Rattle.std.specs.Prelude.{◌≡◌, ℕ, List, [], Option, None, IfOk};
 ghost use Rattle.ra_bounds.specs.PinnedBounds.{pinned_bound_of};
-ghost use Rattle.ra_io.specs.Faults.{Rose};
+ghost use Rattle.ra_io.specs.Outside.{reading};
 ghost use Rattle.ra_model.specs.Assignments.{IsAssignment};
 ghost use Rattle.ra_model.specs.Broken.{first_broken};
 ghost use Rattle.ra_model.specs.Costs.{parts_of};
 ghost use Rattle.ra_lines.specs.Reading.{Reads};
 ghost use Rattle.ra_topology.specs.Fits.{IsTopologyOf};
-ghost use Rattle.ra_verify.specs.WrongLines.{IsFirstWrong, IsReport};
-ghost use Rattle.ra_verify.specs.declared.faults.VerifyFault.TheVariants as fault;
+ghost use Rattle.ra_verify.specs.Verdicts.{TellsVerdict};
 
 use crate::checker::Checker;
 use crate::checking::check;
@@ -46,21 +45,8 @@ pub fn verify<'a, F: Files>(
     requires topology { IsTopologyOf topo.now inst.now.tables }
     requires unbroken { first_broken inst.now.tables a0.now.items a0.now.items ≡ None }
     requires parts { start ≡ parts_of inst.now.tables a0.now.items a0.now.items }
-
-    // Where the bytes of the report are told: it is accepted where no line is wrong, and it is the report of a legal whole
-    // journal with so many entries; and else the first wrong line is told.
-    ensures none_wrong { IfSome (F.held files.old name.now) (λ bytes. IfOk result (λ n.
-        IsFirstWrong inst.now.tables a0.now.items lots.now bytes None)) }
-    ensures report { IfSome (F.held files.old name.now) (λ bytes. IfOk result (λ n.
-        IsReport inst.now.tables a0.now.items lots.now bytes n)) }
-    ensures wrong { IfSome (F.held files.old name.now) (λ bytes. (n : ℕ)
-        → result ≡ Err (fault.Wrong n) →
-        IsFirstWrong inst.now.tables a0.now.items lots.now bytes (Some n)) }
-
-    ensures fault { result ≡ Err fault.ReadFault →
-        Rose (F.faults files.old name.now) (F.faults files.new name.now) }
-    ensures kept { (other : List ℕ) → F.held files.new other ≡ F.held files.old other }
-    ensures never_fall { (other : List ℕ) → F.faults files.old other ≤ F.faults files.new other }
+    ensures { TellsVerdict inst.now.tables a0.now.items lots.now
+        (reading F.Files files.old files.new) name.now result }
 {
     let bound = bound_from(alloc, inst, a0)?;
     let mut checker = Checker::make(alloc, inst, topo, a0, start, lots)?;

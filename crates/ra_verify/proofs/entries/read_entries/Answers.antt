@@ -9,7 +9,7 @@ use Rattle.ra_verify.proofs.CheckerLemmas.{more_smaller}
 use Rattle.ra_verify.proofs.entries.read_entries.Goals as goal
 
 pub loop-smaller : goal.loop-smaller
-loop-smaller g c = more_smaller c.loop.checker c.read_entry.new.checker (c.in_ok-read_entry.ensures.more (ap Ok c.if-branch.true)) c.in_ok-read_entry.ensures.same
+loop-smaller g c = more_smaller c.loop.checker c.read_entry.new.checker (c.in_ok-read_entry.ensures.entry.more (ap Ok c.if-branch.true)) c.in_ok-read_entry.ensures.entry.same
 
 pub loop-init : goal.loop-init
 loop-init g c =
@@ -29,18 +29,18 @@ loop-init g c =
 pub loop-preserved : goal.loop-preserved
 loop-preserved g c =
     let l = c.loop in
-    let e = c.in_ok-read_entry.ensures in
+    let e = c.in_ok-read_entry.ensures.entry in
     let more = e.more (ap Ok c.if-branch.true) in
     let told = ap (g.F.Files.held l.files) l.invariant.name ∙ l.invariant.kept c.args.reader.now.name in
     let run = same_journal l.checker c.read_entry.new.checker e.same in
     let j = l.checker.journal in
     record {
       reads = e.reads;
-      name = e.name ∙ l.invariant.name;
-      kept = λ other. e.kept other ∙ l.invariant.kept other;
-      never_fell = λ other. le_trans (l.invariant.never_fell other) (e.never_fall other);
-      near = omega (arith, e.near, l.invariant.near, ap (λ (x : List Entry). length x) more.taken.entries, length_push (entries_in l.checker) more.entry);
-      room = e.room ∙ l.invariant.room;
+      name = e.called ∙ l.invariant.name;
+      kept = λ other. e.leaves.kept other ∙ l.invariant.kept other;
+      never_fell = λ other. le_trans (l.invariant.never_fell other) (e.leaves.never_fall other);
+      near = omega (arith, c.in_ok-read_entry.ensures.near, l.invariant.near, ap (λ (x : List Entry). length x) more.taken.entries, length_push (entries_in l.checker) more.entry);
+      room = c.in_ok-read_entry.ensures.room ∙ l.invariant.room;
       ready = more.taken.ready;
       same = record { instance = e.same.instance ∙ l.invariant.same.instance; initial = e.same.initial ∙ l.invariant.same.initial; lots = e.same.lots ∙ l.invariant.same.lots };
       read = rw (run.instance, run.initial, run.lots) (told_map (g.F.Files.held c.args.files.now c.args.reader.now.name) _ (λ bytes. AreRead j.inst.now.tables j.a0.now.items j.lots.now bytes c.read_entry.new.reader.place (entries_in c.read_entry.new.checker)) (λ bytes said. said (ap Ok c.if-branch.true)) (rw told at e.read));

@@ -1,4 +1,5 @@
-use Rattle.std.proofs.Common.{ℕ, ◌+◌, List, length, refl, ap, ◌∙◌, arith}
+use Rattle.std.proofs.Common.{ℕ, ◌+◌, List, length, refl, ap, ◌∙◌, le_trans, arith}
+use Rattle.ra_verify.proofs.CheckLemmas.{over_all}
 use Rattle.ra_verify.proofs.HeadLemmas.{told_start, told_line, told_last, told_end, told_long, long_told, early_more, late_more}
 use Rattle.ra_verify.proofs.head.read_head.Goals as goal
 
@@ -35,16 +36,49 @@ pub returns-in-Last-clause-head : goal.returns-in-Last-clause-head
 returns-in-Last-clause-head g c =
     let l = c.loop-n in
     let e = c.in_ok-next.ensures in
-    told_last (g.F.Files.held c.args.files.now c.args.reader.now.name) (g.F.Files.held l.files l.reader.name) l.reader.place c.next.new.self.place l.n c.most_bytes.result l.head.items c.next.new.line.items c.in_ok-next.field-0 (ap (g.F.Files.held l.files) l.invariant.name ∙ l.invariant.kept c.args.reader.now.name) e.goes_on c.loop-n-test.true c.most_bytes.ensures.value c.in-Last.is l.invariant.so_far e.given e.next
+    let told = g.F.Files.held c.args.files.now c.args.reader.now.name in
+    let same = ap (g.F.Files.held l.files) l.invariant.name ∙ l.invariant.kept c.args.reader.now.name in
+    record {
+      reads = e.reads;
+      is = told_last told (g.F.Files.held l.files l.reader.name) l.reader.place c.next.new.self.place l.n c.most_bytes.result l.head.items c.next.new.line.items c.in_ok-next.field-0 same e.goes_on c.loop-n-test.true c.most_bytes.ensures.value c.in-Last.is l.invariant.so_far e.given e.next;
+      long = over_all told (λ bytes n is. absurd (cc));
+      fault = λ is. absurd (cc);
+      memory = λ is. cc;
+      few = omega (arith, c.loop-n-test.true);
+      called = e.name ∙ l.invariant.name;
+      leaves = record { kept = λ other. e.kept other ∙ l.invariant.kept other; never_fall = λ other. le_trans (l.invariant.never_fell other) (e.never_fall other) };
+    }
 
 pub returns-in-End-clause-head : goal.returns-in-End-clause-head
 returns-in-End-clause-head g c =
     let l = c.loop-n in
     let e = c.in_ok-next.ensures in
-    told_end (g.F.Files.held c.args.files.now c.args.reader.now.name) (g.F.Files.held l.files l.reader.name) l.reader.place c.next.new.self.place l.n c.most_bytes.result l.head.items c.next.new.line.items c.in_ok-next.field-0 (ap (g.F.Files.held l.files) l.invariant.name ∙ l.invariant.kept c.args.reader.now.name) e.goes_on c.loop-n-test.true c.in-End.is l.invariant.so_far e.given e.next
+    let told = g.F.Files.held c.args.files.now c.args.reader.now.name in
+    let same = ap (g.F.Files.held l.files) l.invariant.name ∙ l.invariant.kept c.args.reader.now.name in
+    record {
+      reads = e.reads;
+      is = told_end told (g.F.Files.held l.files l.reader.name) l.reader.place c.next.new.self.place l.n c.most_bytes.result l.head.items c.next.new.line.items c.in_ok-next.field-0 same e.goes_on c.loop-n-test.true c.in-End.is l.invariant.so_far e.given e.next;
+      long = over_all told (λ bytes n is. absurd (cc));
+      fault = λ is. absurd (cc);
+      memory = λ is. cc;
+      few = omega (arith, c.loop-n-test.true);
+      called = e.name ∙ l.invariant.name;
+      leaves = record { kept = λ other. e.kept other ∙ l.invariant.kept other; never_fall = λ other. le_trans (l.invariant.never_fell other) (e.never_fall other) };
+    }
 
-pub returns-in-Long-clause-long : goal.returns-in-Long-clause-long
-returns-in-Long-clause-long g c =
+pub returns-in-Long-clause-head : goal.returns-in-Long-clause-head
+returns-in-Long-clause-head g c =
     let l = c.loop-n in
     let e = c.in_ok-next.ensures in
-    long_told (g.F.Files.held c.args.files.now c.args.reader.now.name) (l.n + 1) (told_long (g.F.Files.held c.args.files.now c.args.reader.now.name) (g.F.Files.held l.files l.reader.name) l.reader.place c.next.new.self.place l.n c.most_bytes.result l.head.items c.in_ok-next.field-0 (ap (g.F.Files.held l.files) l.invariant.name ∙ l.invariant.kept c.args.reader.now.name) c.loop-n-test.true c.most_bytes.ensures.value c.in-Long.is l.invariant.so_far e.next)
+    let told = g.F.Files.held c.args.files.now c.args.reader.now.name in
+    let same = ap (g.F.Files.held l.files) l.invariant.name ∙ l.invariant.kept c.args.reader.now.name in
+    record {
+      reads = e.reads;
+      is = over_all told (λ bytes. tt);
+      long = long_told told (l.n + 1) (told_long told (g.F.Files.held l.files l.reader.name) l.reader.place c.next.new.self.place l.n c.most_bytes.result l.head.items c.in_ok-next.field-0 same c.loop-n-test.true c.most_bytes.ensures.value c.in-Long.is l.invariant.so_far e.next);
+      fault = λ is. absurd (cc);
+      memory = λ is. cc;
+      few = tt;
+      called = e.name ∙ l.invariant.name;
+      leaves = record { kept = λ other. e.kept other ∙ l.invariant.kept other; never_fall = λ other. le_trans (l.invariant.never_fell other) (e.never_fall other) };
+    }
