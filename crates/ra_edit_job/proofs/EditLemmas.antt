@@ -1,5 +1,5 @@
 -- How `edit` ends, from how its stages end.
-use Rattle.std.proofs.Common.{◌≡◌, ◌≢◌, ◌⊎◌, ℕ, ◌≤◌, List, length, Option, Some, None, IfSome, IsSome, inl, inr, ⊎_elim, refl, sym, ◌∙◌, ap, subst}
+use Rattle.std.proofs.Common.{◌≡◌, ◌≢◌, ◌⊎◌, ℕ, ◌≤◌, List, length, Option, Some, None, IfSome, IsSome, Result, inl, inr, ⊎_elim, refl, sym, ◌∙◌, ap, subst}
 use Rattle.ra_base.specs.declared.causes.Cause.{Cause}
 use Rattle.ra_base.specs.declared.ids.Machine.{Machine}
 use Rattle.ra_base.specs.Searches.{first}
@@ -24,6 +24,7 @@ use Rattle.ra_model.proofs.BrokenLemmas.{unbroken_from_feasible}
 use Rattle.ra_model_read.specs.FieldOrder.{joined, resource_numbers, machine_numbers, service_numbers, process_numbers}
 use Rattle.ra_model_read.specs.Lists.{lists_of}
 use Rattle.ra_trial.specs.ModelTexts.{group_text, resource_text, machine_text, service_text, process_text, balance_text, weights_text, model_text}
+use Rattle.ra_io.specs.Outside.{Reading, Took}
 use Rattle.ra_jobs.specs.declared.refusals.File.TheVariants as file
 use Rattle.ra_jobs.specs.declared.refusals.Refusal.{Refusal}
 use Rattle.ra_jobs.specs.declared.refusals.Refusal.TheVariants.{Read, Model, Closed, Initial, Changed, Edits, InitialBroken, ChangedBroken, Write, Memory}
@@ -31,19 +32,24 @@ use Rattle.ra_jobs.specs.declared.status.Status.{Status}
 use Rattle.ra_jobs.specs.declared.status.Status.TheVariants.{Done, Infeasible, BadEdits, NoMemory}
 use Rattle.ra_jobs.specs.Comes.{KnownTo}
 use Rattle.ra_jobs.specs.Complete.{NoFault}
-use Rattle.ra_jobs.specs.Ends.{Ends}
+use Rattle.ra_jobs.specs.Commands.{over}
+use Rattle.ra_jobs.specs.Ends.{Does, Tries, Finishes, Leaves}
 use Rattle.ra_jobs.specs.Files.{Held, Faults, Names, name_of, Accepts, InstanceIs, edit_names}
+use Rattle.ra_jobs.specs.Lines.{refusal_line}
+use Rattle.ra_jobs.specs.Output.{Output, BrokeOff, Put}
 use Rattle.ra_jobs.specs.Refusals.{Says, CanTell, InitialBreaks, ChangedBreaks}
 use Rattle.ra_jobs.specs.Stages.{JudgeSays, ListsSay, ReadsLists}
 use Rattle.ra_jobs.specs.Statuses.{status_of}
 use Rattle.ra_jobs.proofs.BareLemmas.{bare}
 use Rattle.ra_jobs.proofs.ComesLemmas.{Listed, told_of}
 use Rattle.ra_jobs.proofs.CompleteLemmas.{is_done, complete, contradiction}
+use Rattle.ra_jobs.proofs.DoesLemmas.{does_so, memory_refused}
+use Rattle.ra_jobs.proofs.EndLemmas.{Ends, EndsOver, finished, left_so}
 use Rattle.ra_jobs.proofs.MeaningLemmas.{no_model, no_closed, no_initial, no_changed, no_initial_break, no_changed_break, instances_same}
 use Rattle.ra_jobs.proofs.RowLemmas.{raw_of, bare_raw, raw_same}
 use Rattle.ra_jobs.proofs.StageLemmas.{rose_later, can_tell, says_more}
 use Rattle.ra_edit_job.specs.EditedTexts.{model_part, edited_lines, edited_text}
-use Rattle.ra_edit_job.specs.Editing.{left_of, text_left, edits_output, IsEdited, IsTaken, Edited, EditsRefused, EditsAccepted, EditOwn, EditComes, AreEditable, edits_as, EditsSay, HasEdits, EditSays, OverSays}
+use Rattle.ra_edit_job.specs.Editing.{left_of, text_left, edits_output, IsEdited, IsTaken, Edited, EditsRefused, EditsAccepted, EditOwn, EditComes, AreEditable, edits_as, EditsSay, HasEdits, EditSays, OverSays, editing}
 
 -- ---- the text of instances with the same lists
 
@@ -320,9 +326,26 @@ edit_comes {held} {before} {now} {tells} {out_same} {err_same} {status} model cl
       };
     }
 
+pub edit_so : (model : List ℕ) (closed : Option (List ℕ)) (initial current edits : List ℕ) (files : Reading) (out err : Output) (ended : Result (Unit {0}) Refusal) (status : Status) → Tries (over (editing (edit_names model closed initial current edits))) files out ended → Finishes (edit_names model closed initial current edits) ended err status → Does (over (editing (edit_names model closed initial current edits))) files out err status
+edit_so model closed initial current edits files out err ended status tries finishes =
+    let names = edit_names model closed initial current edits in
+    let c = editing names in
+    let prints : List ℕ → Type 0 = Took out.sink in
+    let breaks : List ℕ → Type 0 = BrokeOff out.sink in
+    let ends : EndsOver c files out err status = finished c files out err ended status tries finishes in
+    does_so c files out err status ends
+    (edited_listed files.held names prints)
+    (own_listed files.held names breaks)
+    (edit_comes model closed initial current edits prints breaks ends)
+    (λ editable sound whole. complete_edits ends editable sound (λ text broken. whole broken.1))
+    (left_so c files out err ended status tries finishes)
+
 -- where memory was refused before the words were read
 pub edit_not : (held : Held) (names : Names) (before now : Faults) (status : Status) → status ≡ NoMemory → EditComes held names before now status
 edit_not held names before now status is = record {
   bad_edits = record { only = λ e. absurd (let both : NoMemory ≡ BadEdits = sym is ∙ e in cc); always = λ known cause. inr is };
   infeasible = record { only = λ e. absurd (let both : NoMemory ≡ Infeasible = sym is ∙ e in cc); always = λ known cause. inr is };
 }
+
+pub edit_memory : (names : Names) (files : Reading) (out err : Output) (status : Status) → status ≡ NoMemory → ((names : Names) → Put err.sink (refusal_line names Memory)) → out.same → Leaves files out err → Does (over (editing names)) files out err status
+edit_memory names files out err status is line same leaves = memory_refused (editing names) files out err status is line same leaves (edit_not files.held names files.before files.after status is) (inr is)

@@ -1,5 +1,5 @@
 -- `edit`: processes are added, retired and resized.
-use Rattle.std.specs.Prelude.{◌≡◌, ◌⊎◌, ℕ, List, length, Some, None, IfSome, IsSome}
+use Rattle.std.specs.Prelude.{◌≡◌, ◌⊎◌, ℕ, List, length, Option, Some, None, IfSome, IsSome}
 use Rattle.ra_base.specs.declared.causes.Cause.{Cause}
 use Rattle.ra_base.specs.declared.ids.Machine.{Machine}
 use Rattle.ra_edit.specs.Drafts.{Drafted, draft_of, instance_of}
@@ -18,10 +18,11 @@ use Rattle.ra_jobs.specs.declared.refusals.File.TheVariants as file
 use Rattle.ra_jobs.specs.declared.refusals.Refusal.{Refusal}
 use Rattle.ra_jobs.specs.declared.refusals.Refusal.TheVariants.{Read, Edits, InitialBroken, ChangedBroken, Write, Memory}
 use Rattle.ra_jobs.specs.declared.status.Status.{Status}
-use Rattle.ra_jobs.specs.declared.status.Status.TheVariants.{BadEdits, Infeasible}
+use Rattle.ra_jobs.specs.declared.status.Status.TheVariants.{Done, BadEdits, Infeasible, NoMemory}
 use Rattle.ra_jobs.specs.Comes.{Exactly, KnownTo}
+use Rattle.ra_jobs.specs.Commands.{Command, OverFiles, over}
 use Rattle.ra_jobs.specs.Complete.{AreValid}
-use Rattle.ra_jobs.specs.Files.{Held, Faults, Names, name_of, Accepts}
+use Rattle.ra_jobs.specs.Files.{Held, Faults, Names, name_of, Accepts, edit_names}
 use Rattle.ra_jobs.specs.Refusals.{InitialBreaks, ChangedBreaks}
 use Rattle.ra_edit_job.specs.EditedTexts.{edited_text}
 
@@ -116,6 +117,20 @@ pub record AreEditable (held : Held) (names : Names) : Type 0 where
   pub edits : (i : Tables) (a0 a : List Machine) → Accepts held names i a0 a
       → (bytes : List ℕ) × (held (name_of names file.Edits) ≡ Some bytes)
       × (edits_refusal bytes i ≡ None)
+
+abbrev pub editing : Names → OverFiles
+editing names = record {
+  names = names;
+  prints = λ held way. Edited held names way;
+  refuses = λ held whole part. EditOwn held names (Edited held names part);
+  own_comes = λ files status. EditComes files.held names files.before files.after status;
+  valid = λ held. AreEditable held names;
+  answers = λ status. (status ≡ Done) ⊎ (status ≡ NoMemory);
+}
+
+abbrev pub edit_command : List ℕ → Option (List ℕ) → List ℕ → List ℕ → List ℕ → Command
+edit_command model closed initial current edits =
+    over (editing (edit_names model closed initial current edits))
 
 -- ---- the stages
 

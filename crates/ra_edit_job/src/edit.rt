@@ -1,19 +1,16 @@
-ghost use Rattle.std.specs.Prelude.{◌≡◌, ◌≢◌, ◌⊎◌, ℕ, ◌≤◌, List, OnOk, IfOk, IfErr};
-ghost use Rattle.std.specs.Io.KnownBytes.{Appends};
+ghost use Rattle.std.specs.Prelude.{◌≡◌, ◌≢◌, ℕ, ◌≤◌, List, OnOk, IfOk, IfErr};
 ghost use Rattle.std.specs.Option.{option_copied};
 ghost use Rattle.ra_edits_read.specs.EditLists.{AreEditsFor};
-ghost use Rattle.ra_io.specs.Faults.{Rose};
+ghost use Rattle.ra_io.specs.Outside.{reading, writing, Took};
 ghost use Rattle.ra_model.specs.Assignments.{IsAssignment};
 ghost use Rattle.ra_model.specs.Costs.{parts_of};
 ghost use Rattle.ra_model.specs.Feasible.{Feasible};
 ghost use Rattle.ra_topology.specs.Fits.{IsTopologyOf};
-ghost use Rattle.ra_report.specs.Pieces.{Breaks, Puts};
-ghost use Rattle.ra_jobs.specs.Comes.{Comes};
-ghost use Rattle.ra_jobs.specs.Complete.{NoFault};
-ghost use Rattle.ra_jobs.specs.Ends.{Ends};
+ghost use Rattle.ra_jobs.specs.Ends.{Does, Tries};
 ghost use Rattle.ra_jobs.specs.Files.{edit_names};
+ghost use Rattle.ra_jobs.specs.Output.{output, BrokeOff};
 ghost use Rattle.ra_jobs.specs.Refusals.{Says};
-ghost use Rattle.ra_edit_job.specs.Editing.{AreEditable, EditComes, EditOwn, EditSays, Edited, EditsSay, HasEdits, IsEdited, IsTaken, OverSays, edits_as};
+ghost use Rattle.ra_edit_job.specs.Editing.{EditOwn, EditSays, EditsSay, HasEdits, IsEdited, IsTaken, OverSays, edits_as, edit_command};
 
 use crate::edited::write_edited;
 use ra_base::{Assignment, Name, Parts};
@@ -39,38 +36,10 @@ pub fn edit_run<'n, F: Files, O: Sink, E: Sink>(
     out: &mut O,
     err: &mut E,
 ) -> Status
-    ensures ends { let names = edit_names model.now
-        (option_copied closed.entry) initial.now current.now edits.now in
-        Ends (F.held files.old) names (F.faults files.old) (F.faults files.new)
-        (Edited (F.held files.old) names (Appends (O.taken out.old) (O.taken out.new)))
-        (EditOwn (F.held files.old) names (Edited (F.held files.old) names
-        (Breaks (O.taken out.old) (O.taken out.new) (O.faults out.old) (O.faults out.new))))
-        (Puts (E.taken err.old) (E.taken err.new) (E.faults err.old) (E.faults err.new))
-        (out.new ≡ out.old) (err.new ≡ err.old) result }
-    ensures not_usage { result ≢ Status.Usage }
-
-    // Each status but `Done` comes where its cause stands, and only there.
-    ensures comes { let names = edit_names model.now
-        (option_copied closed.entry) initial.now current.now edits.now in
-        Comes (F.held files.old) names (F.faults files.old) (F.faults files.new)
-        (EditOwn (F.held files.old) names (Edited (F.held files.old) names
-        (Breaks (O.taken out.old) (O.taken out.new) (O.faults out.old) (O.faults out.new))))
-        (out.new ≡ out.old) result }
-    ensures own_comes { let names = edit_names model.now
-        (option_copied closed.entry) initial.now current.now edits.now in
-        EditComes (F.held files.old) names (F.faults files.old) (F.faults files.new) result }
-
-    // Over valid files, and where no fault of a file of the job or of the output was counted, the edits are done.
-    ensures complete { let names = edit_names model.now
-        (option_copied closed.entry) initial.now current.now edits.now in
-        AreEditable (F.held files.old) names
-        → NoFault names (F.faults files.old) (F.faults files.new)
-        → (Rose (O.faults out.old) (O.faults out.new) → ⊥)
-        → (result ≡ Status.Done) ⊎ (result ≡ Status.NoMemory) }
-    ensures kept { (other : List ℕ) → F.held files.new other ≡ F.held files.old other }
-    ensures never_fall { (other : List ℕ) → F.faults files.old other ≤ F.faults files.new other }
-    ensures out_never_falls { O.faults out.old ≤ O.faults out.new }
-    ensures err_never_falls { E.faults err.old ≤ E.faults err.new }
+    ensures { Does (edit_command model.now
+        (option_copied closed.entry) initial.now current.now edits.now)
+        (reading F.Files files.old files.new) (output O.Sink out.old out.new)
+        (output E.Sink err.old err.new) result }
 {
     let names = JobFiles {
         model,
@@ -95,21 +64,9 @@ fn edit<F: Files, O: Sink>(
     files: &mut F,
     out: &mut O,
 ) -> Result<(), Refusal>
-    ensures printed { OnOk result (Edited (F.held files.old)
-        (edit_names model.now (option_copied closed.entry) initial.now current.now edits.now)
-        (Appends (O.taken out.old) (O.taken out.new))) }
-    ensures refused { IfErr result (Says (F.held files.old)
-        (edit_names model.now (option_copied closed.entry) initial.now current.now edits.now)
-        (F.faults files.old) (F.faults files.new)
-        (EditOwn (F.held files.old)
-        (edit_names model.now (option_copied closed.entry) initial.now current.now edits.now)
-        (Edited (F.held files.old)
-        (edit_names model.now (option_copied closed.entry) initial.now current.now edits.now)
-        (Breaks (O.taken out.old) (O.taken out.new) (O.faults out.old) (O.faults out.new))))) }
-    ensures untouched { IfErr result (λ refusal. refusal ≢ Refusal.Write → out.new ≡ out.old) }
-    ensures kept { (other : List ℕ) → F.held files.new other ≡ F.held files.old other }
-    ensures never_fall { (other : List ℕ) → F.faults files.old other ≤ F.faults files.new other }
-    ensures out_never_falls { O.faults out.old ≤ O.faults out.new }
+    ensures { Tries (edit_command model.now
+        (option_copied closed.entry) initial.now current.now edits.now)
+        (reading F.Files files.old files.new) (output O.Sink out.old out.new) result }
 {
     let taken = read_taken(alloc, model, initial, current, edits, closed, files)?;
     let ended = edit_from(
@@ -202,10 +159,10 @@ fn edit_from<O: Sink>(
     requires fits { IsAssignment inst.now.tables current.now.items }
     requires edits { AreEditsFor inst.now.tables edits.now }
     ensures printed { OnOk result (IsEdited inst.now.tables initial.now.items current.now.items
-        edits.now (Appends (O.taken out.old) (O.taken out.new))) }
+        edits.now (Took (writing O.Sink out.old out.new))) }
     ensures refused { IfErr result (EditSays inst.now.tables initial.now.items current.now.items
         (IsEdited inst.now.tables initial.now.items current.now.items edits.now
-        (Breaks (O.taken out.old) (O.taken out.new) (O.faults out.old) (O.faults out.new)))) }
+        (BrokeOff (writing O.Sink out.old out.new)))) }
     ensures untouched { IfErr result (λ refusal. refusal ≢ Refusal.Write → out.new ≡ out.old) }
     ensures out_never_falls { O.faults out.old ≤ O.faults out.new }
 {
@@ -237,10 +194,10 @@ fn edit_over<O: Sink>(
     requires feasible { Feasible inst.now.tables initial.now.items current.now.items }
     requires parts { start ≡ parts_of inst.now.tables initial.now.items current.now.items }
     ensures printed { OnOk result (IsEdited inst.now.tables initial.now.items current.now.items
-        edits.now (Appends (O.taken out.old) (O.taken out.new))) }
+        edits.now (Took (writing O.Sink out.old out.new))) }
     ensures refused { IfErr result (OverSays
         (IsEdited inst.now.tables initial.now.items current.now.items edits.now
-        (Breaks (O.taken out.old) (O.taken out.new) (O.faults out.old) (O.faults out.new)))) }
+        (BrokeOff (writing O.Sink out.old out.new)))) }
     ensures untouched { IfErr result (λ refusal. refusal ≢ Refusal.Write → out.new ≡ out.old) }
     ensures out_never_falls { O.faults out.old ≤ O.faults out.new }
 {

@@ -16,12 +16,13 @@ use Rattle.ra_jobs.specs.declared.refusals.Refusal.TheVariants.{Read, Model, Clo
 use Rattle.ra_jobs.specs.declared.status.Status.{Status}
 use Rattle.ra_jobs.specs.declared.status.Status.TheVariants.{Done, ReadFault, BadModel, BadAssignment, Infeasible, WriteFault, NoMemory, BadClosed, Unrepaired}
 use Rattle.ra_jobs.specs.Comes.{IsKnown, KnownTo, Comes, InfeasibleComes}
-use Rattle.ra_jobs.specs.Ends.{Ends, puts_first}
+use Rattle.ra_jobs.specs.Ends.{puts_first}
 use Rattle.ra_jobs.specs.Files.{Held, Faults, Names, name_of, ModelIs, InstanceIs, NamedListIs, Accepts, Passes, bound_names}
 use Rattle.ra_jobs.specs.Outputs.{Printed, BoundPrinted}
 use Rattle.ra_jobs.specs.Refusals.{Says, Judges, OnlyWrites, ReadFailed, ModelRefused, ClosedRefused, InitialRefused, ChangedRefused, InitialBreaks, ChangedBreaks}
 use Rattle.ra_jobs.specs.Statuses.{status_of}
 use Rattle.ra_jobs.proofs.CompleteLemmas.{is_done}
+use Rattle.ra_jobs.proofs.EndLemmas.{Ends}
 use Rattle.ra_jobs.proofs.MeaningLemmas.{Told, no_model, no_closed, no_initial, no_changed, no_initial_break, no_changed_break}
 
 -- all files of a job before the edits and the report were accepted

@@ -13,8 +13,8 @@ use Rattle.ra_jobs.specs.declared.status.Status.TheVariants.{Done, ReadFault, Wr
 use Rattle.ra_jobs.specs.Files.{Held, Faults, Names}
 use Rattle.ra_jobs.specs.Refusals.{Says, Judges, OnlyWrites}
 use Rattle.ra_jobs.specs.Complete.{AreAccepted, AreValid, NoFault}
-use Rattle.ra_jobs.specs.Ends.{Ends}
 use Rattle.ra_jobs.specs.Statuses.{status_of}
+use Rattle.ra_jobs.proofs.EndLemmas.{Ends}
 
 -- what is told is refused and accepted at once
 pub contradiction : {X : Type 0} (told : Option (List ℕ)) (bytes : List ℕ) (refusal : List ℕ → Option X) (fault : X) → told ≡ Some bytes → refusal bytes ≡ None → IfSome told (λ b. refusal b ≡ Some fault) → ⊥

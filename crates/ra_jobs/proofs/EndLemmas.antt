@@ -1,14 +1,34 @@
--- How a job ends, from how its stages end.
+-- How a command ends, from how its stages end.
 use Rattle.std.proofs.Common.{◌≡◌, ◌≢◌, List, ℕ, true, false, Result, Ok, Err, OnOk, IfErr, refl, sym, ◌∙◌, subst}
+use Rattle.ra_io.specs.Outside.{Reading, Took}
 use Rattle.ra_jobs.specs.declared.refusals.Refusal.{Refusal}
 use Rattle.ra_jobs.specs.declared.refusals.Refusal.TheVariants.{Read, Write, Memory}
 use Rattle.ra_jobs.specs.declared.status.Status.{Status}
 use Rattle.ra_jobs.specs.declared.status.Status.TheVariants.{Done, Usage, NoMemory}
+use Rattle.ra_jobs.specs.Commands.{OverFiles, over}
 use Rattle.ra_jobs.specs.Files.{Held, Faults, Names}
 use Rattle.ra_jobs.specs.Refusals.{Says}
-use Rattle.ra_jobs.specs.Ends.{Ends, puts_first}
+use Rattle.ra_jobs.specs.Ends.{Does, Tries, Finishes, Leaves, puts_first}
 use Rattle.ra_jobs.specs.Lines.{refusal_line}
+use Rattle.ra_jobs.specs.Output.{Output, BrokeOff, Put}
 use Rattle.ra_jobs.specs.Statuses.{status_of}
+
+-- `Refused` and the first fields of `Does` by parts, from which the others follow: what the output and the own refusals of a
+-- command say
+pub record IsRefused (held : Held) (names : Names) (before now : Faults) (own : Refusal → Type 0) (tells : List ℕ → Type 0) (out_same : Type 0) (status : Status) : Type 0 where
+  pub refusal : Refusal
+  pub says : Says held names before now own refusal
+  pub is : status ≡ status_of refusal
+  pub line : tells (refusal_line names refusal)
+  pub untouched : puts_first refusal ≡ false → out_same
+
+pub record Ends (held : Held) (names : Names) (before now : Faults) (output : Type 0) (own : Refusal → Type 0) (tells : List ℕ → Type 0) (out_same err_same : Type 0) (status : Status) : Type 0 where
+  pub printed : status ≡ Done → output
+  pub quiet : status ≡ Done → err_same
+  pub refused : status ≢ Done → IsRefused held names before now own tells out_same status
+
+abbrev pub EndsOver : OverFiles → Reading → Output → Output → Status → Type 0
+EndsOver c files out err status = Ends files.held c.names files.before files.after (c.prints files.held (Took out.sink)) (c.refuses files.held (Took out.sink) (BrokeOff out.sink)) (Put err.sink) out.same err.same status
 
 -- no refusal is done, and none is of the words
 never_done : (refusal : Refusal) → status_of refusal ≢ Done
@@ -22,28 +42,42 @@ never_usage (Read f) e = cc
 never_usage refusal e = cc
 
 -- a failed writing comes behind a part of the output
-not_first : (refusal : Refusal) → puts_first refusal ≡ false → refusal ≢ Write
-not_first refusal nothing e = let both : true ≡ false = subst (λ (r : Refusal). puts_first r ≡ false) e nothing in cc
+pub not_write : (refusal : Refusal) → puts_first refusal ≡ false → refusal ≢ Write
+not_write refusal nothing e = let both : true ≡ false = subst (λ (r : Refusal). puts_first r ≡ false) e nothing in cc
 
-pub ends_refused : (held : Held) (names : Names) (before now : Faults) (printed : Type 0) (own : Refusal → Type 0) (tells : List ℕ → Type 0) (out_same err_same : Type 0) (refusal : Refusal) (status : Status) → Says held names before now own refusal → status ≡ status_of refusal → tells (refusal_line names refusal) → (puts_first refusal ≡ false → out_same) → Ends held names before now printed own tells out_same err_same status
+ends_refused : (held : Held) (names : Names) (before now : Faults) (printed : Type 0) (own : Refusal → Type 0) (tells : List ℕ → Type 0) (out_same err_same : Type 0) (refusal : Refusal) (status : Status) → Says held names before now own refusal → status ≡ status_of refusal → tells (refusal_line names refusal) → (puts_first refusal ≡ false → out_same) → Ends held names before now printed own tells out_same err_same status
 ends_refused held names before now printed own tells out_same err_same refusal status says is line untouched = record {
   printed = λ done. absurd (never_done refusal (sym is ∙ done));
   quiet = λ done. absurd (never_done refusal (sym is ∙ done));
   refused = λ _. record { refusal = refusal; says = says; is = is; line = line; untouched = untouched };
 }
 
--- a job ends as its result was finished
-pub ends_so : (held : Held) (names : Names) (before now : Faults) (printed : Type 0) (own : Refusal → Type 0) (tells : List ℕ → Type 0) (out_same err_same : Type 0) (ended : Result (Unit {0}) Refusal) (status : Status) → OnOk ended printed → IfErr ended (Says held names before now own) → IfErr ended (λ refusal. refusal ≢ Write → out_same) → (ended ≡ Ok tt → status ≡ Done) → (ended ≡ Ok tt → err_same) → IfErr ended (λ refusal. status ≡ status_of refusal) → IfErr ended (λ refusal. tells (refusal_line names refusal)) → Ends held names before now printed own tells out_same err_same status
+-- a command ends as its result was finished
+ends_so : (held : Held) (names : Names) (before now : Faults) (printed : Type 0) (own : Refusal → Type 0) (tells : List ℕ → Type 0) (out_same err_same : Type 0) (ended : Result (Unit {0}) Refusal) (status : Status) → OnOk ended printed → IfErr ended (Says held names before now own) → IfErr ended (λ refusal. puts_first refusal ≡ false → out_same) → (ended ≡ Ok tt → status ≡ Done) → (ended ≡ Ok tt → err_same) → IfErr ended (λ refusal. status ≡ status_of refusal) → IfErr ended (λ refusal. tells (refusal_line names refusal)) → Ends held names before now printed own tells out_same err_same status
 ends_so held names before now printed own tells out_same err_same (Ok tt) status output says untouched done quiet is line = record { printed = λ _. output; quiet = λ _. quiet refl; refused = λ other. absurd (other (done refl)) }
-ends_so held names before now printed own tells out_same err_same (Err refusal) status output says untouched done quiet is line = ends_refused held names before now printed own tells out_same err_same refusal status says is line (λ nothing. untouched (not_first refusal nothing))
+ends_so held names before now printed own tells out_same err_same (Err refusal) status output says untouched done quiet is line = ends_refused held names before now printed own tells out_same err_same refusal status says is line untouched
+
+pub finished : (c : OverFiles) (files : Reading) (out err : Output) (ended : Result (Unit {0}) Refusal) (status : Status) → Tries (over c) files out ended → Finishes c.names ended err status → EndsOver c files out err status
+finished c files out err ended status tries finishes = ends_so files.held c.names files.before files.after (c.prints files.held (Took out.sink)) (c.refuses files.held (Took out.sink) (BrokeOff out.sink)) (Put err.sink) out.same err.same ended status tries.printed tries.refused tries.untouched finishes.done finishes.quiet finishes.is finishes.line
+
+pub left_so : (c : OverFiles) (files : Reading) (out err : Output) (ended : Result (Unit {0}) Refusal) (status : Status) → Tries (over c) files out ended → Finishes c.names ended err status → Leaves files out err
+left_so c files out err ended status tries finishes = record { of_files = tries.leaves; out_never_falls = tries.never_falls; err_never_falls = finishes.never_falls }
 
 -- where memory was refused before a file was read
 pub ends_memory : (held : Held) (names : Names) (before now : Faults) (printed : Type 0) (own : Refusal → Type 0) (tells : List ℕ → Type 0) (out_same err_same : Type 0) (status : Status) → status ≡ NoMemory → tells (refusal_line names Memory) → out_same → Ends held names before now printed own tells out_same err_same status
 unfolding status_of
 ends_memory held names before now printed own tells out_same err_same status is line untouched = ends_refused held names before now printed own tells out_same err_same Memory status tt is line (λ _. untouched)
 
--- a job that is served never ends with a usage fault
+-- a command that is served never ends with a usage fault
 pub ends_otherwise : {held : Held} {names : Names} {before now : Faults} {printed : Type 0} {own : Refusal → Type 0} {tells : List ℕ → Type 0} {out_same err_same : Type 0} {status : Status} → Ends held names before now printed own tells out_same err_same status → status ≢ Usage
 ends_otherwise {held} {names} {before} {now} {printed} {own} {tells} {out_same} {err_same} {status} ends usage =
     let refused = ends.refused (λ (done : status ≡ Done). let e : Done ≡ Usage = sym done ∙ usage in cc) in
     never_usage refused.refusal (sym refused.is ∙ usage)
+
+-- what a command does, by parts
+pub ends_of : (c : OverFiles) (files : Reading) (out err : Output) (status : Status) → Does (over c) files out err status → EndsOver c files out err status
+ends_of c files out err status does = record {
+  printed = does.printed;
+  quiet = does.quiet;
+  refused = λ other. let r = does.refused other in record { refusal = r.refusal; says = r.says; is = r.is; line = r.line; untouched = r.untouched };
+}

@@ -7,4 +7,5 @@ pub mod ResultLemmas
 pub mod EndLemmas
 pub mod CompleteLemmas
 pub mod ComesLemmas
+pub mod DoesLemmas
 pub mod RepairLemmas

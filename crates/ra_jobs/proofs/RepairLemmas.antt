@@ -18,6 +18,7 @@ use Rattle.ra_repair.specs.Runs.{Repaired, repair_run}
 use Rattle.ra_repair.proofs.ZeroLemmas as zero
 use Rattle.ra_repair.proofs.RunLemmas as run
 use Rattle.ra_report.specs.RepairTexts.{text_of_repair}
+use Rattle.ra_io.specs.Outside.{Reading, Took}
 use Rattle.ra_jobs.specs.declared.refusals.File.TheVariants as file
 use Rattle.ra_jobs.specs.declared.refusals.Refusal.{Refusal}
 use Rattle.ra_jobs.specs.declared.refusals.Refusal.TheVariants.{Read, Model, Closed, Initial, Changed, InitialBroken, ChangedBroken, Unrepaired as Left, Write, Memory}
@@ -25,17 +26,21 @@ use Rattle.ra_jobs.specs.declared.status.Status.{Status}
 use Rattle.ra_jobs.specs.declared.status.Status.TheVariants.{Done, Infeasible, Unrepaired, WriteFault, NoMemory}
 use Rattle.ra_jobs.specs.Comes.{KnownTo}
 use Rattle.ra_jobs.specs.Complete.{AreAccepted, NoFault}
-use Rattle.ra_jobs.specs.Ends.{Ends, puts_first}
+use Rattle.ra_jobs.specs.Commands.{These, over}
+use Rattle.ra_jobs.specs.Ends.{Does, Tries, Finishes, Leaves}
 use Rattle.ra_jobs.specs.Files.{Held, Faults, Names, name_of, Accepts, solve_names}
 use Rattle.ra_jobs.specs.Lines.{refusal_line}
 use Rattle.ra_jobs.specs.Refusals.{Says, CanTell}
-use Rattle.ra_jobs.specs.Repairing.{IsTried, Tried, RepairOwn, LeavesBroken, RepairComes, TrySays}
+use Rattle.ra_jobs.specs.Output.{Output, BrokeOff, Put}
+use Rattle.ra_jobs.specs.Repairing.{IsTried, Tried, RepairOwn, LeavesBroken, RepairComes, TrySays, repaired}
 use Rattle.ra_jobs.specs.Stages.{IsStart}
 use Rattle.ra_jobs.specs.Statuses.{status_of}
 use Rattle.ra_jobs.proofs.CompleteLemmas.{is_done, complete_own, OwnRefused}
 use Rattle.ra_jobs.proofs.ComesLemmas.{Listed, told_of}
-use Rattle.ra_jobs.proofs.EndLemmas.{ends_refused}
+use Rattle.ra_jobs.proofs.EndLemmas.{Ends, EndsOver, finished, left_so}
+use Rattle.ra_jobs.proofs.DoesLemmas.{does_so, does_more, memory_refused}
 use Rattle.ra_jobs.proofs.AlikeLemmas.{repaired_same}
+use Rattle.ra_jobs.proofs.StageLemmas.{says_more}
 use Rattle.ra_jobs.proofs.MeaningLemmas.{broken_same, no_model, no_closed, no_initial, instances_same, lists_same}
 
 -- the tries
@@ -95,12 +100,6 @@ pub own_tells : (held : Held) (names : Names) (l : Lots) (prints breaks : List �
 own_tells held names l prints breaks named (Left cause) says = named
 own_tells held names l prints breaks named Write says = tt
 own_tells held names l prints breaks named refusal says = absurd says
-
--- how the job ends
-
-pub ends_put : (held : Held) (names : Names) (before now : Faults) (printed : Type 0) (own : Refusal → Type 0) (tells : List ℕ → Type 0) (out_same err_same : Type 0) (ended : Result (Unit {0}) Refusal) (status : Status) → OnOk ended printed → IfErr ended (Says held names before now own) → IfErr ended (λ refusal. puts_first refusal ≡ false → out_same) → (ended ≡ Ok tt → status ≡ Done) → (ended ≡ Ok tt → err_same) → IfErr ended (λ refusal. status ≡ status_of refusal) → IfErr ended (λ refusal. tells (refusal_line names refusal)) → Ends held names before now printed own tells out_same err_same status
-ends_put held names before now printed own tells out_same err_same (Ok tt) status output says untouched done quiet is line = record { printed = λ _. output; quiet = λ _. quiet refl; refused = λ other. absurd (other (done refl)) }
-ends_put held names before now printed own tells out_same err_same (Err refusal) status output says untouched done quiet is line = ends_refused held names before now printed own tells out_same err_same refusal status says is line untouched
 
 -- its own refusals, and their statuses
 own_whole : (held : Held) (names : Names) (l : Lots) (prints breaks : List ℕ → Type 0) → ((text : List ℕ) → breaks text → ⊥) → (r : Refusal) → RepairOwn held names l prints breaks r → status_of r ≡ Unrepaired
@@ -198,6 +197,37 @@ repair_comes {held} {model} {closed} {initial} {before} {now} {l} {prints} {brea
           (is_done status);
     }
 
+-- what is said of some lots, of which there are these alone, is said of these
+pub of_these : {P : Lots → Type 0} (l : Lots) → (k : Lots) × (k ≡ l) × P k → P l
+of_these {P} l some = subst P some.1 some.2
+
+-- what the command of these lots does
+pub repair_so : (model : List ℕ) (closed : Option (List ℕ)) (initial : List ℕ) (l : Lots) (files : Reading) (out err : Output) (ended : Result (Unit {0}) Refusal) (status : Status) → Tries (over (repaired (solve_names model closed initial) (These l))) files out ended → Finishes (solve_names model closed initial) ended err status → Does (over (repaired (solve_names model closed initial) (These l))) files out err status
+repair_so model closed initial l files out err ended status tries finishes =
+    let held = files.held in
+    let names = solve_names model closed initial in
+    let c = repaired names (These l) in
+    let prints : List ℕ → Type 0 = Took out.sink in
+    let breaks : List ℕ → Type 0 = BrokeOff out.sink in
+    let ends : EndsOver c files out err status = finished c files out err ended status tries finishes in
+    let exact : Ends held names files.before files.after (Tried held names l None prints) (RepairOwn held names l prints breaks) (Put err.sink) out.same err.same status = record {
+      printed = λ done. of_these {P = λ k. Tried held names k None prints} l (ends.printed done);
+      quiet = ends.quiet;
+      refused = λ other. let r = ends.refused other in record {
+        refusal = r.refusal;
+        says = says_more held names files.before files.after (c.refuses held prints breaks) (RepairOwn held names l prints breaks) (λ refusal says. of_these {P = λ k. RepairOwn held names k prints breaks refusal} l says) r.refusal r.says;
+        is = r.is;
+        line = r.line;
+        untouched = r.untouched;
+      };
+    } in
+    does_so c files out err status ends
+    (λ p. tried_listed held names p.0 None prints p.2)
+    (λ r p. own_listed held names p.0 prints breaks r p.2)
+    (repair_comes exact)
+    (λ valid sound whole. complete_repair exact valid sound (λ text broken. whole broken.1))
+    (left_so c files out err ended status tries finishes)
+
 -- for other words of the lots
 pub repair_more : (held : Held) (names : Names) (are more : Lots → Type 0) (before now : Faults) (status : Status) → ((l : Lots) → are l → more l) → RepairComes held names are before now status → RepairComes held names more before now status
 repair_more held names are more before now status step v = record {
@@ -215,3 +245,15 @@ repair_not held names are before now status is = record {
   stays = λ i a0 accepts known cause broken. inr (inr is);
   is_repaired = λ i a0 accepts known broken. inr (inr is);
 }
+
+-- so it is with the whole command
+
+pub repair_command_more : (names : Names) (are more : Lots → Type 0) (files : Reading) (out err : Output) (status : Status) → ((l : Lots) → are l → more l) → Does (over (repaired names are)) files out err status → Does (over (repaired names more)) files out err status
+repair_command_more names are more files out err status step does =
+    let c = repaired names are in
+    let d = repaired names more in
+    does_more names c.prints d.prints c.refuses d.refuses c.own_comes d.own_comes c.valid c.answers files out err status
+    (λ p. (p.0, step p.0 p.1, p.2)) (λ r p. (p.0, step p.0 p.1, p.2)) (repair_more files.held names are more files.before files.after status step) does
+
+pub repair_memory : (names : Names) (are : Lots → Type 0) (files : Reading) (out err : Output) (status : Status) → status ≡ NoMemory → ((names : Names) → Put err.sink (refusal_line names Memory)) → out.same → Leaves files out err → Does (over (repaired names are)) files out err status
+repair_memory names are files out err status is line same leaves = memory_refused (repaired names are) files out err status is line same leaves (repair_not files.held names are files.before files.after status is) (inr (inr is))

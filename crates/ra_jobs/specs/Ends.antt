@@ -1,12 +1,14 @@
--- How a job ends.
-use Rattle.std.specs.Prelude.{◌≡◌, ◌≢◌, List, ℕ, Bool, true, false}
+-- How a command ends, and how its stages do.
+use Rattle.std.specs.Prelude.{◌≡◌, ◌≢◌, ◌≤◌, ℕ, List, Bool, true, false, Result, Ok, OnOk, IfErr}
+use Rattle.ra_io.specs.Outside.{Reading, LeavesFiles, Took, WriteFailed}
 use Rattle.ra_jobs.specs.declared.refusals.Refusal.{Refusal}
 use Rattle.ra_jobs.specs.declared.refusals.Refusal.TheVariants.{Unrepaired, Write}
 use Rattle.ra_jobs.specs.declared.status.Status.{Status}
-use Rattle.ra_jobs.specs.declared.status.Status.TheVariants.{Done}
-use Rattle.ra_jobs.specs.Files.{Held, Faults, Names}
-use Rattle.ra_jobs.specs.Refusals.{Says}
+use Rattle.ra_jobs.specs.declared.status.Status.TheVariants.{Done, Usage}
+use Rattle.ra_jobs.specs.Commands.{Command}
+use Rattle.ra_jobs.specs.Files.{Names}
 use Rattle.ra_jobs.specs.Lines.{refusal_line}
+use Rattle.ra_jobs.specs.Output.{Output, BrokeOff, Put}
 use Rattle.ra_jobs.specs.Statuses.{status_of}
 
 -- a refusal that comes after a part of the output was put, or all of it
@@ -15,20 +17,49 @@ puts_first (Unrepaired cause) = true
 puts_first Write = true
 puts_first refusal = false
 
--- a job is refused: what its refusal says stands, its status is that of the refusal, its line is put to the error sink,
+-- a command is refused: what its refusal says stands, its status is that of the refusal, its line is put to the error sink,
 -- and the output took nothing, unless the refusal came after it
-pub record Refused (held : Held) (names : Names) (before now : Faults) (own : Refusal → Type 0)
-    (tells : List ℕ → Type 0) (out_same : Type 0) (status : Status) : Type 0 where
-  pub refusal : Refusal
-  pub says : Says held names before now own refusal
-  pub is : status ≡ status_of refusal
-  pub line : tells (refusal_line names refusal)
-  pub untouched : puts_first refusal ≡ false → out_same
+pub record Refused (c : Command) (files : Reading) (out err : Output) (status : Status) : Type 0
+  where
+    pub refusal : Refusal
+    pub says : c.refuses files (Took out.sink) (BrokeOff out.sink) refusal
+    pub is : status ≡ status_of refusal
+    pub line : Put err.sink (refusal_line c.names refusal)
+    pub untouched : puts_first refusal ≡ false → out.same
 
--- a job ends: it is done, its output was printed and the error sink took nothing; or it is refused
-pub record Ends (held : Held) (names : Names) (before now : Faults) (output : Type 0)
-    (own : Refusal → Type 0) (tells : List ℕ → Type 0) (out_same err_same : Type 0)
+-- what every command leaves of the files and of the two sinks: all that is held, and no count that fell
+pub record Leaves (files : Reading) (out err : Output) : Type 0 where
+  pub of_files : LeavesFiles files
+  pub out_never_falls : out.sink.before ≤ out.sink.after
+  pub err_never_falls : err.sink.before ≤ err.sink.after
+
+-- a command does what it says: it is done, its output was printed and the error sink took nothing; or it is refused. Each
+-- status comes where its cause stands, and only there; and where nothing is wrong with its files and nothing failed, it is done
+pub record Does (c : Command) (files : Reading) (out err : Output) (status : Status) : Type 0 where
+  pub printed : status ≡ Done → c.prints files.held (Took out.sink)
+  pub quiet : status ≡ Done → err.same
+  pub refused : status ≢ Done → Refused c files out err status
+  pub not_usage : status ≢ Usage
+  pub comes : c.comes files out status
+  pub complete : c.valid files → (WriteFailed out.sink → ⊥) → c.answers status
+  pub leaves : Leaves files out err
+
+-- ---- the stages
+
+-- a command does all but put the line of its refusal
+pub record Tries (c : Command) (files : Reading) (out : Output)
+    (ended : Result (Unit {0}) Refusal) : Type 0 where
+  pub printed : OnOk ended (c.prints files.held (Took out.sink))
+  pub refused : IfErr ended (c.refuses files (Took out.sink) (BrokeOff out.sink))
+  pub untouched : IfErr ended (λ refusal. puts_first refusal ≡ false → out.same)
+  pub leaves : LeavesFiles files
+  pub never_falls : out.sink.before ≤ out.sink.after
+
+-- it ends: it is done, or its refusal is told, with its status, which a failing put doesn't change
+pub record Finishes (names : Names) (ended : Result (Unit {0}) Refusal) (err : Output)
     (status : Status) : Type 0 where
-  pub printed : status ≡ Done → output
-  pub quiet : status ≡ Done → err_same
-  pub refused : status ≢ Done → Refused held names before now own tells out_same status
+  pub done : ended ≡ Ok tt → status ≡ Done
+  pub quiet : ended ≡ Ok tt → err.same
+  pub is : IfErr ended (λ refusal. status ≡ status_of refusal)
+  pub line : IfErr ended (λ refusal. Put err.sink (refusal_line names refusal))
+  pub never_falls : err.sink.before ≤ err.sink.after

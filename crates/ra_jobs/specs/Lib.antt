@@ -1,8 +1,10 @@
 pub mod Comes
+pub mod Commands
 pub mod Complete
 pub mod Ends
 pub mod Files
 pub mod Lines
+pub mod Output
 pub mod Outputs
 pub mod Refusals
 pub mod Repairing

@@ -1,5 +1,5 @@
--- What `check` and `bound` have printed where they are done. A way says where a text went: to the output, whole or in part.
-use Rattle.std.specs.Prelude.{◌≡◌, ℕ, List, Option, Some, None}
+-- `check` and `bound`. A way says where a text went: to the output, whole or in part.
+use Rattle.std.specs.Prelude.{◌≡◌, ◌≢◌, ◌⊎◌, ℕ, List, Option, Some, None}
 use Rattle.ra_base.specs.declared.ids.Machine.{Machine}
 use Rattle.ra_model.specs.declared.raw.Tables.{Tables}
 use Rattle.ra_model.specs.Assignments.{IsAssignment}
@@ -9,7 +9,11 @@ use Rattle.ra_bounds.specs.Bounds.{bound_of}
 use Rattle.ra_bounds.specs.PinnedBounds.{pinned_bound_of}
 use Rattle.ra_report.specs.JournalTexts.{bound_text}
 use Rattle.ra_report.specs.Texts.{parts_text}
-use Rattle.ra_jobs.specs.Files.{Held, Names, InstanceIs, ListIs, Passes}
+use Rattle.ra_jobs.specs.declared.status.Status.TheVariants.{Done, Infeasible, NoMemory}
+use Rattle.ra_jobs.specs.Commands.{Command, OverFiles, over, judged}
+use Rattle.ra_jobs.specs.Complete.{AreAccepted}
+use Rattle.ra_jobs.specs.Files.{Held, Names, check_names, bound_names, InstanceIs, ListIs, Passes}
+use Rattle.ra_jobs.specs.Refusals.{OnlyWrites}
 
 -- `check`: all files passed, and the six lines of the parts of the new list went this way
 pub record Printed (held : Held) (names : Names) (way : List ℕ → Type 0) : Type 0 where
@@ -18,6 +22,13 @@ pub record Printed (held : Held) (names : Names) (way : List ℕ → Type 0) : T
   pub a : List Machine
   pub passes : Passes held names tables a0 a
   pub text : way (parts_text (parts_of tables a0 a))
+
+abbrev pub checked : Names → OverFiles
+checked names = judged names (λ held way. Printed held names way)
+
+abbrev pub check_command : List ℕ → Option (List ℕ) → List ℕ → List ℕ → Command
+check_command model closed initial changed =
+    over (checked (check_names model closed initial changed))
 
 -- the bound of an instance; where an initial list is named, that of both, which counts the load of the pinned processes
 abbrev pub BoundIs : Held → Option (List ℕ) → Tables → Bound → Type 0
@@ -36,3 +47,17 @@ pub record BoundPrinted (held : Held) (names : Names) (way : List ℕ → Type 0
   pub bound : Bound
   pub read : BoundRead held names bound
   pub text : way (bound_text bound)
+
+-- it asks no list to be feasible
+abbrev pub bounded : Names → OverFiles
+bounded names = record {
+  names = names;
+  prints = λ held way. BoundPrinted held names way;
+  refuses = λ held whole part. OnlyWrites (BoundPrinted held names part);
+  own_comes = λ files status. status ≢ Infeasible;
+  valid = λ held. AreAccepted held names;
+  answers = λ status. (status ≡ Done) ⊎ (status ≡ NoMemory);
+}
+
+abbrev pub bound_command : List ℕ → Option (List ℕ) → Option (List ℕ) → Command
+bound_command model closed initial = over (bounded (bound_names model closed initial))

@@ -15,7 +15,9 @@ use Rattle.ra_jobs.specs.declared.refusals.Refusal.TheVariants.{Unrepaired as Le
 use Rattle.ra_jobs.specs.declared.status.Status.{Status}
 use Rattle.ra_jobs.specs.declared.status.Status.TheVariants.{Done, Infeasible, Unrepaired, WriteFault, NoMemory}
 use Rattle.ra_jobs.specs.Comes.{KnownTo}
-use Rattle.ra_jobs.specs.Files.{Held, Faults, Names, Accepts}
+use Rattle.ra_jobs.specs.Commands.{Command, OverFiles, over}
+use Rattle.ra_jobs.specs.Complete.{AreAccepted}
+use Rattle.ra_jobs.specs.Files.{Held, Faults, Names, Accepts, solve_names}
 
 -- the run of tries from a list: its last list breaks this constraint first, or none, and its text went this way. A list that
 -- breaks none is feasible, and before one that breaks some the whole budget was tried
@@ -64,6 +66,21 @@ pub record RepairComes (held : Held) (names : Names) (are : Lots → Type 0) (be
   pub is_repaired : (i : Tables) (a0 : List Machine) → Accepts held names i a0 a0
       → KnownTo held names before now file.Initial → ((l : Lots) → are l → LeavesBroken i a0 l None)
       → (status ≡ Done) ⊎ ((status ≡ WriteFault) ⊎ (status ≡ NoMemory))
+
+-- of such lots: over accepted files its tries are told
+abbrev pub repaired : Names → (Lots → Type 0) → OverFiles
+repaired names are = record {
+  names = names;
+  prints = λ held way. (l : Lots) × are l × Tried held names l None way;
+  refuses = λ held whole part refusal.
+      (l : Lots) × are l × RepairOwn held names l whole part refusal;
+  own_comes = λ files status. RepairComes files.held names are files.before files.after status;
+  valid = λ held. AreAccepted held names;
+  answers = λ status. (status ≡ Done) ⊎ ((status ≡ Unrepaired) ⊎ (status ≡ NoMemory));
+}
+
+abbrev pub repair_command : List ℕ → Option (List ℕ) → List ℕ → (Lots → Type 0) → Command
+repair_command model closed initial are = over (repaired (solve_names model closed initial) are)
 
 -- ---- the stages
 

@@ -1,16 +1,13 @@
-ghost use Rattle.std.specs.Prelude.{◌≡◌, ◌≢◌, ◌⊎◌, ℕ, ◌≤◌, List, Some, OnOk, IfOk, IfErr};
+ghost use Rattle.std.specs.Prelude.{◌≡◌, ℕ, ◌≤◌, List, Some, IfOk, IfErr};
 ghost use Rattle.std.specs.Option.{option_copied};
-ghost use Rattle.std.specs.Io.KnownBytes.{Appends};
 ghost use Rattle.ra_bounds.specs.PinnedBounds.{pinned_bound_of};
-ghost use Rattle.ra_io.specs.Faults.{Rose};
+ghost use Rattle.ra_io.specs.Outside.{reading};
 ghost use Rattle.ra_model.specs.Assignments.{IsAssignment};
-ghost use Rattle.ra_report.specs.Pieces.{Breaks, Puts};
-ghost use Rattle.ra_jobs.specs.Comes.{Comes};
-ghost use Rattle.ra_jobs.specs.Complete.{AreAccepted, NoFault};
-ghost use Rattle.ra_jobs.specs.Ends.{Ends};
+ghost use Rattle.ra_jobs.specs.Ends.{Does, Tries};
 ghost use Rattle.ra_jobs.specs.Files.{bound_names};
-ghost use Rattle.ra_jobs.specs.Outputs.{BoundIs, BoundRead, BoundPrinted};
-ghost use Rattle.ra_jobs.specs.Refusals.{Says, Nothing, OnlyWrites};
+ghost use Rattle.ra_jobs.specs.Output.{output};
+ghost use Rattle.ra_jobs.specs.Outputs.{BoundIs, BoundRead, bound_command};
+ghost use Rattle.ra_jobs.specs.Refusals.{Says, Nothing};
 ghost use Rattle.ra_jobs.specs.Stages.{InitialSays, NamedSays};
 
 use crate::lists::{Which, read_list};
@@ -38,36 +35,10 @@ pub fn bound_run<'n, F: Files, O: Sink, E: Sink>(
     out: &mut O,
     err: &mut E,
 ) -> Status
-    ensures ends { let names = bound_names model.now
-        (option_copied closed.entry) (option_copied initial.entry) in
-        Ends (F.held files.old) names (F.faults files.old) (F.faults files.new)
-        (BoundPrinted (F.held files.old) names (Appends (O.taken out.old) (O.taken out.new)))
-        (OnlyWrites (BoundPrinted (F.held files.old) names
-        (Breaks (O.taken out.old) (O.taken out.new) (O.faults out.old) (O.faults out.new))))
-        (Puts (E.taken err.old) (E.taken err.new) (E.faults err.old) (E.faults err.new))
-        (out.new ≡ out.old) (err.new ≡ err.old) result }
-    ensures not_usage { result ≢ Status.Usage }
-
-    // Each status but `Done` comes where its cause stands, and only there.
-    ensures comes { let names = bound_names model.now
-        (option_copied closed.entry) (option_copied initial.entry) in
-        Comes (F.held files.old) names (F.faults files.old) (F.faults files.new)
-        (OnlyWrites (BoundPrinted (F.held files.old) names
-        (Breaks (O.taken out.old) (O.taken out.new) (O.faults out.old) (O.faults out.new))))
-        (out.new ≡ out.old) result }
-    ensures never_infeasible { result ≢ Status.Infeasible }
-
-    // Over accepted files, and where no fault of them or of the output was counted, the bound is printed.
-    ensures complete { let names = bound_names model.now
-        (option_copied closed.entry) (option_copied initial.entry) in
-        AreAccepted (F.held files.old) names
-        → NoFault names (F.faults files.old) (F.faults files.new)
-        → (Rose (O.faults out.old) (O.faults out.new) → ⊥)
-        → (result ≡ Status.Done) ⊎ (result ≡ Status.NoMemory) }
-    ensures kept { (other : List ℕ) → F.held files.new other ≡ F.held files.old other }
-    ensures never_fall { (other : List ℕ) → F.faults files.old other ≤ F.faults files.new other }
-    ensures out_never_falls { O.faults out.old ≤ O.faults out.new }
-    ensures err_never_falls { E.faults err.old ≤ E.faults err.new }
+    ensures { Does (bound_command model.now
+        (option_copied closed.entry) (option_copied initial.entry))
+        (reading F.Files files.old files.new) (output O.Sink out.old out.new)
+        (output E.Sink err.old err.new) result }
 {
     let names = JobFiles {
         model,
@@ -90,19 +61,9 @@ fn print_bound<F: Files, O: Sink>(
     files: &mut F,
     out: &mut O,
 ) -> Result<(), Refusal>
-    ensures printed { OnOk result (BoundPrinted (F.held files.old) (bound_names model.now
+    ensures { Tries (bound_command model.now
         (option_copied closed.entry) (option_copied initial.entry))
-        (Appends (O.taken out.old) (O.taken out.new))) }
-    ensures refused { IfErr result (Says (F.held files.old) (bound_names model.now
-        (option_copied closed.entry) (option_copied initial.entry))
-        (F.faults files.old) (F.faults files.new)
-        (OnlyWrites (BoundPrinted (F.held files.old) (bound_names model.now
-        (option_copied closed.entry) (option_copied initial.entry))
-        (Breaks (O.taken out.old) (O.taken out.new) (O.faults out.old) (O.faults out.new))))) }
-    ensures untouched { IfErr result (λ refusal. refusal ≢ Refusal.Write → out.new ≡ out.old) }
-    ensures kept { (other : List ℕ) → F.held files.new other ≡ F.held files.old other }
-    ensures never_fall { (other : List ℕ) → F.faults files.old other ≤ F.faults files.new other }
-    ensures out_never_falls { O.faults out.old ≤ O.faults out.new }
+        (reading F.Files files.old files.new) (output O.Sink out.old out.new) result }
 {
     let bound = read_bound(alloc, model, initial, closed, files)?;
     match write_bound(out, &bound) {

@@ -1,10 +1,13 @@
-ghost use Rattle.std.specs.Prelude.{◌≡◌, ◌≢◌, ◌↔◌, ◌≤◌, ◌⊎◌, [], ◌∷◌, Ok, IfErr};
+ghost use Rattle.std.specs.Prelude.{◌≡◌, ◌↔◌, ◌≤◌, ◌⊎◌, [], ◌∷◌, IfErr};
 ghost use Rattle.std.specs.IoError.{error_kind};
+ghost use Rattle.ra_io.specs.Outside.{writing};
 ghost use Rattle.ra_report.specs.FaultTexts.{CanBeTold, fault_text, usage_line};
-ghost use Rattle.ra_report.specs.Pieces.{Puts, joined};
+ghost use Rattle.ra_report.specs.Pieces.{joined};
 ghost use Rattle.ra_report.specs.Texts.{line_end};
+ghost use Rattle.ra_jobs.specs.Ends.{Finishes};
 ghost use Rattle.ra_jobs.specs.Files.{Names, names_of};
 ghost use Rattle.ra_jobs.specs.Lines.{fault_of, refusal_line};
+ghost use Rattle.ra_jobs.specs.Output.{output, Put};
 ghost use Rattle.ra_jobs.specs.Refusals.{CanTell};
 ghost use Rattle.ra_jobs.specs.Statuses.{status_of};
 ghost use Rattle.ra_jobs.specs.declared.refusals.Refusal.TheVariants.{Memory};
@@ -20,12 +23,7 @@ use std::io::ErrorKind;
 /// change.
 pub fn finish<E: Sink>(err: &mut E, names: &JobFiles<'_>, ended: Result<(), Refusal>) -> Status
     requires { IfErr ended (CanTell (names_of names.now)) }
-    ensures done { ended ≡ Ok tt → result ≡ Status.Done }
-    ensures quiet { ended ≡ Ok tt → err.new ≡ err.old }
-    ensures status { IfErr ended (λ refusal. result ≡ status_of refusal) }
-    ensures line { IfErr ended (λ refusal. Puts (E.taken err.old) (E.taken err.new)
-        (E.faults err.old) (E.faults err.new) (refusal_line (names_of names.now) refusal)) }
-    ensures never_falls { E.faults err.old ≤ E.faults err.new }
+    ensures { Finishes (names_of names.now) ended (output E.Sink err.old err.new) result }
 {
     match ended {
         Ok(()) => Status::Done,
@@ -61,8 +59,7 @@ fn status(refusal: Refusal) -> Status
 #[tactic(auto, unfolding(crate::specs::Lines::refusal_line))]
 fn tell<E: Sink>(err: &mut E, names: &JobFiles<'_>, refusal: Refusal)
     requires { CanTell (names_of names.now) refusal }
-    ensures line { Puts (E.taken err.old) (E.taken err.new) (E.faults err.old) (E.faults err.new)
-        (refusal_line (names_of names.now) refusal) }
+    ensures line { Put (writing E.Sink err.old err.new) (refusal_line (names_of names.now) refusal) }
     ensures never_falls { E.faults err.old ≤ E.faults err.new }
 {
     put_line(err, &fault(names, refusal))
@@ -117,8 +114,7 @@ fn fault<'n>(names: &JobFiles<'n>, refusal: Refusal) -> Fault<'n>
 /// Puts the line of a fault, or a front of it where a put fails.
 pub fn put_line<E: Sink>(err: &mut E, fault: &Fault<'_>)
     requires { CanBeTold fault.now }
-    ensures line { Puts (E.taken err.old) (E.taken err.new) (E.faults err.old) (E.faults err.new)
-        (fault_text fault.now) }
+    ensures line { Put (writing E.Sink err.old err.new) (fault_text fault.now) }
     ensures never_falls { E.faults err.old ≤ E.faults err.new }
 {
     match write_fault(err, fault) {
@@ -131,8 +127,7 @@ pub fn put_line<E: Sink>(err: &mut E, fault: &Fault<'_>)
 #[tactic(auto, unfolding(ra_report::specs::FaultTexts::fault_text))]
 pub fn refuse_words<E: Sink>(err: &mut E) -> Status
     ensures status { result ≡ Status.Usage }
-    ensures line { Puts (E.taken err.old) (E.taken err.new) (E.faults err.old) (E.faults err.new)
-        (joined (usage_line ∷ line_end ∷ [])) }
+    ensures line { Put (writing E.Sink err.old err.new) (joined (usage_line ∷ line_end ∷ [])) }
     ensures never_falls { E.faults err.old ≤ E.faults err.new }
 {
     put_line(err, &Fault::Usage);
@@ -143,8 +138,7 @@ pub fn refuse_words<E: Sink>(err: &mut E) -> Status
 #[tactic(auto, unfolding(ra_report::specs::FaultTexts::fault_text, crate::specs::Lines::fault_of, crate::specs::Lines::refusal_line))]
 pub fn refuse_memory<E: Sink>(err: &mut E) -> Status
     ensures status { result ≡ Status.NoMemory }
-    ensures line { (names : Names) → Puts (E.taken err.old) (E.taken err.new) (E.faults err.old)
-        (E.faults err.new) (refusal_line names Memory) }
+    ensures line { (names : Names) → Put (writing E.Sink err.old err.new) (refusal_line names Memory) }
     ensures never_falls { E.faults err.old ≤ E.faults err.new }
 {
     put_line(err, &Fault::Memory);
@@ -155,11 +149,8 @@ pub fn refuse_memory<E: Sink>(err: &mut E) -> Status
 pub fn refuse_unread<E: Sink>(err: &mut E, error: &io::Error) -> Status
     ensures status { (result ≡ Status.NoMemory) ⊎ (result ≡ Status.Usage) }
     ensures memory { (result ≡ Status.NoMemory) ↔ (error_kind error.now ≡ ErrorKind.OutOfMemory) }
-    ensures memory_line { result ≡ Status.NoMemory → (names : Names) → Puts (E.taken err.old)
-        (E.taken err.new) (E.faults err.old) (E.faults err.new)
-        (refusal_line names Refusal.Memory) }
-    ensures usage_line { result ≡ Status.Usage → Puts (E.taken err.old) (E.taken err.new)
-        (E.faults err.old) (E.faults err.new) (joined (usage_line ∷ line_end ∷ [])) }
+    ensures memory_line { result ≡ Status.NoMemory → (names : Names) → Put (writing E.Sink err.old err.new) (refusal_line names Refusal.Memory) }
+    ensures usage_line { result ≡ Status.Usage → Put (writing E.Sink err.old err.new) (joined (usage_line ∷ line_end ∷ [])) }
     ensures never_falls { E.faults err.old ≤ E.faults err.new }
 {
     if error.kind() == ErrorKind::OutOfMemory {

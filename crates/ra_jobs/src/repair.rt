@@ -1,18 +1,14 @@
-ghost use Rattle.std.specs.Prelude.{◌≡◌, ◌≢◌, ◌⊎◌, ℕ, ◌≤◌, List, [], ◌∷◌, length, None, false, OnOk, IfErr};
-ghost use Rattle.std.specs.Io.KnownBytes.{Appends};
+ghost use Rattle.std.specs.Prelude.{◌≡◌, ◌≤◌, [], ◌∷◌, length, None, false, OnOk, IfErr};
 ghost use Rattle.std.specs.Option.{option_copied};
-ghost use Rattle.ra_io.specs.Faults.{Rose};
+ghost use Rattle.ra_io.specs.Outside.{reading, writing, Took};
 ghost use Rattle.ra_check.specs.Made.{IsMadeFor};
 ghost use Rattle.ra_draws.specs.Lots.{IsLots};
 ghost use Rattle.ra_model.specs.Assignments.{IsAssignment};
 ghost use Rattle.ra_topology.specs.Fits.{IsTopologyOf};
-ghost use Rattle.ra_report.specs.Pieces.{Breaks, Puts};
-ghost use Rattle.ra_jobs.specs.Comes.{Comes};
-ghost use Rattle.ra_jobs.specs.Complete.{AreAccepted, NoFault};
-ghost use Rattle.ra_jobs.specs.Ends.{Ends, puts_first};
-ghost use Rattle.ra_jobs.specs.Files.{solve_names};
-ghost use Rattle.ra_jobs.specs.Refusals.{Says};
-ghost use Rattle.ra_jobs.specs.Repairing.{IsTried, RepairComes, RepairOwn, Tried, TrySays};
+ghost use Rattle.ra_jobs.specs.Commands.{These};
+ghost use Rattle.ra_jobs.specs.Ends.{Does, Tries, puts_first};
+ghost use Rattle.ra_jobs.specs.Output.{output, BrokeOff};
+ghost use Rattle.ra_jobs.specs.Repairing.{IsTried, TrySays, repair_command};
 
 use crate::refusals::{JobFiles, Refusal};
 use crate::refusing::finish;
@@ -41,36 +37,10 @@ pub fn repair_run<'n, F: Files, O: Sink, E: Sink>(
     err: &mut E,
 ) -> Status
     requires one { length lots.now.lots.items ≡ 1 }
-    ensures ends { let names = solve_names model.now (option_copied closed.entry) initial.now in
-        Ends (F.held files.old) names (F.faults files.old) (F.faults files.new)
-        (Tried (F.held files.old) names lots.now None (Appends (O.taken out.old) (O.taken out.new)))
-        (RepairOwn (F.held files.old) names lots.now (Appends (O.taken out.old) (O.taken out.new))
-        (Breaks (O.taken out.old) (O.taken out.new) (O.faults out.old) (O.faults out.new)))
-        (Puts (E.taken err.old) (E.taken err.new) (E.faults err.old) (E.faults err.new))
-        (out.new ≡ out.old) (err.new ≡ err.old) result }
-    ensures not_usage { result ≢ Status.Usage }
-
-    // Each status but `Done` comes where its cause stands, and only there.
-    ensures comes { let names = solve_names model.now (option_copied closed.entry) initial.now in
-        Comes (F.held files.old) names (F.faults files.old) (F.faults files.new)
-        (RepairOwn (F.held files.old) names lots.now (Appends (O.taken out.old) (O.taken out.new))
-        (Breaks (O.taken out.old) (O.taken out.new) (O.faults out.old) (O.faults out.new)))
-        (out.new ≡ out.old) result }
-    ensures own_comes { let names = solve_names model.now
-        (option_copied closed.entry) initial.now in
-        RepairComes (F.held files.old) names (λ l. l ≡ lots.now) (F.faults files.old)
-        (F.faults files.new) result }
-
-    // Over accepted files, and where no fault of a file of the job or of the output was counted, the tries are told.
-    ensures complete { let names = solve_names model.now (option_copied closed.entry) initial.now in
-        AreAccepted (F.held files.old) names
-        → NoFault names (F.faults files.old) (F.faults files.new)
-        → (Rose (O.faults out.old) (O.faults out.new) → ⊥)
-        → (result ≡ Status.Done) ⊎ ((result ≡ Status.Unrepaired) ⊎ (result ≡ Status.NoMemory)) }
-    ensures kept { (other : List ℕ) → F.held files.new other ≡ F.held files.old other }
-    ensures never_fall { (other : List ℕ) → F.faults files.old other ≤ F.faults files.new other }
-    ensures out_never_falls { O.faults out.old ≤ O.faults out.new }
-    ensures err_never_falls { E.faults err.old ≤ E.faults err.new }
+    ensures { Does (repair_command model.now
+        (option_copied closed.entry) initial.now (These lots.now))
+        (reading F.Files files.old files.new) (output O.Sink out.old out.new)
+        (output E.Sink err.old err.new) result }
 {
     let names = JobFiles {
         model,
@@ -95,20 +65,9 @@ fn mend<F: Files, O: Sink>(
     out: &mut O,
 ) -> Result<(), Refusal>
     requires one { length lots.now.lots.items ≡ 1 }
-    ensures printed { OnOk result (Tried (F.held files.old)
-        (solve_names model.now (option_copied closed.entry) initial.now) lots.now None
-        (Appends (O.taken out.old) (O.taken out.new))) }
-    ensures refused { IfErr result (Says (F.held files.old)
-        (solve_names model.now (option_copied closed.entry) initial.now) (F.faults files.old)
-        (F.faults files.new)
-        (RepairOwn (F.held files.old)
-        (solve_names model.now (option_copied closed.entry) initial.now) lots.now
-        (Appends (O.taken out.old) (O.taken out.new))
-        (Breaks (O.taken out.old) (O.taken out.new) (O.faults out.old) (O.faults out.new)))) }
-    ensures untouched { IfErr result (λ refusal. puts_first refusal ≡ false → out.new ≡ out.old) }
-    ensures kept { (other : List ℕ) → F.held files.new other ≡ F.held files.old other }
-    ensures never_fall { (other : List ℕ) → F.faults files.old other ≤ F.faults files.new other }
-    ensures out_never_falls { O.faults out.old ≤ O.faults out.new }
+    ensures { Tries (repair_command model.now
+        (option_copied closed.entry) initial.now (These lots.now))
+        (reading F.Files files.old files.new) (output O.Sink out.old out.new) result }
 {
     let start = read_start(alloc, model, initial, closed, files)?;
     let ended = try_from(alloc, &start.inst, &start.initial, lots.lot(0), out);
@@ -127,10 +86,9 @@ fn try_from<O: Sink>(
     requires fits { IsAssignment inst.now.tables initial.now.items }
     requires lot { IsLots (lot.now ∷ []) }
     ensures printed { OnOk result (IsTried inst.now.tables initial.now.items lot.now None
-        (Appends (O.taken out.old) (O.taken out.new))) }
+        (Took (writing O.Sink out.old out.new))) }
     ensures refused { IfErr result (TrySays inst.now.tables initial.now.items lot.now
-        (Appends (O.taken out.old) (O.taken out.new))
-        (Breaks (O.taken out.old) (O.taken out.new) (O.faults out.old) (O.faults out.new))) }
+        (Took (writing O.Sink out.old out.new)) (BrokeOff (writing O.Sink out.old out.new))) }
     ensures untouched { IfErr result (λ refusal. puts_first refusal ≡ false → out.new ≡ out.old) }
     ensures out_never_falls { O.faults out.old ≤ O.faults out.new }
 {
@@ -160,10 +118,9 @@ fn try_over<O: Sink>(
     requires topology { IsTopologyOf topo.now inst.now.tables }
     requires made { IsMadeFor scratch.old inst.now.tables }
     ensures printed { OnOk result (IsTried inst.now.tables initial.now.items lot.now None
-        (Appends (O.taken out.old) (O.taken out.new))) }
+        (Took (writing O.Sink out.old out.new))) }
     ensures refused { IfErr result (TrySays inst.now.tables initial.now.items lot.now
-        (Appends (O.taken out.old) (O.taken out.new))
-        (Breaks (O.taken out.old) (O.taken out.new) (O.faults out.old) (O.faults out.new))) }
+        (Took (writing O.Sink out.old out.new)) (BrokeOff (writing O.Sink out.old out.new))) }
     ensures untouched { IfErr result (λ refusal. puts_first refusal ≡ false → out.new ≡ out.old) }
     ensures out_never_falls { O.faults out.old ≤ O.faults out.new }
 {

@@ -1,12 +1,11 @@
-ghost use Rattle.std.specs.Prelude.{◌≡◌, ◌≢◌, ◌⊎◌, ℕ, List};
-ghost use Rattle.std.specs.Io.KnownBytes.{Appends};
+ghost use Rattle.std.specs.Prelude.{◌≡◌, ◌≢◌, ◌⊎◌};
 ghost use Rattle.std.specs.Option.{option_copied};
-ghost use Rattle.ra_report.specs.Pieces.{Breaks, Puts};
-ghost use Rattle.ra_jobs.specs.Files.{check_names};
-ghost use Rattle.ra_jobs.specs.Outputs.{Printed};
+ghost use Rattle.ra_io.specs.Outside.{reading};
 ghost use Rattle.ra_jobs.specs.Complete.{AreValid};
-ghost use Rattle.ra_jobs.specs.Ends.{Ends};
-ghost use Rattle.ra_jobs.specs.Refusals.{Judges};
+ghost use Rattle.ra_jobs.specs.Ends.{Does};
+ghost use Rattle.ra_jobs.specs.Files.{check_names};
+ghost use Rattle.ra_jobs.specs.Output.{output};
+ghost use Rattle.ra_jobs.specs.Outputs.{check_command};
 
 use crate::check::check_run;
 use crate::status::Status;
@@ -27,23 +26,13 @@ pub fn check_steady<'n>(
     out: &mut CountSink,
     err: &mut CountSink,
 ) -> Status
-    ensures ends { let names = check_names model.now
-        (option_copied closed.entry) initial.now changed.now in
-        Ends (⟦<SteadyFiles as Files>⟧.held files.old) names
-        (⟦<SteadyFiles as Files>⟧.faults files.old) (⟦<SteadyFiles as Files>⟧.faults files.new)
-        (Printed (⟦<SteadyFiles as Files>⟧.held files.old) names
-        (Appends (⟦<CountSink as Sink>⟧.taken out.old) (⟦<CountSink as Sink>⟧.taken out.new)))
-        (Judges (⟦<SteadyFiles as Files>⟧.held files.old) names
-        (Printed (⟦<SteadyFiles as Files>⟧.held files.old) names
-        (Breaks (⟦<CountSink as Sink>⟧.taken out.old) (⟦<CountSink as Sink>⟧.taken out.new)
-        (⟦<CountSink as Sink>⟧.faults out.old) (⟦<CountSink as Sink>⟧.faults out.new))))
-        (Puts (⟦<CountSink as Sink>⟧.taken err.old) (⟦<CountSink as Sink>⟧.taken err.new)
-        (⟦<CountSink as Sink>⟧.faults err.old) (⟦<CountSink as Sink>⟧.faults err.new))
-        (out.new ≡ out.old) (err.new ≡ err.old) result }
+    ensures does { Does (check_command model.now
+        (option_copied closed.entry) initial.now changed.now)
+        (reading ⟦<SteadyFiles as Files>⟧ files.old files.new)
+        (output ⟦<CountSink as Sink>⟧ out.old out.new)
+        (output ⟦<CountSink as Sink>⟧ err.old err.new) result }
     ensures no_read_fault { result ≢ Status.ReadFault }
     ensures no_write_fault { result ≢ Status.WriteFault }
-    ensures kept { (other : List ℕ) → ⟦<SteadyFiles as Files>⟧.held files.new other ≡
-        ⟦<SteadyFiles as Files>⟧.held files.old other }
     ensures complete { AreValid (⟦<SteadyFiles as Files>⟧.held files.old)
         (check_names model.now (option_copied closed.entry) initial.now changed.now)
         → (result ≡ Status.Done) ⊎ (result ≡ Status.NoMemory) }

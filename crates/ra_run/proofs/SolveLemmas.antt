@@ -1,5 +1,5 @@
 -- What is printed of a run meets the headline.
-use Rattle.std.proofs.Common.{◌≡◌, ℕ, suc, List, length, Option, Some, IsSome, refl, sym, ap₂, ◌∙◌, arith}
+use Rattle.std.proofs.Common.{◌≡◌, ℕ, suc, List, length, Option, Some, IsSome, refl, sym, ap₂, ◌∙◌, arith, Result, IfSome}
 use Rattle.ra_base.specs.Searches.{least_place}
 use Rattle.ra_base.specs.declared.ids.Machine.{Machine}
 use Rattle.ra_base.proofs.Least.{least_means, least_there}
@@ -20,13 +20,22 @@ use Rattle.ra_report.proofs.HeadLines.{report_tells_its_journal}
 use Rattle.ra_report.proofs.JournalTexts.{one_journal_of_bytes}
 use Rattle.ra_crew.specs.declared.solved.Solved.{Solved as Run}
 use Rattle.ra_crew.specs.Runs.{IsRun}
+use Rattle.ra_io.specs.Outside.{Reading, Took}
 use Rattle.ra_jobs.specs.declared.refusals.Refusal.{Refusal}
 use Rattle.ra_jobs.specs.declared.refusals.Refusal.TheVariants.{InitialBroken, Write, Memory}
+use Rattle.ra_jobs.specs.declared.status.Status.{Status}
+use Rattle.ra_jobs.specs.declared.status.Status.TheVariants.{NoMemory}
+use Rattle.ra_jobs.specs.Commands.{These, over}
+use Rattle.ra_jobs.specs.Ends.{Does, Tries, Finishes, Leaves}
 use Rattle.ra_jobs.specs.Files.{Held, Faults, Names, solve_names}
+use Rattle.ra_jobs.specs.Lines.{refusal_line}
+use Rattle.ra_jobs.specs.Output.{Output, BrokeOff, Put}
 use Rattle.ra_jobs.specs.Refusals.{Says, Judges}
 use Rattle.ra_jobs.specs.Stages.{IsStart}
 use Rattle.ra_jobs.proofs.ComesLemmas.{Went}
-use Rattle.ra_run.specs.Outputs.{IsFirstLeast, Solved}
+use Rattle.ra_jobs.proofs.DoesLemmas.{does_more, judged_so, judged_memory}
+use Rattle.ra_jobs.proofs.StageLemmas.{judges_more, says_more}
+use Rattle.ra_run.specs.Outputs.{IsFirstLeast, Solved, solving}
 use Rattle.ra_run.specs.Solving.{IsReported, RunSays}
 
 -- the report of a run is that of its journal
@@ -99,3 +108,26 @@ says_run held names i a0 l first now way has_initial limits start refusal says =
 -- what was printed of a run, whole or in part, is of files that were accepted, and of a list that is feasible
 pub solved_went : (held : Held) (model : List ℕ) (closed : Option (List ℕ)) (initial : List ℕ) (l : Lots) (way : List ℕ → Type 0) → Solved held (solve_names model closed initial) l way → Went held (solve_names model closed initial)
 solved_went held model closed initial l way p = record { listed = record { tables = p.tables; a0 = p.a0; a = p.a0; accepts = p.accepts }; initial = λ named. p.start; changed = λ named. absurd (cc) }
+
+-- what a refusal of some lots says of these
+pub says_these : (held : Held) (names : Names) (l : Lots) (before now : Faults) (way : List ℕ → Type 0) (refusal : Refusal) → Says held names before now (Judges held names (Solved held names l way)) refusal → Says held names before now (Judges held names ((k : Lots) × These l k × Solved held names k way)) refusal
+says_these held names l before now way = says_more held names before now (Judges held names (Solved held names l way)) (Judges held names ((k : Lots) × These l k × Solved held names k way)) (judges_more held names (Solved held names l way) ((k : Lots) × These l k × Solved held names k way) (λ s. (l, refl, s)))
+
+-- what the command does
+
+pub solve_so : (model : List ℕ) (closed : Option (List ℕ)) (initial : List ℕ) (are : Lots → Type 0) (files : Reading) (out err : Output) (ended : Result (Unit {0}) Refusal) (status : Status) → Tries (over (solving (solve_names model closed initial) are)) files out ended → Finishes (solve_names model closed initial) ended err status → Does (over (solving (solve_names model closed initial) are)) files out err status
+solve_so model closed initial are files out err ended status tries finishes =
+    let names = solve_names model closed initial in
+    judged_so names (solving names are).prints files out err ended status tries finishes (λ way p. solved_went files.held model closed initial p.0 way p.2) (λ way p. (_, p.2.text))
+
+pub solve_more : (names : Names) (are more : Lots → Type 0) (files : Reading) (out err : Output) (status : Status) → ((l : Lots) → are l → more l) → Does (over (solving names are)) files out err status → Does (over (solving names more)) files out err status
+solve_more names are more files out err status step does =
+    let c = solving names are in
+    let d = solving names more in
+    does_more names c.prints d.prints c.refuses d.refuses c.own_comes d.own_comes c.valid c.answers files out err status
+    (λ p. (p.0, step p.0 p.1, p.2))
+    (judges_more files.held names (c.prints files.held (BrokeOff out.sink)) (d.prints files.held (BrokeOff out.sink)) (λ p. (p.0, step p.0 p.1, p.2)))
+    (λ own. own) does
+
+pub solve_memory : (names : Names) (are : Lots → Type 0) (files : Reading) (out err : Output) (status : Status) → status ≡ NoMemory → ((names : Names) → Put err.sink (refusal_line names Memory)) → out.same → Leaves files out err → Does (over (solving names are)) files out err status
+solve_memory names are files out err status is line same leaves = judged_memory names (solving names are).prints files out err status is line same leaves

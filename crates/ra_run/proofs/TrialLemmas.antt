@@ -1,5 +1,5 @@
 -- What a trial reads is the instance of its number and its start; and how it ends.
-use Rattle.std.proofs.Common.{◌≡◌, ◌⊎◌, ℕ, zero, suc, ◌*◌, ◌<◌, sum_by, List, [], ◌∷◌, length, codes, Option, Some, None, IfSome, inr, ⊎_elim, refl, sym, ◌∙◌, subst, ap, arith, Result, Ok, Err, OnOk, IfErr}
+use Rattle.std.proofs.Common.{◌≡◌, ◌⊎◌, ℕ, zero, suc, ◌*◌, ◌<◌, sum_by, List, [], ◌∷◌, length, codes, Option, Some, None, IfSome, inr, ⊎_elim, refl, sym, ◌∙◌, subst, ap, arith, Result, Ok, Err, OnOk, IfErr, inl, true, false}
 use Rattle.ra_base.specs.Listed.{Listed}
 use Rattle.ra_base.specs.declared.ids.Machine.{Machine}
 use Rattle.ra_model.specs.Assignments.{IsAssignment}
@@ -26,20 +26,24 @@ use Rattle.ra_trial.proofs.TextMeans.{text_accepted_whole, text_is_trial}
 use Rattle.ra_trial.proofs.StartText.{start_text_is_start}
 use Rattle.ra_trial.proofs.StartFeasible.{start_fits, start_feasible}
 use Rattle.ra_trial.proofs.TrialNumbers.{has_numbers}
+use Rattle.ra_io.specs.Outside.{Reading, Took}
 use Rattle.ra_jobs.specs.declared.refusals.Refusal.{Refusal}
 use Rattle.ra_jobs.specs.declared.refusals.Refusal.TheVariants.{Write, Memory}
 use Rattle.ra_jobs.specs.Complete.{AreAccepted}
 use Rattle.ra_jobs.specs.Refusals.{Says, Nothing}
 use Rattle.ra_jobs.specs.Statuses.{status_of}
 use Rattle.ra_jobs.specs.declared.status.Status.{Status}
-use Rattle.ra_jobs.specs.declared.status.Status.TheVariants.{Done, WriteFault, NoMemory}
+use Rattle.ra_jobs.specs.declared.status.Status.TheVariants.{Done, WriteFault, NoMemory, Usage}
 use Rattle.ra_jobs.specs.Files.{Held, Names, InstanceIs, ListIs, solve_names}
+use Rattle.ra_jobs.specs.Ends.{Does, Leaves}
 use Rattle.ra_jobs.specs.Lines.{refusal_line}
+use Rattle.ra_jobs.specs.Output.{Output, BrokeOff, Put}
+use Rattle.ra_jobs.specs.Statuses.{status_of}
 use Rattle.ra_jobs.specs.Stages.{IsStart}
 use Rattle.ra_jobs.proofs.CompleteLemmas.{never_rose, own_left}
 use Rattle.ra_run.specs.declared.trial.TrialFault.{TrialFault}
 use Rattle.ra_run.specs.declared.trial.TrialFault.TheVariants as fault
-use Rattle.ra_run.specs.Trials.{HoldsTrial, IsTrialStart, IsTrialLots, IsSummarized, TrialPrinted, TrialSays, TrialEnds}
+use Rattle.ra_run.specs.Trials.{HoldsTrial, IsTrialStart, IsTrialLots, IsSummarized, TrialPrinted, TrialSays, no_names, trial_command}
 
 -- what is told is so of what is told
 told : (told : Option (List ℕ)) (bytes : List ℕ) (P : List ℕ → Type 0) → told ≡ Some bytes → IfSome told P → P bytes
@@ -152,13 +156,37 @@ err_then (Err e) known follows step is = step e is
 
 -- ---- how it ends
 
-pub trial_memory : (number : ℕ) (prints breaks tells : List ℕ → Type 0) (out_same err_same : Type 0) (status : Status) → status ≡ NoMemory → ((names : Names) → tells (refusal_line names Memory)) → out_same → TrialEnds number prints breaks tells out_same err_same status
-trial_memory number prints breaks tells out_same err_same status is line untouched = record {
-  only = inr (inr is);
+pub trial_done : (number : ℕ) (files : Reading) (out err : Output) (status : Status) → status ≡ Done → TrialPrinted number (Took out.sink) → err.same → Leaves files out err → Does (trial_command number) files out err status
+trial_done number files out err status is printed quiet leaves = record {
+  printed = λ _. printed;
+  quiet = λ _. quiet;
+  refused = λ other. absurd (other is);
+  not_usage = λ e. let both : Done ≡ Usage = sym is ∙ e in cc;
+  comes = inl is;
+  complete = λ _ _. inl is;
+  leaves = leaves;
+}
+
+pub trial_broke : (number : ℕ) (files : Reading) (out err : Output) (status : Status) → status ≡ WriteFault → TrialPrinted number (BrokeOff out.sink) → ((names : Names) → Put err.sink (refusal_line names Write)) → Leaves files out err → Does (trial_command number) files out err status
+unfolding status_of
+trial_broke number files out err status is broken line leaves = record {
+  printed = λ e. absurd (let both : WriteFault ≡ Done = sym is ∙ e in cc);
+  quiet = λ e. absurd (let both : WriteFault ≡ Done = sym is ∙ e in cc);
+  refused = λ _. record { refusal = Write; says = broken; is = is; line = line no_names; untouched = λ first. absurd (let both : true ≡ false = first in cc) };
+  not_usage = λ e. let both : WriteFault ≡ Usage = sym is ∙ e in cc;
+  comes = inr (inl is);
+  complete = λ _ whole. absurd (whole broken.text.1);
+  leaves = leaves;
+}
+
+pub trial_memory : (number : ℕ) (files : Reading) (out err : Output) (status : Status) → status ≡ NoMemory → ((names : Names) → Put err.sink (refusal_line names Memory)) → out.same → Leaves files out err → Does (trial_command number) files out err status
+unfolding status_of
+trial_memory number files out err status is line same leaves = record {
   printed = λ e. absurd (let both : NoMemory ≡ Done = sym is ∙ e in cc);
   quiet = λ e. absurd (let both : NoMemory ≡ Done = sym is ∙ e in cc);
-  written = λ e. absurd (let both : NoMemory ≡ WriteFault = sym is ∙ e in cc);
-  write_line = λ e. absurd (let both : NoMemory ≡ WriteFault = sym is ∙ e in cc);
-  untouched = λ e. untouched;
-  memory_line = λ e. line;
+  refused = λ _. record { refusal = Memory; says = tt; is = is; line = line no_names; untouched = λ _. same };
+  not_usage = λ e. let both : NoMemory ≡ Usage = sym is ∙ e in cc;
+  comes = inr (inr is);
+  complete = λ _ _. inr is;
+  leaves = leaves;
 }

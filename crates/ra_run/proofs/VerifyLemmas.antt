@@ -14,6 +14,7 @@ use Rattle.ra_verify.specs.declared.faults.VerifyFault.{VerifyFault}
 use Rattle.ra_verify.specs.declared.faults.VerifyFault.TheVariants as fault
 use Rattle.ra_verify.proofs.AnswerLemmas.{one_first_wrong}
 use Rattle.ra_verify.proofs.LimitLemmas.{report_has_none_wrong}
+use Rattle.ra_io.specs.Outside.{Reading, Took}
 use Rattle.ra_jobs.specs.declared.refusals.File.TheVariants as file
 use Rattle.ra_jobs.specs.declared.refusals.Refusal.{Refusal}
 use Rattle.ra_jobs.specs.declared.refusals.Refusal.TheVariants.{Read, Model, Closed, Initial, Changed, InitialBroken, ChangedBroken, Wrong as WrongLine, Write, Memory}
@@ -21,17 +22,23 @@ use Rattle.ra_jobs.specs.declared.status.Status.{Status}
 use Rattle.ra_jobs.specs.declared.status.Status.TheVariants.{Done, Infeasible, Wrong, WriteFault, NoMemory}
 use Rattle.ra_jobs.specs.Comes.{KnownTo, InfeasibleComes}
 use Rattle.ra_jobs.specs.Complete.{AreValid}
-use Rattle.ra_jobs.specs.Ends.{Ends}
+use Rattle.ra_jobs.specs.Commands.{These, over}
+use Rattle.ra_jobs.specs.Ends.{Does, Tries, Finishes, Leaves}
 use Rattle.ra_jobs.specs.Files.{Held, Faults, Names, name_of, Passes, solve_names, verify_names}
+use Rattle.ra_jobs.specs.Lines.{refusal_line}
+use Rattle.ra_jobs.specs.Output.{Output, BrokeOff, Put}
 use Rattle.ra_jobs.specs.Refusals.{Says, Nothing, InitialBreaks, ChangedBreaks, CanTell}
 use Rattle.ra_jobs.specs.Stages.{IsStart}
 use Rattle.ra_jobs.specs.Statuses.{status_of}
 use Rattle.ra_jobs.proofs.ComesLemmas.{Listed, Went, infeasible_of, passed_went, told_of}
-use Rattle.ra_jobs.proofs.CompleteLemmas.{OwnRefused, is_done}
+use Rattle.ra_jobs.proofs.CompleteLemmas.{OwnRefused, is_done, complete_own}
 use Rattle.ra_jobs.proofs.BareLemmas.{bare}
+use Rattle.ra_jobs.proofs.DoesLemmas.{does_so, does_more, infeasible_not, memory_refused}
+use Rattle.ra_jobs.proofs.EndLemmas.{Ends, EndsOver, finished, left_so}
+use Rattle.ra_jobs.proofs.RepairLemmas.{of_these}
 use Rattle.ra_jobs.proofs.MeaningLemmas.{no_model, no_closed, no_initial, no_initial_break, instances_same, lists_same}
 use Rattle.ra_jobs.proofs.StageLemmas.{can_tell, rose_later, says_more}
-use Rattle.ra_run.specs.Verifying.{CountSays, IsCounted, IsRead, IsRightAt, IsRightReport, IsSolved, IsWrongAt, IsWrongReport, ReportWrong, VerdictComes, Verified, VerifyOwn, refused_by}
+use Rattle.ra_run.specs.Verifying.{CountSays, IsCounted, IsRead, IsRightAt, IsRightReport, IsSolved, IsWrongAt, IsWrongReport, ReportWrong, VerdictComes, Verified, VerifyOwn, refused_by, verifying}
 use Rattle.ra_run.proofs.AlikeLemmas.{first_wrong_same, is_report_same}
 use Rattle.ra_run.proofs.SolveLemmas.{solved}
 
@@ -121,7 +128,7 @@ own_more held names l written more step (WrongLine line) says = says
 own_more held names l written more step Write says = step says
 own_more held names l written more step refusal says = says
 
-own_tells : (held : Held) (names : Names) (l : Lots) (written : Type 0) (refusal : Refusal) → VerifyOwn held names l written refusal → CanTell names refusal
+pub own_tells : (held : Held) (names : Names) (l : Lots) (written : Type 0) (refusal : Refusal) → VerifyOwn held names l written refusal → CanTell names refusal
 own_tells held names l written (InitialBroken cause) says = says.named
 own_tells held names l written (WrongLine line) says = tt
 own_tells held names l written Write says = tt
@@ -315,3 +322,47 @@ verdict_not held names are before now status is = record {
   is_wrong = λ i a0 passes known line wrong. inr is;
   is_right = λ i a0 passes known right. inr (inr is);
 }
+
+-- what the command does
+
+-- a refusal of these lots, as one of some
+pub says_these_lots : (held : Held) (names : Names) (l : Lots) (before now : Faults) (way : List ℕ → Type 0) (refusal : Refusal) → Says held names before now (VerifyOwn held names l (Verified held names l way)) refusal → Says held names before now ((verifying names (These l)).refuses held way way) refusal
+says_these_lots held names l before now way = says_more held names before now (VerifyOwn held names l (Verified held names l way)) ((verifying names (These l)).refuses held way way) (λ r own. (l, refl, own))
+
+pub verify_so : (model : List ℕ) (closed : Option (List ℕ)) (initial report : List ℕ) (l : Lots) (files : Reading) (out err : Output) (ended : Result (Unit {0}) Refusal) (status : Status) → Tries (over (verifying (verify_names model closed initial report) (These l))) files out ended → Finishes (verify_names model closed initial report) ended err status → Does (over (verifying (verify_names model closed initial report) (These l))) files out err status
+verify_so model closed initial report l files out err ended status tries finishes =
+    let held = files.held in
+    let names = verify_names model closed initial report in
+    let c = verifying names (These l) in
+    let prints : List ℕ → Type 0 = Took out.sink in
+    let breaks : List ℕ → Type 0 = BrokeOff out.sink in
+    let written = Verified held names l breaks in
+    let ends : EndsOver c files out err status = finished c files out err ended status tries finishes in
+    let exact : Ends held names files.before files.after (Verified held names l prints) (VerifyOwn held names l written) (Put err.sink) out.same err.same status = record {
+      printed = λ done. of_these {P = λ k. Verified held names k prints} l (ends.printed done);
+      quiet = ends.quiet;
+      refused = λ other. let r = ends.refused other in record {
+        refusal = r.refusal;
+        says = says_more held names files.before files.after (c.refuses held prints breaks) (VerifyOwn held names l written) (λ refusal says. of_these {P = λ k. VerifyOwn held names k (Verified held names k breaks) refusal} l says) r.refusal r.says;
+        is = r.is;
+        line = r.line;
+        untouched = r.untouched;
+      };
+    } in
+    does_so c files out err status ends
+    (λ p. (verified_went held names p.0 prints p.2).listed)
+    (λ r p. own_listed held names p.0 (Verified held names p.0 breaks) (verified_went held names p.0 breaks) r p.2)
+    (verify_infeasible exact (verified_went held names l prints) (verified_went held names l breaks), verify_verdict model closed initial report l (These l) prints breaks refl exact)
+    (λ valid sound whole. verify_complete held names l written status valid (λ broken. whole broken.text.1) (complete_own exact valid.accepted sound))
+    (left_so c files out err ended status tries finishes)
+
+pub verify_more : (names : Names) (are more : Lots → Type 0) (files : Reading) (out err : Output) (status : Status) → ((l : Lots) → are l → more l) → Does (over (verifying names are)) files out err status → Does (over (verifying names more)) files out err status
+verify_more names are more files out err status step does =
+    let c = verifying names are in
+    let d = verifying names more in
+    does_more names c.prints d.prints c.refuses d.refuses c.own_comes d.own_comes c.valid c.answers files out err status
+    (λ p. (p.0, step p.0 p.1, p.2)) (λ r p. (p.0, step p.0 p.1, p.2)) (λ own. (own.0, verdict_more files.held names are more files.before files.after status step own.1)) does
+
+pub verify_memory : (names : Names) (are : Lots → Type 0) (files : Reading) (out err : Output) (status : Status) → status ≡ NoMemory → ((names : Names) → Put err.sink (refusal_line names Memory)) → out.same → Leaves files out err → Does (over (verifying names are)) files out err status
+verify_memory names are files out err status is line same leaves =
+    memory_refused (verifying names are) files out err status is line same leaves (infeasible_not files.held names files.before files.after status is, verdict_not files.held names are files.before files.after status is) (inr (inr is))

@@ -1,5 +1,5 @@
--- What `solve` has printed where it is done. A way says where a text went: to the output, whole or in part.
-use Rattle.std.specs.Prelude.{◌≡◌, ℕ, ◌<◌, ◌≤◌, List, length}
+-- `solve`. A way says where a text went: to the output, whole or in part.
+use Rattle.std.specs.Prelude.{◌≡◌, ℕ, ◌<◌, ◌≤◌, List, length, Option}
 use Rattle.ra_base.specs.declared.ids.Machine.{Machine}
 use Rattle.ra_model.specs.declared.raw.Tables.{Tables}
 use Rattle.ra_model.specs.Assignments.{IsAssignment}
@@ -14,7 +14,8 @@ use Rattle.ra_journal.specs.Legal.{Legal, Whole}
 use Rattle.ra_journal.specs.Solo.{solo}
 use Rattle.ra_journal.specs.States.{state, cost_at}
 use Rattle.ra_report.specs.JournalTexts.{report_lines, report_text, IsJournalOf}
-use Rattle.ra_jobs.specs.Files.{Held, Names, Accepts}
+use Rattle.ra_jobs.specs.Commands.{Command, OverFiles, over, judged}
+use Rattle.ra_jobs.specs.Files.{Held, Names, Accepts, solve_names}
 
 -- the state at place j of a journal is the first of least objective: no state costs less, and each earlier one costs more
 pub record IsFirstLeast (i : Tables) (a0 : List Machine) (h : List Entry) (j : ℕ) : Type 0 where
@@ -56,3 +57,10 @@ pub record Solved (held : Held) (names : Names) (l : Lots) (way : List ℕ → T
   -- no assignment that is feasible with respect to the start costs less than the bound
   pub least : (a : List Machine) → IsAssignment tables a → Feasible tables a0 a
       → (pinned_bound_of tables a0).total ≤ objective tables a0 a
+
+-- of such lots
+abbrev pub solving : Names → (Lots → Type 0) → OverFiles
+solving names are = judged names (λ held way. (l : Lots) × are l × Solved held names l way)
+
+abbrev pub solve_command : List ℕ → Option (List ℕ) → List ℕ → (Lots → Type 0) → Command
+solve_command model closed initial are = over (solving (solve_names model closed initial) are)

@@ -1,5 +1,5 @@
--- How `trial` ends. It has no files of the caller: it reads the texts that it makes itself.
-use Rattle.std.specs.Prelude.{◌≡◌, ◌⊎◌, ℕ, List, [], ◌∷◌, codes, Some}
+-- `trial`. It has no files of the caller: it reads the texts that it makes itself.
+use Rattle.std.specs.Prelude.{◌≡◌, ◌⊎◌, ℕ, List, [], ◌∷◌, codes, Some, None}
 use Rattle.ra_base.specs.declared.causes.Drawing.TheVariants.{Two}
 use Rattle.ra_base.specs.declared.ids.Machine.{Machine}
 use Rattle.ra_draws.specs.declared.budgets.Lots.{Lots}
@@ -10,11 +10,11 @@ use Rattle.ra_report.specs.Summaries.{summary_text}
 use Rattle.ra_trial.specs.Instances.{IsTrial, start_list}
 use Rattle.ra_trial.specs.Numbers.{trial_word}
 use Rattle.ra_trial.specs.Trials.{model_text, start_text}
+use Rattle.ra_jobs.specs.declared.refusals.Refusal.{Refusal}
 use Rattle.ra_jobs.specs.declared.refusals.Refusal.TheVariants as refusal
-use Rattle.ra_jobs.specs.declared.status.Status.{Status}
 use Rattle.ra_jobs.specs.declared.status.Status.TheVariants.{Done, WriteFault, NoMemory}
+use Rattle.ra_jobs.specs.Commands.{Command}
 use Rattle.ra_jobs.specs.Files.{Held, Names}
-use Rattle.ra_jobs.specs.Lines.{refusal_line}
 use Rattle.ra_run.specs.declared.trial.TrialFault.{TrialFault}
 use Rattle.ra_run.specs.declared.trial.TrialFault.TheVariants.{Write, Memory}
 
@@ -58,14 +58,29 @@ abbrev pub TrialSays : Type 0 → TrialFault → Type 0
 TrialSays written Write = written
 TrialSays written Memory = Unit {0}
 
--- a trial ends: it is done, its summary was printed and the error sink took nothing; or writing failed behind a part of
--- the summary; or memory was refused and the output took nothing. Its refusal is told, and there is no other one
-pub record TrialEnds (number : ℕ) (prints breaks tells : List ℕ → Type 0)
-    (out_same err_same : Type 0) (status : Status) : Type 0 where
-  pub only : (status ≡ Done) ⊎ ((status ≡ WriteFault) ⊎ (status ≡ NoMemory))
-  pub printed : status ≡ Done → TrialPrinted number prints
-  pub quiet : status ≡ Done → err_same
-  pub written : status ≡ WriteFault → TrialPrinted number breaks
-  pub write_line : status ≡ WriteFault → (names : Names) → tells (refusal_line names refusal.Write)
-  pub untouched : status ≡ NoMemory → out_same
-  pub memory_line : status ≡ NoMemory → (names : Names) → tells (refusal_line names refusal.Memory)
+-- what its refusals say: writing failed behind a part of the summary, or memory was refused. There is no other one
+abbrev pub TrialRefused : ℕ → (List ℕ → Type 0) → Refusal → Type 0
+TrialRefused number part refusal.Write = TrialPrinted number part
+TrialRefused number part refusal.Memory = Unit {0}
+TrialRefused number part why = ⊥
+
+-- the names of no files
+abbrev pub no_names : Names
+no_names = record {
+  model = [];
+  closed = None;
+  initial = None;
+  changed = None;
+  report = None;
+  edits = None;
+}
+
+abbrev pub trial_command : ℕ → Command
+trial_command number = record {
+  names = no_names;
+  prints = λ held way. TrialPrinted number way;
+  refuses = λ files whole part. TrialRefused number part;
+  comes = λ files out status. (status ≡ Done) ⊎ ((status ≡ WriteFault) ⊎ (status ≡ NoMemory));
+  valid = λ files. Unit {0};
+  answers = λ status. (status ≡ Done) ⊎ (status ≡ NoMemory);
+}

@@ -1,5 +1,5 @@
 -- `verify`: the report of a run is accepted, or its first wrong line is told.
-use Rattle.std.specs.Prelude.{◌≡◌, ◌⊎◌, ℕ, List, length, Some, None, IfSome}
+use Rattle.std.specs.Prelude.{◌≡◌, ◌⊎◌, ℕ, List, length, Option, Some, None, IfSome}
 use Rattle.ra_base.specs.declared.ids.Machine.{Machine}
 use Rattle.ra_draws.specs.declared.budgets.Lots.{Lots}
 use Rattle.ra_io.specs.Faults.{Rose}
@@ -15,8 +15,10 @@ use Rattle.ra_jobs.specs.declared.refusals.Refusal.{Refusal}
 use Rattle.ra_jobs.specs.declared.refusals.Refusal.TheVariants.{Read, InitialBroken, Wrong as WrongLine, Write, Memory}
 use Rattle.ra_jobs.specs.declared.status.Status.{Status}
 use Rattle.ra_jobs.specs.declared.status.Status.TheVariants.{Done, Wrong, WriteFault, NoMemory}
-use Rattle.ra_jobs.specs.Comes.{KnownTo}
-use Rattle.ra_jobs.specs.Files.{Held, Faults, Names, name_of, Passes}
+use Rattle.ra_jobs.specs.Comes.{KnownTo, InfeasibleComes}
+use Rattle.ra_jobs.specs.Commands.{Command, OverFiles, over}
+use Rattle.ra_jobs.specs.Complete.{AreValid}
+use Rattle.ra_jobs.specs.Files.{Held, Faults, Names, name_of, Passes, verify_names}
 use Rattle.ra_jobs.specs.Refusals.{InitialBreaks}
 use Rattle.ra_run.specs.Outputs.{Solved}
 
@@ -84,6 +86,24 @@ pub record VerdictComes (held : Held) (names : Names) (are : Lots → Type 0) (b
       → KnownTo held names before now file.Report
       → ((l : Lots) → are l → IsRightReport held names i a0 l)
       → (status ≡ Done) ⊎ ((status ≡ WriteFault) ⊎ (status ≡ NoMemory))
+
+-- of such lots: over valid files a verdict is told
+abbrev pub verifying : Names → (Lots → Type 0) → OverFiles
+verifying names are = record {
+  names = names;
+  prints = λ held way. (l : Lots) × are l × Verified held names l way;
+  refuses = λ held whole part refusal.
+      (l : Lots) × are l × VerifyOwn held names l (Verified held names l part) refusal;
+  own_comes = λ files status.
+      InfeasibleComes files.held names files.before files.after status
+      × VerdictComes files.held names are files.before files.after status;
+  valid = λ held. AreValid held names;
+  answers = λ status. (status ≡ Done) ⊎ ((status ≡ Wrong) ⊎ (status ≡ NoMemory));
+}
+
+abbrev pub verify_command : List ℕ → Option (List ℕ) → List ℕ → List ℕ → (Lots → Type 0) → Command
+verify_command model closed initial report are =
+    over (verifying (verify_names model closed initial report) are)
 
 -- ---- the stages
 

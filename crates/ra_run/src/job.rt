@@ -1,17 +1,11 @@
-ghost use Rattle.std.specs.Prelude.{◌≡◌, ◌≢◌, ◌↔◌, ◌⊎◌, ℕ, ◌≤◌, List, [], ◌∷◌, None, IfSome};
-ghost use Rattle.std.specs.Io.KnownBytes.{Appends};
-ghost use Rattle.ra_io.specs.Faults.{Rose};
-ghost use Rattle.ra_report.specs.FaultTexts.{usage_line};
-ghost use Rattle.ra_report.specs.Pieces.{Breaks, Puts, joined};
-ghost use Rattle.ra_report.specs.Texts.{line_end};
+ghost use Rattle.std.specs.Prelude.{IfSome};
+ghost use Rattle.ra_io.specs.Outside.{reading};
 ghost use Rattle.ra_words.specs.Jobs.{HasOneLot, job_of};
 ghost use Rattle.ra_words.specs.Said.{said};
 ghost use Rattle.ra_words.specs.Words.{texts};
-ghost use Rattle.ra_jobs.specs.Comes.{Comes};
-ghost use Rattle.ra_jobs.specs.Complete.{NoFault};
-ghost use Rattle.ra_jobs.specs.Ends.{Ends};
-ghost use Rattle.ra_run.specs.Commands.{Answers, OfJob, OutputOf, OwnComes, OwnOf, ValidFor};
-ghost use Rattle.ra_run.specs.Trials.{TrialEnds};
+ghost use Rattle.ra_jobs.specs.Ends.{Does, Leaves};
+ghost use Rattle.ra_jobs.specs.Output.{output};
+ghost use Rattle.ra_run.specs.Commands.{UsageComes, command_of};
 
 use crate::solve::solve_run;
 use crate::trial::trial_run;
@@ -37,43 +31,13 @@ pub fn run<R: Threads + Wait + Sync, F: Files, O: Sink, E: Sink, G: Gate>(
     err: &mut E,
     gate: &G,
 ) -> Status
-    ensures usage { (result ≡ Status.Usage) ↔ (job_of (texts words.now) ≡ None) }
-    ensures usage_line { result ≡ Status.Usage → Puts (E.taken err.old) (E.taken err.new)
-        (E.faults err.old) (E.faults err.new) (joined (usage_line ∷ line_end ∷ [])) }
-    ensures usage_quiet { result ≡ Status.Usage → out.new ≡ out.old }
-    ensures ends { IfSome (job_of (texts words.now)) (λ says. OfJob says
-        (λ names. Ends (F.held files.old) names (F.faults files.old) (F.faults files.new)
-        (OutputOf (F.held files.old) says (Appends (O.taken out.old) (O.taken out.new)))
-        (OwnOf (F.held files.old) says (Appends (O.taken out.old) (O.taken out.new))
-        (Breaks (O.taken out.old) (O.taken out.new) (O.faults out.old) (O.faults out.new)))
-        (Puts (E.taken err.old) (E.taken err.new) (E.faults err.old) (E.faults err.new))
-        (out.new ≡ out.old) (err.new ≡ err.old) result)
-        (λ number. TrialEnds number (Appends (O.taken out.old) (O.taken out.new))
-        (Breaks (O.taken out.old) (O.taken out.new) (O.faults out.old) (O.faults out.new))
-        (Puts (E.taken err.old) (E.taken err.new) (E.faults err.old) (E.faults err.new))
-        (out.new ≡ out.old) (err.new ≡ err.old) result)) }
-
-    // Each other status but `Done` comes where its cause stands, and only there.
-    ensures comes { IfSome (job_of (texts words.now)) (λ says. OfJob says
-        (λ names. Comes (F.held files.old) names (F.faults files.old) (F.faults files.new)
-        (OwnOf (F.held files.old) says (Appends (O.taken out.old) (O.taken out.new))
-        (Breaks (O.taken out.old) (O.taken out.new) (O.faults out.old) (O.faults out.new)))
-        (out.new ≡ out.old) result)
-        (λ number. Unit {0})) }
-    ensures own_comes { IfSome (job_of (texts words.now)) (λ says. OwnComes (F.held files.old) says
-        (F.faults files.old) (F.faults files.new) result) }
-
-    // Over valid files, and where no fault of a file of the job or of the output was counted, the job is done.
-    ensures complete { IfSome (job_of (texts words.now)) (λ says. OfJob says
-        (λ names. ValidFor (F.held files.old) says
-        → NoFault names (F.faults files.old) (F.faults files.new) →
-        (Rose (O.faults out.old) (O.faults out.new) → ⊥) → Answers says result)
-        (λ number. (Rose (O.faults out.old) (O.faults out.new) → ⊥)
-        → (result ≡ Status.Done) ⊎ (result ≡ Status.NoMemory))) }
-    ensures kept { (other : List ℕ) → F.held files.new other ≡ F.held files.old other }
-    ensures never_fall { (other : List ℕ) → F.faults files.old other ≤ F.faults files.new other }
-    ensures out_never_falls { O.faults out.old ≤ O.faults out.new }
-    ensures err_never_falls { E.faults err.old ≤ E.faults err.new }
+    ensures usage { UsageComes (job_of (texts words.now))
+        (output O.Sink out.old out.new) (output E.Sink err.old err.new) result }
+    ensures does { IfSome (job_of (texts words.now)) (λ says. Does (command_of says)
+        (reading F.Files files.old files.new) (output O.Sink out.old out.new)
+        (output E.Sink err.old err.new) result) }
+    ensures leaves { Leaves (reading F.Files files.old files.new)
+        (output O.Sink out.old out.new) (output E.Sink err.old err.new) }
 {
     match read_words(alloc, words) {
         Ok(job) => {
@@ -97,30 +61,8 @@ fn do_job<R: Threads + Wait + Sync, F: Files, O: Sink, E: Sink, G: Gate>(
     gate: &G,
 ) -> Status
     requires { HasOneLot (said job.now) }
-    ensures ends { OfJob (said job.now)
-        (λ names. Ends (F.held files.old) names (F.faults files.old) (F.faults files.new)
-        (OutputOf (F.held files.old) (said job.now) (Appends (O.taken out.old) (O.taken out.new)))
-        (OwnOf (F.held files.old) (said job.now) (Appends (O.taken out.old) (O.taken out.new))
-        (Breaks (O.taken out.old) (O.taken out.new) (O.faults out.old) (O.faults out.new)))
-        (Puts (E.taken err.old) (E.taken err.new) (E.faults err.old) (E.faults err.new))
-        (out.new ≡ out.old) (err.new ≡ err.old) result)
-        (λ number. TrialEnds number (Appends (O.taken out.old) (O.taken out.new))
-        (Breaks (O.taken out.old) (O.taken out.new) (O.faults out.old) (O.faults out.new))
-        (Puts (E.taken err.old) (E.taken err.new) (E.faults err.old) (E.faults err.new))
-        (out.new ≡ out.old) (err.new ≡ err.old) result) }
-    ensures not_usage { result ≢ Status.Usage }
-    ensures own_comes { OwnComes (F.held files.old) (said job.now) (F.faults files.old)
-        (F.faults files.new) result }
-    ensures complete { OfJob (said job.now)
-        (λ names. ValidFor (F.held files.old) (said job.now)
-        → NoFault names (F.faults files.old) (F.faults files.new) →
-        (Rose (O.faults out.old) (O.faults out.new) → ⊥) → Answers (said job.now) result)
-        (λ number. (Rose (O.faults out.old) (O.faults out.new) → ⊥)
-        → (result ≡ Status.Done) ⊎ (result ≡ Status.NoMemory)) }
-    ensures kept { (other : List ℕ) → F.held files.new other ≡ F.held files.old other }
-    ensures never_fall { (other : List ℕ) → F.faults files.old other ≤ F.faults files.new other }
-    ensures out_never_falls { O.faults out.old ≤ O.faults out.new }
-    ensures err_never_falls { E.faults err.old ≤ E.faults err.new }
+    ensures { Does (command_of (said job.now)) (reading F.Files files.old files.new)
+        (output O.Sink out.old out.new) (output E.Sink err.old err.new) result }
 {
     match job {
         Job::Check {

@@ -1,7 +1,6 @@
-ghost use Rattle.std.specs.Prelude.{◌≡◌, ◌≢◌, ◌⊎◌, ℕ, ◌≤◌, List, None, OnOk, OnErr, IfErr};
-ghost use Rattle.std.specs.Io.KnownBytes.{Appends};
+ghost use Rattle.std.specs.Prelude.{◌≡◌, ◌≢◌, ◌≤◌, None, OnOk, OnErr, IfErr};
 ghost use Rattle.std.specs.Option.{option_copied};
-ghost use Rattle.ra_io.specs.Faults.{Rose};
+ghost use Rattle.ra_io.specs.Outside.{reading, writing, Took};
 ghost use Rattle.ra_bounds.specs.PinnedBounds.{pinned_bound_of};
 ghost use Rattle.ra_model.specs.Assignments.{IsAssignment};
 ghost use Rattle.ra_model.specs.Broken.{first_broken};
@@ -9,13 +8,10 @@ ghost use Rattle.ra_model.specs.Costs.{parts_of};
 ghost use Rattle.ra_model.specs.Feasible.{Feasible};
 ghost use Rattle.ra_topology.specs.Fits.{IsTopologyOf};
 ghost use Rattle.ra_report.specs.JournalTexts.{best_state, text_of};
-ghost use Rattle.ra_report.specs.Pieces.{Breaks, Puts};
-ghost use Rattle.ra_jobs.specs.Comes.{Comes, InfeasibleComes};
-ghost use Rattle.ra_jobs.specs.Complete.{AreValid, NoFault};
-ghost use Rattle.ra_jobs.specs.Ends.{Ends};
-ghost use Rattle.ra_jobs.specs.Files.{solve_names};
-ghost use Rattle.ra_jobs.specs.Refusals.{Says, Judges};
-ghost use Rattle.ra_run.specs.Outputs.{Solved};
+ghost use Rattle.ra_jobs.specs.Commands.{These};
+ghost use Rattle.ra_jobs.specs.Ends.{Does, Tries};
+ghost use Rattle.ra_jobs.specs.Output.{output, BrokeOff};
+ghost use Rattle.ra_run.specs.Outputs.{solve_command};
 ghost use Rattle.ra_run.specs.Solving.{IsReported, RunSays};
 
 use ra_base::{Assignment, Name, Parts};
@@ -48,34 +44,10 @@ pub fn solve_run<'n, R: Threads + Wait + Sync, F: Files, O: Sink, E: Sink, G: Ga
     err: &mut E,
     gate: &G,
 ) -> Status
-    ensures ends { let names = solve_names model.now (option_copied closed.entry) initial.now in
-        Ends (F.held files.old) names (F.faults files.old) (F.faults files.new)
-        (Solved (F.held files.old) names lots.now (Appends (O.taken out.old) (O.taken out.new)))
-        (Judges (F.held files.old) names (Solved (F.held files.old) names lots.now
-        (Breaks (O.taken out.old) (O.taken out.new) (O.faults out.old) (O.faults out.new))))
-        (Puts (E.taken err.old) (E.taken err.new) (E.faults err.old) (E.faults err.new))
-        (out.new ≡ out.old) (err.new ≡ err.old) result }
-    ensures not_usage { result ≢ Status.Usage }
-
-    // Each status but `Done` comes where its cause stands, and only there.
-    ensures comes { let names = solve_names model.now (option_copied closed.entry) initial.now in
-        Comes (F.held files.old) names (F.faults files.old) (F.faults files.new)
-        (Judges (F.held files.old) names (Solved (F.held files.old) names lots.now
-        (Breaks (O.taken out.old) (O.taken out.new) (O.faults out.old) (O.faults out.new))))
-        (out.new ≡ out.old) result }
-    ensures infeasible { let names = solve_names model.now
-        (option_copied closed.entry) initial.now in
-        InfeasibleComes (F.held files.old) names (F.faults files.old) (F.faults files.new) result }
-
-    // Over valid files, and where no fault of a file of the job or of the output was counted, the report is printed.
-    ensures complete { let names = solve_names model.now (option_copied closed.entry) initial.now in
-        AreValid (F.held files.old) names → NoFault names (F.faults files.old) (F.faults files.new)
-        → (Rose (O.faults out.old) (O.faults out.new) → ⊥)
-        → (result ≡ Status.Done) ⊎ (result ≡ Status.NoMemory) }
-    ensures kept { (other : List ℕ) → F.held files.new other ≡ F.held files.old other }
-    ensures never_fall { (other : List ℕ) → F.faults files.old other ≤ F.faults files.new other }
-    ensures out_never_falls { O.faults out.old ≤ O.faults out.new }
-    ensures err_never_falls { E.faults err.old ≤ E.faults err.new }
+    ensures { Does (solve_command model.now
+        (option_copied closed.entry) initial.now (These lots.now))
+        (reading F.Files files.old files.new) (output O.Sink out.old out.new)
+        (output E.Sink err.old err.new) result }
 {
     let names = JobFiles {
         model,
@@ -101,21 +73,9 @@ fn solve<R: Threads + Wait + Sync, F: Files, O: Sink, G: Gate>(
     out: &mut O,
     gate: &G,
 ) -> Result<(), Refusal>
-    ensures printed { OnOk result (Solved (F.held files.old)
-        (solve_names model.now (option_copied closed.entry) initial.now) lots.now
-        (Appends (O.taken out.old) (O.taken out.new))) }
-    ensures refused { IfErr result (Says (F.held files.old)
-        (solve_names model.now (option_copied closed.entry) initial.now) (F.faults files.old)
-        (F.faults files.new)
-        (Judges (F.held files.old)
-        (solve_names model.now (option_copied closed.entry) initial.now)
-        (Solved (F.held files.old) (solve_names model.now
-        (option_copied closed.entry) initial.now) lots.now
-        (Breaks (O.taken out.old) (O.taken out.new) (O.faults out.old) (O.faults out.new))))) }
-    ensures untouched { IfErr result (λ refusal. refusal ≢ Refusal.Write → out.new ≡ out.old) }
-    ensures kept { (other : List ℕ) → F.held files.new other ≡ F.held files.old other }
-    ensures never_fall { (other : List ℕ) → F.faults files.old other ≤ F.faults files.new other }
-    ensures out_never_falls { O.faults out.old ≤ O.faults out.new }
+    ensures { Tries (solve_command model.now
+        (option_copied closed.entry) initial.now (These lots.now))
+        (reading F.Files files.old files.new) (output O.Sink out.old out.new) result }
 {
     let start = read_start(alloc, model, initial, closed, files)?;
     let ended = run_from(rt, alloc, &start.inst, &start.initial, lots, out, gate);
@@ -135,10 +95,10 @@ fn run_from<R: Threads + Wait + Sync, O: Sink, G: Gate>(
 ) -> Result<(), Refusal>
     requires fits { IsAssignment inst.now.tables initial.now.items }
     ensures printed { OnOk result (IsReported inst.now.tables initial.now.items lots.now
-        (Appends (O.taken out.old) (O.taken out.new))) }
+        (Took (writing O.Sink out.old out.new))) }
     ensures refused { IfErr result (RunSays inst.now.tables initial.now.items
         (IsReported inst.now.tables initial.now.items lots.now
-        (Breaks (O.taken out.old) (O.taken out.new) (O.faults out.old) (O.faults out.new)))) }
+        (BrokeOff (writing O.Sink out.old out.new)))) }
     ensures untouched { IfErr result (λ refusal. refusal ≢ Refusal.Write → out.new ≡ out.old) }
     ensures out_never_falls { O.faults out.old ≤ O.faults out.new }
 {
@@ -172,10 +132,10 @@ fn run_over<R: Threads + Wait + Sync, O: Sink, G: Gate>(
     requires topology { IsTopologyOf topo.now inst.now.tables }
     requires parts { start ≡ parts_of inst.now.tables initial.now.items initial.now.items }
     ensures printed { OnOk result (IsReported inst.now.tables initial.now.items lots.now
-        (Appends (O.taken out.old) (O.taken out.new))) }
+        (Took (writing O.Sink out.old out.new))) }
     ensures refused { IfErr result (RunSays inst.now.tables initial.now.items
         (IsReported inst.now.tables initial.now.items lots.now
-        (Breaks (O.taken out.old) (O.taken out.new) (O.faults out.old) (O.faults out.new)))) }
+        (BrokeOff (writing O.Sink out.old out.new)))) }
     ensures untouched { IfErr result (λ refusal. refusal ≢ Refusal.Write → out.new ≡ out.old) }
     ensures out_never_falls { O.faults out.old ≤ O.faults out.new }
 {
@@ -199,10 +159,8 @@ fn report<O: Sink>(out: &mut O, bound: &Bound, run: &Run<'_>) -> Result<(), Writ
     requires bound { bound.now ≡ pinned_bound_of run.now.journal.inst.now.tables
         run.now.journal.a0.now.items }
     requires best { run.now.best.items ≡ best_state run.now.journal }
-    ensures whole { OnOk result (Appends (O.taken out.old) (O.taken out.new)
-        (text_of run.now.journal)) }
-    ensures part { OnErr result (Breaks (O.taken out.old) (O.taken out.new) (O.faults out.old)
-        (O.faults out.new) (text_of run.now.journal)) }
+    ensures whole { OnOk result (Took (writing O.Sink out.old out.new) (text_of run.now.journal)) }
+    ensures part { OnErr result (BrokeOff (writing O.Sink out.old out.new) (text_of run.now.journal)) }
     ensures out_never_falls { O.faults out.old ≤ O.faults out.new }
 {
     write_report(out, run.best(), &run.parts(), bound, run.journal())

@@ -1,7 +1,6 @@
-ghost use Rattle.std.specs.Prelude.{◌≡◌, ◌≢◌, ◌⊎◌, ◌≤◌, None, OnOk, OnErr, IfOk, IfErr};
-ghost use Rattle.std.specs.Io.KnownBytes.{Appends};
+ghost use Rattle.std.specs.Prelude.{◌≡◌, ◌≢◌, ◌≤◌, None, OnOk, OnErr, IfOk, IfErr};
 ghost use Rattle.ra_bounds.specs.PinnedBounds.{pinned_bound_of};
-ghost use Rattle.ra_io.specs.Faults.{Rose};
+ghost use Rattle.ra_io.specs.Outside.{LeavesFiles, Reading, writing, Took};
 ghost use Rattle.ra_check.specs.Made.{IsMadeFor};
 ghost use Rattle.ra_journal.specs.Entries.{worker_count};
 ghost use Rattle.ra_model.specs.Assignments.{IsAssignment};
@@ -9,11 +8,12 @@ ghost use Rattle.ra_model.specs.Broken.{first_broken};
 ghost use Rattle.ra_model.specs.Costs.{parts_of};
 ghost use Rattle.ra_topology.specs.Fits.{IsTopologyOf};
 ghost use Rattle.ra_report.specs.JournalTexts.{best_state};
-ghost use Rattle.ra_report.specs.Pieces.{Breaks, Puts};
 ghost use Rattle.ra_report.specs.Summaries.{summary_of};
+ghost use Rattle.ra_jobs.specs.Ends.{Does};
 ghost use Rattle.ra_jobs.specs.Files.{Names};
 ghost use Rattle.ra_jobs.specs.Lines.{refusal_line};
-ghost use Rattle.ra_run.specs.Trials.{HoldsTexts, HoldsTrial, IsTrialStart, IsTrialLots, IsSummarized, TrialPrinted, TrialSays, TrialEnds};
+ghost use Rattle.ra_jobs.specs.Output.{output, BrokeOff, Put};
+ghost use Rattle.ra_run.specs.Trials.{HoldsTexts, HoldsTrial, IsTrialStart, IsTrialLots, IsSummarized, TrialPrinted, TrialSays, trial_command};
 
 use ra_base::{Assignment, Drawing, Name, NoMemory, Parts};
 use ra_bounds::Bound;
@@ -62,16 +62,8 @@ pub fn trial_run<R: Threads + Wait + Sync, O: Sink, E: Sink, G: Gate>(
     err: &mut E,
     gate: &G,
 ) -> Status
-    ensures ends { TrialEnds number (Appends (O.taken out.old) (O.taken out.new))
-        (Breaks (O.taken out.old) (O.taken out.new) (O.faults out.old) (O.faults out.new))
-        (Puts (E.taken err.old) (E.taken err.new) (E.faults err.old) (E.faults err.new))
-        (out.new ≡ out.old) (err.new ≡ err.old) result }
-
-    // Where no fault of the output was counted, the summary is printed.
-    ensures complete { (Rose (O.faults out.old) (O.faults out.new) → ⊥)
-        → (result ≡ Status.Done) ⊎ (result ≡ Status.NoMemory) }
-    ensures out_never_falls { O.faults out.old ≤ O.faults out.new }
-    ensures err_never_falls { E.faults err.old ≤ E.faults err.new }
+    ensures { (files : Reading) → LeavesFiles files → Does (trial_command number) files
+        (output O.Sink out.old out.new) (output E.Sink err.old err.new) result }
 {
     match trial(rt, alloc, number, out, gate) {
         Ok(()) => Status::Done,
@@ -84,8 +76,7 @@ pub fn trial_run<R: Threads + Wait + Sync, O: Sink, E: Sink, G: Gate>(
 #[tactic(auto, unfolding(ra_report::specs::FaultTexts::fault_text, ra_jobs::specs::Lines::fault_of, ra_jobs::specs::Lines::refusal_line))]
 fn refuse_write<E: Sink>(err: &mut E) -> Status
     ensures status { result ≡ Status.WriteFault }
-    ensures line { (names : Names) → Puts (E.taken err.old) (E.taken err.new) (E.faults err.old)
-        (E.faults err.new) (refusal_line names Refusal.Write) }
+    ensures line { (names : Names) → Put (writing E.Sink err.old err.new) (refusal_line names Refusal.Write) }
     ensures never_falls { E.faults err.old ≤ E.faults err.new }
 {
     put_line(err, &Fault::Write);
@@ -101,9 +92,9 @@ fn trial<R: Threads + Wait + Sync, O: Sink, G: Gate>(
     gate: &G,
 ) -> Result<(), TrialFault>
     ensures printed { OnOk result (TrialPrinted number
-        (Appends (O.taken out.old) (O.taken out.new))) }
+        (Took (writing O.Sink out.old out.new))) }
     ensures refused { IfErr result (TrialSays (TrialPrinted number
-        (Breaks (O.taken out.old) (O.taken out.new) (O.faults out.old) (O.faults out.new)))) }
+        (BrokeOff (writing O.Sink out.old out.new)))) }
     ensures untouched { IfErr result (λ fault. fault ≢ TrialFault.Write → out.new ≡ out.old) }
     ensures never_falls { O.faults out.old ≤ O.faults out.new }
 {
@@ -177,10 +168,10 @@ fn trial_from<R: Threads + Wait + Sync, O: Sink, G: Gate>(
     requires unbroken { first_broken inst.now.tables initial.now.items initial.now.items ≡ None }
     requires one { worker_count lots.now ≡ 1 }
     ensures printed { OnOk result (IsSummarized inst.now.tables initial.now.items lots.now
-        (Appends (O.taken out.old) (O.taken out.new))) }
+        (Took (writing O.Sink out.old out.new))) }
     ensures refused { IfErr result (TrialSays (IsSummarized inst.now.tables initial.now.items
         lots.now
-        (Breaks (O.taken out.old) (O.taken out.new) (O.faults out.old) (O.faults out.new)))) }
+        (BrokeOff (writing O.Sink out.old out.new)))) }
     ensures untouched { IfErr result (λ fault. fault ≢ TrialFault.Write → out.new ≡ out.old) }
     ensures never_falls { O.faults out.old ≤ O.faults out.new }
 {
@@ -219,10 +210,10 @@ fn trial_over<R: Threads + Wait + Sync, O: Sink, G: Gate>(
     requires topology { IsTopologyOf topo.now inst.now.tables }
     requires made { IsMadeFor scratch.old inst.now.tables }
     ensures printed { OnOk result (IsSummarized inst.now.tables initial.now.items lots.now
-        (Appends (O.taken out.old) (O.taken out.new))) }
+        (Took (writing O.Sink out.old out.new))) }
     ensures refused { IfErr result (TrialSays (IsSummarized inst.now.tables initial.now.items
         lots.now
-        (Breaks (O.taken out.old) (O.taken out.new) (O.faults out.old) (O.faults out.new)))) }
+        (BrokeOff (writing O.Sink out.old out.new)))) }
     ensures untouched { IfErr result (λ fault. fault ≢ TrialFault.Write → out.new ≡ out.old) }
     ensures never_falls { O.faults out.old ≤ O.faults out.new }
 {
@@ -250,10 +241,8 @@ fn summarize<O: Sink>(
     requires bound { bound.now ≡ pinned_bound_of run.now.journal.inst.now.tables
         run.now.journal.a0.now.items }
     requires best { run.now.best.items ≡ best_state run.now.journal }
-    ensures whole { OnOk result (Appends (O.taken out.old) (O.taken out.new)
-        (summary_of run.now.journal)) }
-    ensures part { OnErr result (Breaks (O.taken out.old) (O.taken out.new) (O.faults out.old)
-        (O.faults out.new) (summary_of run.now.journal)) }
+    ensures whole { OnOk result (Took (writing O.Sink out.old out.new) (summary_of run.now.journal)) }
+    ensures part { OnErr result (BrokeOff (writing O.Sink out.old out.new) (summary_of run.now.journal)) }
     ensures never_falls { O.faults out.old ≤ O.faults out.new }
 {
     write_summary(out, best, bound, run.journal())

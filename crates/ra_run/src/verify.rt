@@ -1,18 +1,13 @@
-ghost use Rattle.std.specs.Prelude.{◌≡◌, ◌≢◌, ◌⊎◌, ℕ, ◌≤◌, List, None, OnOk, IfOk, IfErr};
-ghost use Rattle.std.specs.Io.KnownBytes.{Appends};
+ghost use Rattle.std.specs.Prelude.{◌≡◌, ℕ, ◌≤◌, List, IfOk, IfErr};
 ghost use Rattle.std.specs.Option.{option_copied};
-ghost use Rattle.ra_io.specs.Faults.{Rose};
-ghost use Rattle.ra_check.specs.Made.{IsMadeFor};
+ghost use Rattle.ra_io.specs.Outside.{reading};
 ghost use Rattle.ra_model.specs.Assignments.{IsAssignment};
-ghost use Rattle.ra_model.specs.Broken.{first_broken};
-ghost use Rattle.ra_model.specs.Feasible.{Feasible};
-ghost use Rattle.ra_report.specs.Pieces.{Breaks, Puts};
-ghost use Rattle.ra_jobs.specs.Comes.{Comes, InfeasibleComes};
-ghost use Rattle.ra_jobs.specs.Complete.{AreValid, NoFault};
-ghost use Rattle.ra_jobs.specs.Ends.{Ends};
+ghost use Rattle.ra_jobs.specs.Commands.{These};
+ghost use Rattle.ra_jobs.specs.Ends.{Does, Tries};
 ghost use Rattle.ra_jobs.specs.Files.{verify_names};
+ghost use Rattle.ra_jobs.specs.Output.{output};
 ghost use Rattle.ra_jobs.specs.Refusals.{Says};
-ghost use Rattle.ra_run.specs.Verifying.{CountSays, IsCounted, IsRead, VerdictComes, Verified, VerifyOwn, refused_by};
+ghost use Rattle.ra_run.specs.Verifying.{CountSays, IsCounted, IsRead, VerifyOwn, refused_by, verify_command};
 
 use ra_base::{Assignment, Name};
 use ra_check::{Scratch, parts};
@@ -38,41 +33,10 @@ pub fn verify_run<'n, F: Files, O: Sink, E: Sink>(
     out: &mut O,
     err: &mut E,
 ) -> Status
-    ensures ends { let names = verify_names model.now
-        (option_copied closed.entry) initial.now report.now in
-        Ends (F.held files.old) names (F.faults files.old) (F.faults files.new)
-        (Verified (F.held files.old) names lots.now (Appends (O.taken out.old) (O.taken out.new)))
-        (VerifyOwn (F.held files.old) names lots.now (Verified (F.held files.old) names lots.now
-        (Breaks (O.taken out.old) (O.taken out.new) (O.faults out.old) (O.faults out.new))))
-        (Puts (E.taken err.old) (E.taken err.new) (E.faults err.old) (E.faults err.new))
-        (out.new ≡ out.old) (err.new ≡ err.old) result }
-    ensures not_usage { result ≢ Status.Usage }
-
-    // Each status but `Done` comes where its cause stands, and only there.
-    ensures comes { let names = verify_names model.now
-        (option_copied closed.entry) initial.now report.now in
-        Comes (F.held files.old) names (F.faults files.old) (F.faults files.new)
-        (VerifyOwn (F.held files.old) names lots.now (Verified (F.held files.old) names lots.now
-        (Breaks (O.taken out.old) (O.taken out.new) (O.faults out.old) (O.faults out.new))))
-        (out.new ≡ out.old) result }
-    ensures infeasible { let names = verify_names model.now
-        (option_copied closed.entry) initial.now report.now in
-        InfeasibleComes (F.held files.old) names (F.faults files.old) (F.faults files.new) result }
-    ensures verdict { let names = verify_names model.now
-        (option_copied closed.entry) initial.now report.now in
-        VerdictComes (F.held files.old) names (λ l. l ≡ lots.now) (F.faults files.old)
-        (F.faults files.new) result }
-
-    // Over valid files, and where no fault of a file of the job or of the output was counted, a verdict is told.
-    ensures complete { let names = verify_names model.now
-        (option_copied closed.entry) initial.now report.now in
-        AreValid (F.held files.old) names → NoFault names (F.faults files.old) (F.faults files.new)
-        → (Rose (O.faults out.old) (O.faults out.new) → ⊥)
-        → (result ≡ Status.Done) ⊎ ((result ≡ Status.Wrong) ⊎ (result ≡ Status.NoMemory)) }
-    ensures kept { (other : List ℕ) → F.held files.new other ≡ F.held files.old other }
-    ensures never_fall { (other : List ℕ) → F.faults files.old other ≤ F.faults files.new other }
-    ensures out_never_falls { O.faults out.old ≤ O.faults out.new }
-    ensures err_never_falls { E.faults err.old ≤ E.faults err.new }
+    ensures { Does (verify_command model.now
+        (option_copied closed.entry) initial.now report.now (These lots.now))
+        (reading F.Files files.old files.new) (output O.Sink out.old out.new)
+        (output E.Sink err.old err.new) result }
 {
     let names = JobFiles {
         model,
@@ -97,21 +61,9 @@ fn accept<F: Files, O: Sink>(
     files: &mut F,
     out: &mut O,
 ) -> Result<(), Refusal>
-    ensures printed { OnOk result (Verified (F.held files.old)
-        (verify_names model.now (option_copied closed.entry) initial.now report.now) lots.now
-        (Appends (O.taken out.old) (O.taken out.new))) }
-    ensures refused { IfErr result (Says (F.held files.old)
-        (verify_names model.now (option_copied closed.entry) initial.now report.now)
-        (F.faults files.old) (F.faults files.new)
-        (VerifyOwn (F.held files.old)
-        (verify_names model.now (option_copied closed.entry) initial.now report.now) lots.now
-        (Verified (F.held files.old)
-        (verify_names model.now (option_copied closed.entry) initial.now report.now) lots.now
-        (Breaks (O.taken out.old) (O.taken out.new) (O.faults out.old) (O.faults out.new))))) }
-    ensures untouched { IfErr result (λ refusal. refusal ≢ Refusal.Write → out.new ≡ out.old) }
-    ensures kept { (other : List ℕ) → F.held files.new other ≡ F.held files.old other }
-    ensures never_fall { (other : List ℕ) → F.faults files.old other ≤ F.faults files.new other }
-    ensures out_never_falls { O.faults out.old ≤ O.faults out.new }
+    ensures { Tries (verify_command model.now
+        (option_copied closed.entry) initial.now report.now (These lots.now))
+        (reading F.Files files.old files.new) (output O.Sink out.old out.new) result }
 {
     let entries = read_report(alloc, model, initial, report, closed, lots, files)?;
     match write_accepted(out, entries) {

@@ -1,35 +1,34 @@
-use Rattle.std.proofs.Common.{refl}
-use Rattle.std.specs.Io.KnownBytes.{Appends}
+use Rattle.std.proofs.Common.{refl, arith}
 use Rattle.std.specs.Option.{option_copied}
-use Rattle.ra_token.proofs.ToldLemmas.{at_exit}
-use Rattle.ra_report.specs.Pieces.{Breaks}
+use Rattle.ra_io.specs.Outside.{reading, writing, Took}
 use Rattle.ra_jobs.specs.Files.{edit_names}
+use Rattle.ra_jobs.specs.Output.{output, BrokeOff}
+use Rattle.ra_jobs.proofs.DoesLemmas.{not_tried}
+use Rattle.ra_jobs.proofs.EndLemmas.{not_write}
 use Rattle.ra_jobs.proofs.ResultLemmas.{on_ok_then, if_err_then}
-use Rattle.ra_edit_job.specs.Editing.{Edited}
+use Rattle.ra_edit_job.specs.Editing.{Edited, edit_command}
 use Rattle.ra_edit_job.proofs.EditLemmas.{edited_all, says_run, says_untaken}
 use Rattle.ra_edit_job.proofs.edit.edit.Goals as goal
 
-pub returns-clause-printed : goal.returns-clause-printed
-returns-clause-printed g c =
+pub returns : goal.returns
+returns g c =
     let held = g.F.Files.held c.args.files.now in
     let names = edit_names c.args.model.now (option_copied c.args.closed) c.args.initial.now c.args.current.now c.args.edits.now in
     let t = c.in_ok-taken.taken in
-    on_ok_then c.edit_from-ended.result _ _ (edited_all held names t.inst.tables t.lists.initial.items t.lists.changed.items t.edits (Appends (g.O.Sink.taken c.args.out.now) (g.O.Sink.taken c.edit_from-ended.new.out)) c.in_ok-taken.ensures.read) c.edit_from-ended.ensures.printed
+    let out = writing g.O.Sink c.args.out.now c.edit_from-ended.new.out in
+    record {
+      printed = on_ok_then c.edit_from-ended.result _ _ (edited_all held names t.inst.tables t.lists.initial.items t.lists.changed.items t.edits (Took out) c.in_ok-taken.ensures.read) c.edit_from-ended.ensures.printed;
+      refused = if_err_then c.edit_from-ended.result _ _ (says_run held names t.inst.tables t.lists.initial.items t.lists.changed.items t.edits (g.F.Files.faults c.args.files.now) (g.F.Files.faults c.read_taken.new.files) (BrokeOff out) refl refl c.in_ok-taken.ensures.read) c.edit_from-ended.ensures.refused;
+      untouched = if_err_then c.edit_from-ended.result _ _ (λ r same first. same (not_write r first)) c.edit_from-ended.ensures.untouched;
+      leaves = record { kept = c.read_taken.ensures.kept; never_fall = c.read_taken.ensures.never_fall };
+      never_falls = c.edit_from-ended.ensures.out_never_falls;
+    }
 
-pub returns-clause-refused : goal.returns-clause-refused
-returns-clause-refused g c =
+pub returns-in_err-taken : goal.returns-in_err-taken
+returns-in_err-taken g c =
     let held = g.F.Files.held c.args.files.now in
     let names = edit_names c.args.model.now (option_copied c.args.closed) c.args.initial.now c.args.current.now c.args.edits.now in
-    let t = c.in_ok-taken.taken in
-    let breaks = Breaks (g.O.Sink.taken c.args.out.now) (g.O.Sink.taken c.edit_from-ended.new.out) (g.O.Sink.faults c.args.out.now) (g.O.Sink.faults c.edit_from-ended.new.out) in
-    if_err_then c.edit_from-ended.result _ _ (says_run held names t.inst.tables t.lists.initial.items t.lists.changed.items t.edits (g.F.Files.faults c.args.files.now) (g.F.Files.faults c.read_taken.new.files) breaks refl refl c.in_ok-taken.ensures.read) c.edit_from-ended.ensures.refused
-
-pub returns-in_err-taken-clause-refused : goal.returns-in_err-taken-clause-refused
-returns-in_err-taken-clause-refused g c =
-    let held = g.F.Files.held c.args.files.now in
-    let names = edit_names c.args.model.now (option_copied c.args.closed) c.args.initial.now c.args.current.now c.args.edits.now in
-    at_exit _ _ _ c.from_residual.ensures (says_untaken held names (g.F.Files.faults c.args.files.now) (g.F.Files.faults c.read_taken.new.files)
-    (Edited held names (Breaks (g.O.Sink.taken c.args.out.now) (g.O.Sink.taken c.args.out.now) (g.O.Sink.faults c.args.out.now) (g.O.Sink.faults c.args.out.now))) _ c.in_err-taken.ensures.refused)
-
-pub returns-in_err-taken-clause-untouched : goal.returns-in_err-taken-clause-untouched
-returns-in_err-taken-clause-untouched g c = at_exit _ _ _ c.from_residual.ensures (λ _. refl)
+    let out = output g.O.Sink c.args.out.now c.args.out.now in
+    not_tried (edit_command c.args.model.now (option_copied c.args.closed) c.args.initial.now c.args.current.now c.args.edits.now) (reading g.F.Files c.args.files.now c.read_taken.new.files) out _ _ c.from_residual.ensures
+    (says_untaken held names (g.F.Files.faults c.args.files.now) (g.F.Files.faults c.read_taken.new.files) (Edited held names (BrokeOff out.sink)) _ c.in_err-taken.ensures.refused)
+    refl (record { kept = c.read_taken.ensures.kept; never_fall = c.read_taken.ensures.never_fall }) (omega arith)

@@ -1,25 +1,36 @@
-use Rattle.std.proofs.Common.{refl}
+use Rattle.std.proofs.Common.{refl, arith}
 use Rattle.std.specs.Option.{option_copied}
-use Rattle.std.specs.Io.KnownBytes.{Appends}
-use Rattle.ra_report.specs.Pieces.{Breaks}
+use Rattle.ra_io.specs.Outside.{reading, writing, Took}
 use Rattle.ra_jobs.specs.Files.{check_names}
-use Rattle.ra_token.proofs.ToldLemmas.{at_exit}
+use Rattle.ra_jobs.specs.Output.{output, BrokeOff}
+use Rattle.ra_jobs.specs.Outputs.{Printed, check_command}
+use Rattle.ra_jobs.proofs.DoesLemmas.{not_tried}
 use Rattle.ra_jobs.proofs.StageLemmas.{printed, says_unwritten}
 use Rattle.ra_jobs.proofs.check.check.Goals as goal
 
-pub returns-in-Ok-clause-printed : goal.returns-in-Ok-clause-printed
-returns-in-Ok-clause-printed g c = printed (g.F.Files.held c.args.files.now) (check_names c.args.model.now (option_copied c.args.closed) c.args.initial.now c.args.changed.now) c.in_ok-parts.parts
-    (Appends (g.O.Sink.taken c.args.out.now) (g.O.Sink.taken c.write_parts.new.sink)) c.in_ok-parts.ensures.passed c.in-Ok.ensures.whole
+pub returns-in-Ok : goal.returns-in-Ok
+returns-in-Ok g c = record {
+  printed = printed (g.F.Files.held c.args.files.now) (check_names c.args.model.now (option_copied c.args.closed) c.args.initial.now c.args.changed.now) c.in_ok-parts.parts (Took (writing g.O.Sink c.args.out.now c.write_parts.new.sink)) c.in_ok-parts.ensures.passed c.in-Ok.ensures.whole;
+  refused = tt;
+  untouched = tt;
+  leaves = record { kept = c.read_parts.ensures.kept; never_fall = c.read_parts.ensures.never_fall };
+  never_falls = c.write_parts.ensures.never_falls;
+}
 
-pub returns-in-Err-clause-refused : goal.returns-in-Err-clause-refused
-returns-in-Err-clause-refused g c = printed (g.F.Files.held c.args.files.now) (check_names c.args.model.now (option_copied c.args.closed) c.args.initial.now c.args.changed.now) c.in_ok-parts.parts
-    (Breaks (g.O.Sink.taken c.args.out.now) (g.O.Sink.taken c.write_parts.new.sink) (g.O.Sink.faults c.args.out.now) (g.O.Sink.faults c.write_parts.new.sink)) c.in_ok-parts.ensures.passed c.in-Err.ensures.part
+pub returns-in-Err : goal.returns-in-Err
+returns-in-Err g c = record {
+  printed = tt;
+  refused = printed (g.F.Files.held c.args.files.now) (check_names c.args.model.now (option_copied c.args.closed) c.args.initial.now c.args.changed.now) c.in_ok-parts.parts (BrokeOff (writing g.O.Sink c.args.out.now c.write_parts.new.sink)) c.in_ok-parts.ensures.passed c.in-Err.ensures.part;
+  untouched = λ first. absurd cc;
+  leaves = record { kept = c.read_parts.ensures.kept; never_fall = c.read_parts.ensures.never_fall };
+  never_falls = c.write_parts.ensures.never_falls;
+}
 
-pub returns-in_err-parts-clause-refused : goal.returns-in_err-parts-clause-refused
-returns-in_err-parts-clause-refused g c = at_exit _ _ _ c.from_residual.ensures (says_unwritten _ _ _ _ _ _ c.in_err-parts.ensures.refused)
-
-pub returns-in_err-parts-clause-untouched : goal.returns-in_err-parts-clause-untouched
-returns-in_err-parts-clause-untouched g c = at_exit _ _ _ c.from_residual.ensures (λ _. refl)
-
-pub returns-in-Err-clause-untouched : goal.returns-in-Err-clause-untouched
-returns-in-Err-clause-untouched g c = λ otherwise. absurd (otherwise refl)
+pub returns-in_err-parts : goal.returns-in_err-parts
+returns-in_err-parts g c =
+    let held = g.F.Files.held c.args.files.now in
+    let names = check_names c.args.model.now (option_copied c.args.closed) c.args.initial.now c.args.changed.now in
+    let out = output g.O.Sink c.args.out.now c.args.out.now in
+    not_tried (check_command c.args.model.now (option_copied c.args.closed) c.args.initial.now c.args.changed.now) (reading g.F.Files c.args.files.now c.read_parts.new.files) out _ _ c.from_residual.ensures
+    (says_unwritten held names (g.F.Files.faults c.args.files.now) (g.F.Files.faults c.read_parts.new.files) (Printed held names (BrokeOff out.sink)) _ c.in_err-parts.ensures.refused)
+    refl (record { kept = c.read_parts.ensures.kept; never_fall = c.read_parts.ensures.never_fall }) (omega arith)

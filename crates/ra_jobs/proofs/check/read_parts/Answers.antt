@@ -5,7 +5,7 @@ use Rattle.ra_token.proofs.ToldLemmas.{at_exit}
 use Rattle.ra_jobs.specs.Files.{check_names}
 use Rattle.ra_jobs.specs.Refusals.{Judges}
 use Rattle.ra_jobs.proofs.StageLemmas.{accepts_all, passed_all, says_judge, says_lists, says_source}
-use Rattle.ra_jobs.proofs.check.weigh.Goals as goal
+use Rattle.ra_jobs.proofs.check.read_parts.Goals as goal
 
 pub returns-clause-passed : goal.returns-clause-passed
 returns-clause-passed g c =

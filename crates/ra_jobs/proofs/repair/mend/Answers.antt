@@ -1,39 +1,47 @@
 -- What the tries say, in the words of the files.
 use Rattle.std.specs.Option.{option_copied}
-use Rattle.std.proofs.Common.{None, refl}
-use Rattle.std.specs.Io.KnownBytes.{Appends}
-use Rattle.ra_token.proofs.ToldLemmas.{at_exit}
-use Rattle.ra_report.specs.Pieces.{Breaks}
+use Rattle.std.proofs.Common.{None, refl, arith}
+use Rattle.ra_io.specs.Outside.{reading, writing, Took}
+use Rattle.ra_jobs.specs.Commands.{These}
 use Rattle.ra_jobs.specs.Files.{solve_names}
-use Rattle.ra_jobs.specs.Repairing.{RepairOwn}
+use Rattle.ra_jobs.specs.Output.{output, BrokeOff}
+use Rattle.ra_jobs.specs.Repairing.{RepairOwn, repaired, repair_command}
+use Rattle.ra_jobs.proofs.DoesLemmas.{not_tried}
 use Rattle.ra_jobs.proofs.RepairLemmas.{one_lot, lot_alone, tried_all, says_try}
 use Rattle.ra_jobs.proofs.ResultLemmas.{on_ok_then, if_err_then}
-use Rattle.ra_jobs.proofs.StageLemmas.{says_anywhere}
+use Rattle.ra_jobs.proofs.StageLemmas.{says_anywhere, says_more}
 use Rattle.ra_jobs.proofs.repair.mend.Goals as goal
 
 pub try_from-ended-requires-clause-lot : goal.try_from-ended-requires-clause-lot
 try_from-ended-requires-clause-lot g c = lot_alone c.args.lots.now c.lot.result.now c.requires.one c.lot.ensures
 
-pub returns-clause-printed : goal.returns-clause-printed
-returns-clause-printed g c =
+pub returns : goal.returns
+returns g c =
+    let held = g.F.Files.held c.args.files.now in
+    let before = g.F.Files.faults c.args.files.now in
+    let now = g.F.Files.faults c.read_start.new.files in
+    let names = solve_names c.args.model.now (option_copied c.args.closed) c.args.initial.now in
+    let out = writing g.O.Sink c.args.out.now c.try_from-ended.new.out in
+    let lots = c.args.lots.now in
+    let i = c.in_ok-start.start.inst.tables in
+    let a0 = c.in_ok-start.start.initial.items in
+    let one = one_lot lots c.lot.result.now c.requires.one c.lot.ensures in
+    let start = c.in_ok-start.ensures.read in
+    record {
+      printed = on_ok_then c.try_from-ended.result _ _ (λ tried. (lots, refl, tried_all held names lots i a0 c.lot.result.now None (Took out) start one tried)) c.try_from-ended.ensures.printed;
+      refused = if_err_then c.try_from-ended.result _ _
+          (λ r says. says_more held names before now (RepairOwn held names lots (Took out) (BrokeOff out)) ((repaired names (These lots)).refuses held (Took out) (BrokeOff out)) (λ refusal own. (lots, refl, own)) r
+          (says_try held names lots i a0 c.lot.result.now before now (Took out) (BrokeOff out) start one r says)) c.try_from-ended.ensures.refused;
+      untouched = c.try_from-ended.ensures.untouched;
+      leaves = record { kept = c.read_start.ensures.kept; never_fall = c.read_start.ensures.never_fall };
+      never_falls = c.try_from-ended.ensures.out_never_falls;
+    }
+
+pub returns-in_err-start : goal.returns-in_err-start
+returns-in_err-start g c =
     let held = g.F.Files.held c.args.files.now in
     let names = solve_names c.args.model.now (option_copied c.args.closed) c.args.initial.now in
-    on_ok_then c.try_from-ended.result _ _ (tried_all held names c.args.lots.now c.in_ok-start.start.inst.tables c.in_ok-start.start.initial.items c.lot.result.now None (Appends (g.O.Sink.taken c.args.out.now) (g.O.Sink.taken c.try_from-ended.new.out)) c.in_ok-start.ensures.read (one_lot c.args.lots.now c.lot.result.now c.requires.one c.lot.ensures)) c.try_from-ended.ensures.printed
-
-pub returns-clause-refused : goal.returns-clause-refused
-returns-clause-refused g c =
-    let held = g.F.Files.held c.args.files.now in
-    let names = solve_names c.args.model.now (option_copied c.args.closed) c.args.initial.now in
-    let prints = Appends (g.O.Sink.taken c.args.out.now) (g.O.Sink.taken c.try_from-ended.new.out) in
-    let breaks = Breaks (g.O.Sink.taken c.args.out.now) (g.O.Sink.taken c.try_from-ended.new.out) (g.O.Sink.faults c.args.out.now) (g.O.Sink.faults c.try_from-ended.new.out) in
-    if_err_then c.try_from-ended.result _ _ (says_try held names c.args.lots.now c.in_ok-start.start.inst.tables c.in_ok-start.start.initial.items c.lot.result.now (g.F.Files.faults c.args.files.now) (g.F.Files.faults c.read_start.new.files) prints breaks c.in_ok-start.ensures.read (one_lot c.args.lots.now c.lot.result.now c.requires.one c.lot.ensures)) c.try_from-ended.ensures.refused
-
-pub returns-in_err-start-clause-refused : goal.returns-in_err-start-clause-refused
-returns-in_err-start-clause-refused g c =
-    let held = g.F.Files.held c.args.files.now in
-    let names = solve_names c.args.model.now (option_copied c.args.closed) c.args.initial.now in
-    at_exit _ _ _ c.from_residual.ensures (says_anywhere held names (g.F.Files.faults c.args.files.now) (g.F.Files.faults c.read_start.new.files)
-    (RepairOwn held names c.args.lots.now (Appends (g.O.Sink.taken c.args.out.now) (g.O.Sink.taken c.args.out.now)) (Breaks (g.O.Sink.taken c.args.out.now) (g.O.Sink.taken c.args.out.now) (g.O.Sink.faults c.args.out.now) (g.O.Sink.faults c.args.out.now))) _ c.in_err-start.ensures.refused)
-
-pub returns-in_err-start-clause-untouched : goal.returns-in_err-start-clause-untouched
-returns-in_err-start-clause-untouched g c = at_exit _ _ _ c.from_residual.ensures (λ _. refl)
+    let out = output g.O.Sink c.args.out.now c.args.out.now in
+    not_tried (repair_command c.args.model.now (option_copied c.args.closed) c.args.initial.now (These c.args.lots.now)) (reading g.F.Files c.args.files.now c.read_start.new.files) out _ _ c.from_residual.ensures
+    (says_anywhere held names (g.F.Files.faults c.args.files.now) (g.F.Files.faults c.read_start.new.files) ((repaired names (These c.args.lots.now)).refuses held (Took out.sink) (BrokeOff out.sink)) _ c.in_err-start.ensures.refused)
+    refl (record { kept = c.read_start.ensures.kept; never_fall = c.read_start.ensures.never_fall }) (omega arith)

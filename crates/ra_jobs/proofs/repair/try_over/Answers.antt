@@ -1,13 +1,13 @@
 -- What is written is the text of the run.
 use Rattle.std.proofs.Common.{◌≡◌, None, Some, sym, ap, subst, ◌∙◌}
-use Rattle.std.specs.Io.KnownBytes.{Appends}
+use Rattle.ra_io.specs.Outside.{writing, Took}
 use Rattle.ra_base.specs.Listed.{Listed}
 use Rattle.ra_base.specs.declared.ids.Machine.{Machine}
 use Rattle.ra_model.specs.declared.numbers.Instance.{Instance}
 use Rattle.ra_model.specs.Assignments.{IsAssignment}
 use Rattle.ra_model.specs.Broken.{first_broken}
 use Rattle.ra_model.specs.Feasible.{Feasible}
-use Rattle.ra_report.specs.Pieces.{Breaks}
+use Rattle.ra_jobs.specs.Output.{BrokeOff}
 use Rattle.ra_jobs.proofs.RepairLemmas.{tried}
 use Rattle.ra_jobs.proofs.repair.try_over.Goals as goal
 
@@ -21,7 +21,7 @@ returns-in-Ok-Some-clause-refused g c =
     let fits : IsAssignment i r.kept.assignment.items = subst (λ t. IsAssignment t r.kept.assignment.items) instance r.keeps.stands.fits in
     let value : c.assignment.result.now.items ≡ r.kept.assignment.items = ap (λ (x : Listed Machine). x.items) c.assignment.ensures.value in
     let first : c.first_broken-broken.result ≡ first_broken i a0 r.kept.assignment.items = c.first_broken-broken.ensures.first ∙ ap (first_broken i a0) value in
-    tried i a0 c.args.lot.now r (Some c.in-Ok-Some.cause) (Appends (g.O.Sink.taken c.args.out.now) (g.O.Sink.taken c.write_repair-ended.new.sink)) c.args.inst.now.well_formed c.run.ensures.run instance initial (c.run.ensures.lot ∙ c.in-Ok.ensures.lot) fits (sym c.in-Ok-Some.is-1 ∙ first)
+    tried i a0 c.args.lot.now r (Some c.in-Ok-Some.cause) (Took (writing g.O.Sink c.args.out.now c.write_repair-ended.new.sink)) c.args.inst.now.well_formed c.run.ensures.run instance initial (c.run.ensures.lot ∙ c.in-Ok.ensures.lot) fits (sym c.in-Ok-Some.is-1 ∙ first)
     (λ none. subst (Feasible i a0) value (c.first_broken-broken.ensures.feasible.0 (c.in-Ok-Some.is-1 ∙ none)))
     (rw c.in-Ok-Some.is-0 at c.write_repair-ended.ensures.whole)
 
@@ -35,7 +35,7 @@ returns-in-Ok-None-clause-printed g c =
     let fits : IsAssignment i r.kept.assignment.items = subst (λ t. IsAssignment t r.kept.assignment.items) instance r.keeps.stands.fits in
     let value : c.assignment.result.now.items ≡ r.kept.assignment.items = ap (λ (x : Listed Machine). x.items) c.assignment.ensures.value in
     let first : c.first_broken-broken.result ≡ first_broken i a0 r.kept.assignment.items = c.first_broken-broken.ensures.first ∙ ap (first_broken i a0) value in
-    tried i a0 c.args.lot.now r None (Appends (g.O.Sink.taken c.args.out.now) (g.O.Sink.taken c.write_repair-ended.new.sink)) c.args.inst.now.well_formed c.run.ensures.run instance initial (c.run.ensures.lot ∙ c.in-Ok.ensures.lot) fits (sym c.in-Ok-None.is-1 ∙ first)
+    tried i a0 c.args.lot.now r None (Took (writing g.O.Sink c.args.out.now c.write_repair-ended.new.sink)) c.args.inst.now.well_formed c.run.ensures.run instance initial (c.run.ensures.lot ∙ c.in-Ok.ensures.lot) fits (sym c.in-Ok-None.is-1 ∙ first)
     (λ none. subst (Feasible i a0) value (c.first_broken-broken.ensures.feasible.0 (c.in-Ok-None.is-1 ∙ none)))
     (rw c.in-Ok-None.is-0 at c.write_repair-ended.ensures.whole)
 
@@ -50,7 +50,7 @@ returns-in-Err-default-clause-refused g c =
     let value : c.assignment.result.now.items ≡ r.kept.assignment.items = ap (λ (x : Listed Machine). x.items) c.assignment.ensures.value in
     let first : c.first_broken-broken.result ≡ first_broken i a0 r.kept.assignment.items = c.first_broken-broken.ensures.first ∙ ap (first_broken i a0) value in (
       c.first_broken-broken.result,
-      tried i a0 c.args.lot.now r c.first_broken-broken.result (Breaks (g.O.Sink.taken c.args.out.now) (g.O.Sink.taken c.write_repair-ended.new.sink) (g.O.Sink.faults c.args.out.now) (g.O.Sink.faults c.write_repair-ended.new.sink)) c.args.inst.now.well_formed c.run.ensures.run instance initial (c.run.ensures.lot ∙ c.in-Ok.ensures.lot) fits first
+      tried i a0 c.args.lot.now r c.first_broken-broken.result (BrokeOff (writing g.O.Sink c.args.out.now c.write_repair-ended.new.sink)) c.args.inst.now.well_formed c.run.ensures.run instance initial (c.run.ensures.lot ∙ c.in-Ok.ensures.lot) fits first
           (λ none. subst (Feasible i a0) value (c.first_broken-broken.ensures.feasible.0 none))
           (rw c.in-Err-default.is-0 at c.write_repair-ended.ensures.part),
     )

@@ -1,6 +1,6 @@
 -- What is known of a run is what its report asks for, and what the report says.
-use Rattle.std.specs.Io.KnownBytes.{Appends}
-use Rattle.ra_report.specs.Pieces.{Breaks}
+use Rattle.ra_io.specs.Outside.{writing, Took}
+use Rattle.ra_jobs.specs.Output.{BrokeOff}
 use Rattle.ra_run.proofs.SolveLemmas.{run_told, best_told, bound_told}
 use Rattle.ra_run.proofs.solve.run_over.Goals as goal
 
@@ -15,9 +15,9 @@ report-ended-requires-clause-bound g c =
 pub returns-in-Ok-ended-clause-printed : goal.returns-in-Ok-ended-clause-printed
 returns-in-Ok-ended-clause-printed g c =
     let is = rw (c.in-Ok-make.ensures.instance, c.in-Ok-make.ensures.initial, c.in-Ok-make.ensures.lots) at c.solve-run.ensures in
-    run_told c.args.inst.now.tables c.args.initial.now.items c.args.lots.now c.solve-run.result (Appends (g.O.Sink.taken c.args.out.now) (g.O.Sink.taken c.report-ended.new.out)) is c.requires.feasible c.in-Ok-ended.ensures.whole
+    run_told c.args.inst.now.tables c.args.initial.now.items c.args.lots.now c.solve-run.result (Took (writing g.O.Sink c.args.out.now c.report-ended.new.out)) is c.requires.feasible c.in-Ok-ended.ensures.whole
 
 pub returns-in-Err-clause-refused : goal.returns-in-Err-clause-refused
 returns-in-Err-clause-refused g c =
     let is = rw (c.in-Ok-make.ensures.instance, c.in-Ok-make.ensures.initial, c.in-Ok-make.ensures.lots) at c.solve-run.ensures in
-    run_told c.args.inst.now.tables c.args.initial.now.items c.args.lots.now c.solve-run.result (Breaks (g.O.Sink.taken c.args.out.now) (g.O.Sink.taken c.report-ended.new.out) (g.O.Sink.faults c.args.out.now) (g.O.Sink.faults c.report-ended.new.out)) is c.requires.feasible c.in-Err.ensures.part
+    run_told c.args.inst.now.tables c.args.initial.now.items c.args.lots.now c.solve-run.result (BrokeOff (writing g.O.Sink c.args.out.now c.report-ended.new.out)) is c.requires.feasible c.in-Err.ensures.part

@@ -1,38 +1,16 @@
--- The end of the job, and what follows from it.
-use Rattle.std.proofs.Common.{◌≡◌}
+-- The end of the command, and what follows from it.
 use Rattle.std.specs.Option.{option_copied}
-use Rattle.ra_jobs.specs.Files.{solve_names}
-use Rattle.ra_jobs.specs.Refusals.{Judges}
-use Rattle.ra_jobs.proofs.EndLemmas.{ends_so, ends_otherwise}
-use Rattle.ra_jobs.proofs.CompleteLemmas.{complete, judges_none}
-use Rattle.ra_jobs.proofs.ComesLemmas.{comes, infeasible_comes, judges_listed}
+use Rattle.ra_io.specs.Outside.{reading}
+use Rattle.ra_jobs.specs.Commands.{These}
+use Rattle.ra_jobs.specs.Output.{output}
 use Rattle.ra_jobs.proofs.ResultLemmas.{if_err_then}
 use Rattle.ra_jobs.proofs.StageLemmas.{can_tell_judged}
-use Rattle.ra_run.specs.Outputs.{Solved}
-use Rattle.ra_run.proofs.SolveLemmas.{solved_went}
+use Rattle.ra_run.proofs.SolveLemmas.{solve_so}
 use Rattle.ra_run.proofs.solve.solve_run.Goals as goal
-use Rattle.ra_report.specs.Pieces.{Breaks}
 
 pub finish-requires : goal.finish-requires
 finish-requires g c = if_err_then c.solve-ended.result _ _ (can_tell_judged _ _ _ _ _) c.solve-ended.ensures.refused
 
-pub returns-clause-ends : goal.returns-clause-ends
-returns-clause-ends g c = ends_so _ _ _ _ _ _ _ _ _ c.solve-ended.result c.finish.result c.solve-ended.ensures.printed c.solve-ended.ensures.refused c.solve-ended.ensures.untouched c.finish.ensures.done c.finish.ensures.quiet c.finish.ensures.status c.finish.ensures.line
-
-pub returns-clause-not_usage : goal.returns-clause-not_usage
-returns-clause-not_usage g c = ends_otherwise (returns-clause-ends g c)
-
-pub returns-clause-complete : goal.returns-clause-complete
-returns-clause-complete g c = λ valid sound whole. complete (returns-clause-ends g c) valid.accepted sound (judges_none _ _ _ valid (λ broken. whole broken.text.1))
-
-pub returns-clause-comes : goal.returns-clause-comes
-returns-clause-comes g c =
-    let held = g.F.Files.held c.args.files.now in
-    let closed = option_copied c.args.closed in
-    let names = solve_names c.args.model.now closed c.args.initial.now in
-    let breaks = Breaks (g.O.Sink.taken c.args.out.now) (g.O.Sink.taken c.solve-ended.new.out) (g.O.Sink.faults c.args.out.now) (g.O.Sink.faults c.solve-ended.new.out) in
-    comes {own = Judges held names (Solved held names c.args.lots.now breaks)} (returns-clause-ends g c) (λ p. (solved_went held c.args.model.now closed c.args.initial.now c.args.lots.now _ p).listed)
-    (judges_listed held names (Solved held names c.args.lots.now breaks) (solved_went held c.args.model.now closed c.args.initial.now c.args.lots.now breaks))
-
-pub returns-clause-infeasible : goal.returns-clause-infeasible
-returns-clause-infeasible g c = infeasible_comes (returns-clause-ends g c) (solved_went _ _ _ _ _ _) (solved_went _ _ _ _ _ _)
+pub returns : goal.returns
+returns g c = solve_so c.args.model.now (option_copied c.args.closed) c.args.initial.now (These c.args.lots.now)
+    (reading g.F.Files c.args.files.now c.solve-ended.new.files) (output g.O.Sink c.args.out.now c.solve-ended.new.out) (output g.E.Sink c.args.err.now c.finish.new.err) c.solve-ended.result c.finish.result c.solve-ended.ensures c.finish.ensures
