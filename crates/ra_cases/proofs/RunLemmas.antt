@@ -5,13 +5,15 @@ use Rattle.ra_words.specs.Jobs.{JobSays, Checks, Bounds, Solves, Trials, Verifie
 use Rattle.ra_draws.specs.declared.budgets.Lots.{Lots}
 use Rattle.ra_jobs.specs.declared.status.Status.{Status}
 use Rattle.ra_jobs.specs.declared.status.Status.TheVariants.{Done, Usage}
-use Rattle.ra_run.specs.Commands.{OfJob, OutputOf, OwnOf}
-use Rattle.ra_jobs.specs.Ends.{Ends}
-use Rattle.ra_jobs.specs.Files.{Held, Faults, Names}
+use Rattle.ra_io.specs.Outside.{Reading, Took}
+use Rattle.ra_jobs.specs.Ends.{Does}
+use Rattle.ra_jobs.specs.Files.{Held, Names}
+use Rattle.ra_jobs.specs.Output.{Output}
 use Rattle.ra_jobs.specs.Outputs.{Printed, BoundPrinted}
+use Rattle.ra_run.specs.Commands.{UsageComes, command_of}
 use Rattle.ra_run.specs.Outputs.{Solved}
 use Rattle.ra_jobs.specs.Statuses.{number_of}
-use Rattle.ra_run.specs.Trials.{TrialPrinted, TrialEnds}
+use Rattle.ra_run.specs.Trials.{TrialPrinted}
 use Rattle.ra_cases.specs.declared.endings.Ending.{Ending}
 use Rattle.ra_cases.specs.Endings.{Same}
 use Rattle.ra_cases.specs.Runs.{Runs}
@@ -65,7 +67,7 @@ solved_more held names l way more step p = record {
 trial_more : (number : ℕ) (way more : List ℕ → Type 0) → ((text : List ℕ) → way text → more text) → TrialPrinted number way → TrialPrinted number more
 trial_more number way more step p = record { tables = p.tables; lots = p.lots; trial = p.trial; lots_are = p.lots_are; text = step _ p.text }
 
-output_more : (held : Held) (says : JobSays) (way more : List ℕ → Type 0) → ((text : List ℕ) → way text → more text) → OutputOf held says way → OutputOf held says more
+output_more : (held : Held) (says : JobSays) (way more : List ℕ → Type 0) → ((text : List ℕ) → way text → more text) → (command_of says).prints held way → (command_of says).prints held more
 output_more held (Checks model initial changed closed) way more step p = printed_more held _ way more step p
 output_more held (Bounds model initial closed) way more step p = bound_more held _ way more step p
 output_more held (Solves model initial closed slack drawing lots) way more step p = (p.0, p.1, solved_more held _ p.0 way more step p.2)
@@ -79,26 +81,16 @@ output_more held (Verifies model initial report closed slack drawing lots) way m
 
 -- a job that is done has put its output
 
--- how a job ends that puts to an output which had these bytes and now has those
-abbrev EndsWith : Held → JobSays → Faults → Faults → List ℕ → List ℕ → (List ℕ → Type 0) → (List ℕ → Type 0) → Type 0 → Type 0 → Status → Type 0
-EndsWith held says before now out taken breaks tells out_same err_same status = OfJob says
-    (λ names. Ends held names before now (OutputOf held says (Appends (Some out) (Some taken))) (OwnOf held says (Appends (Some out) (Some taken)) breaks) tells out_same err_same status)
-    (λ number. TrialEnds number (Appends (Some out) (Some taken)) breaks tells out_same err_same status)
+output_of : (job : Option JobSays) (files : Reading) (out err : Output) (taken : List ℕ) (status : Status) → status ≡ Done → out.sink.taken ≡ Some [] → out.sink.taken_after ≡ Some taken → IfSome job (λ says. Does (command_of says) files out err status) → IfSome job (λ says. (command_of says).prints files.held (λ text. taken ≡ text))
+output_of None files out err taken status done empty after does = tt
+output_of (Some says) files out err taken status done empty after does =
+    output_more files.held says (Took out.sink) (λ text. taken ≡ text)
+    (λ text (put : Took out.sink text). let so : Appends (Some []) (Some taken) text = rw (empty, after) at put in so)
+    (does.printed done)
 
-printed_by : (says : JobSays) (held : Held) (before now : Faults) (out taken : List ℕ) (breaks tells : List ℕ → Type 0) (out_same err_same : Type 0) (status : Status) → status ≡ Done → EndsWith held says before now out taken breaks tells out_same err_same status → OutputOf held says (Appends (Some out) (Some taken))
-printed_by (Trials number) held before now out taken breaks tells out_same err_same status done ends = ends.printed done
-printed_by says held before now out taken breaks tells out_same err_same status done ends = ends.printed done
-
-output_of : (job : Option JobSays) (held : Held) (before now : Faults) (out taken : List ℕ) (breaks tells : List ℕ → Type 0) (out_same err_same : Type 0) (status : Status) → status ≡ Done → out ≡ [] → IfSome job (λ says. EndsWith held says before now out taken breaks tells out_same err_same status) → IfSome job (λ says. OutputOf held says (λ text. taken ≡ text))
-output_of None held before now out taken breaks tells out_same err_same status done empty ends = tt
-output_of (Some says) held before now out taken breaks tells out_same err_same status done empty ends =
-    output_more held says (Appends (Some out) (Some taken)) (λ text. taken ≡ text)
-    (λ text (put : taken ≡ out ++ text). put ∙ (rw empty refl))
-    (printed_by says held before now out taken breaks tells out_same err_same status done ends)
-
-pub runs : (words : List (List ℕ)) (held : Held) (before now : Faults) (out taken : List ℕ) (breaks tells : List ℕ → Type 0) (out_same err_same : Type 0) (status : Status) (came wanted : Ending) → out ≡ [] → ((status ≡ Usage) ↔ (job_of words ≡ None)) → IfSome (job_of words) (λ says. EndsWith held says before now out taken breaks tells out_same err_same status) → came.out.now ≡ taken → came.status ≡ number_of status → Same came wanted → Runs words held wanted
-runs words held before now out taken breaks tells out_same err_same status came wanted empty usage ends took number same = record {
-  usage = (λ two. usage.0 (usage_of status (sym number ∙ same.status ∙ two)), λ none. sym same.status ∙ number ∙ of_usage status (usage.1 none));
-  done = λ zero. subst (λ (x : List ℕ). IfSome (job_of words) (λ says. OutputOf held says (λ text. x ≡ text))) (sym took ∙ same.out)
-      (output_of (job_of words) held before now out taken breaks tells out_same err_same status (done_of status (sym number ∙ same.status ∙ zero)) empty ends);
+pub runs : (words : List (List ℕ)) (files : Reading) (out err : Output) (taken : List ℕ) (status : Status) (came wanted : Ending) → out.sink.taken ≡ Some [] → out.sink.taken_after ≡ Some taken → UsageComes (job_of words) out err status → IfSome (job_of words) (λ says. Does (command_of says) files out err status) → came.out.now ≡ taken → came.status ≡ number_of status → Same came wanted → Runs words files.held wanted
+runs words files out err taken status came wanted empty after usage does took number same = record {
+  usage = (λ two. usage.exactly.0 (usage_of status (sym number ∙ same.status ∙ two)), λ none. sym same.status ∙ number ∙ of_usage status (usage.exactly.1 none));
+  done = λ zero. subst (λ (x : List ℕ). IfSome (job_of words) (λ says. (command_of says).prints files.held (λ text. x ≡ text))) (sym took ∙ same.out)
+      (output_of (job_of words) files out err taken status (done_of status (sym number ∙ same.status ∙ zero)) empty after does);
 }

@@ -46,8 +46,8 @@ fn stage_of(alloc: Global, case: &Case<'_>, each: usize) -> Result<Stage, Troubl
     })
 }
 
-/// Runs a stage: whether the run ends as it has to. Where it doesn't, what came is put beside what
-/// had to come.
+/// Runs a stage: whether the run ends as it has to, with the wanted output and error line. Where it
+/// doesn't, what came is put beside what had to come.
 fn try_stage<R: Threads + Wait + Sync, O: Sink>(
     rt: &R,
     alloc: Global,
@@ -59,6 +59,8 @@ fn try_stage<R: Threads + Wait + Sync, O: Sink>(
     requires empty { taken.bytes stage.old.out ≡ [] }
     ensures ok { result ≡ Ok true
         → Runs (texts stage.old.words.items) (files.held stage.old.files) wanted.now }
+    ensures out { result ≡ Ok true → taken.bytes stage.new.out ≡ wanted.now.out.now }
+    ensures err { result ≡ Ok true → taken.bytes stage.new.err ≡ wanted.now.err.now }
     ensures quiet { result ≡ Ok true → sink.new ≡ sink.old }
     ensures other { result ≡ Ok false → Grows (O.taken sink.old) (O.taken sink.new) }
 {
