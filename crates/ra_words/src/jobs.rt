@@ -27,8 +27,8 @@ pub enum Job {
         changed: Name,
         closed: Option<Name>,
     },
-    /// Tell a bound below the cost of every feasible list of a model; with a list `initial`, of those that are feasible
-    /// from it, with the machines of the list `closed` closed.
+    /// Print a lower bound on every feasible assignment's cost, of a model with the machines of the list `closed` closed;
+    /// with a list `initial`, on that of every assignment that is feasible from it.
     Bound {
         model: Name,
         initial: Option<Name>,
