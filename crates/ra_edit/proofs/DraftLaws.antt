@@ -13,9 +13,9 @@ use Rattle.ra_model.specs.Broken.{first_broken}
 use Rattle.ra_model.specs.Costs.{parts_of}
 use Rattle.ra_model.specs.Feasible.{Feasible}
 use Rattle.ra_model.proofs.BrokenLemmas.{feasible_from_unbroken}
-use Rattle.ra_edits_read.specs.declared.edits.Edit.{Edit}
-use Rattle.ra_edits_read.specs.declared.edits.Edit.TheVariants.{Add, Retire, Resize}
-use Rattle.ra_edits_read.specs.EditLists.{EditLists, edit_at, row_of, AreEditsFor}
+use Rattle.ra_edit_read.specs.declared.edits.Edit.{Edit}
+use Rattle.ra_edit_read.specs.declared.edits.Edit.TheVariants.{Add, Retire, Resize}
+use Rattle.ra_edit_read.specs.EditLists.{EditLists, edit_at, row_of, AreEditsFor}
 use Rattle.ra_edit.specs.declared.replies.EditReply.{EditReply}
 use Rattle.ra_edit.specs.declared.replies.EditReply.TheVariants.{Done, NoProcess, Full, Last, Broken}
 use Rattle.ra_edit.specs.Drafts.{Drafted, with_processes, instance_of, draft_of}

@@ -4,9 +4,9 @@ use Rattle.std.specs.List.{swap_remove}
 use Rattle.std.proofs.Math.Seq.{take-append-add, take-set-lt}
 use Rattle.std.proofs.lemmas.Bool.{cases_eq}
 use Rattle.std.proofs.lemmas.List.{take_all, take-set-le, length-take-le, get_or-take, get_or_read, get_or_default}
-use Rattle.ra_edits_read.specs.EditLists.{row_of}
-use Rattle.ra_edits_read.proofs.ListLaws.{row_within, row_length}
-use Rattle.ra_edits_read.proofs.FileLaws.{next_row}
+use Rattle.ra_edit_read.specs.EditLists.{row_of}
+use Rattle.ra_edit_read.proofs.ListLaws.{row_within, row_length}
+use Rattle.ra_edit_read.proofs.FileLaws.{next_row}
 use Rattle.ra_edit.specs.Editing.{put_row, drop_row}
 
 -- the last item takes the place of item p, or there is nothing to do where that is the last one

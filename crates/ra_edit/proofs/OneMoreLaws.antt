@@ -13,11 +13,11 @@ use Rattle.ra_model.specs.declared.raw.ProcessRow.{ProcessRow}
 use Rattle.ra_model.specs.declared.raw.Tables.{Tables}
 use Rattle.ra_model.specs.Numbers.{resource_count, process_row, service_of, process_cost_of, requirement_of}
 use Rattle.ra_model.specs.Assignments.{machine_at}
-use Rattle.ra_edits_read.specs.EditLists.{row_of}
+use Rattle.ra_edit_read.specs.EditLists.{row_of}
 use Rattle.ra_edit.specs.Drafts.{Drafted, with_processes, instance_of}
 use Rattle.ra_edit.specs.Editing.{process_of, put_row, drop_row, retired}
 use Rattle.ra_edit.specs.OneMore.{IsSame, OneMore}
-use Rattle.ra_edits_read.proofs.ListLaws.{row_within, row_length}
+use Rattle.ra_edit_read.proofs.ListLaws.{row_within, row_length}
 use Rattle.ra_edit.proofs.ListLaws.{removed_length}
 
 -- reads of an instance with other processes

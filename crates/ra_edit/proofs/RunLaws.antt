@@ -1,6 +1,6 @@
 -- One edit more of a run.
 use Rattle.std.proofs.Common.{◌≡◌, ℕ, ◌+◌, ◌≤◌, List, [], ◌∷◌, ◌++◌, length, refl, ap, ◌∙◌, add-one}
-use Rattle.ra_edits_read.specs.EditLists.{EditLists}
+use Rattle.ra_edit_read.specs.EditLists.{EditLists}
 use Rattle.ra_edit.specs.declared.replies.EditReply.{EditReply}
 use Rattle.ra_edit.specs.Drafts.{Drafted}
 use Rattle.ra_edit.specs.Replies.{edit_answer, after_edit, after_edits, reply_at, replies_to, IsAfterSome}

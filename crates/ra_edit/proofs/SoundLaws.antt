@@ -13,9 +13,9 @@ use Rattle.ra_model.specs.Limits.{WellFormed}
 use Rattle.ra_model.specs.Numbers.{process_row, resource_count, machine_count, service_count, process_count, service_of}
 use Rattle.ra_model.specs.Assignments.{IsAssignment, machine_at}
 use Rattle.ra_model.proofs.InstanceLemmas.{well_formed_with}
-use Rattle.ra_edits_read.specs.declared.edits.Edit.{Edit}
-use Rattle.ra_edits_read.specs.declared.edits.Edit.TheVariants.{Add, Retire, Resize}
-use Rattle.ra_edits_read.specs.EditLists.{FitsInstance}
+use Rattle.ra_edit_read.specs.declared.edits.Edit.{Edit}
+use Rattle.ra_edit_read.specs.declared.edits.Edit.TheVariants.{Add, Retire, Resize}
+use Rattle.ra_edit_read.specs.EditLists.{FitsInstance}
 use Rattle.ra_edit.specs.declared.replies.EditReply.TheVariants.{NoProcess, Full, Last}
 use Rattle.ra_edit.specs.Drafts.{Drafted, with_processes}
 use Rattle.ra_edit.specs.Editing.{process_of, put_row, drop_row, added, retired, resized, edited}

@@ -17,9 +17,9 @@ use Rattle.ra_model.specs.Services.{is_of, of_service, members_at, moved_of}
 use Rattle.ra_model.specs.Costs.{load_cost, balance_cost, process_share, process_cost, service_cost, way_share, machine_cost, objective, parts_of}
 use Rattle.ra_model.specs.MachineCosts.{row_load, row_balance}
 use Rattle.ra_model.proofs.BoundLemmas.{load_under, balance_under, process_under, service_under, machine_under}
-use Rattle.ra_edits_read.specs.declared.edits.Edit.{Edit}
-use Rattle.ra_edits_read.specs.declared.edits.Edit.TheVariants.{Add, Retire, Resize}
-use Rattle.ra_edits_read.specs.EditLists.{FitsInstance}
+use Rattle.ra_edit_read.specs.declared.edits.Edit.{Edit}
+use Rattle.ra_edit_read.specs.declared.edits.Edit.TheVariants.{Add, Retire, Resize}
+use Rattle.ra_edit_read.specs.EditLists.{FitsInstance}
 use Rattle.ra_edit.specs.declared.costs.MachineCosts.{MachineCosts}
 use Rattle.ra_edit.specs.Drafts.{Drafted, with_processes, instance_of}
 use Rattle.ra_edit.specs.Editing.{process_of, added, retired, resized, edited}

@@ -7,9 +7,9 @@ use Rattle.ra_base.specs.declared.ids.Machine.{Machine}
 use Rattle.ra_base.specs.declared.ids.Service.{Service}
 use Rattle.ra_model.specs.declared.raw.ProcessRow.{ProcessRow}
 use Rattle.ra_model.specs.Numbers.{resource_count}
-use Rattle.ra_edits_read.specs.declared.edits.Edit.{Edit}
-use Rattle.ra_edits_read.specs.declared.edits.Edit.TheVariants.{Add, Retire, Resize}
-use Rattle.ra_edits_read.specs.EditLists.{row_of}
+use Rattle.ra_edit_read.specs.declared.edits.Edit.{Edit}
+use Rattle.ra_edit_read.specs.declared.edits.Edit.TheVariants.{Add, Retire, Resize}
+use Rattle.ra_edit_read.specs.EditLists.{row_of}
 use Rattle.ra_edit.specs.Drafts.{Drafted}
 
 -- a process of a service with a move cost. A number of a file is below 2^32, and the remainder says so here

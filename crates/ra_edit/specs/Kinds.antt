@@ -2,8 +2,8 @@
 use Rattle.std.specs.Prelude.{◌≡◌, ℕ, ◌<◌, length}
 use Rattle.ra_model.specs.Numbers.{machine_count, service_count, service_of}
 use Rattle.ra_model.specs.Assignments.{machine_at}
-use Rattle.ra_edits_read.specs.declared.edits.Edit.{Edit}
-use Rattle.ra_edits_read.specs.declared.edits.Edit.TheVariants.{Add, Retire, Resize}
+use Rattle.ra_edit_read.specs.declared.edits.Edit.{Edit}
+use Rattle.ra_edit_read.specs.declared.edits.Edit.TheVariants.{Add, Retire, Resize}
 use Rattle.ra_edit.specs.Drafts.{Drafted, instance_of}
 use Rattle.ra_edit.specs.Editing.{retired}
 use Rattle.ra_edit.specs.OneMore.{OneMore}

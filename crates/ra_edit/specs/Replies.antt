@@ -3,9 +3,9 @@ use Rattle.std.specs.Prelude.{◌≡◌, ℕ, zero, suc, ◌≤◌, [], ◌∷�
 use Rattle.ra_base.specs.declared.causes.Cause.{Cause}
 use Rattle.ra_model.specs.Broken.{first_broken}
 use Rattle.ra_model.specs.Costs.{objective}
-use Rattle.ra_edits_read.specs.declared.edits.Edit.{Edit}
-use Rattle.ra_edits_read.specs.declared.edits.Edit.TheVariants.{Add, Retire, Resize}
-use Rattle.ra_edits_read.specs.EditLists.{EditLists, edit_at, row_of}
+use Rattle.ra_edit_read.specs.declared.edits.Edit.{Edit}
+use Rattle.ra_edit_read.specs.declared.edits.Edit.TheVariants.{Add, Retire, Resize}
+use Rattle.ra_edit_read.specs.EditLists.{EditLists, edit_at, row_of}
 use Rattle.ra_edit.specs.declared.replies.EditReply.{EditReply}
 use Rattle.ra_edit.specs.declared.replies.EditReply.TheVariants.{Done, NoProcess, Full, Last, Broken}
 use Rattle.ra_edit.specs.Drafts.{Drafted, instance_of}

@@ -9,7 +9,7 @@ ghost use Rattle.ra_edit.specs.Keeping.{drafted, IsSound};
 use crate::building::copy_of;
 use crate::tables::{processes_of, requirements_of};
 use ra_base::{Assignment, Fixed, Machine, NoMemory};
-use ra_edits_read::Edit;
+use ra_edit_read::Edit;
 use ra_model::{Instance, ProcessRow};
 use std::alloc::Global;
 use std::marker::Brand;

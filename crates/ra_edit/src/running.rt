@@ -1,11 +1,11 @@
 ghost use Rattle.std.specs.Prelude.{◌≡◌, length, IfOk, OnOk, OnErr};
-ghost use Rattle.ra_edits_read.specs.EditLists.{AreEditsFor};
+ghost use Rattle.ra_edit_read.specs.EditLists.{AreEditsFor};
 ghost use Rattle.ra_edit.specs.Replies.{after_edits, replies_to, IsAfterSome};
 
 use crate::draft::Draft;
 use crate::replies::EditReply;
 use ra_base::{Fixed, NoMemory};
-use ra_edits_read::Edits;
+use ra_edit_read::Edits;
 use std::alloc::Global;
 
 impl<'a> Draft<'a> {

@@ -14,7 +14,7 @@ use crate::lists::Lists;
 use crate::scanning::small;
 use ra_base::{Cause, Machine, NoMemory, Parts, Process, Service};
 use ra_check::{Scratch, first_broken, parts};
-use ra_edits_read::Edit;
+use ra_edit_read::Edit;
 use ra_model::{Instance, machine_of};
 use std::alloc::Global;
 

@@ -7,12 +7,12 @@ use Rattle.ra_edit.specs.Drafts.{Drafted, draft_of, instance_of}
 use Rattle.ra_edit.specs.Replies.{after_edits, replies_to}
 use Rattle.ra_edit.specs.SameLists.{HasLists, AreSameLists}
 use Rattle.ra_edit.specs.declared.replies.EditReply.{EditReply}
-use Rattle.ra_edits_read.specs.declared.faults.EditsFault.{EditsFault}
-use Rattle.ra_edits_read.specs.declared.faults.EditsFault.TheVariants as reader
-use Rattle.ra_edits_read.specs.Answers.{IsEditsRefusal}
-use Rattle.ra_edits_read.specs.EditLists.{EditLists}
-use Rattle.ra_edits_read.specs.EditTexts.{edits_refusal, AreEditsOf, added_test, resized_test, numbers_test, found_test, edit_test}
-use Rattle.ra_edits_read.proofs.FileLaws.{edits_accept}
+use Rattle.ra_edit_read.specs.declared.faults.EditsFault.{EditsFault}
+use Rattle.ra_edit_read.specs.declared.faults.EditsFault.TheVariants as reader
+use Rattle.ra_edit_read.specs.Answers.{IsEditsRefusal}
+use Rattle.ra_edit_read.specs.EditLists.{EditLists}
+use Rattle.ra_edit_read.specs.EditTexts.{edits_refusal, AreEditsOf, added_test, resized_test, numbers_test, found_test, edit_test}
+use Rattle.ra_edit_read.proofs.FileLaws.{edits_accept}
 use Rattle.ra_io.specs.Faults.{Rose}
 use Rattle.ra_model.specs.Assignments.{IsAssignment}
 use Rattle.ra_model.specs.Costs.{parts_of}

@@ -7,10 +7,10 @@ use Rattle.ra_edit.specs.declared.replies.EditReply.{EditReply}
 use Rattle.ra_edit.specs.declared.replies.EditReply.TheVariants.{Full}
 use Rattle.ra_model.specs.declared.raw.Tables.{Tables}
 use Rattle.ra_model.specs.Costs.{parts_of}
-use Rattle.ra_text.specs.declared.gathered.Gathered.{Gathered}
+use Rattle.ra_report_text.specs.declared.gathered.Gathered.{Gathered}
 use Rattle.ra_edit_job.specs.EditedTexts.{edit_line, reply_in, edits_text, edited_lines, edited_text}
-use Rattle.ra_text.specs.Gathering.{Adds}
-use Rattle.ra_text.proofs.GatheringLemmas.{adds_more}
+use Rattle.ra_report_text.specs.Gathering.{Adds}
+use Rattle.ra_report_text.proofs.GatheringLemmas.{adds_more}
 
 -- the answer that was read
 pub reply_read : (replies : List EditReply) (k : ℕ) (x : EditReply) → k < length replies → x ≡ get_or replies k x → x ≡ reply_in replies k

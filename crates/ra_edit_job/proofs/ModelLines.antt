@@ -7,10 +7,10 @@ use Rattle.ra_model.specs.Numbers.{resource_count, machine_count, neighbourhood_
 use Rattle.ra_model_read.specs.FieldOrder.{joined, row_of, machine_numbers, service_numbers, process_numbers}
 use Rattle.ra_trial.specs.Lines.{more_text, line_text}
 use Rattle.ra_trial.specs.ModelTexts.{group_text, machine_text, service_text, process_text}
-use Rattle.ra_text.specs.declared.gathered.Gathered.{Gathered}
-use Rattle.ra_text.specs.Gathering.{Adds}
+use Rattle.ra_report_text.specs.declared.gathered.Gathered.{Gathered}
+use Rattle.ra_report_text.specs.Gathering.{Adds}
 use Rattle.ra_edit_job.specs.ModelLines.{spaced, group_to}
-use Rattle.ra_text.proofs.GatheringLemmas.{adds_none, adds_more}
+use Rattle.ra_report_text.proofs.GatheringLemmas.{adds_none, adds_more}
 
 -- a row inside a line
 more_spaced : (n : ℕ) (f : ℕ → ℕ) (rest : List ℕ) → more_text (row_of n f ++ rest) ≡ spaced n f ++ more_text rest

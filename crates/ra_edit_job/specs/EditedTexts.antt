@@ -8,9 +8,9 @@ use Rattle.ra_model.specs.Costs.{parts_of}
 use Rattle.ra_trial.specs.ModelTexts.{model_text}
 use Rattle.ra_edit.specs.declared.replies.EditReply.{EditReply}
 use Rattle.ra_edit.specs.declared.replies.EditReply.TheVariants.{Done, NoProcess, Full, Last, Broken}
-use Rattle.ra_text.specs.Pieces.{joined}
-use Rattle.ra_text.specs.Texts.{space, line_end, number_text, parts_text, cause_text}
-use Rattle.ra_text.specs.Texts.{machines_text, assignment_line}
+use Rattle.ra_report_text.specs.Pieces.{joined}
+use Rattle.ra_report_text.specs.Texts.{space, line_end, number_text, parts_text, cause_text}
+use Rattle.ra_report_text.specs.Texts.{machines_text, assignment_line}
 
 -- the line of the initial list: the machine of each process, in order
 unfoldable pub initial_line : List Machine → List ℕ

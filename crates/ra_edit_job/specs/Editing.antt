@@ -4,10 +4,10 @@ use Rattle.ra_base.specs.declared.causes.Cause.{Cause}
 use Rattle.ra_base.specs.declared.ids.Machine.{Machine}
 use Rattle.ra_edit.specs.Drafts.{Drafted, draft_of, instance_of}
 use Rattle.ra_edit.specs.Replies.{after_edits, replies_to}
-use Rattle.ra_edits_read.specs.declared.faults.EditsFault.{EditsFault}
-use Rattle.ra_edits_read.specs.declared.faults.EditsFault.TheVariants as reader
-use Rattle.ra_edits_read.specs.EditLists.{EditLists, AreEditsFor}
-use Rattle.ra_edits_read.specs.EditTexts.{edits_refusal, AreEditsOf}
+use Rattle.ra_edit_read.specs.declared.faults.EditsFault.{EditsFault}
+use Rattle.ra_edit_read.specs.declared.faults.EditsFault.TheVariants as reader
+use Rattle.ra_edit_read.specs.EditLists.{EditLists, AreEditsFor}
+use Rattle.ra_edit_read.specs.EditTexts.{edits_refusal, AreEditsOf}
 use Rattle.ra_io.specs.Faults.{Rose}
 use Rattle.ra_model.specs.declared.raw.Tables.{Tables}
 use Rattle.ra_model.specs.Assignments.{IsAssignment}

@@ -1,6 +1,6 @@
 ghost use Rattle.std.specs.Prelude.{◌≡◌, ◌≢◌, ℕ, ◌≤◌, List, OnOk, IfOk, IfErr};
 ghost use Rattle.std.specs.Option.{option_copied};
-ghost use Rattle.ra_edits_read.specs.EditLists.{AreEditsFor};
+ghost use Rattle.ra_edit_read.specs.EditLists.{AreEditsFor};
 ghost use Rattle.ra_io.specs.Outside.{reading, writing, Took};
 ghost use Rattle.ra_model.specs.Assignments.{IsAssignment};
 ghost use Rattle.ra_model.specs.Costs.{parts_of};
@@ -15,7 +15,7 @@ ghost use Rattle.ra_edit_job.specs.Editing.{EditOwn, EditSays, EditsSay, HasEdit
 use crate::edited::write_edited;
 use ra_base::{Assignment, Name, Parts};
 use ra_edit::Draft;
-use ra_edits_read::{Edits, EditsFault, read_edits};
+use ra_edit_read::{Edits, EditsFault, read_edits};
 use ra_io::{Files, Sink};
 use ra_jobs::{File, JobFiles, Lists, Refusal, Status, finish, judge, read_instance, read_lists};
 use ra_model::Instance;

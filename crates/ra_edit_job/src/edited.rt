@@ -1,9 +1,9 @@
 ghost use Rattle.std.specs.Prelude.{◌≡◌, ◌≤◌, length, OnOk, OnErr};
 ghost use Rattle.std.specs.Io.KnownBytes.{Appends};
 ghost use Rattle.ra_model.specs.Costs.{parts_of};
-ghost use Rattle.ra_text.specs.Gathering.{Adds};
-ghost use Rattle.ra_text.specs.Notes.{note_text};
-ghost use Rattle.ra_text.specs.Pieces.{Breaks};
+ghost use Rattle.ra_report_text.specs.Gathering.{Adds};
+ghost use Rattle.ra_report_text.specs.Notes.{note_text};
+ghost use Rattle.ra_report_text.specs.Pieces.{Breaks};
 ghost use Rattle.ra_edit_job.specs.EditedTexts.{initial_line, reply_text, edit_line, edits_text, model_part, edited_lines, edited_text};
 
 use crate::model::add_model;
@@ -11,7 +11,7 @@ use ra_base::{Fixed, Machine, Parts};
 use ra_edit::{EditReply, Edited};
 use ra_io::Sink;
 use ra_model::Instance;
-use ra_text::{
+use ra_report_text::{
     Gathered, Note, Piece, WriteFault, add_assignment, add_machines, add_note, add_parts,
     add_pieces,
 };
@@ -96,7 +96,7 @@ fn add_edit<O: Sink>(text: &mut Gathered<'_, O>, place: u64, reply: &EditReply)
 }
 
 /// The answer to an edit.
-#[tactic(auto, unfolding(ra_text::specs::Notes::note_text, crate::specs::EditedTexts::reply_text))]
+#[tactic(auto, unfolding(ra_report_text::specs::Notes::note_text, crate::specs::EditedTexts::reply_text))]
 fn reply_note(reply: &EditReply) -> Note<'static>
     ensures { note_text result ≡ reply_text reply.now }
 {

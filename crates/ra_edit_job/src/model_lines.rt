@@ -3,14 +3,14 @@ ghost use Rattle.ra_base.specs.Sums.{one_if};
 ghost use Rattle.ra_model.specs.Numbers.{resource_count, machine_count, service_count, process_count, balance_count, transient_at, capacity_of, safety_of, way_cost_of, dependency_count, need_of, requirement_of};
 ghost use Rattle.ra_trial.specs.Lines.{line_text};
 ghost use Rattle.ra_trial.specs.ModelTexts.{resource_text, machine_text, service_text, process_text, balance_text};
-ghost use Rattle.ra_text.specs.Gathering.{Adds};
+ghost use Rattle.ra_report_text.specs.Gathering.{Adds};
 ghost use Rattle.ra_edit_job.specs.ModelLines.{spaced};
 
 use itoa::Buffer;
 use ra_base::{Machine, Process, Resource, Service, Steps};
 use ra_io::Sink;
 use ra_model::Instance;
-use ra_text::Gathered;
+use ra_report_text::Gathered;
 use std::sync::ledger::Ledger;
 
 /// Adds the digits of the first number of a line.

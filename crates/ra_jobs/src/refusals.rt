@@ -3,7 +3,7 @@ ghost use Rattle.ra_jobs.specs.Files.{name_of, names_of, IsNamed};
 
 use ra_assign::{AssignFault, ClosedFault};
 use ra_base::{Cause, Name};
-use ra_edits_read::EditsFault;
+use ra_edit_read::EditsFault;
 use ra_model_read::ModelFault;
 
 /// A file of a job.

@@ -15,8 +15,8 @@ use Rattle.ra_moves.specs.Judging.{judge}
 use Rattle.ra_cells.specs.MovedCounts.{MovedCounts}
 use Rattle.ra_moves.specs.Moving.{IsOffered}
 use Rattle.ra_moves.specs.Weighing.{weighed_of}
-use Rattle.ra_settle.specs.Settling.{IsSettling}
-use Rattle.ra_settle.proofs.Settles.{changes}
+use Rattle.ra_weigh_settle.specs.Settling.{IsSettling}
+use Rattle.ra_weigh_settle.proofs.Settles.{changes}
 use Rattle.ra_guards.specs.Kept.{IsTableOf}
 use Rattle.ra_journal.specs.declared.book.Book.{Book}
 use Rattle.ra_journal.specs.declared.entries.Entry.{Entry}

@@ -8,7 +8,7 @@ use Rattle.ra_draws.specs.declared.budgets.Lots.{Lots}
 use Rattle.ra_model.specs.declared.raw.Tables.{Tables}
 use Rattle.ra_model.specs.Costs.{objective}
 use Rattle.ra_model.specs.Numbers.{machine_count, service_count, process_count}
-use Rattle.ra_settle.specs.Settling.{AreMovedOf}
+use Rattle.ra_weigh_settle.specs.Settling.{AreMovedOf}
 use Rattle.ra_guards.specs.Kept.{AreZero}
 use Rattle.ra_journal.specs.declared.book.Book.{Book}
 use Rattle.ra_journal.specs.declared.entries.Entry.{Entry}

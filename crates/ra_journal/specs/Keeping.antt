@@ -6,7 +6,7 @@ use Rattle.ra_model.specs.declared.raw.Tables.{Tables}
 use Rattle.ra_model.specs.Limits.{WellFormed}
 use Rattle.ra_model.specs.Assignments.{IsAssignment}
 use Rattle.ra_model.specs.Broken.{first_broken}
-use Rattle.ra_settle.specs.Settling.{AreMovedOf}
+use Rattle.ra_weigh_settle.specs.Settling.{AreMovedOf}
 use Rattle.ra_guards.specs.Kept.{AreVersions}
 use Rattle.ra_journal.specs.declared.book.Book.{Book}
 use Rattle.ra_journal.specs.declared.entries.Entry.{Entry}

@@ -14,7 +14,7 @@ use Rattle.ra_cells.specs.MovedCounts.{MovedCounts}
 use Rattle.ra_cells.specs.Replaced.{IsChange}
 use Rattle.ra_moves.specs.Moving.{IsMove}
 use Rattle.ra_moves.specs.Weighing.{weighed_of}
-use Rattle.ra_settle.specs.Settling.{AreMovedOf}
+use Rattle.ra_weigh_settle.specs.Settling.{AreMovedOf}
 use Rattle.ra_guards.specs.Kept.{version_in, IsTableOf}
 use Rattle.ra_guards.specs.VersionTable.{VersionTable}
 use Rattle.ra_guards.specs.Versions.{touches}

@@ -4,7 +4,7 @@ use Rattle.std.specs.Prelude.{◌≡◌, ◌↔◌, ℕ, List, None}
 use Rattle.ra_model.specs.declared.raw.Tables.{Tables}
 use Rattle.ra_assign.specs.Lists.{assign_refusal, IsAssignmentFile}
 use Rattle.ra_assign.specs.ClosedLists.{closed_refusal, IsClosedFile}
-use Rattle.ra_edits_read.specs.EditTexts.{edits_refusal, IsEditsFile}
+use Rattle.ra_edit_read.specs.EditTexts.{edits_refusal, IsEditsFile}
 
 -- nothing is refused exactly where the bytes are an assignment file
 abbrev pub AssignmentFilesAreRead : Type 0

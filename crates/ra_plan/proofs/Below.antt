@@ -13,9 +13,9 @@ use Rattle.ra_moves.specs.declared.steps.Step.{Step}
 use Rattle.ra_moves.specs.Judging.{repeat_of, same_of, broken_by}
 use Rattle.ra_moves.specs.Replacing.{applied}
 use Rattle.ra_moves.specs.Moving.{IsMove}
-use Rattle.ra_changes.specs.Room.{HaveRoom}
-use Rattle.ra_changes.proofs.RoomLemmas.{room_kept}
-use Rattle.ra_shift.specs.Arriving.{cost_now}
+use Rattle.ra_weigh_changes.specs.Room.{HaveRoom}
+use Rattle.ra_weigh_changes.proofs.RoomLemmas.{room_kept}
+use Rattle.ra_weigh_shift.specs.Arriving.{cost_now}
 use Rattle.ra_world.specs.declared.world.World.{World}
 use Rattle.ra_plan.specs.Choosing.{IsBest, cost_in, steps_in, bound_of}
 use Rattle.ra_plan.specs.Deciding.{IsMoveBelow, cause_at, cost_at}

@@ -21,7 +21,7 @@ use Rattle.ra_model.proofs.BoundLemmas.{objective_under}
 use Rattle.ra_model.proofs.BrokenLemmas.{cause_free}
 use Rattle.ra_moves.specs.Judging.{judge, broken_by, repeat_of, rise_test, verdict_of}
 use Rattle.ra_moves.specs.Replacing.{applied}
-use Rattle.ra_shift.specs.Arriving.{cost_after, cost_now, IsCostBelow}
+use Rattle.ra_weigh_shift.specs.Arriving.{cost_after, cost_now, IsCostBelow}
 use Rattle.ra_moves.proofs.Repeats.{distinct_from_none}
 use Rattle.ra_moves.proofs.OptionLemmas.{option_stands, option_reaches}
 use Rattle.ra_moves.specs.Moving.{IsMove, IsOffered}

@@ -5,8 +5,8 @@ use Rattle.std.proofs.lemmas.Bool.{cases_eq}
 use Rattle.ra_base.specs.declared.causes.Drawing.TheVariants.{Two}
 use Rattle.ra_model.specs.Numbers.{machine_count}
 use Rattle.ra_model.specs.Assignments.{machine_at}
-use Rattle.ra_shift.specs.Arriving.{cost_now, sum_at, IsCostBelow}
-use Rattle.ra_shift.specs.Lanes.{machine_in, AreMarked}
+use Rattle.ra_weigh_shift.specs.Arriving.{cost_now, sum_at, IsCostBelow}
+use Rattle.ra_weigh_shift.specs.Lanes.{machine_in, AreMarked}
 use Rattle.ra_world.specs.Worlds.{tables_of, start_of, here_of}
 use Rattle.ra_world.specs.declared.world.World.{World}
 use Rattle.ra_plan.specs.Choosing.{IsBest, IsWindowOf, bound_of}

@@ -15,7 +15,7 @@ use Rattle.ra_moves.specs.declared.verdicts.Weighed.{Weighed}
 use Rattle.ra_moves.specs.Judging.{repeat_of, broken_by}
 use Rattle.ra_moves.specs.Moving.{IsMove, IsOffered}
 use Rattle.ra_moves.specs.Weighing.{weighed_of}
-use Rattle.ra_settle.specs.Settling.{AreMovedOf, IsSettling, HasSettling}
+use Rattle.ra_weigh_settle.specs.Settling.{AreMovedOf, IsSettling, HasSettling}
 use Rattle.ra_plan.specs.Weighings.{IsWeighing}
 
 -- the counts that cells keep are the moved counts of their assignment

@@ -6,7 +6,7 @@ use Rattle.ra_base.specs.declared.causes.Drawing.TheVariants.{Two}
 use Rattle.ra_model.specs.Numbers.{machine_count}
 use Rattle.ra_moves.specs.Options.{leaving, option_at, option_cost}
 use Rattle.ra_moves.specs.declared.steps.Step.{Step}
-use Rattle.ra_shift.specs.Lanes.{machine_in}
+use Rattle.ra_weigh_shift.specs.Lanes.{machine_in}
 use Rattle.ra_world.specs.Worlds.{here_of}
 use Rattle.ra_world.specs.declared.world.World.{World}
 use Rattle.ra_plan.specs.declared.best.Best.{Best}

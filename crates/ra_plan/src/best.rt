@@ -3,7 +3,7 @@ ghost use Rattle.ra_base.specs.Searches.{is_better};
 ghost use Rattle.ra_base.specs.declared.causes.Drawing.{Drawing};
 ghost use Rattle.ra_moves.specs.Judging.{judge};
 ghost use Rattle.ra_moves.specs.Options.{leaving};
-ghost use Rattle.ra_shift.specs.Arriving.{cost_now, IsCostBelow};
+ghost use Rattle.ra_weigh_shift.specs.Arriving.{cost_now, IsCostBelow};
 ghost use Rattle.ra_world.specs.declared.world.World.{World};
 ghost use Rattle.ra_plan.specs.Choosing.{IsBest, steps_in, bound_of};
 

@@ -5,7 +5,7 @@ ghost use Rattle.ra_moves.specs.MoveSteps.{step_count};
 ghost use Rattle.ra_moves.specs.declared.steps.Step.{Step};
 ghost use Rattle.ra_moves.specs.Options.{kind_of, option_count};
 ghost use Rattle.ra_moves.specs.Moving.{IsOffered};
-ghost use Rattle.ra_shift.specs.Arriving.{cost_now};
+ghost use Rattle.ra_weigh_shift.specs.Arriving.{cost_now};
 ghost use Rattle.ra_world.specs.Worlds.{tables_of, here_of};
 ghost use Rattle.ra_world.specs.declared.world.World.{World};
 ghost use Rattle.ra_plan.specs.Choosing.{IsBest, steps_in, bound_of};
@@ -13,9 +13,9 @@ ghost use Rattle.ra_plan.specs.Deciding.{IsMoveBelow};
 
 use crate::best::Best;
 use ra_base::{Drawing, Steps};
-use ra_causes::is_unbroken;
-use ra_changes::{cost_after_move, has_room};
 use ra_moves::{Move, options, repeat_of, resolve};
+use ra_weigh_causes::is_unbroken;
+use ra_weigh_changes::{cost_after_move, has_room};
 use ra_world::{World, requirements};
 use std::sync::ledger::Ledger;
 

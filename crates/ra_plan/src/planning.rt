@@ -15,8 +15,8 @@ use crate::shifts::best_shift;
 use crate::verdicts::verdict;
 use crate::weighing::weigh;
 use ra_base::{Drawing, Steps};
-use ra_changes::changed_by;
 use ra_moves::{Move, MoveKind, Plan, Weighed, resolve};
+use ra_weigh_changes::changed_by;
 use ra_world::World;
 use std::sync::ledger::Ledger;
 

@@ -6,8 +6,8 @@ ghost use Rattle.ra_base.specs.declared.causes.Drawing.{Drawing};
 ghost use Rattle.ra_moves.specs.Options.{leaving};
 ghost use Rattle.ra_base.specs.declared.causes.Drawing.TheVariants.{Two};
 ghost use Rattle.ra_model.specs.Assignments.{machine_at};
-ghost use Rattle.ra_shift.specs.Arriving.{cost_now, sum_at};
-ghost use Rattle.ra_shift.specs.Lanes.{AreMarked};
+ghost use Rattle.ra_weigh_shift.specs.Arriving.{cost_now, sum_at};
+ghost use Rattle.ra_weigh_shift.specs.Lanes.{AreMarked};
 ghost use Rattle.ra_world.specs.Worlds.{tables_of, start_of, here_of};
 ghost use Rattle.ra_plan.specs.Choosing.{IsBest, IsWindowOf, steps_in, bound_of};
 
@@ -15,7 +15,7 @@ use crate::best::Best;
 use crate::marks::{next_mark, with_mark};
 use ra_base::{Drawing, Machine, Process, Steps};
 use ra_moves::options;
-use ra_shift::Shift;
+use ra_weigh_shift::Shift;
 use ra_world::World;
 use std::sync::ledger::Ledger;
 

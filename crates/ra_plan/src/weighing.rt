@@ -4,9 +4,9 @@ ghost use Rattle.ra_moves.specs.Moving.{IsOffered};
 ghost use Rattle.ra_moves.specs.Weighing.{weighed_of};
 
 use ra_base::{Cause, Steps};
-use ra_causes::broken_of;
-use ra_changes::changed_by;
 use ra_moves::{Move, Weighed};
+use ra_weigh_causes::broken_of;
+use ra_weigh_changes::changed_by;
 use ra_world::World;
 use std::sync::ledger::Ledger;
 

@@ -9,10 +9,10 @@ use Rattle.ra_moves.specs.declared.steps.Step.{Step}
 use Rattle.ra_moves.specs.declared.verdicts.Verdict.{Verdict}
 use Rattle.ra_moves.specs.declared.verdicts.Verdict.TheVariants.{Done, Refused}
 use Rattle.ra_journal.specs.declared.entries.Entry.{Entry}
-use Rattle.ra_text.specs.Texts.{space, number_text, with_one, with_two, with_three, with_four, cause_text}
+use Rattle.ra_report_text.specs.Texts.{space, number_text, with_one, with_two, with_three, with_four, cause_text}
 use Rattle.ra_report.specs.JournalTexts.{verdict_text, kind_text, step_text, steps_text, entry_front, entry_line}
-use Rattle.ra_text.proofs.NumberTexts.{Ends, Starts, number_then, number_starts}
-use Rattle.ra_text.specs.Numbers.{is_digit}
+use Rattle.ra_report_text.proofs.NumberTexts.{Ends, Starts, number_then, number_starts}
+use Rattle.ra_report_text.specs.Numbers.{is_digit}
 
 -- what one list begins with, the other does
 behind : (word x y : List ℕ) → word ++ x ≡ word ++ y → x ≡ y

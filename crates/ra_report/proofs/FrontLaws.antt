@@ -7,11 +7,11 @@ use Rattle.std.proofs.Math.Seq.{drop-cons, take-append_seam}
 use Rattle.std.specs.Char.{is_ascii_digit}
 use Rattle.ra_journal.specs.declared.entries.Entry.{Entry}
 use Rattle.ra_report.specs.declared.front.Front.{Front}
-use Rattle.ra_text.specs.Numbers.{is_digit, told, past}
-use Rattle.ra_text.specs.Texts.{number_text}
+use Rattle.ra_report_text.specs.Numbers.{is_digit, told, past}
+use Rattle.ra_report_text.specs.Texts.{number_text}
 use Rattle.ra_report.specs.JournalTexts.{entry_line, kind_text, steps_text, verdict_text}
 use Rattle.ra_report.specs.Fronts.{IsSmallFront, IsBehind, four_numbers}
-use Rattle.ra_text.proofs.NumberTexts.{number_told, number_past}
+use Rattle.ra_report_text.proofs.NumberTexts.{number_told, number_past}
 use Rattle.ra_report.proofs.EntryTexts.{blank, entry_parts}
 use Rattle.ra_report.proofs.LengthLaws.{label_length, number_length}
 

@@ -4,9 +4,9 @@ use Rattle.std.proofs.lemmas.List.{append-nil, ext_get_or}
 use Rattle.ra_journal.specs.declared.entries.Entry.{Entry}
 use Rattle.ra_journal.specs.Entries.{entry_at}
 use Rattle.ra_report.specs.JournalTexts.{entry_line, entries_text, IsJournalOf}
-use Rattle.ra_text.specs.declared.gathered.Gathered.{Gathered}
-use Rattle.ra_text.specs.Gathering.{Adds}
-use Rattle.ra_text.proofs.GatheringLemmas.{adds_more}
+use Rattle.ra_report_text.specs.declared.gathered.Gathered.{Gathered}
+use Rattle.ra_report_text.specs.Gathering.{Adds}
+use Rattle.ra_report_text.proofs.GatheringLemmas.{adds_more}
 use Rattle.ra_report.proofs.EntryTexts.{entry_then, line_some}
 
 -- the first n entries are the same

@@ -23,12 +23,12 @@ use Rattle.ra_journal.specs.Entries.{entry_at}
 use Rattle.ra_journal.specs.States.{state}
 use Rattle.ra_model.specs.declared.raw.Tables.{Tables}
 use Rattle.ra_model.specs.Costs.{parts_of}
-use Rattle.ra_lines.specs.Lines.{lines_of, line_at, ends_line, body_of, HasNoEnd, FirstUnlike}
-use Rattle.ra_lines.proofs.BodyLaws.{no_end_none, no_end_first, no_end_cons, no_end_both, ends_behind}
-use Rattle.ra_lines.proofs.SplitLaws.{line_first, lines_append}
-use Rattle.ra_text.specs.Texts.{space, number_text, number_line, parts_text, with_one, with_two, with_three, cause_text}
+use Rattle.ra_report_lines.specs.Lines.{lines_of, line_at, ends_line, body_of, HasNoEnd, FirstUnlike}
+use Rattle.ra_report_lines.proofs.BodyLaws.{no_end_none, no_end_first, no_end_cons, no_end_both, ends_behind}
+use Rattle.ra_report_lines.proofs.SplitLaws.{line_first, lines_append}
+use Rattle.ra_report_text.specs.Texts.{space, number_text, number_line, parts_text, with_one, with_two, with_three, cause_text}
 use Rattle.ra_report.specs.JournalTexts.{verdict_text, kind_text, step_text, steps_text, entry_front, entry_line, machines_text, assignment_line, drawing_number, drawing_line, head_text, report_head, head_of, entries_text, entry_lines, after_line}
-use Rattle.ra_text.proofs.NumberTexts.{glyph_of}
+use Rattle.ra_report_text.proofs.NumberTexts.{glyph_of}
 
 -- a number has no LF
 glyph_no_end : (n : ℕ) (x : List ℕ) → HasNoEnd x → HasNoEnd (digit_glyph false (n % 10) ∷ x)

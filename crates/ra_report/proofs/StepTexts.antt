@@ -3,8 +3,8 @@ use Rattle.std.proofs.Common.{◌≡◌, ℕ, ◌+◌, ◌-◌, ◌*◌, ◌≤�
 use Rattle.std.proofs.Math.Seq.{drop-cons, drop-length}
 use Rattle.std.specs.List.{flat_map}
 use Rattle.ra_moves.specs.declared.steps.Step.{Step}
-use Rattle.ra_text.specs.Lines.{Prepends}
-use Rattle.ra_text.proofs.LineLemmas.{in_front, at_most, nothing}
+use Rattle.ra_report_text.specs.Lines.{Prepends}
+use Rattle.ra_report_text.proofs.LineLemmas.{in_front, at_most, nothing}
 use Rattle.ra_report.specs.JournalTexts.{step_word, steps_text}
 
 pub no_steps_left : (line : List ℕ) (steps : List Step) (n : ℕ) → n ≡ length steps → Prepends line line (steps_text (drop n steps)) (63 * (length steps - n))

@@ -5,8 +5,8 @@ use Rattle.ra_assign.specs.declared.faults.AssignFault.{AssignFault}
 use Rattle.ra_assign.specs.declared.faults.AssignFault.TheVariants as assign
 use Rattle.ra_assign.specs.declared.faults.ClosedFault.{ClosedFault}
 use Rattle.ra_assign.specs.declared.faults.ClosedFault.TheVariants as closed
-use Rattle.ra_edits_read.specs.declared.faults.EditsFault.{EditsFault}
-use Rattle.ra_edits_read.specs.declared.faults.EditsFault.TheVariants as edits
+use Rattle.ra_edit_read.specs.declared.faults.EditsFault.{EditsFault}
+use Rattle.ra_edit_read.specs.declared.faults.EditsFault.TheVariants as edits
 use Rattle.ra_model_read.specs.declared.faults.Field.{Field}
 use Rattle.ra_model_read.specs.declared.faults.Field.TheVariants as field
 use Rattle.ra_model_read.specs.declared.faults.ModelFault.{ModelFault}
@@ -14,9 +14,9 @@ use Rattle.ra_model_read.specs.declared.faults.ModelFault.TheVariants as model
 use Rattle.ra_report.specs.declared.faults.Fault.{Fault}
 use Rattle.ra_report.specs.declared.faults.FaultLine.{FaultLine}
 use Rattle.ra_report.specs.declared.faults.Fault.TheVariants.{Usage, Read, Model, Closed, Assign, Edits, Infeasible, Unrepaired, Wrong, Write, Memory}
-use Rattle.ra_text.specs.Notes.{note_text}
-use Rattle.ra_text.specs.Pieces.{joined}
-use Rattle.ra_text.specs.Texts.{space, line_end, number_text, cause_text}
+use Rattle.ra_report_text.specs.Notes.{note_text}
+use Rattle.ra_report_text.specs.Pieces.{joined}
+use Rattle.ra_report_text.specs.Texts.{space, line_end, number_text, cause_text}
 
 -- the printed name of a field of a model file
 unfoldable pub field_text : Field → List ℕ

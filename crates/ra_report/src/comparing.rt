@@ -1,5 +1,5 @@
 ghost use Rattle.std.specs.Prelude.{◌≡◌, ◌≤◌, ◌↔◌, true, length, IfSome, IfNone};
-ghost use Rattle.ra_lines.specs.Lines.{FirstUnlike};
+ghost use Rattle.ra_report_lines.specs.Lines.{FirstUnlike};
 ghost use Rattle.ra_report.specs.JournalTexts.{best_state, parts_in, bound_in, head_of, entry_line};
 ghost use Rattle.ra_report.specs.declared.lengths.TheConstants.{LONGEST_LINE};
 
@@ -9,8 +9,8 @@ use crate::writing::write_head;
 use ra_base::{Assignment, Parts};
 use ra_bounds::Bound;
 use ra_journal::{Entry, Journal};
-use ra_lines::Expected;
-use ra_text::Line;
+use ra_report_lines::Expected;
+use ra_report_text::Line;
 
 /// Whether some bytes are exactly the line of the entry at a place, counted from 0. No such line has more than
 /// `LONGEST_LINE` bytes, its LF among them.

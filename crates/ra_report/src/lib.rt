@@ -18,7 +18,7 @@ pub use comparing::{is_entry_line, unlike_head};
 pub use faults::Fault;
 pub use front::{Front, read_front};
 pub use lengths::{LONGEST_FRONT, LONGEST_LINE};
-pub use ra_text::WriteFault;
+pub use ra_report_text::WriteFault;
 pub use repair::write_repair;
 pub use writing::{
     write_accepted, write_bound, write_cause, write_entry, write_fault, write_head, write_parts,

@@ -16,8 +16,8 @@ use Rattle.ra_model.proofs.BrokenLemmas.{unbroken_from_feasible}
 use Rattle.ra_model_read.specs.ModelText.{IsModel}
 use Rattle.ra_assign.specs.Lists.{IsAssignmentOf}
 use Rattle.ra_assign.proofs.AssignLemmas.{assign_accepts}
-use Rattle.ra_crew.specs.declared.solved.Solved.{Solved as Run}
-use Rattle.ra_crew.specs.Runs.{IsRun}
+use Rattle.ra_worker_crew.specs.declared.solved.Solved.{Solved as Run}
+use Rattle.ra_worker_crew.specs.Runs.{IsRun}
 use Rattle.ra_report.specs.Summaries.{summary_of}
 use Rattle.ra_trial.specs.Instances.{IsTrial, start_list}
 use Rattle.ra_trial.specs.Numbers.{trial_word}

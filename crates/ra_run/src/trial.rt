@@ -18,7 +18,6 @@ ghost use Rattle.ra_run.specs.Trials.{HoldsTexts, HoldsTrial, IsTrialStart, IsTr
 use ra_base::{Assignment, Drawing, Name, NoMemory, Parts};
 use ra_bounds::Bound;
 use ra_check::{Scratch, parts};
-use ra_crew::{Prepared, Solved as Run};
 use ra_draws::{Lot, Lots, Source};
 use ra_io::{Files, Gate, Sink, SteadyFiles};
 use ra_jobs::{Refusal, Start, Status, bound_from, put_line, read_start, refuse_memory};
@@ -26,6 +25,7 @@ use ra_model::Instance;
 use ra_report::{Fault, WriteFault, write_summary};
 use ra_topology::Topology;
 use ra_trial::{TrialText, trial_text};
+use ra_worker_crew::{Prepared, Solved as Run};
 use std::alloc::Global;
 use std::marker::Sync;
 use std::sync::Wait;

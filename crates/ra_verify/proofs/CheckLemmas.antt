@@ -6,7 +6,7 @@ use Rattle.ra_base.specs.declared.ids.Machine.{Machine}
 use Rattle.ra_draws.specs.declared.budgets.Lots.{Lots}
 use Rattle.ra_model.specs.declared.numbers.Instance.{Instance}
 use Rattle.ra_model.specs.declared.raw.Tables.{Tables}
-use Rattle.ra_lines.specs.Lines.{lines_of}
+use Rattle.ra_report_lines.specs.Lines.{lines_of}
 use Rattle.ra_journal.specs.declared.entries.Entry.{Entry}
 use Rattle.ra_journal.specs.declared.journal.Journal.{Journal}
 use Rattle.ra_verify.specs.declared.checker.Checker.{Checker}

@@ -15,9 +15,9 @@ use Rattle.ra_journal.proofs.Places.{entry_added}
 use Rattle.ra_report.specs.JournalTexts.{entry_line}
 use Rattle.ra_worker.specs.declared.replica.Replica.{Replica}
 use Rattle.ra_worker.proofs.TurnLemmas.{same_legal}
-use Rattle.ra_core.specs.declared.events.CoreReply.{CoreReply}
-use Rattle.ra_core.specs.Core.{place_of, turn}
-use Rattle.ra_core.specs.Replicas.{AreAt, core_of}
+use Rattle.ra_worker_core.specs.declared.events.CoreReply.{CoreReply}
+use Rattle.ra_worker_core.specs.Core.{place_of, turn}
+use Rattle.ra_worker_core.specs.Replicas.{AreAt, core_of}
 use Rattle.ra_verify.specs.declared.checker.Checker.{Checker}
 use Rattle.ra_verify.specs.Checking.{NoneIsPast, entries_in, core_in, IsOpen, MayFollow, HasTaken, HasMore, HasTakenLine, IsSameRun, MayStand, is_recorded}
 use Rattle.ra_verify.proofs.FollowLemmas.{last_legal, one_next_entry, is_taken, none_past, none_past_start}

@@ -6,11 +6,11 @@ use Rattle.std.proofs.lemmas.Option.{slice_get_within}
 use Rattle.ra_base.specs.declared.ids.Machine.{Machine}
 use Rattle.ra_draws.specs.declared.budgets.Lots.{Lots}
 use Rattle.ra_model.specs.declared.raw.Tables.{Tables}
-use Rattle.ra_lines.specs.declared.answers.Next.{Next}
-use Rattle.ra_lines.specs.declared.answers.Next.TheVariants.{Line, Last, Long, End}
-use Rattle.ra_lines.specs.Lines.{lines_of, line_at, joined_lines, ends_line, body_of}
-use Rattle.ra_lines.specs.Reading.{BeginsOverLong, IsNext}
-use Rattle.ra_lines.proofs.SplitLaws.{joined_back}
+use Rattle.ra_report_lines.specs.declared.answers.Next.{Next}
+use Rattle.ra_report_lines.specs.declared.answers.Next.TheVariants.{Line, Last, Long, End}
+use Rattle.ra_report_lines.specs.Lines.{lines_of, line_at, joined_lines, ends_line, body_of}
+use Rattle.ra_report_lines.specs.Reading.{BeginsOverLong, IsNext}
+use Rattle.ra_report_lines.proofs.SplitLaws.{joined_back}
 use Rattle.ra_journal.specs.declared.entries.Entry.{Entry}
 use Rattle.ra_journal.specs.Entries.{entry_at}
 use Rattle.ra_journal.specs.Legal.{Legal}

@@ -24,10 +24,10 @@ use Rattle.ra_journal.proofs.RoomLemmas.{AreNumbered, entries_few, proposals_few
 use Rattle.ra_journal.proofs.Places.{same_added, same_fewer, same_turned, entry_before, entry_added}
 use Rattle.ra_report.specs.Fronts.{IsSmallEntry, IsSmallFront}
 use Rattle.ra_worker.specs.Skipping.{has_used, is_behind, is_skipped}
-use Rattle.ra_core.specs.declared.events.CoreReply.{CoreReply}
-use Rattle.ra_core.specs.declared.events.CoreReply.TheVariants.{Answer}
-use Rattle.ra_core.specs.Core.{Core, place_of, Turn, answered, turn}
-use Rattle.ra_core.proofs.TurnLemmas.{turn_skipped, turn_answered}
+use Rattle.ra_worker_core.specs.declared.events.CoreReply.{CoreReply}
+use Rattle.ra_worker_core.specs.declared.events.CoreReply.TheVariants.{Answer}
+use Rattle.ra_worker_core.specs.Core.{Core, place_of, Turn, answered, turn}
+use Rattle.ra_worker_core.proofs.TurnLemmas.{turn_skipped, turn_answered}
 use Rattle.ra_verify.specs.Checking.{IsBehind, NoneIsPast, is_recorded}
 
 -- the last entry of a legal journal may stand behind the others, which are legal

@@ -1,9 +1,9 @@
 -- The first lines of a report, one after another.
 use Rattle.std.proofs.Common.{◌≡◌, ℕ, ◌+◌, ◌-◌, ◌*◌, ◌<◌, ◌≤◌, List, [], ◌++◌, take, drop, Option, Some, None, IfSome, Result, Err, sym, ap, ◌∙◌, subst, ⊎_elim, arith}
 use Rattle.std.proofs.lemmas.Bool.{cases_lt, cases_eq}
-use Rattle.ra_lines.specs.declared.answers.Next.{Next}
-use Rattle.ra_lines.specs.declared.answers.Next.TheVariants.{Line, Last, Long, End}
-use Rattle.ra_lines.specs.Reading.{BeginsWithLine, IsLastLine, BeginsOverLong, IsNext}
+use Rattle.ra_report_lines.specs.declared.answers.Next.{Next}
+use Rattle.ra_report_lines.specs.declared.answers.Next.TheVariants.{Line, Last, Long, End}
+use Rattle.ra_report_lines.specs.Reading.{BeginsWithLine, IsLastLine, BeginsOverLong, IsNext}
 use Rattle.ra_verify.specs.declared.faults.VerifyFault.{VerifyFault}
 use Rattle.ra_verify.specs.declared.faults.VerifyFault.TheVariants as fault
 use Rattle.ra_verify.specs.Reading.{AreLines, IsHead}

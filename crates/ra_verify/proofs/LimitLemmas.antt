@@ -13,8 +13,8 @@ use Rattle.ra_model.specs.Assignments.{IsAssignment, machine_at}
 use Rattle.ra_model.specs.Feasible.{Feasible}
 use Rattle.ra_model.specs.Costs.{parts_of, objective}
 use Rattle.ra_model.proofs.BoundLemmas.{objective_under, load_under, balance_under, process_under, service_under, machine_under}
-use Rattle.ra_lines.specs.Lines.{lines_of, line_at, body_of, HasNoEnd}
-use Rattle.ra_lines.proofs.BodyLaws.{body_before}
+use Rattle.ra_report_lines.specs.Lines.{lines_of, line_at, body_of, HasNoEnd}
+use Rattle.ra_report_lines.proofs.BodyLaws.{body_before}
 use Rattle.ra_journal.specs.declared.entries.Entry.{Entry}
 use Rattle.ra_journal.specs.Best.{best_of}
 use Rattle.ra_journal.specs.Legal.{Legal}

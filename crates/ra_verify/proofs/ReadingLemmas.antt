@@ -5,8 +5,8 @@ use Rattle.std.proofs.lemmas.Bool.{le-ltb, lt-ltb}
 use Rattle.std.proofs.lemmas.List.{append-nil, append_cancel_right}
 use Rattle.std.proofs.lemmas.Option.{slice_get_past}
 use Rattle.ra_base.proofs.Searches.{first_found, first_none_from}
-use Rattle.ra_lines.specs.Lines.{lines_of, line_at, ends_line, body_of}
-use Rattle.ra_lines.proofs.SplitLaws.{lines_append}
+use Rattle.ra_report_lines.specs.Lines.{lines_of, line_at, ends_line, body_of}
+use Rattle.ra_report_lines.proofs.SplitLaws.{lines_append}
 use Rattle.ra_verify.specs.Reading.{AreLines}
 use Rattle.ra_verify.specs.WrongLines.{most_bytes, if_over_long, over_long, first_over_long}
 use Rattle.ra_verify.proofs.PlaceLemmas.{got_behind}

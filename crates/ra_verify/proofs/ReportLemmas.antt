@@ -6,8 +6,8 @@ use Rattle.std.proofs.lemmas.Option.{slice_get_past}
 use Rattle.ra_base.specs.declared.ids.Machine.{Machine}
 use Rattle.ra_draws.specs.declared.budgets.Lots.{Lots}
 use Rattle.ra_model.specs.declared.raw.Tables.{Tables}
-use Rattle.ra_lines.specs.Lines.{lines_of, line_at, joined_lines}
-use Rattle.ra_lines.proofs.SplitLaws.{joined_back}
+use Rattle.ra_report_lines.specs.Lines.{lines_of, line_at, joined_lines}
+use Rattle.ra_report_lines.proofs.SplitLaws.{joined_back}
 use Rattle.ra_journal.specs.declared.entries.Entry.{Entry}
 use Rattle.ra_journal.specs.Entries.{entry_at}
 use Rattle.ra_report.specs.JournalTexts.{entry_line, entry_lines, entries_text, report_head, report_text}

@@ -1,6 +1,6 @@
 -- What is judged of a report when all its entry lines are right.
 use Rattle.std.specs.Prelude.{◌≡◌, ℕ, ◌+◌, ◌⊎◌, List, length}
-use Rattle.ra_lines.specs.Lines.{FirstUnlike}
+use Rattle.ra_report_lines.specs.Lines.{FirstUnlike}
 use Rattle.ra_journal.specs.declared.journal.Journal.{Journal}
 use Rattle.ra_journal.specs.Legal.{Whole}
 use Rattle.ra_report.specs.JournalTexts.{head_of}

@@ -6,9 +6,9 @@ use Rattle.ra_bounds.specs.PinnedBounds.{pinned_bound_of}
 use Rattle.ra_draws.specs.declared.budgets.Lots.{Lots}
 use Rattle.ra_io.specs.Outside.{Reading, LeavesFiles, ReadFailed}
 use Rattle.ra_model.specs.declared.raw.Tables.{Tables}
-use Rattle.ra_lines.specs.Lines.{lines_of}
-use Rattle.ra_lines.specs.Reading.{Reads}
-use Rattle.ra_lines.specs.Standing.{Standing}
+use Rattle.ra_report_lines.specs.Lines.{lines_of}
+use Rattle.ra_report_lines.specs.Reading.{Reads}
+use Rattle.ra_report_lines.specs.Standing.{Standing}
 use Rattle.ra_journal.specs.declared.entries.Entry.{Entry}
 use Rattle.ra_world.specs.declared.world.World.{World}
 use Rattle.ra_verify.specs.declared.checker.Checker.{Checker}

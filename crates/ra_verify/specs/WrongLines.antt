@@ -5,7 +5,7 @@ use Rattle.ra_base.specs.Searches.{first}
 use Rattle.ra_base.specs.declared.ids.Machine.{Machine}
 use Rattle.ra_draws.specs.declared.budgets.Lots.{Lots}
 use Rattle.ra_model.specs.declared.raw.Tables.{Tables}
-use Rattle.ra_lines.specs.Lines.{lines_of, line_at, body_of, FirstUnlike}
+use Rattle.ra_report_lines.specs.Lines.{lines_of, line_at, body_of, FirstUnlike}
 use Rattle.ra_journal.specs.declared.entries.Entry.{Entry}
 use Rattle.ra_journal.specs.Entries.{entry_at}
 use Rattle.ra_journal.specs.Legal.{Legal, Whole}

@@ -1,5 +1,5 @@
 ghost use Rattle.std.specs.Prelude.{◌≡◌};
-ghost use Rattle.ra_core.specs.Replicas.{AreAt};
+ghost use Rattle.ra_worker_core.specs.Replicas.{AreAt};
 
 use ra_journal::Journal;
 use ra_worker::Replica;

@@ -1,6 +1,6 @@
 ghost use Rattle.std.specs.Prelude.{◌≡◌, ◌≢◌, ◌+◌, ◌*◌, ◌≤◌, ◌++◌, ℕ, List, [], Ok, true, length, IfSome, IfErr, IsOk};
 ghost use Rattle.ra_io.specs.Outside.{reading};
-ghost use Rattle.ra_lines.specs.Reading.{Reads};
+ghost use Rattle.ra_report_lines.specs.Reading.{Reads};
 ghost use Rattle.ra_journal.specs.declared.entries.Entry.{Entry as Recorded};
 ghost use Rattle.ra_report.specs.JournalTexts.{entry_line};
 ghost use Rattle.ra_verify.specs.Checking.{entries_in, IsOpen, MayFollow, IsSameRun, HasTakenLine};
@@ -13,8 +13,8 @@ use crate::faults::VerifyFault;
 use crate::head::HEAD_BYTES;
 use ra_base::Fixed;
 use ra_io::Files;
-use ra_lines::{LineReader, Next};
 use ra_report::{LONGEST_FRONT, LONGEST_LINE};
+use ra_report_lines::{LineReader, Next};
 
 /// Reads what follows the first lines of a report, where those are ten, and takes the entries of its lines in.
 pub(crate) fn read_rest<F: Files>(

@@ -10,12 +10,12 @@ ghost use Rattle.ra_verify.specs.Checking.{entries_in, IsOpen, MayFollow, HasTak
 
 use crate::checker::Checker;
 use ra_base::{Assignment, NoMemory, Parts};
-use ra_core::{CoreReply, make_replicas, take_turn_at};
 use ra_draws::Lots;
 use ra_journal::{Journal, Reply};
 use ra_model::Instance;
 use ra_report::{Front, LONGEST_FRONT, LONGEST_LINE, is_entry_line, read_front};
 use ra_topology::Topology;
+use ra_worker_core::{CoreReply, make_replicas, take_turn_at};
 use std::alloc::Global;
 
 impl<'a> Checker<'a> {

@@ -1,6 +1,6 @@
 use Rattle.std.proofs.Common.{◌≡◌, Err, ap}
-use Rattle.ra_edits_read.specs.declared.faults.EditsFault.{EditsFault}
-use Rattle.ra_edits_read.specs.declared.faults.EditsFault.TheVariants.{ReadFault}
+use Rattle.ra_edit_read.specs.declared.faults.EditsFault.{EditsFault}
+use Rattle.ra_edit_read.specs.declared.faults.EditsFault.TheVariants.{ReadFault}
 use Rattle.ra_edit_job.proofs.EditLemmas.{edits_say}
 use Rattle.ra_edit_job.proofs.edit.take_edits.Goals as goal
 

@@ -1,7 +1,7 @@
 use Rattle.std.proofs.Common.{◌++◌}
-use Rattle.ra_text.specs.Texts.{line_end}
+use Rattle.ra_report_text.specs.Texts.{line_end}
 use Rattle.ra_edit_job.specs.EditedTexts.{edit_front, reply_text, edit_line}
-use Rattle.ra_text.proofs.GatheringLemmas.{adds_more}
+use Rattle.ra_report_text.proofs.GatheringLemmas.{adds_more}
 use Rattle.ra_edit_job.proofs.edited.add_edit.Goals as goal
 
 pub returns : goal.returns

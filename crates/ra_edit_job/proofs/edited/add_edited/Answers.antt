@@ -1,8 +1,8 @@
 use Rattle.std.proofs.Common.{◌++◌, length}
-use Rattle.ra_text.specs.Texts.{parts_text}
-use Rattle.ra_text.specs.Texts.{assignment_line}
+use Rattle.ra_report_text.specs.Texts.{parts_text}
+use Rattle.ra_report_text.specs.Texts.{assignment_line}
 use Rattle.ra_edit_job.specs.EditedTexts.{initial_line, edits_text, model_part, edited_lines}
-use Rattle.ra_text.proofs.GatheringLemmas.{adds_more}
+use Rattle.ra_report_text.proofs.GatheringLemmas.{adds_more}
 use Rattle.ra_edit_job.proofs.edited.add_edited.Goals as goal
 
 pub returns : goal.returns

@@ -1,6 +1,6 @@
 use Rattle.std.proofs.Common.{arith}
 use Rattle.ra_edit_job.specs.EditedTexts.{edits_text}
-use Rattle.ra_text.proofs.GatheringLemmas.{adds_none}
+use Rattle.ra_report_text.proofs.GatheringLemmas.{adds_none}
 use Rattle.ra_edit_job.proofs.EditedTexts.{adds_edit, reply_read}
 use Rattle.ra_edit_job.proofs.edited.add_edits.Goals as goal
 

@@ -1,5 +1,5 @@
 -- The lines of the edits so far.
-use Rattle.ra_text.specs.Gathering.{Adds}
+use Rattle.ra_report_text.specs.Gathering.{Adds}
 use Rattle.ra_edit_job.specs.EditedTexts.{edits_text}
 use Rattle.ra_edit_job.proofs.edited.add_edits.Given as goal
 

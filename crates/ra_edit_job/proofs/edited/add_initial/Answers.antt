@@ -1,8 +1,8 @@
 use Rattle.std.proofs.Common.{◌++◌, codes}
-use Rattle.ra_text.specs.Texts.{line_end}
-use Rattle.ra_text.specs.Texts.{machines_text}
+use Rattle.ra_report_text.specs.Texts.{line_end}
+use Rattle.ra_report_text.specs.Texts.{machines_text}
 use Rattle.ra_edit_job.specs.EditedTexts.{initial_line}
-use Rattle.ra_text.proofs.GatheringLemmas.{adds_more}
+use Rattle.ra_report_text.proofs.GatheringLemmas.{adds_more}
 use Rattle.ra_edit_job.proofs.edited.add_initial.Goals as goal
 
 pub returns : goal.returns

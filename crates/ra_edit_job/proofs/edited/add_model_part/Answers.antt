@@ -1,8 +1,8 @@
 use Rattle.std.proofs.Common.{[], ◌∷◌, codes}
 use Rattle.ra_trial.specs.ModelTexts.{model_text}
-use Rattle.ra_text.specs.Pieces.{joined}
+use Rattle.ra_report_text.specs.Pieces.{joined}
 use Rattle.ra_edit_job.specs.EditedTexts.{model_part}
-use Rattle.ra_text.proofs.GatheringLemmas.{adds_more}
+use Rattle.ra_report_text.proofs.GatheringLemmas.{adds_more}
 use Rattle.ra_edit_job.proofs.edited.add_model_part.Goals as goal
 
 pub returns : goal.returns

@@ -1,5 +1,5 @@
 use Rattle.std.proofs.Common.{rules}
-use Rattle.ra_text.proofs.GatheringLemmas.{put_whole, put_part}
+use Rattle.ra_report_text.proofs.GatheringLemmas.{put_whole, put_part}
 use Rattle.ra_edit_job.proofs.EditedTexts.{edited_told}
 use Rattle.ra_edit_job.proofs.edited.write_edited.Goals as goal
 

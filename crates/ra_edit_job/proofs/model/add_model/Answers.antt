@@ -1,7 +1,7 @@
 use Rattle.std.proofs.Common.{◌++◌}
 use Rattle.ra_model.specs.Numbers.{resource_count, machine_count, service_count, process_count, balance_count}
 use Rattle.ra_trial.specs.ModelTexts.{group_text, resource_text, machine_text, service_text, process_text, balance_text, weights_text, model_text}
-use Rattle.ra_text.proofs.GatheringLemmas.{adds_more}
+use Rattle.ra_report_text.proofs.GatheringLemmas.{adds_more}
 use Rattle.ra_edit_job.proofs.model.add_model.Goals as goal
 
 pub returns : goal.returns

@@ -1,6 +1,6 @@
 use Rattle.ra_model.specs.Numbers.{process_count}
 use Rattle.ra_trial.specs.ModelTexts.{process_text}
-use Rattle.ra_text.specs.Gathering.{Adds}
+use Rattle.ra_report_text.specs.Gathering.{Adds}
 use Rattle.ra_edit_job.specs.ModelLines.{group_to}
 use Rattle.ra_edit_job.proofs.model.add_processes.Given as goal
 

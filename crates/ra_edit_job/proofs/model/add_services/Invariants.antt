@@ -1,6 +1,6 @@
 use Rattle.ra_model.specs.Numbers.{service_count}
 use Rattle.ra_trial.specs.ModelTexts.{service_text}
-use Rattle.ra_text.specs.Gathering.{Adds}
+use Rattle.ra_report_text.specs.Gathering.{Adds}
 use Rattle.ra_edit_job.specs.ModelLines.{group_to}
 use Rattle.ra_edit_job.proofs.model.add_services.Given as goal
 

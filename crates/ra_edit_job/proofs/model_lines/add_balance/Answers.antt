@@ -2,7 +2,7 @@ use Rattle.std.proofs.Common.{[], ◌∷◌}
 use Rattle.ra_model.specs.Numbers.{first_of, second_of, target_of, balance_weight_of}
 use Rattle.ra_trial.specs.Lines.{line_text}
 use Rattle.ra_trial.specs.ModelTexts.{balance_text}
-use Rattle.ra_text.proofs.GatheringLemmas.{adds_more}
+use Rattle.ra_report_text.proofs.GatheringLemmas.{adds_more}
 use Rattle.ra_edit_job.proofs.model_lines.add_balance.Goals as goal
 
 pub returns : goal.returns

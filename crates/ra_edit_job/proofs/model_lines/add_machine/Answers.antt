@@ -2,7 +2,7 @@ use Rattle.std.proofs.Common.{[], ◌∷◌, ◌++◌}
 use Rattle.std.specs.Fmt.{decimal}
 use Rattle.ra_model.specs.Numbers.{resource_count, machine_count, neighbourhood_of, location_of, capacity_of, safety_of, way_cost_of}
 use Rattle.ra_edit_job.specs.ModelLines.{spaced}
-use Rattle.ra_text.proofs.GatheringLemmas.{adds_more}
+use Rattle.ra_report_text.proofs.GatheringLemmas.{adds_more}
 use Rattle.ra_edit_job.proofs.ModelLines.{machine_is}
 use Rattle.ra_edit_job.proofs.model_lines.add_machine.Goals as goal
 

@@ -1,5 +1,5 @@
 use Rattle.ra_model.specs.Numbers.{requirement_of}
-use Rattle.ra_text.specs.Gathering.{Adds}
+use Rattle.ra_report_text.specs.Gathering.{Adds}
 use Rattle.ra_edit_job.specs.ModelLines.{spaced}
 use Rattle.ra_edit_job.proofs.model_lines.add_requirements.Given as goal
 

@@ -1,5 +1,5 @@
 use Rattle.ra_model.specs.Numbers.{way_cost_of}
-use Rattle.ra_text.specs.Gathering.{Adds}
+use Rattle.ra_report_text.specs.Gathering.{Adds}
 use Rattle.ra_edit_job.specs.ModelLines.{spaced}
 use Rattle.ra_edit_job.proofs.model_lines.add_way_costs.Given as goal
 

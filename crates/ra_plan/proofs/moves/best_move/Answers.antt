@@ -5,7 +5,7 @@ use Rattle.ra_model.specs.Costs.{parts_of}
 use Rattle.ra_model.proofs.BoundLemmas.{objective_under}
 use Rattle.ra_moves.specs.MoveSteps.{step_count}
 use Rattle.ra_moves.specs.Options.{kind_of, option_count}
-use Rattle.ra_shift.specs.Arriving.{cost_now}
+use Rattle.ra_weigh_shift.specs.Arriving.{cost_now}
 use Rattle.ra_plan.specs.Choosing.{bound_of}
 use Rattle.ra_plan.specs.Deciding.{IsMoveBelow}
 use Rattle.ra_plan.proofs.OptionSizes.{option_length}

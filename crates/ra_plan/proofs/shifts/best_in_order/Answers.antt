@@ -6,7 +6,7 @@ use Rattle.ra_moves.proofs.OptionLemmas.{shift_named}
 use Rattle.ra_base.specs.declared.costs.Parts.{Parts}
 use Rattle.ra_model.specs.Costs.{parts_of}
 use Rattle.ra_model.proofs.BoundLemmas.{objective_under}
-use Rattle.ra_shift.specs.Arriving.{cost_now}
+use Rattle.ra_weigh_shift.specs.Arriving.{cost_now}
 use Rattle.ra_plan.proofs.Bests.{shift_in, bound_fits}
 use Rattle.ra_plan.proofs.shifts.best_in_order.Goals as goal
 

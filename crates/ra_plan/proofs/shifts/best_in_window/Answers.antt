@@ -7,7 +7,7 @@ use Rattle.ra_model.specs.Costs.{parts_of}
 use Rattle.ra_model.specs.Numbers.{machine_count}
 use Rattle.ra_model.specs.declared.numbers.Instance.{Instance}
 use Rattle.ra_model.proofs.BoundLemmas.{objective_under}
-use Rattle.ra_shift.specs.Arriving.{cost_now}
+use Rattle.ra_weigh_shift.specs.Arriving.{cost_now}
 use Rattle.ra_world.specs.Worlds.{tables_of}
 use Rattle.ra_plan.specs.Choosing.{IsBest}
 use Rattle.ra_plan.proofs.OptionSizes.{window_count}

@@ -3,7 +3,7 @@ use Rattle.std.proofs.Common.{◌≡◌, ◌+◌, ◌%◌, ◌<◌, ◌≤◌, m
 use Rattle.ra_base.specs.declared.causes.Drawing.TheVariants.{Two}
 use Rattle.ra_model.specs.Numbers.{machine_count}
 use Rattle.ra_model.specs.declared.numbers.Instance.{Instance}
-use Rattle.ra_shift.specs.Lanes.{machine_in}
+use Rattle.ra_weigh_shift.specs.Lanes.{machine_in}
 use Rattle.ra_world.specs.Worlds.{tables_of}
 use Rattle.ra_plan.specs.Choosing.{IsBest}
 use Rattle.ra_plan.proofs.Bests.{none_low}

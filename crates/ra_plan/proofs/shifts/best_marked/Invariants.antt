@@ -2,7 +2,7 @@
 use Rattle.std.proofs.Common.{◌≡◌, ℕ, ◌+◌, ◌-◌, ◌<◌, ◌≤◌, List}
 use Rattle.std.specs.Int.{bit_at}
 use Rattle.ra_base.specs.declared.causes.Drawing.TheVariants.{Two}
-use Rattle.ra_shift.specs.Arriving.{cost_now}
+use Rattle.ra_weigh_shift.specs.Arriving.{cost_now}
 use Rattle.ra_plan.specs.Choosing.{IsBest, IsWindowOf, bound_of}
 use Rattle.ra_plan.proofs.shifts.best_marked.Given as goal
 

@@ -1,5 +1,5 @@
 use Rattle.std.proofs.Common.{sym, ◌∙◌}
-use Rattle.ra_settle.proofs.Settles.{bare_is}
+use Rattle.ra_weigh_settle.proofs.Settles.{bare_is}
 use Rattle.ra_plan.proofs.Weighed.{move_of}
 use Rattle.ra_plan.proofs.weighing.weigh.Goals as goal
 

@@ -1,4 +1,4 @@
-use Rattle.ra_text.specs.Gathering.{Adds}
+use Rattle.ra_report_text.specs.Gathering.{Adds}
 use Rattle.ra_report.specs.JournalTexts.{entries_text}
 use Rattle.ra_report.proofs.journal.add_entries.Given as goal
 

@@ -1,5 +1,5 @@
 use Rattle.std.proofs.Common.{◌≡◌, length, ap, sym, ◌∙◌, subst}
-use Rattle.ra_edits_read.specs.EditLists.{edit_at}
+use Rattle.ra_edit_read.specs.EditLists.{edit_at}
 use Rattle.ra_edit.specs.declared.replies.EditReply.TheVariants.{Done, Broken}
 use Rattle.ra_edit.specs.Drafts.{Drafted}
 use Rattle.ra_edit.specs.Editing.{edited}

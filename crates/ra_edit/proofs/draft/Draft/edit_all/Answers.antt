@@ -1,5 +1,5 @@
 use Rattle.std.proofs.Common.{[], ◌∷◌, ◌+◌, length, refl, sym, ap, ◌∙◌, subst, arith, length-append}
-use Rattle.ra_edits_read.specs.EditLists.{AreEditsFor}
+use Rattle.ra_edit_read.specs.EditLists.{AreEditsFor}
 use Rattle.ra_edit.specs.Replies.{after_edits, replies_to}
 use Rattle.ra_edit.proofs.RunLaws.{none_after, none_replied, one_after, one_replied}
 use Rattle.ra_edit.proofs.draft.Draft.edit_all.Goals as goal

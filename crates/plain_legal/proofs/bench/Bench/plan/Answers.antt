@@ -1,0 +1,25 @@
+use Rattle.std.proofs.Common.{◌≤◌, length, sym, ap, subst, arith}
+use Rattle.ra_base.specs.declared.costs.Parts.{Parts}
+use Rattle.ra_model.specs.Assignments.{IsAssignment}
+use Rattle.ra_model.specs.Costs.{parts_of}
+use Rattle.plain_legal.proofs.Standing.{can_replay, states_fit}
+use Rattle.plain_legal.proofs.bench.Bench.plan.Goals as goal
+
+pub replay-requires-clause-can : goal.replay-requires-clause-can
+replay-requires-clause-can c = can_replay _ _ _ _ _ c.args.inst.now.well_formed c.requires.start c.requires.before
+
+pub copy_to-requires : goal.copy_to-requires
+copy_to-requires c =
+    let fits = subst (IsAssignment c.args.inst.now.tables) (sym c.replay.ensures.items) (states_fit _ _ _ _ c.args.inst.now.well_formed c.requires.start c.args.e.now.q c.requires.before c.args.e.now.q (omega arith)) in
+    let room : length c.replay.new.a.items ≤ c.args.self.now.other.room = omega (arith, fits.one_each, c.requires.made.other) in
+    room
+
+pub parts-cost-requires-clause-fits : goal.parts-cost-requires-clause-fits
+parts-cost-requires-clause-fits c = subst (IsAssignment c.args.inst.now.tables) (sym c.replay.ensures.items) (states_fit _ _ _ _ c.args.inst.now.well_formed c.requires.start c.args.e.now.q c.requires.before c.args.e.now.q (omega arith))
+
+pub plan_plainly-planned-requires-clause-fits : goal.plan_plainly-planned-requires-clause-fits
+plan_plainly-planned-requires-clause-fits c = subst (IsAssignment c.args.inst.now.tables) (sym c.replay.ensures.items) (states_fit _ _ _ _ c.args.inst.now.well_formed c.requires.start c.args.e.now.q c.requires.before c.args.e.now.q (omega arith))
+
+pub plan_plainly-planned-requires-clause-before : goal.plan_plainly-planned-requires-clause-before
+unfolding parts_of
+plan_plainly-planned-requires-clause-before c = ap (λ (p : Parts). p.total) c.parts-cost.ensures.value

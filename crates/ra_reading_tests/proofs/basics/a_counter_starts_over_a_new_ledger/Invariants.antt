@@ -1,5 +1,0 @@
--- The ledger is the one of the blank that is handed in.
-use Rattle.ra_reading_tests.proofs.basics.a_counter_starts_over_a_new_ledger.Given as goal
-
-abbrev pub ghosts-two_ticks : goal.ghosts-two_ticks
-ghosts-two_ticks g a = record { name = a.blank.name; parts = a.blank.parts }

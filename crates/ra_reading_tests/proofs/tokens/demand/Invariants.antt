@@ -1,6 +1,0 @@
--- The reader stands in its file.
-use Rattle.ra_token.specs.Reads.{Reads}
-use Rattle.ra_reading_tests.proofs.tokens.demand.Given as goal
-
-abbrev pub invariant-loop-want : goal.invariant-loop-want
-invariant-loop-want g l = Reads (g.F.Files.held l.files l.tokens.name) l.tokens

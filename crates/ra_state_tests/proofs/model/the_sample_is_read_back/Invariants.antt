@@ -1,5 +1,0 @@
--- The ledger is the one of the blank that is handed in.
-use Rattle.ra_state_tests.proofs.model.the_sample_is_read_back.Given as goal
-
-abbrev pub ghosts-of_process : goal.ghosts-of_process
-ghosts-of_process g a = record { name = a.blank.name; parts = a.blank.parts }

@@ -1,6 +1,0 @@
-use Rattle.std.proofs.Common.{refl, le_refl, rules}
-use Rattle.ra_text.proofs.GatheringLemmas.{moves_wait}
-use Rattle.ra_text.proofs.gathered.Gathered.add.Goals as goal
-
-pub returns-else-is_err : goal.returns-else-is_err
-returns-else-is_err g c = (refl, le_refl _, moves_wait _ _ _ _ _ _ (search rules))

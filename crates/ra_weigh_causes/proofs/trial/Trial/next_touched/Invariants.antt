@@ -1,0 +1,17 @@
+-- No service of the steps so far, and none that needs it, is before the next one.
+use Rattle.std.proofs.Common.{◌≤◌}
+use Rattle.ra_base.specs.Sums.{is_named}
+use Rattle.ra_model.specs.Numbers.{service_count}
+use Rattle.ra_moves.specs.Touched.{service_in}
+use Rattle.ra_weigh_causes.specs.Searching.{ClearTo}
+use Rattle.ra_weigh_causes.specs.Touching.{needs_moved}
+use Rattle.ra_weigh_causes.specs.Trials.{tables_of, steps_of}
+use Rattle.ra_weigh_causes.proofs.trial.Trial.next_touched.Given as goal
+
+abbrev pub invariant-loop-j : goal.invariant-loop-j
+invariant-loop-j l = record {
+  from : l.low ≤ l.next;
+  within : l.next ≤ service_count (tables_of l.self);
+  moved : ClearTo (is_named l.j (service_in (tables_of l.self) (steps_of l.self))) l.low l.next;
+  needs : ClearTo (needs_moved (tables_of l.self) (steps_of l.self) l.j) l.low l.next;
+}

@@ -1,0 +1,163 @@
+ghost use Rattle.std.specs.Prelude.{◌≡◌, ◌↔◌, ◌<◌, true, None, length};
+ghost use Rattle.ra_model.specs.Numbers.{machine_count, service_count, process_count, dependency_count, need_of, neighbourhood_of};
+ghost use Rattle.ra_model.specs.Broken.{far_test, pair_dependency, service_dependency, broken_dependency};
+ghost use Rattle.ra_weigh_causes.specs.Nearness.{FindsOne, LeavesOne, StaysNear};
+ghost use Rattle.ra_weigh_causes.specs.Trials.{tables_of, steps_of, after_of};
+
+use crate::marks::Mark;
+use crate::trial::Trial;
+use ra_base::{Cause, Machine, Process, Service};
+
+impl<'a, 'b> Trial<'a, 'b> {
+    /// The first process in whose neighbourhood a service that its service needs has none after the move, by service,
+    /// its dependency in file order, then process. The time grows with the number of services that the services moved, and
+    /// those that depend on them, need; with the dependencies and processes of one service only if one of its dependencies
+    /// is broken.
+    pub(crate) fn broken_dependency(&self) -> Option<Cause>
+        ensures { result ≡ broken_dependency (tables_of self.now) (after_of self.now) }
+    {
+        let mut low = self.next_touched(0);
+        while low < self.inst.services() {
+            if let Some(cause) = self.service_dependency(Service(low)) {
+                return Some(cause);
+            }
+            low = self.next_touched(low + 1);
+        }
+        None
+    }
+
+    /// The first such dependency of a service. Its dependencies are gone through only if one of them is broken.
+    fn service_dependency(&self, s: Service) -> Option<Cause>
+        requires { s.0 < service_count (tables_of self.now) }
+        ensures { result ≡ service_dependency (tables_of self.now) (after_of self.now) s.0 }
+    {
+        if self.keeps_needs(s) {
+            return None;
+        }
+        let needs = self.inst.depends(s);
+        for k in 0..needs.len() {
+            if let Some(cause) = self.pair_dependency(s, k, needs[k]) {
+                return Some(cause);
+            }
+        }
+        None
+    }
+
+    /// The first process of a service with none of a service that it needs in its neighbourhood after the move. The
+    /// processes are gone through only if there is one.
+    fn pair_dependency(&self, s: Service, k: usize, need: Service) -> Option<Cause>
+        requires service { s.0 < service_count (tables_of self.now) }
+        requires dependency { k < dependency_count (tables_of self.now) s.0 }
+        requires need { need.0 ≡ need_of (tables_of self.now) s.0 k }
+        ensures { result ≡ pair_dependency (tables_of self.now) (after_of self.now) s.0 k }
+    {
+        if self.stays_near(s, need) {
+            return None;
+        }
+        let members = self.topo.members(s);
+        for x in 0..members.len() {
+            if let Some(cause) = self.far_test(s, k, need, members[x]) {
+                return Some(cause);
+            }
+        }
+        None
+    }
+
+    /// A process that has none of a service that it needs in its neighbourhood after the move.
+    fn far_test(&self, s: Service, k: usize, need: Service, p: Process) -> Option<Cause>
+        requires service { s.0 < service_count (tables_of self.now) }
+        requires dependency { k < dependency_count (tables_of self.now) s.0 }
+        requires need { need.0 ≡ need_of (tables_of self.now) s.0 k }
+        requires process { p.0 < process_count (tables_of self.now) }
+        ensures { result ≡ far_test (tables_of self.now) (after_of self.now) s.0 k p.0 }
+    {
+        let neighbourhood = self.inst.neighbourhood(self.machine_after(p));
+        if self.count_after(need, Mark::InNeighbourhood, neighbourhood) == 0 {
+            Some(Cause::Dependency {
+                service: s,
+                needs: need,
+                neighbourhood,
+            })
+        } else {
+            None
+        }
+    }
+
+    /// Whether none of a service's dependencies is broken, by counts alone: it stays near each service that it needs.
+    #[tactic(auto, using(crate::proofs::StepLemmas::known))]
+    fn keeps_needs(&self, s: Service) -> bool
+        requires { s.0 < service_count (tables_of self.now) }
+        ensures { (result ≡ true) ↔
+            (service_dependency (tables_of self.now) (after_of self.now) s.0 ≡ None) }
+    {
+        let needs = self.topo.distinct_needs(s);
+        for k in 0..needs.len() {
+            if !self.stays_near(s, needs[k]) {
+                return false;
+            }
+        }
+        true
+    }
+
+    /// Whether a service stays near one that it needs, by the counts where a step comes and goes.
+    fn stays_near(&self, s: Service, need: Service) -> bool
+        requires service { s.0 < service_count (tables_of self.now) }
+        requires need { need.0 < service_count (tables_of self.now) }
+        ensures { (result ≡ true) ↔ StaysNear (tables_of self.now) (after_of self.now)
+            (steps_of self.now) s.0 need.0 (length (steps_of self.now)) }
+    {
+        for j in 0..self.mv.steps() {
+            let step = self.mv.step(j);
+            let own = self.inst.service_of(step.process);
+            if !self.finds_one(s, need, own, step.to) {
+                return false;
+            }
+            if !self.leaves_one(s, need, own, step.from) {
+                return false;
+            }
+        }
+        true
+    }
+
+    /// Whether a process that enters a machine finds one of the service needed there, if it is of the service that needs.
+    fn finds_one(&self, s: Service, need: Service, own: Service, to: Machine) -> bool
+        requires need { need.0 < service_count (tables_of self.now) }
+        requires to { to.0 < machine_count (tables_of self.now) }
+        ensures { (result ≡ true) ↔ FindsOne (tables_of self.now) (after_of self.now)
+            s.0 need.0 own.0 (neighbourhood_of (tables_of self.now) to.0) }
+    {
+        if own.0 != s.0 {
+            return true;
+        }
+        let label = self.inst.neighbourhood(to);
+        let near = self.count_after(need, Mark::InNeighbourhood, label);
+        if near == 0 {
+            return false;
+        }
+        true
+    }
+
+    /// Whether a process that leaves a machine leaves another one of its service or none that needs it there, if it is of
+    /// the service needed.
+    fn leaves_one(&self, s: Service, need: Service, own: Service, from: Machine) -> bool
+        requires service { s.0 < service_count (tables_of self.now) }
+        requires need { need.0 < service_count (tables_of self.now) }
+        requires from { from.0 < machine_count (tables_of self.now) }
+        ensures { (result ≡ true) ↔ LeavesOne (tables_of self.now) (after_of self.now)
+            s.0 need.0 own.0 (neighbourhood_of (tables_of self.now) from.0) }
+    {
+        if own.0 != need.0 {
+            return true;
+        }
+        let label = self.inst.neighbourhood(from);
+        let left = self.count_after(need, Mark::InNeighbourhood, label);
+        if left > 0 {
+            return true;
+        }
+        let near = self.count_after(s, Mark::InNeighbourhood, label);
+        if near > 0 {
+            return false;
+        }
+        true
+    }
+}

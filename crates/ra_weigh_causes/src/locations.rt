@@ -1,0 +1,97 @@
+ghost use Rattle.std.specs.Prelude.{◌≡◌, ◌^◌, ◌<◌, ◌≤◌, nat_lt};
+ghost use Rattle.ra_base.specs.Sums.{is_named, fresh, one_if};
+ghost use Rattle.ra_model.specs.Numbers.{service_count};
+ghost use Rattle.ra_model.specs.Services.{locations_of};
+ghost use Rattle.ra_moves.specs.Values.{end_count};
+ghost use Rattle.ra_weigh_causes.specs.Marks.{held_in, end_location};
+ghost use Rattle.ra_weigh_causes.specs.Trials.{tables_of, steps_of, before_of, after_of};
+
+use crate::marks::Mark;
+use crate::trial::Trial;
+use ra_base::Service;
+
+impl<'a, 'b> Trial<'a, 'b> {
+    /// In how many locations the processes of a service are after the move.
+    pub(crate) fn locations_after(&self, s: Service) -> u32
+        requires { s.0 < service_count (tables_of self.now) }
+        ensures { result ≡ locations_of (tables_of self.now) (after_of self.now) s.0 }
+    {
+        let kept = self.cells.locations(s);
+        let mut came: u32 = 0;
+        let mut went: u32 = 0;
+        for j in 0..2 * self.mv.steps() {
+            came += self.gained(s, j);
+            went += self.lost(s, j);
+        }
+        kept + came - went
+    }
+
+    /// 1 for an end whose location, which no end before it has, holds the service after the move.
+    #[inline(always)]
+    fn gained(&self, s: Service, j: u32) -> u32
+        requires service { s.0 < service_count (tables_of self.now) }
+        requires end { j < end_count (steps_of self.now) }
+        ensures value { result ≡ fresh (end_location (tables_of self.now) (steps_of self.now))
+            (held_in (tables_of self.now) (after_of self.now) s.0) j }
+        ensures few { result ≤ 1 }
+    {
+        let label = self.end_label(j);
+        if self.is_label_before(j, label) {
+            return 0;
+        }
+        one_if_some(self.count_after(s, Mark::InLocation, label))
+    }
+
+    /// 1 for an end whose location, which no end before it has, holds the service before the move.
+    #[inline(always)]
+    fn lost(&self, s: Service, j: u32) -> u32
+        requires service { s.0 < service_count (tables_of self.now) }
+        requires end { j < end_count (steps_of self.now) }
+        ensures value { result ≡ fresh (end_location (tables_of self.now) (steps_of self.now))
+            (held_in (tables_of self.now) (before_of self.now) s.0) j }
+        ensures few { result ≤ 1 }
+    {
+        let label = self.end_label(j);
+        if self.is_label_before(j, label) {
+            return 0;
+        }
+        one_if_some(self.count_before(s, Mark::InLocation, label))
+    }
+
+    /// Whether an end before this one is in a location.
+    #[inline(always)]
+    fn is_label_before(&self, end: u32, label: u32) -> bool
+        requires { end ≤ end_count (steps_of self.now) }
+        ensures { result ≡
+            is_named end (end_location (tables_of self.now) (steps_of self.now)) label }
+    {
+        for j in 0..end {
+            if self.end_label(j) == label {
+                return true;
+            }
+        }
+        false
+    }
+
+    /// The location of an end of the steps.
+    #[inline(always)]
+    fn end_label(&self, j: u32) -> u32
+        requires { j < end_count (steps_of self.now) }
+        ensures { result ≡ end_location (tables_of self.now) (steps_of self.now) j }
+    {
+        let n = self.mv.steps();
+        if j < n {
+            return self.inst.location(self.mv.step(j).from);
+        }
+        self.inst.location(self.mv.step(j - n).to)
+    }
+}
+
+/// 1 for some, 0 for none.
+#[inline(always)]
+fn one_if_some(count: u32) -> u32
+    ensures value { result ≡ one_if (nat_lt 0 count) }
+    ensures few { result ≤ 1 }
+{
+    if count > 0 { 1 } else { 0 }
+}

@@ -1,0 +1,15 @@
+-- The machines of the first ends, each once.
+use Rattle.std.proofs.Common.{◌≡◌, ◌*◌, ◌^◌, ◌≤◌}
+use Rattle.ra_base.specs.Sums.{total, fresh}
+use Rattle.ra_moves.specs.Replacing.{applied}
+use Rattle.ra_moves.specs.Values.{end_in}
+use Rattle.ra_weigh_changes.specs.PlaceCosts.{row_cost}
+use Rattle.ra_weigh_changes.proofs.ends.change_at_ends.Given as goal
+
+abbrev pub invariant-loop-j : goal.invariant-loop-j
+invariant-loop-j l = record {
+  added : l.change.added ≡ total l.j (fresh (end_in l.mv.steps) (row_cost l.world.inst.now.tables (applied l.world.kept.assignment.items l.mv.steps)));
+  taken : l.change.taken ≡ total l.j (fresh (end_in l.mv.steps) (row_cost l.world.inst.now.tables l.world.kept.assignment.items));
+  added_few : l.change.added ≤ l.j * 2 ^ 106;
+  taken_few : l.change.taken ≤ l.j * 2 ^ 106;
+}

@@ -1,0 +1,127 @@
+ghost use Rattle.std.specs.Prelude.{◌≡◌, ℕ, ◌+◌, ◌*◌, ◌^◌, ◌<◌, ◌≤◌, length};
+ghost use Rattle.ra_base.specs.Sums.{total, is_named, fresh};
+ghost use Rattle.ra_model.specs.Numbers.{machine_count};
+ghost use Rattle.ra_moves.specs.Replacing.{applied};
+ghost use Rattle.ra_moves.specs.Values.{end_count, end_in};
+ghost use Rattle.ra_moves.specs.Moving.{IsMove};
+ghost use Rattle.ra_world.specs.Required.{AreRequired};
+ghost use Rattle.ra_weigh_changes.specs.PlaceCosts.{row_cost};
+
+use crate::amounts::Change;
+use crate::rows::follow_row;
+use ra_base::Machine;
+use ra_moves::Move;
+use ra_world::{World, row_balance, row_load};
+
+/// The change of load and balance cost together: what the machines of the move cost after it, and what they cost now,
+/// each machine once.
+#[inline(always)]
+#[tactic(auto, using(ra_base::proofs::Sums::sums), unfolding(ra_moves::specs::Values::end_count))]
+pub(crate) fn change_at_ends(world: &World<'_>, mv: &Move, required: &[u32; 60]) -> Change
+    requires moves { IsMove world.now.inst.now.tables
+        world.now.kept.assignment.items mv.now.steps }
+    requires required { AreRequired world.now.inst.now.tables mv.now.steps
+        (length mv.now.steps) required.now }
+    ensures added { result.added ≡ total (end_count mv.now.steps)
+        (fresh (end_in mv.now.steps) (row_cost world.now.inst.now.tables
+        (applied world.now.kept.assignment.items mv.now.steps))) }
+    ensures taken { result.taken ≡ total (end_count mv.now.steps)
+        (fresh (end_in mv.now.steps) (row_cost world.now.inst.now.tables
+        world.now.kept.assignment.items)) }
+    ensures added_few { result.added ≤ 2 ^ 110 }
+    ensures taken_few { result.taken ≤ 2 ^ 110 }
+{
+    let mut change = Change { added: 0, taken: 0 };
+    for j in 0..2 * mv.steps() {
+        let here = change_at(world, mv, required, j);
+        change.added += here.added;
+        change.taken += here.taken;
+    }
+    change
+}
+
+/// What the machine of one end adds to this change: nothing where an end before it has named it.
+#[inline(always)]
+#[tactic(auto, using(ra_base::proofs::Named::names, crate::proofs::MoveLemmas::end_known))]
+fn change_at(world: &World<'_>, mv: &Move, required: &[u32; 60], j: u32) -> Change
+    requires moves { IsMove world.now.inst.now.tables
+        world.now.kept.assignment.items mv.now.steps }
+    requires required { AreRequired world.now.inst.now.tables mv.now.steps
+        (length mv.now.steps) required.now }
+    requires end { j < end_count mv.now.steps }
+    ensures added { result.added ≡ fresh (end_in mv.now.steps) (row_cost world.now.inst.now.tables
+        (applied world.now.kept.assignment.items mv.now.steps)) j }
+    ensures taken { result.taken ≡ fresh (end_in mv.now.steps) (row_cost world.now.inst.now.tables
+        world.now.kept.assignment.items) j }
+    ensures added_few { result.added ≤ 2 ^ 106 }
+    ensures taken_few { result.taken ≤ 2 ^ 106 }
+{
+    let m = end_of(mv, j);
+    if is_named_before(mv, j, m) {
+        return Change { added: 0, taken: 0 };
+    }
+    Change {
+        added: cost_after(world, mv, required, m),
+        taken: cost_now(world, m),
+    }
+}
+
+/// The machine of an end: those that are left, then those that are entered.
+#[inline(always)]
+fn end_of(mv: &Move, j: u32) -> Machine
+    requires { j < end_count mv.now.steps }
+    ensures { result.0 ≡ end_in mv.now.steps j }
+{
+    let n = mv.steps();
+    if j < n {
+        mv.step(j).from
+    } else {
+        mv.step(j - n).to
+    }
+}
+
+/// Whether an end before this one is of this machine.
+#[inline(always)]
+#[tactic(auto, using(ra_base::proofs::Named::names))]
+fn is_named_before(mv: &Move, j: u32, m: Machine) -> bool
+    requires { j < end_count mv.now.steps }
+    ensures { result ≡ is_named j (end_in mv.now.steps) m.0 }
+{
+    for k in 0..j {
+        if end_of(mv, k).0 == m.0 {
+            return true;
+        }
+    }
+    false
+}
+
+/// What a machine costs after the move.
+#[inline(always)]
+fn cost_after(world: &World<'_>, mv: &Move, required: &[u32; 60], m: Machine) -> u128
+    requires moves { IsMove world.now.inst.now.tables
+        world.now.kept.assignment.items mv.now.steps }
+    requires required { AreRequired world.now.inst.now.tables mv.now.steps
+        (length mv.now.steps) required.now }
+    requires machine { m.0 < machine_count world.now.inst.now.tables }
+    ensures value { result ≡ row_cost world.now.inst.now.tables
+        (applied world.now.kept.assignment.items mv.now.steps) m.0 }
+    ensures few { result ≤ 2 ^ 106 }
+{
+    let inst = world.instance();
+    let mut numbers = [0u64; 20];
+    let row = &mut numbers[..inst.resources() as usize];
+    row.copy_from_slice(world.rows().usage_row(m));
+    follow_row(world, mv, required, m, row);
+    row_load(inst, m, row) + row_balance(inst, m, row)
+}
+
+/// What a machine costs now.
+#[inline(always)]
+fn cost_now(world: &World<'_>, m: Machine) -> u128
+    requires machine { m.0 < machine_count world.now.inst.now.tables }
+    ensures value { result ≡ row_cost world.now.inst.now.tables
+        world.now.kept.assignment.items m.0 }
+    ensures few { result ≤ 2 ^ 106 }
+{
+    world.machine_load(m) + world.machine_balance(m)
+}

@@ -1,0 +1,115 @@
+ghost use Rattle.std.specs.Prelude.{◌≡◌, ℕ, ◌+◌, ◌^◌, ◌<◌, ◌≤◌, length, slice_index};
+ghost use Rattle.ra_base.specs.Tables.{cell};
+ghost use Rattle.ra_model.specs.Numbers.{resource_count, machine_count};
+ghost use Rattle.ra_rows.specs.Rows.{IsUsageRow};
+ghost use Rattle.ra_moves.specs.Replacing.{applied};
+ghost use Rattle.ra_moves.specs.Moving.{IsMove};
+ghost use Rattle.ra_world.specs.Required.{AreRequired};
+ghost use Rattle.ra_weigh_changes.specs.RowChanges.{share_at, HasMore, HasMoreAt, HasFollowed, CanFollow};
+
+use ra_base::Machine;
+use ra_moves::{Move, Step};
+use ra_world::World;
+
+/// Makes a machine's row of use that of the assignment after the move.
+#[inline(always)]
+pub(crate) fn follow_row(
+    world: &World<'_>,
+    mv: &Move,
+    required: &[u32; 60],
+    m: Machine,
+    row: &mut [u64],
+)
+    requires moves { IsMove world.now.inst.now.tables
+        world.now.kept.assignment.items mv.now.steps }
+    requires required { AreRequired world.now.inst.now.tables mv.now.steps
+        (length mv.now.steps) required.now }
+    requires width { length row.old ≡ resource_count world.now.inst.now.tables }
+    requires before { IsUsageRow world.now.inst.now.tables world.now.kept.assignment.items m.0
+        row.old }
+    ensures width { length row.new ≡ resource_count world.now.inst.now.tables }
+    ensures after { IsUsageRow world.now.inst.now.tables
+        (applied world.now.kept.assignment.items mv.now.steps) m.0 row.new }
+{
+    let width = world.instance().resources();
+    for j in 0..mv.steps() {
+        follow_step(row, m, mv.step(j), required_row(required, j, width));
+    }
+}
+
+/// One row of the requirements.
+#[inline(always)]
+#[tactic(auto, using(crate::proofs::RowLemmas::required_cell))]
+fn required_row(required: &[u32; 60], j: u32, width: u32) -> &[u32]
+    requires row { j < 3 }
+    requires width { width ≤ 20 }
+    ensures one_each { length result.now ≡ width }
+    ensures each { (r : ℕ) → r < width → slice_index result.now r ≡ cell 20 required.now j r }
+{
+    let start = j as usize * 20;
+    &required[start..start + width as usize]
+}
+
+/// Changes a machine's row of use by one step, whose process requires these amounts.
+#[inline(always)]
+#[tactic(auto, using(crate::proofs::RowLemmas::enough_left, crate::proofs::RowLemmas::followed))]
+fn follow_step(row: &mut [u64], m: Machine, step: Step, amounts: &[u32])
+    requires width { length amounts.now ≡ length row.old }
+    requires able { CanFollow step.from.0 step.to.0 m.0 row.old amounts.now }
+    ensures { HasFollowed step.from.0 step.to.0 m.0 row.old row.new amounts.now }
+{
+    enter_row(row, m, step.to, amounts);
+    leave_row(row, m, step.from, amounts);
+}
+
+/// Adds amounts that enter a machine, where the row is that machine's.
+#[inline(always)]
+#[tactic(auto, using(crate::proofs::RowLemmas::more_here, crate::proofs::RowLemmas::more_elsewhere))]
+fn enter_row(row: &mut [u64], m: Machine, at: Machine, amounts: &[u32])
+    requires width { length amounts.now ≡ length row.old }
+    requires room { (r : ℕ) → r < length row.old → slice_index row.old r < 2 ^ 63 }
+    ensures { HasMoreAt at.0 m.0 row.old row.new amounts.now }
+{
+    if at.0 == m.0 {
+        add_row(row, amounts);
+    }
+}
+
+/// Takes amounts that leave a machine, where the row is that machine's.
+#[inline(always)]
+#[tactic(auto, using(crate::proofs::RowLemmas::more_here, crate::proofs::RowLemmas::more_elsewhere, crate::proofs::RowLemmas::enough_here))]
+fn leave_row(row: &mut [u64], m: Machine, at: Machine, amounts: &[u32])
+    requires width { length amounts.now ≡ length row.old }
+    requires enough { (r : ℕ) → r < length row.old → share_at at.0 m.0 (slice_index amounts.now r)
+        ≤ slice_index row.old r }
+    ensures { HasMoreAt at.0 m.0 row.new row.old amounts.now }
+{
+    if at.0 == m.0 {
+        take_row(row, amounts);
+    }
+}
+
+/// Adds to each number of a row.
+#[inline(always)]
+fn add_row(row: &mut [u64], amounts: &[u32])
+    requires width { length amounts.now ≡ length row.old }
+    requires room { (r : ℕ) → r < length row.old → slice_index row.old r < 2 ^ 63 }
+    ensures { HasMore row.old row.new amounts.now }
+{
+    for r in 0..row.len() {
+        row[r] += u64::from(amounts[r]);
+    }
+}
+
+/// Takes from each number of a row.
+#[inline(always)]
+fn take_row(row: &mut [u64], amounts: &[u32])
+    requires width { length amounts.now ≡ length row.old }
+    requires enough { (r : ℕ) → r < length row.old → slice_index amounts.now r
+        ≤ slice_index row.old r }
+    ensures { HasMore row.new row.old amounts.now }
+{
+    for r in 0..row.len() {
+        row[r] -= u64::from(amounts[r]);
+    }
+}

@@ -1,0 +1,11 @@
+use Rattle.std.proofs.Common.{arith}
+use Rattle.std.proofs.lemmas.Simd.{get_or-put_chunk_below, get_or-put_chunk_at}
+use Rattle.ra_weigh_lanes.proofs.lanes.store.Goals as goal
+
+pub returns-clause-there : goal.returns-clause-there
+returns-clause-there c k l =
+    let long = c.fits-sums.0 in
+    get_or-put_chunk_at c.args.at c.args.list.now c.args.sums k 0 (omega (arith, long)) (omega (arith, long))
+
+pub returns-clause-before : goal.returns-clause-before
+returns-clause-before c k l = get_or-put_chunk_below c.args.at c.args.list.now c.args.sums k 0 l

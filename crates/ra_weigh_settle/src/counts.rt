@@ -1,0 +1,43 @@
+ghost use Rattle.std.specs.Prelude.{◌≡◌, ℕ, ◌<◌, ◌≤◌, List, None, length, slice_index, IfSome};
+ghost use Rattle.ra_base.specs.declared.ids.Machine.{Machine};
+ghost use Rattle.ra_model.specs.declared.raw.Tables.{Tables};
+ghost use Rattle.ra_cells.specs.Replaced.{counted_after, IsChange};
+ghost use Rattle.ra_moves.specs.declared.steps.Step.{Step};
+ghost use Rattle.ra_moves.specs.Judging.{broken_by};
+ghost use Rattle.ra_moves.specs.Replacing.{applied};
+ghost use Rattle.ra_moves.specs.Moving.{IsMove};
+ghost use Rattle.ra_moves.specs.Weighing.{weighed_of};
+ghost use Rattle.ra_weigh_settle.specs.Settling.{AreMovedOf, IsRoomFor};
+
+use ra_base::MovedCount;
+use ra_cells::Greatest;
+use ra_moves::Weighed;
+
+/// Changes moved counts by the weighing of a move that breaks nothing: where they were those of the assignment that is
+/// moved, they are then those of the assignment after the move.
+pub fn change_counts(greatest: &mut Greatest, weighed: &Weighed)
+    requires first { IfSome weighed.now.first (λ c. IsChange greatest.old c) }
+    requires second { IfSome weighed.now.second (λ c. IsChange greatest.old c) }
+    requires third { IfSome weighed.now.third (λ c. IsChange greatest.old c) }
+    ensures counts { (i : Tables) (a0 a : List Machine) (steps : List Step) → IsMove i a steps →
+        broken_by i a0 a steps ≡ None → weighed.now ≡ weighed_of i a0 a steps →
+        AreMovedOf i a0 a greatest.old → AreMovedOf i a0 (applied a steps) greatest.new }
+    ensures limit { greatest.new.limit ≡ greatest.old.limit }
+{
+    change_count(greatest, weighed.first);
+    change_count(greatest, weighed.second);
+    change_count(greatest, weighed.third);
+}
+
+/// Gives the service of a change its new count, where there is one.
+fn change_count(greatest: &mut Greatest, change: Option<MovedCount>)
+    requires { IfSome change (λ c. IsRoomFor greatest.old c) }
+    ensures counts { (s : ℕ) → s < length greatest.old.counts → slice_index greatest.new.counts s
+        ≡ counted_after change (slice_index greatest.old.counts) s }
+    ensures length { length greatest.new.counts ≡ length greatest.old.counts }
+    ensures limit { greatest.new.limit ≡ greatest.old.limit }
+{
+    if let Some(c) = change {
+        greatest.change(c.service, c.after);
+    }
+}

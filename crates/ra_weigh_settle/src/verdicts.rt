@@ -1,0 +1,28 @@
+ghost use Rattle.std.specs.Prelude.{◌≡◌, ℕ, List};
+ghost use Rattle.ra_base.specs.declared.ids.Machine.{Machine};
+ghost use Rattle.ra_moves.specs.declared.steps.Step.{Step};
+ghost use Rattle.ra_moves.specs.Judging.{judge};
+ghost use Rattle.ra_weigh_settle.specs.Settling.{IsSettling, HasSettling};
+
+use ra_cells::Greatest;
+use ra_model::Instance;
+use ra_moves::{Verdict, Weighed, settle};
+
+/// The verdict on a weighed move at the assignment whose moved counts and cost these are: its broken cause, or else Rise
+/// or Done by the cost after it. `allowed` is how much the cost may rise.
+pub fn settle_now(
+    inst: &Instance,
+    greatest: &Greatest,
+    kept: u128,
+    weighed: &Weighed,
+    allowed: u64,
+) -> Verdict
+    requires some { HasSettling inst.now.tables greatest.now kept weighed.now }
+    ensures { (a0 a : List Machine) (steps : List Step) →
+        IsSettling inst.now.tables a0 a steps greatest.now kept weighed.now →
+        result ≡ judge inst.now.tables a0 a steps allowed }
+{
+    let now = greatest.greatest();
+    let after = greatest.greatest_after(weighed.first, weighed.second, weighed.third);
+    settle(kept, now, after, inst.service_weight(), weighed, allowed)
+}

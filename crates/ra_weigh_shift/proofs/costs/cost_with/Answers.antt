@@ -1,0 +1,13 @@
+-- The costs of the row that was made.
+use Rattle.std.proofs.Common.{◌∙◌, ap, slice_index}
+use Rattle.ra_model.specs.declared.numbers.Instance.{Instance}
+use Rattle.ra_weigh_shift.specs.Sharing.{row_cost, use_with}
+use Rattle.ra_weigh_shift.proofs.ChangeLaws.{row_cost_same}
+use Rattle.ra_weigh_shift.proofs.costs.cost_with.Goals as goal
+
+pub returns-clause-value : goal.returns-clause-value
+returns-clause-value c =
+    let i = c.args.world.now.inst.now.tables in
+    c.cost_of_row.ensures.value
+    ∙ ap (λ (j : Instance). row_cost j.tables c.args.to.0 (slice_index c.row_with-row.result)) c.instance.ensures
+    ∙ row_cost_same i c.args.to.0 (slice_index c.row_with-row.result) (use_with i c.args.world.now.kept.assignment.items c.args.p.0 c.args.to.0) c.args.world.now.inst.now.well_formed c.row_with-row.ensures

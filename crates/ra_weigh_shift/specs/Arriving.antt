@@ -1,0 +1,53 @@
+-- The cost after process p of a world has gone to machine `to` (this project's).
+use Rattle.std.specs.Prelude.{◌≡◌, ℕ, ◌+◌, ◌<◌, ◌≤◌, [], ◌∷◌, Option, Some, None}
+use Rattle.ra_model.specs.Costs.{service_cost, objective}
+use Rattle.ra_moves.specs.Judging.{broken_by}
+use Rattle.ra_moves.specs.Options.{leaving}
+use Rattle.ra_moves.specs.Replacing.{applied}
+use Rattle.ra_world.specs.declared.world.World.{World}
+use Rattle.ra_weigh_shift.specs.Filter.{base_added, base_taken, filter_sum}
+
+-- the shift breaks nothing
+abbrev pub BreaksNothing : World → ℕ → ℕ → Type 0
+BreaksNothing w p to =
+    broken_by w.inst.now.tables w.start.now.items w.kept.assignment.items
+    (leaving w.kept.assignment.items p to ∷ [])
+    ≡ None
+
+-- the cost after it
+abbrev pub cost_after : World → ℕ → ℕ → ℕ
+cost_after w p to =
+    objective w.inst.now.tables w.start.now.items
+    (applied w.kept.assignment.items (leaving w.kept.assignment.items p to ∷ []))
+
+-- the cost now, and the service cost in it
+abbrev pub cost_now : World → ℕ
+cost_now w = objective w.inst.now.tables w.start.now.items w.kept.assignment.items
+
+abbrev pub service_now : World → ℕ
+service_now w = service_cost w.inst.now.tables w.start.now.items w.kept.assignment.items
+
+-- what is the same for all machines but the initial one: the cost now with what is added, and what is taken away
+abbrev pub cost_added : World → ℕ → ℕ
+cost_added w p =
+    cost_now w + base_added w.inst.now.tables w.start.now.items w.kept.assignment.items p
+
+abbrev pub cost_taken : World → ℕ → ℕ
+cost_taken w p = base_taken w.inst.now.tables w.start.now.items w.kept.assignment.items p
+
+-- what each of them adds
+abbrev pub sum_at : World → ℕ → ℕ → ℕ
+sum_at w p to = filter_sum w.inst.now.tables w.start.now.items w.kept.assignment.items p to
+
+-- a cost where the shift breaks nothing and costs less than a bound, and none where it breaks something or costs more
+pub record IsCostBelow (w : World) (p to bound : ℕ) (cost : Option ℕ) : Type 0 where
+  pub free : (n : ℕ) → cost ≡ Some n → BreaksNothing w p to
+  pub found : (n : ℕ) → cost ≡ Some n → n ≡ cost_after w p to
+  pub below : (n : ℕ) → cost ≡ Some n → n < bound
+  pub none : cost ≡ None → BreaksNothing w p to → bound ≤ cost_after w p to
+
+-- the sum of a machine where that is below a bound
+pub record IsSumBelow (w : World) (p to bound : ℕ) (sum : Option ℕ) : Type 0 where
+  pub found : (n : ℕ) → sum ≡ Some n → n ≡ sum_at w p to
+  pub below : (n : ℕ) → sum ≡ Some n → n < bound
+  pub none : sum ≡ None → bound ≤ sum_at w p to

@@ -1,0 +1,68 @@
+-- What process p asks of the filter rows, as terms of lanes, and the sums of sixty-four neighbouring machines (this
+-- project's).
+use Rattle.std.specs.Prelude.{◌≡◌, ◌≢◌, ℕ, ◌+◌, ◌-◌, ◌*◌, ◌%◌, ◌^◌, ◌<◌, ◌≤◌, ◌↔◌, min, List, All, None, if◌then◌else◌, nat_lt, slice_index}
+use Rattle.std.specs.Int.{bit_at}
+use Rattle.ra_base.specs.Sums.{total}
+use Rattle.ra_base.specs.Tables.{cell}
+use Rattle.ra_weigh_lanes.specs.Windows.{lacking, amounts}
+use Rattle.ra_weigh_lanes.specs.declared.windows.Term.{Term}
+use Rattle.ra_model.specs.declared.raw.Tables.{Tables}
+use Rattle.ra_model.specs.Numbers.{resource_count, machine_count, balance_count}
+use Rattle.ra_model.specs.Assignments.{machine_at}
+use Rattle.ra_rows.specs.FilterRows.{load_asked, first_asked, second_asked}
+use Rattle.ra_world.specs.FilterTables.{filter_row_count, filter_width}
+use Rattle.ra_world.specs.Worlds.{tables_of, start_of}
+use Rattle.ra_world.specs.declared.world.World.{World}
+use Rattle.ra_weigh_shift.specs.Arriving.{sum_at, IsCostBelow}
+
+-- what p asks of row j of the filter rows
+unfoldable pub filter_asked : Tables → ℕ → ℕ → ℕ
+filter_asked i p j =
+    if nat_lt j (resource_count i) then load_asked i p j
+    else if nat_lt j (resource_count i + balance_count i)
+    then first_asked i p (j - resource_count i)
+    else second_asked i p (j - resource_count i - balance_count i)
+
+-- the same, where a number above 2^30 counts as the first above it
+unfoldable pub capped_asked : Tables → ℕ → ℕ → ℕ
+capped_asked i p j = min (filter_asked i p j) (2 ^ 30 + 1)
+
+-- each term has a filter row
+abbrev pub AreInRows : Tables → List Term → Type 0
+AreInRows i terms = All (λ t. t.row + filter_width i ≤ filter_row_count i * filter_width i) terms
+
+-- terms for the first n filter rows, of which this much is asked
+pub record AreTerms (i : Tables) (n : ℕ) (asked : ℕ → ℕ) (terms : List Term) : Type 0 where
+  pub asks : amounts terms ≡ total n asked
+  pub lacks : (rows : List ℕ) (k : ℕ)
+      → lacking rows terms k ≡ total n (λ j. asked j - cell (filter_width i) rows j k)
+
+-- one more term, unless its amount is 0
+pub record HasAlsoTerm (old : List Term) (row amount : ℕ) (new : List Term) : Type 0 where
+  pub within : (width most : ℕ) → row + width ≤ most → All (λ t. t.row + width ≤ most) old
+      → All (λ t. t.row + width ≤ most) new
+  pub asks : amounts new ≡ amounts old + amount
+  pub lacks : (rows : List ℕ) (k : ℕ)
+      → lacking rows new k ≡ lacking rows old k + (amount - slice_index rows (row + k))
+
+-- the k-th machine from a first one on, and after the last machine the first
+abbrev pub machine_in : World → ℕ → ℕ → ℕ
+machine_in w first k = (first + k) % machine_count (tables_of w)
+
+-- a bit for each of sixty-four machines that adds at most a limit, and what it adds
+pub record AreSums (w : World) (p first limit marks : ℕ) (sums : List ℕ) : Type 0 where
+  pub bits : (k : ℕ) → k < 64
+      → (bit_at marks k ≡ 1) ↔ (sum_at w p (machine_in w first k) ≤ limit)
+  pub each : (k : ℕ) → k < 64 → bit_at marks k ≡ 1
+      → slice_index sums k ≡ sum_at w p (machine_in w first k)
+  pub small : (k : ℕ) → k < 64 → sum_at w p (machine_in w first k) ≤ 2 ^ 31
+
+-- a bit for each of sixty-four machines to which a shift may cost less than a bound, and what each adds
+pub record AreMarked (w : World) (p first bound marks : ℕ) (sums : List ℕ) : Type 0 where
+  -- where there is no bit, it costs that much or breaks something, unless p comes home
+  pub dear : (k : ℕ) → k < 64 → bit_at marks k ≢ 1
+      → machine_at (start_of w) p ≢ machine_in w first k
+      → IsCostBelow w p (machine_in w first k) bound None
+  pub each : (k : ℕ) → k < 64 → bit_at marks k ≡ 1
+      → machine_at (start_of w) p ≢ machine_in w first k
+      → slice_index sums k ≡ sum_at w p (machine_in w first k)

@@ -1,0 +1,502 @@
+ghost use Rattle.std.specs.Prelude.{◌≡◌, ◌≢◌, ℕ, ◌+◌, ◌*◌, ◌^◌, ◌<◌, ◌≤◌, ◌↔◌, ◌-◌, [], ◌∷◌, None, IfSome, true, false};
+ghost use Rattle.ra_model.specs.Numbers.{resource_count, machine_count, process_count, service_of, neighbourhood_of, spread_of, closed_at, transient_at, capacity_of, service_count, process_weight_of, process_cost_of};
+ghost use Rattle.ra_weigh_shift.specs.Filter.{service_away};
+ghost use Rattle.ra_model.specs.Assignments.{machine_at};
+ghost use Rattle.ra_model.specs.Services.{on_machine, in_neighbourhood, locations_of, moved_of};
+ghost use Rattle.ra_moves.specs.Options.{leaving};
+ghost use Rattle.ra_moves.specs.Judging.{broken_by};
+ghost use Rattle.ra_weigh_shift.specs.Arriving.{BreaksNothing, cost_after, cost_now, service_now, cost_added, cost_taken, IsCostBelow, IsSumBelow, sum_at};
+ghost use Rattle.ra_weigh_shift.specs.Lanes.{AreMarked};
+ghost use Rattle.ra_world.specs.Worlds.{tables_of, start_of};
+ghost use Rattle.ra_weigh_shift.specs.Conditions.{shifted, HasRoom, HasRoomBetween, FindsNeeds, MayLeave};
+ghost use Rattle.ra_weigh_shift.specs.Leaving.{machine_left, location_left, neighbourhood_left, spread_left, spread_wanted, MayGo, cost_left, cost_before};
+ghost use Rattle.ra_weigh_shift.specs.Sharing.{AreRequired, cost_of, way_cost};
+
+use crate::costs::{cost_with, cost_without, way_cost};
+use crate::filter::{balance_above, load_above, saved, service_away, service_with};
+use crate::reads::{is_away, machine_of, may_leave, one_when, required_of, spread_without};
+use crate::windows::{limit_below, sums_of};
+use ra_base::{Machine, Process, Resource, Service, Steps};
+use ra_world::World;
+use std::sync::ledger::Ledger;
+
+/// A process that may be shifted, with all that is the same for each machine to which it might go.
+#[derive(Drop)]
+pub struct Shift<'w, 'a> {
+    world: &'w World<'a>,
+    process: Process,
+    /// The machine that it would leave.
+    from: Machine,
+    /// Its initial machine.
+    home: Machine,
+    service: Service,
+    /// What it requires of each resource, and zeros behind.
+    required: [u32; 20],
+    /// The labels of the location and of the neighbourhood that it would leave.
+    location: u32,
+    neighbourhood: u32,
+    /// In how many locations there is another process of its service, and in how many there have to be some.
+    spread_without: u32,
+    spread_min: u32,
+    /// Whether it may leave its neighbourhood.
+    may_leave: bool,
+    /// The load and balance cost of the machine that it would leave, once it has.
+    without: u128,
+    /// The same while it stays, and what its own way costs so far.
+    before: u128,
+    /// The cost, and the service cost in it.
+    kept: u128,
+    service_cost: u128,
+    /// For all machines but its initial one: the cost with what is added, and what is taken away.
+    added: u128,
+    taken: u128,
+    pub ghost process_known: { process.0 < process_count world.now.inst.now.tables },
+    ghost from_is: { from.0 ≡ machine_left world.now process.0 },
+    ghost home_is: { home.0 ≡ machine_at world.now.start.now.items process.0 },
+    ghost service_is: { service.0 ≡ service_of world.now.inst.now.tables process.0 },
+    ghost required_are: { AreRequired world.now.inst.now.tables process.0 required },
+    ghost location_is: { location ≡ location_left world.now process.0 },
+    ghost neighbourhood_is: { neighbourhood ≡ neighbourhood_left world.now process.0 },
+    ghost spread_is: { spread_without ≡ spread_left world.now process.0 },
+    ghost spread_few: { spread_without ≤ 50000 },
+    ghost wants_is: { spread_min ≡ spread_wanted world.now process.0 },
+    ghost may: { may_leave ≡ true → MayGo world.now process.0 },
+    ghost may_not: { may_leave ≡ false → MayGo world.now process.0 → ⊥ },
+    ghost without_is: { without ≡ cost_left world.now process.0 },
+    ghost without_small: { without ≤ 30 * 2 ^ 96 },
+    ghost before_is: { before ≡ cost_before world.now process.0 },
+    ghost before_small: { before ≤ 2 ^ 102 },
+    ghost kept_is: { kept ≡ cost_now world.now },
+    ghost kept_small: { kept < 2 ^ 114 },
+    ghost service_cost_is: { service_cost ≡ service_now world.now },
+    ghost service_cost_small: { service_cost < 2 ^ 48 },
+    ghost added_is: { added ≡ cost_added world.now process.0 },
+    ghost added_small: { added < 2 ^ 115 },
+    ghost taken_is: { taken ≡ cost_taken world.now process.0 },
+    ghost taken_small: { taken < 2 ^ 103 },
+}
+
+impl<'w, 'a> Shift<'w, 'a> {
+    /// All that is the same for each way of a process. It reads what the process requires, each number once.
+    pub fn make<L: Ledger>(
+        world: &'w World<'a>,
+        process: Process,
+        steps: &mut Steps<L>,
+    ) -> Shift<'w, 'a>
+        requires { process.0 < process_count world.now.inst.now.tables }
+        ensures world { result.world.now ≡ world.now }
+        ensures process { result.process ≡ process }
+        ensures counted { steps.new ≡ steps.old + resource_count world.now.inst.now.tables }
+    {
+        let inst = world.instance();
+        let from = machine_of(world.assignment(), process);
+        let home = machine_of(world.initial(), process);
+        let service = inst.service_of(process);
+        let required = required_of(inst, process, steps);
+        let location = inst.location(from);
+        let neighbourhood = inst.neighbourhood(from);
+        let spread_without = spread_without(world, process, service, location);
+        let may_leave = may_leave(world, process, service, neighbourhood);
+        let without = cost_without(world, process, &required, from);
+        let before = cost_before(world, process, home, from);
+        let parts = world.parts();
+        let away = added_away(world, process, service, home, from);
+        Shift {
+            world,
+            process,
+            from,
+            home,
+            service,
+            required,
+            location,
+            neighbourhood,
+            spread_without,
+            spread_min: inst.spread_min(service),
+            may_leave,
+            without,
+            before,
+            kept: parts.total,
+            service_cost: parts.service,
+            added: parts.total + (without + away),
+            taken: before + saved(inst, &required) + parts.service,
+        }
+    }
+
+    /// Whether the shift to a machine breaks nothing.
+    #[inline(always)]
+    pub fn fits(&self, to: Machine) -> bool
+        requires { to.0 < machine_count self.now.world.now.inst.now.tables }
+        ensures { (result ≡ true) ↔ (broken_by self.now.world.now.inst.now.tables
+            self.now.world.now.start.now.items self.now.world.now.kept.assignment.items
+            (leaving self.now.world.now.kept.assignment.items self.now.process.0 to.0 ∷ [])
+            ≡ None) }
+    {
+        if to.0 == self.from.0 {
+            return false;
+        }
+        if !self.is_admitted(to) {
+            return false;
+        }
+        if !self.has_room(to) {
+            return false;
+        }
+        if !self.is_alone(to) {
+            return false;
+        }
+        if !self.has_room_between(to) {
+            return false;
+        }
+        if !self.keeps_spread(to) {
+            return false;
+        }
+        if !self.keeps_dependants(to) {
+            return false;
+        }
+        self.finds_needs(to)
+    }
+
+    /// The cost after the shift to a machine, if it breaks nothing and costs less than a bound.
+    #[inline(always)]
+    pub fn cost_below(&self, to: Machine, bound: u128) -> Option<u128>
+        requires machine { to.0 < machine_count self.now.world.now.inst.now.tables }
+        requires bound { bound ≤ 2 ^ 120 }
+        ensures { IsCostBelow self.now.world.now self.now.process.0 to.0 bound result }
+    {
+        if to.0 != self.home.0 {
+            self.cost_away(to, bound)
+        } else {
+            self.cost_home(to, bound)
+        }
+    }
+
+    /// The same for a machine other than the initial one: what it adds is known before it is looked up whether the shift
+    /// breaks anything.
+    #[inline(always)]
+    fn cost_away(&self, to: Machine, bound: u128) -> Option<u128>
+        requires machine { to.0 < machine_count self.now.world.now.inst.now.tables }
+        requires bound { bound ≤ 2 ^ 120 }
+        requires apart { to.0 ≢ self.now.home.0 }
+        ensures { IsCostBelow self.now.world.now self.now.process.0 to.0 bound result }
+    {
+        let sum = self.sum_below(to, (bound + self.taken).saturating_sub(self.added))?;
+        if !self.fits(to) {
+            return None;
+        }
+        Some(self.added + sum - self.taken)
+    }
+
+    /// The same, where what the machine adds is known already, unless it is the initial one.
+    #[inline(always)]
+    pub fn cost_summed(&self, to: Machine, sum: u32, bound: u128) -> Option<u128>
+        requires machine { to.0 < machine_count (tables_of self.now.world.now) }
+        requires bound { bound ≤ 2 ^ 120 }
+        requires sum { machine_at (start_of self.now.world.now) self.now.process.0 ≢ to.0 →
+            sum ≡ sum_at self.now.world.now self.now.process.0 to.0 }
+        ensures { IsCostBelow self.now.world.now self.now.process.0 to.0 bound result }
+    {
+        if self.home.0 != to.0 {
+            self.cost_away_summed(to, u128::from(sum), bound)
+        } else {
+            self.cost_home(to, bound)
+        }
+    }
+
+    /// The same for a machine other than the initial one.
+    #[inline(always)]
+    fn cost_away_summed(&self, to: Machine, sum: u128, bound: u128) -> Option<u128>
+        requires machine { to.0 < machine_count (tables_of self.now.world.now) }
+        requires bound { bound ≤ 2 ^ 120 }
+        requires apart { machine_at (start_of self.now.world.now) self.now.process.0 ≢ to.0 }
+        requires sum { sum ≡ sum_at self.now.world.now self.now.process.0 to.0 }
+        ensures { IsCostBelow self.now.world.now self.now.process.0 to.0 bound result }
+    {
+        let room = self.room_below(bound);
+        if sum >= room {
+            return None;
+        }
+        if !self.fits(to) {
+            return None;
+        }
+        Some(self.added + sum - self.taken)
+    }
+
+    /// What a machine other than the initial one has to add less than, so that the cost is below a bound.
+    #[inline(always)]
+    fn room_below(&self, bound: u128) -> u128
+        requires { bound ≤ 2 ^ 120 }
+        ensures { result ≡ bound + cost_taken self.now.world.now self.now.process.0
+            - cost_added self.now.world.now self.now.process.0 }
+    {
+        (bound + self.taken).saturating_sub(self.added)
+    }
+
+    /// Marks those of sixty-four machines from one on to which the shift may cost less than a bound, the initial one
+    /// left out of account, with what each adds; or none where the numbers are too great to be added side by side.
+    pub fn marks(&self, first: u32, bound: u128, sums: &mut [u32; 64]) -> Option<u64>
+        requires first { first < machine_count (tables_of self.now.world.now) }
+        requires bound { bound ≤ 2 ^ 120 }
+        ensures { IfSome result (λ marks.
+            AreMarked self.now.world.now self.now.process.0 first bound marks sums.new) }
+    {
+        let room = self.room_below(bound);
+        if room == 0 {
+            return Some(0);
+        }
+        let limit = limit_below(room);
+        sums_of(self.world, &self.required, self.home, first, limit, sums)
+    }
+
+    /// The initial machine.
+    pub fn home(&self) -> Machine
+        ensures value { result.0 ≡ machine_at (start_of self.now.world.now) self.now.process.0 }
+        ensures within { result.0 < machine_count (tables_of self.now.world.now) }
+    {
+        self.home
+    }
+
+    /// What a machine adds, if that is below a bound.
+    #[inline(always)]
+    fn sum_below(&self, to: Machine, bound: u128) -> Option<u128>
+        requires { to.0 < machine_count self.now.world.now.inst.now.tables }
+        ensures { IsSumBelow self.now.world.now self.now.process.0 to.0 bound result }
+    {
+        let inst = self.world.instance();
+        let way = u64::from(inst.machine_weight()) * u64::from(inst.move_cost(self.home, to));
+        let load = u128::from(way) + load_above(self.world, &self.required, to);
+        if load >= bound {
+            return None;
+        }
+        let sum = load + balance_above(self.world, &self.required, to);
+        if sum >= bound {
+            return None;
+        }
+        Some(sum)
+    }
+
+    /// The cost after the shift to the initial machine, if it breaks nothing and costs less than a bound.
+    fn cost_home(&self, to: Machine, bound: u128) -> Option<u128>
+        requires machine { to.0 < machine_count self.now.world.now.inst.now.tables }
+        ensures { IsCostBelow self.now.world.now self.now.process.0 to.0 bound result }
+    {
+        if !self.fits(to) {
+            return None;
+        }
+        let cost = self.cost_at(to);
+        if cost >= bound {
+            return None;
+        }
+        Some(cost)
+    }
+
+    /// The cost after a shift that breaks nothing.
+    fn cost_at(&self, to: Machine) -> u128
+        requires machine { to.0 < machine_count self.now.world.now.inst.now.tables }
+        requires unbroken { BreaksNothing self.now.world.now self.now.process.0 to.0 }
+        ensures { result ≡ cost_after self.now.world.now self.now.process.0 to.0 }
+    {
+        let world = self.world;
+        let here = world.machine_load(to) + world.machine_balance(to);
+        let with = cost_with(world, self.process, &self.required, to);
+        let way = way_cost(world, self.process, self.home, to);
+        let service = service_with(world, self.service, self.moved(to));
+        self.kept + self.without + with + way + service - (self.before + here + self.service_cost)
+    }
+
+    /// Whether a machine is open, or is the initial one of the process.
+    #[inline(always)]
+    fn is_admitted(&self, to: Machine) -> bool
+        requires { to.0 < machine_count self.now.world.now.inst.now.tables }
+        ensures { (result ≡ true) ↔ (closed_at self.now.world.now.inst.now.tables to.0 ≡ true →
+            machine_at self.now.world.now.start.now.items self.now.process.0 ≡ to.0) }
+    {
+        if self.home.0 == to.0 {
+            return true;
+        }
+        !self.world.instance().closed(to)
+    }
+
+    /// Whether a machine has room for what the process requires.
+    #[inline(always)]
+    fn has_room(&self, to: Machine) -> bool
+        requires { to.0 < machine_count self.now.world.now.inst.now.tables }
+        ensures { (result ≡ true) ↔ HasRoom self.now.world.now.inst.now.tables
+            self.now.world.now.kept.assignment.items self.now.process.0 to.0 }
+    {
+        let inst = self.world.instance();
+        let used = self.world.rows().usage_row(to);
+        for r in 0..inst.resources() {
+            let place = r as usize;
+            let wanted = used[place] + u64::from(self.required[place]);
+            if wanted > u64::from(inst.capacity(to, Resource(r))) {
+                return false;
+            }
+        }
+        true
+    }
+
+    /// Whether a machine has it while the process moves.
+    #[inline(always)]
+    fn has_room_between(&self, to: Machine) -> bool
+        requires { to.0 < machine_count self.now.world.now.inst.now.tables }
+        ensures { (result ≡ true) ↔ HasRoomBetween self.now.world.now.inst.now.tables
+            self.now.world.now.start.now.items self.now.world.now.kept.assignment.items
+            self.now.process.0 to.0 }
+    {
+        if to.0 == self.home.0 {
+            return true;
+        }
+        let between = self.world.rows().transient_row(to);
+        for r in 0..self.world.instance().resources() {
+            let place = r as usize;
+            let wanted = between[place] + u64::from(self.required[place]);
+            if self.is_too_much(to, Resource(r), wanted) {
+                return false;
+            }
+        }
+        true
+    }
+
+    /// Whether an amount of a transient resource is above what a machine has.
+    #[inline(always)]
+    fn is_too_much(&self, to: Machine, r: Resource, wanted: u64) -> bool
+        requires machine { to.0 < machine_count self.now.world.now.inst.now.tables }
+        requires resource { r.0 < resource_count self.now.world.now.inst.now.tables }
+        ensures { (result ≡ true) ↔ ((transient_at self.now.world.now.inst.now.tables r.0 ≡ true)
+            × (capacity_of self.now.world.now.inst.now.tables to.0 r.0 < wanted)) }
+    {
+        let inst = self.world.instance();
+        if !inst.transient(r) {
+            return false;
+        }
+        wanted > u64::from(inst.capacity(to, r))
+    }
+
+    /// Whether no process of the service is on a machine.
+    #[inline(always)]
+    fn is_alone(&self, to: Machine) -> bool
+        ensures { (result ≡ true) ↔ (on_machine self.now.world.now.inst.now.tables
+            self.now.world.now.kept.assignment.items
+            (service_of self.now.world.now.inst.now.tables self.now.process.0) to.0 ≡ 0) }
+    {
+        self.world.cells().on_machine(self.service, to) == 0
+    }
+
+    /// Whether the service is then in as many locations as it has to be.
+    #[inline(always)]
+    fn keeps_spread(&self, to: Machine) -> bool
+        requires { to.0 < machine_count self.now.world.now.inst.now.tables }
+        ensures { (result ≡ true) ↔ (spread_of self.now.world.now.inst.now.tables
+            (service_of self.now.world.now.inst.now.tables self.now.process.0)
+            ≤ locations_of self.now.world.now.inst.now.tables
+            (shifted self.now.world.now.kept.assignment.items self.now.process.0 to.0)
+            (service_of self.now.world.now.inst.now.tables self.now.process.0)) }
+    {
+        if self.spread_min <= self.spread_without {
+            return true;
+        }
+        let label = self.world.instance().location(to);
+        let own = one_when(self.location == label);
+        let comes = self.world.cells().in_location(self.service, label) == own;
+        self.spread_min <= self.spread_without + one_when(comes)
+    }
+
+    /// Whether no service stays behind that depends on the process.
+    #[inline(always)]
+    fn keeps_dependants(&self, to: Machine) -> bool
+        requires { to.0 < machine_count self.now.world.now.inst.now.tables }
+        ensures { (result ≡ true) ↔ (neighbourhood_of self.now.world.now.inst.now.tables
+            (machine_at self.now.world.now.kept.assignment.items self.now.process.0)
+            ≢ neighbourhood_of self.now.world.now.inst.now.tables to.0 →
+            MayLeave self.now.world.now.inst.now.tables
+            self.now.world.now.kept.assignment.items self.now.process.0) }
+    {
+        if self.may_leave {
+            return true;
+        }
+        self.world.instance().neighbourhood(to) == self.neighbourhood
+    }
+
+    /// Whether what the service needs is in the neighbourhood of a machine.
+    #[inline(always)]
+    fn finds_needs(&self, to: Machine) -> bool
+        requires { to.0 < machine_count self.now.world.now.inst.now.tables }
+        ensures { (result ≡ true) ↔ FindsNeeds self.now.world.now.inst.now.tables
+            self.now.world.now.kept.assignment.items self.now.process.0 to.0 }
+    {
+        let label = self.world.instance().neighbourhood(to);
+        let needs = self.world.topology().distinct_needs(self.service);
+        for need in needs {
+            if self.is_missing(*need, label) {
+                return false;
+            }
+        }
+        true
+    }
+
+    /// Whether a service is another one and has no process in a neighbourhood.
+    #[inline(always)]
+    fn is_missing(&self, need: Service, label: u32) -> bool
+        requires { need.0 < service_count self.now.world.now.inst.now.tables }
+        ensures other { result ≡ true →
+            need.0 ≢ service_of self.now.world.now.inst.now.tables self.now.process.0 }
+        ensures none { result ≡ true → in_neighbourhood self.now.world.now.inst.now.tables
+            self.now.world.now.kept.assignment.items need.0 label ≡ 0 }
+        ensures some { result ≡ false →
+            need.0 ≢ service_of self.now.world.now.inst.now.tables self.now.process.0 →
+            0 < in_neighbourhood self.now.world.now.inst.now.tables
+            self.now.world.now.kept.assignment.items need.0 label }
+    {
+        if need.0 == self.service.0 {
+            return false;
+        }
+        self.world.cells().in_neighbourhood(need, label) == 0
+    }
+
+    /// The moved count of the service after it.
+    fn moved(&self, to: Machine) -> u32
+        ensures value { result ≡ moved_of self.now.world.now.inst.now.tables
+            self.now.world.now.start.now.items
+            (shifted self.now.world.now.kept.assignment.items self.now.process.0 to.0)
+            (service_of self.now.world.now.inst.now.tables self.now.process.0) }
+        ensures few { result ≤ process_count self.now.world.now.inst.now.tables }
+    {
+        let before = self.world.cells().moved(self.service);
+        let gone = is_away(self.home, self.from);
+        let come = is_away(self.home, to);
+        before + come - gone
+    }
+}
+
+/// What is added for each machine but the initial one besides the costs of the machine that is left: the process cost and
+/// the service cost.
+fn added_away(world: &World<'_>, p: Process, s: Service, home: Machine, from: Machine) -> u128
+    requires process { p.0 < process_count world.now.inst.now.tables }
+    requires service { s.0 ≡ service_of world.now.inst.now.tables p.0 }
+    requires home { home.0 ≡ machine_at world.now.start.now.items p.0 }
+    requires from { from.0 ≡ machine_at world.now.kept.assignment.items p.0 }
+    ensures value { result ≡
+        process_weight_of world.now.inst.now.tables * process_cost_of world.now.inst.now.tables p.0
+        + service_away world.now.inst.now.tables world.now.start.now.items
+        world.now.kept.assignment.items p.0 }
+    ensures bound { result < 2 ^ 65 }
+{
+    let inst = world.instance();
+    let moved = u64::from(inst.process_weight()) * u64::from(inst.process_cost(p));
+    u128::from(moved) + service_away(world, p, s, home, from)
+}
+
+/// The load and balance cost of the machine of a process, and what the process's own way costs.
+fn cost_before(world: &World<'_>, p: Process, home: Machine, from: Machine) -> u128
+    requires process { p.0 < process_count world.now.inst.now.tables }
+    requires home { home.0 ≡ machine_at world.now.start.now.items p.0 }
+    requires from { from.0 ≡ machine_at world.now.kept.assignment.items p.0 }
+    ensures value { result ≡ cost_of world.now.inst.now.tables
+        world.now.kept.assignment.items (machine_at world.now.kept.assignment.items p.0)
+        + way_cost world.now.inst.now.tables world.now.start.now.items p.0
+        (machine_at world.now.kept.assignment.items p.0) }
+    ensures bound { result ≤ 2 ^ 102 }
+{
+    let load = world.machine_load(from);
+    let balance = world.machine_balance(from);
+    load + balance + way_cost(world, p, home, from)
+}

@@ -1,0 +1,13 @@
+use Rattle.std.proofs.Common.{◌≡◌, sym, ap, ◌∙◌, subst}
+use Rattle.ra_journal.specs.Committing.{IsCommit}
+use Rattle.ra_worker.proofs.TurnLemmas.{may_commit}
+use Rattle.ra_worker_core.proofs.TurnLemmas.{next_within}
+use Rattle.ra_worker_core.proofs.turns.commit_next.Goals as goal
+
+pub offer-plan-requires : goal.offer-plan-requires
+offer-plan-requires g c = record { left = next_within c.args.journal.now.inst.now.tables c.args.journal.now.a0.now.items c.args.journal.now.lots.now c.args.journal.now.book.entries.items c.args.replica.now c.requires.at c.requires.not_skipped }
+
+pub commit-reply-requires : goal.commit-reply-requires
+commit-reply-requires g c =
+    let j = c.args.journal.now in
+    record { commit = subst (λ w. IsCommit j.inst.now.tables j.a0.now.items j.lots.now j.book.entries.items w c.offer-plan.result) (sym c.worker.ensures.value) (may_commit j.inst.now.tables j.a0.now.items j.lots.now j.book.entries.items c.args.replica.now c.offer-plan.result c.requires.at c.requires.not_skipped c.offer-plan.ensures.next.place c.offer-plan.ensures.next.number c.offer-plan.ensures.next.planned c.offer-plan.ensures.next.weighed) }

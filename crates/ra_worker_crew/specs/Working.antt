@@ -1,0 +1,63 @@
+-- A worker while it runs: its replica follows what its pass has seen of the journal.
+use Rattle.std.specs.Prelude.{◌≡◌, ℕ, ◌+◌, ◌*◌, ◌<◌, ◌≤◌, List, [], ◌∷◌, length}
+use Rattle.ra_moves.specs.declared.verdicts.Plan.{Plan}
+use Rattle.ra_moves.specs.declared.verdicts.Verdict.{Verdict}
+use Rattle.ra_journal.specs.Batches.{batch_from}
+use Rattle.ra_journal.specs.declared.entries.Entry.{Entry}
+use Rattle.ra_journal.specs.declared.replies.Reply.{Reply}
+use Rattle.ra_journal.specs.declared.replies.Reply.TheVariants.{Recorded, Stale}
+use Rattle.ra_journal.specs.Entries.{entries_of, proposal_count}
+use Rattle.ra_turn.specs.Passes.{seen_by, made_by}
+use Rattle.ra_shared.specs.declared.shared.Shared.{Shared}
+use Rattle.ra_shared.specs.Shares.{start_of, IsAtRest}
+use Rattle.ra_worker.specs.Replicas.{IsAt}
+use Rattle.ra_worker_crew.specs.declared.worker.Worker.{Worker}
+
+-- a worker that has no turn: its pass is at rest, and its replica is the same worker's, at a state of what that has seen
+pub record IsAtWork (s : Shared) (w : Worker) : Type 0 where
+  pub rest : IsAtRest s w.pass
+  pub same : w.replica.proposals.worker ≡ w.pass.number
+  pub at :
+      IsAt (start_of s).inst.tables (start_of s).a0.items (start_of s).lots (seen_by w.pass)
+      w.replica
+
+-- it has taken in all that it has made
+pub record HasOwn (w : Worker) : Type 0 where
+  pub number : w.replica.proposals.number ≡ length (made_by w.pass)
+
+-- an entry that it has seen: all that it has made stands there or before
+pub record IsBehind (shown : ℕ) (w : Worker) : Type 0 where
+  pub within : shown < length (seen_by w.pass)
+  pub own : entries_of (seen_by w.pass) (shown + 1) w.pass.number ≡ length (made_by w.pass)
+
+-- it has so many turns to spare, and one for each proposal of the run that it has not taken in
+pub record HasRoom (s : Shared) (spare : ℕ) (w : Worker) : Type 0 where
+  pub turns : proposal_count (start_of s).lots + spare ≤ w.pass.left + w.replica.place
+
+-- of the same worker: each turn that it has taken brought its place on by one at least
+pub record HasTurned (before after : Worker) : Type 0 where
+  pub number : after.pass.number ≡ before.pass.number
+  pub turns : before.pass.left + before.replica.place ≤ after.pass.left + after.replica.place
+  pub fewer : after.pass.left ≤ before.pass.left
+
+-- of the same worker: it has taken a turn, and twice as many turns at most as its place was brought on
+pub record HasMoved (before after : Worker) : Type 0 where
+  pub number : after.pass.number ≡ before.pass.number
+  pub turns :
+      before.pass.left + 2 * before.replica.place ≤ after.pass.left + 2 * after.replica.place
+  pub fewer : after.pass.left < before.pass.left
+
+-- the entry of a worker's plan with a verdict
+abbrev pub entry_of : ℕ → Plan → Verdict → Entry
+entry_of worker plan verdict =
+    record { worker = worker; k = plan.k; q = plan.q; mv = plan.mv; verdict = verdict }
+
+-- what it has seen and not taken in is one entry: its own, of this plan
+pub record IsOwnNext (w : Worker) (plan : Plan) (verdict : Verdict) : Type 0 where
+  pub next :
+      batch_from (seen_by w.pass) w.replica.place ≡ entry_of w.pass.number plan verdict ∷ []
+
+-- the place of the entry that an answer shows
+unfoldable pub shown_in : Reply → ℕ
+shown_in (Recorded at verdict) = at
+shown_in (Stale guard at) = at

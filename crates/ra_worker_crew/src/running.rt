@@ -1,0 +1,44 @@
+ghost use Rattle.std.specs.Prelude.{All};
+ghost use Rattle.ra_worker_crew.specs.Running.{MayRun, HasRun};
+
+use crate::worker::Worker;
+use ra_io::Gate;
+use ra_shared::{Labour, Shared};
+use std::sync::Wait;
+
+/// What all workers of a run share: the journal, and the gate that each passes before it commits.
+#[derive(Drop)]
+pub struct Desk<'s, 'a, G> {
+    /// The journal.
+    pub shared: &'s Shared<'a>,
+    /// The gate.
+    pub gate: &'s G,
+}
+
+impl<'s, 'a, G: Gate> Labour<Desk<'s, 'a, G>> for Worker<'a> {
+    ghost able = { λ desk w. MayRun desk.shared.now w };
+
+    ghost done = { λ desk before after. HasRun desk.shared.now before after };
+
+    // It plans each proposal, passes the gate, and hands the plan in, again where that was stale, until its budget is
+    // used. No turn is taken while it plans, since the plan is made before it is handed in.
+    fn labour<R: Wait>(&mut self, rt: &R, with: &Desk<'s, 'a, G>) {
+        'proposals: while self.has_left() {
+            let plan = self.plan_next();
+            with.gate.before_commit(self.pass.number(), plan.k);
+            self.hand_in(rt, with.shared, &plan);
+        }
+    }
+}
+
+impl<'a> Worker<'a> {
+    /// Makes all proposals of its budget: it plans each, passes the gate, and hands the plan in, again where that was
+    /// stale. It may wait.
+    pub fn run<R: Wait, G: Gate>(&mut self, rt: &R, shared: &Shared<'a>, gate: &G)
+        requires { MayRun shared.now self.old }
+        ensures { HasRun shared.now self.old self.new }
+    {
+        let desk = Desk { shared, gate };
+        self.labour(rt, &desk);
+    }
+}

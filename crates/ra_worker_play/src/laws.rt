@@ -1,0 +1,12 @@
+//! Laws of the core: each function does nothing, and its contract is a law that was proved.
+ghost use Rattle.ra_worker_play.specs.Laws.{StepKeepsLegal, StepKeepsPlaces};
+
+/// A step keeps a legal journal legal.
+pub fn step_keeps_legal()
+    ensures { StepKeepsLegal }
+{}
+
+/// A step keeps the places within the length of the journal.
+pub fn step_keeps_places()
+    ensures { StepKeepsPlaces }
+{}

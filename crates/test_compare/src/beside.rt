@@ -1,0 +1,144 @@
+ghost use Rattle.std.specs.Prelude.{◌≡◌, ℕ, ◌<◌, None, length, IfOk, IfSome};
+ghost use Rattle.ra_base.specs.declared.causes.Cause.{Cause};
+ghost use Rattle.ra_model.specs.Numbers.{machine_count};
+ghost use Rattle.ra_model.specs.Assignments.{IsAssignment};
+ghost use Rattle.ra_model.specs.Broken.{first_broken};
+ghost use Rattle.ra_model.specs.Costs.{parts_of};
+ghost use Rattle.ra_check.specs.Made.{IsMadeFor};
+ghost use Rattle.ra_topology.specs.Fits.{IsTopologyOf};
+ghost use Rattle.ra_moves.specs.declared.verdicts.Verdict.TheVariants.{Done, Refused};
+ghost use Rattle.ra_moves.specs.Steps.{StandsAt, from_in, to_in};
+ghost use Rattle.ra_moves.specs.Replacing.{applied};
+ghost use Rattle.ra_moves.specs.Judging.{judge};
+ghost use Rattle.test_compare.specs.Asked.{asked};
+
+use plain_judge::judge_plainly;
+use ra_base::{Assignment, Drawing, Fixed, NoMemory, Parts, Steps};
+use ra_check::{Scratch, first_broken, parts};
+use ra_model::Instance;
+use ra_moves::{Move, Verdict, apply, options, resolve};
+use ra_topology::Topology;
+use ra_world::World;
+use std::alloc::Global;
+use std::sync::ledger::Ledger;
+
+/// A world, and its assignment once more with the tables of the checker. Both follow the same moves.
+#[derive(Drop)]
+pub struct Beside<'a> {
+    world: World<'a>,
+    other: Assignment,
+    scratch: Scratch,
+    pub ghost same: { other.items ≡ world.kept.assignment.items },
+    pub ghost made: { IsMadeFor scratch world.inst.now.tables },
+}
+
+impl<'a> Beside<'a> {
+    /// The world of an initial assignment, where that is feasible, and the checker beside it.
+    pub fn make(
+        alloc: Global,
+        inst: &'a Instance,
+        topo: &'a Topology,
+        a0: &'a Assignment,
+    ) -> Result<Option<Beside<'a>>, NoMemory>
+        requires fits { IsAssignment inst.now.tables a0.now.items }
+        requires topology { IsTopologyOf topo.now inst.now.tables }
+        ensures instance { IfOk result (λ made.
+            IfSome made (λ b. b.world.inst.now ≡ inst.now)) }
+        ensures initial { IfOk result (λ made.
+            IfSome made (λ b. b.world.start.now ≡ a0.now)) }
+        ensures assignment { IfOk result (λ made.
+            IfSome made (λ b. b.world.kept.assignment.items ≡ a0.now.items)) }
+        ensures none { IfOk result (λ made. made ≡ None →
+            first_broken inst.now.tables a0.now.items a0.now.items ≡ None → ⊥) }
+    {
+        let mut scratch = Scratch::make(alloc, inst)?;
+        if first_broken(inst, a0, a0, &mut scratch).is_some() {
+            return Ok(None);
+        }
+        let costs = parts(inst, a0, a0, &mut scratch);
+        let world = World::make(alloc, inst, topo, a0, costs)?;
+        let other = copy_of(alloc, a0)?;
+        Ok(Some(Beside {
+            world,
+            other,
+            scratch,
+        }))
+    }
+
+    /// The world.
+    pub fn world(&self) -> &World<'a>
+        ensures { result.now ≡ self.now.world }
+    {
+        &self.world
+    }
+
+    /// The parts of the cost of its assignment, from scratch.
+    pub fn checked_parts(&mut self) -> Parts
+        ensures parts { result ≡ parts_of self.old.world.inst.now.tables
+            self.old.world.start.now.items self.old.world.kept.assignment.items }
+        ensures world { self.new.world ≡ self.old.world }
+    {
+        let inst = self.world.instance();
+        let a0 = self.world.initial();
+        parts(inst, a0, &self.other, &mut self.scratch)
+    }
+
+    /// Follows a move on both sides, where the plain checker judges it Done; a rise of the cost is allowed.
+    pub fn follow<L: Ledger>(&mut self, mv: &Move, steps: &mut Steps<L>) -> Verdict
+        requires stands { StandsAt from_in mv.now.steps self.old.world.kept.assignment.items }
+        requires reaches { (j : ℕ) → j < length mv.now.steps →
+            to_in mv.now.steps j < machine_count self.old.world.inst.now.tables }
+        ensures verdict { result ≡ judge self.old.world.inst.now.tables
+            self.old.world.start.now.items self.old.world.kept.assignment.items
+            mv.now.steps 18446744073709551615 }
+        ensures done { (cost : ℕ) → result ≡ Done cost → self.new.world.kept.assignment.items
+            ≡ applied self.old.world.kept.assignment.items mv.now.steps }
+        ensures refused { (cause : Cause) → result ≡ Refused cause →
+            self.new.world ≡ self.old.world }
+        ensures instance { self.new.world.inst.now ≡ self.old.world.inst.now }
+        ensures initial { self.new.world.start.now ≡ self.old.world.start.now }
+    {
+        let inst = self.world.instance();
+        let a0 = self.world.initial();
+        let before = self.world.parts().total;
+        let (other, scratch) = (&mut self.other, &mut self.scratch);
+        let verdict = judge_plainly(inst, a0, other, scratch, before, mv, u64::MAX);
+        if let Verdict::Done { .. } = verdict {
+            apply(&mut self.other, mv);
+            self.world.apply(mv, steps);
+        }
+        verdict
+    }
+
+    /// Follows the move that eight words ask for, where it is judged Done: the last word picks one of those that they name.
+    #[tactic(auto, unfolding(crate::specs::Asked::asked))]
+    pub fn propose<L: Ledger>(&mut self, words: &[u64; 8], steps: &mut Steps<L>) -> Verdict
+        ensures verdict { result ≡ judge self.old.world.inst.now.tables
+            self.old.world.start.now.items self.old.world.kept.assignment.items
+            (asked self.old.world.inst.now.tables self.old.world.kept.assignment.items words.now)
+            18446744073709551615 }
+        ensures done { (cost : ℕ) → result ≡ Done cost → self.new.world.kept.assignment.items
+            ≡ applied self.old.world.kept.assignment.items
+            (asked self.old.world.inst.now.tables self.old.world.kept.assignment.items words.now) }
+        ensures refused { (cause : Cause) → result ≡ Refused cause →
+            self.new.world ≡ self.old.world }
+        ensures instance { self.new.world.inst.now ≡ self.old.world.inst.now }
+        ensures initial { self.new.world.start.now ≡ self.old.world.start.now }
+    {
+        let machines = self.world.instance().machines();
+        let count = options(words, machines, Drawing::Two);
+        let option = (words[7] % u64::from(count)) as u32;
+        let assignment = self.world.assignment();
+        let mv = resolve(assignment, words, machines, Drawing::Two, option);
+        self.follow(&mv, steps)
+    }
+}
+
+/// A copy of an assignment.
+fn copy_of(alloc: Global, a: &Assignment) -> Result<Assignment, NoMemory>
+    ensures { IfOk result (λ copy. copy.items ≡ a.now.items) }
+{
+    let mut copy = Fixed::make(alloc, a.len())?;
+    copy.extend_from_slice(a.as_slice());
+    Ok(copy)
+}
