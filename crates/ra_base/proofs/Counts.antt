@@ -75,7 +75,7 @@ count_two n i j test i_within j_within apart i_yes j_yes = ⊎_elim
     (λ (after : j ≤ i). omega (arith, total_terms n j i (λ k. one_if (test k)) (omega arith) i_within, one_if_true (test i) i_yes, one_if_true (test j) j_yes))
     (cases_lt i j)
 
--- where any two that pass are one, at most one passes
+-- if any two that pass are one, at most one passes
 pub count_at_most_one : (n : ℕ) (test : ℕ → Bool) → ((i j : ℕ) → i < n → j < n → test i ≡ true → test j ≡ true → i ≡ j) → count n test ≤ 1
 count_at_most_one n test one = total_at_most_one n 1 (λ k. one_if (test k)) (λ k h. one_if_le (test k)) (λ i j i_within j_within i_more j_more. one i j i_within j_within (one_if_positive (test i) i_more) (one_if_positive (test j) j_more))
 

@@ -17,7 +17,7 @@ pub greatest_more : (n : ℕ) (f : ℕ → ℕ) → greatest (n + 1) f ≡ max (
 unfolding greatest
 greatest_more n f = rw add-one refl
 
--- one more, where it is above the greatest so far, and where it isn't
+-- one more, if it is above the greatest so far, and if it isn't
 pub greatest_above : (n : ℕ) (f : ℕ → ℕ) → greatest n f ≤ f n → greatest (n + 1) f ≡ f n
 greatest_above n f above = omega (arith, greatest_more n f)
 

@@ -61,7 +61,7 @@ sought_kept n f best p sought lacking above = record {
   };
 }
 
--- where x is below the best so far, it is below each answer so far
+-- if x is below the best so far, it is below each answer so far
 sought_below : (n x k y : ℕ) (f : ℕ → Option ℕ) (best : Option ℕ) (p : ℕ) → Sought n f best p → ((v : ℕ) → best ≡ Some v → x < v) → k < n → f k ≡ Some y → x < y
 sought_below n x k y f None p sought below before given = let none : f k ≡ None = sought.none refl k before in absurd (cc)
 sought_below n x k y f (Some v) p sought below before given = omega (arith, below v refl, (sought.some v refl).smallest k y before given)
@@ -138,7 +138,7 @@ least_is n p v f least_at = by_answer (least n f) refl
     by_answer None is = let none : f p ≡ None = least_none_at n p f is least_at.below in let there : f p ≡ Some v = least_at.answer in absurd (cc)
     by_answer (Some w) is = let once = least_once n (least_place n f) p w v f (least_means n w f is) least_at in (is ∙ ap Some once.1, once.0)
 
--- where an answer is there, so is the least
+-- if an answer is there, so is the least
 pub least_there : (n k x : ℕ) (f : ℕ → Option ℕ) → k < n → f k ≡ Some x → (v : ℕ) × (least n f ≡ Some v) × (v ≤ x)
 least_there n k x f within given = by_answer (least n f) refl
   where

@@ -1,4 +1,4 @@
--- The change of a sum where only named places change, each name counted where it is named first.
+-- The change of a sum if only named places change, each name counted where it is named first.
 use Rattle.std.proofs.Common.{◌≡◌, ℕ, zero, suc, ◌+◌, ◌<◌, ◌≤◌, ◌≢◌, true, false, cond, eqb, ltb, not, ◌||◌, sym, refl, ap, ◌∙◌, ⊎_elim, add-one, arith, eq-eqb, ne_eqb, lt-ltb, le-ltb}
 use Rattle.std.proofs.lemmas.Bool.{cases_Bool, cases_lt, cond-true, cond-false, or_left, or_right, or_cases, eqb-true, false_from_ne_true, both_ways, not_from_true, not_from_false}
 use Rattle.std.proofs.Math.Bool.{or-false}
@@ -68,7 +68,7 @@ named_part_false k e f m other = cond-false (is_named k e m) (f m) 0 other
 named_part_other : (k : ℕ) (e f : ℕ → ℕ) (m : ℕ) → m ≢ e k → named_part (suc k) e f m ≡ named_part k e f m
 named_part_other k e f m apart = ap (λ t. cond t (f m) 0) (is_named_suc k e m ∙ ap (λ t. is_named k e m || t) (ne_eqb (e k) m (λ same. apart (sym same))) ∙ or-false (is_named k e m))
 
--- the newest name's own part, where it is named first and where it was named before
+-- the newest name's own part, if it is named first and if it was named before
 fresh_part : (k : ℕ) (e f : ℕ → ℕ) → fresh e f k + named_part k e f (e k) ≡ f (e k)
 fresh_part k e f = ⊎_elim
     (λ (before : is_named k e (e k) ≡ true). omega (arith, fresh_again e f k before, named_part_true k e f (e k) before))
@@ -92,18 +92,18 @@ total_change_named n k e f g within same =
     (cases_Bool (is_named k e m))) in
     omega (arith, balance, total_named n k e f within, total_named n k e g within)
 
--- how many places are named: as many as names that are not named before
+-- how many places are named: as many as there are names that were not named before
 pub count_named : (n k : ℕ) (e : ℕ → ℕ) → ((j : ℕ) → j < k → e j < n) → count n (is_named k e) ≡ total k (fresh e (λ m. 1))
 count_named n k e within = sym (total_named n k e (λ m. 1) within)
 
--- one more name names one more place, or none where it is named before
+-- one more name names one more place, or none if it was named before
 pub count_named_more : (n k : ℕ) (e : ℕ → ℕ) → e k < n → count n (is_named (k + 1) e) ≡ count n (is_named k e) + one_if (not (is_named k e (e k)))
 count_named_more n k e within =
     let change = count_change n (e k) (is_named (k + 1) e) (is_named k e) within (λ m h apart. is_named_more k e m ∙ ap (λ t. is_named k e m || t) (ne_eqb (e k) m (λ same. apart (sym same))) ∙ or-false (is_named k e m)) in
     let here = one_if_true (is_named (k + 1) e (e k)) (is_named_at (k + 1) k e (e k) (omega arith) refl) in
     omega (arith, change, here, one_if_parts (is_named k e (e k)))
 
--- a place is named where some name is it
+-- a place is named if some name is it
 pub is_named_count : (k : ℕ) (e : ℕ → ℕ) (m : ℕ) → ltb 0 (count k (λ j. eqb (e j) m)) ≡ is_named k e m
 is_named_count k e m = ⊎_elim
     (λ (named : is_named k e m ≡ true). let found = is_named_from k e m named in lt-ltb 0 _ (count_some k found.0 (λ j. eqb (e j) m) found.1 (eq-eqb (e found.0) m found.2)) ∙ sym named)

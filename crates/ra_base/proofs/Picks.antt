@@ -105,7 +105,7 @@ pick_rank n test = pick_by (λ m xs. (j : ℕ) → j < length xs → count (get_
     (λ m fails so_far. so_far)
     n
 
--- f has what is picked, where each that passes stands at the place that says how many pass before it
+-- f has what is picked, if each that passes is at the place that says how many pass before it
 pub pick_read : (n : ℕ) (test : ℕ → Bool) (f : ℕ → ℕ) → ((k : ℕ) → k < n → test k ≡ true → f (count k test) ≡ k) → (j : ℕ) → j < count n test → f j ≡ get_or (pick n test) j 0
 pick_read n test f placed j within =
     let inside : j < length (pick n test) = omega (arith, pick_length n test) in

@@ -21,7 +21,7 @@ unfolding or_else
 or_else_assoc None b c = refl
 or_else_assoc (Some x) b c = refl
 
--- none of both, where neither is there
+-- none, if neither of the two is there
 pub both_none : {X : Type 0} → (a b : Option X) → a ≡ None → b ≡ None → or_else a b ≡ None
 both_none a b no_a no_b = rw (no_a, no_b) (or_else_none None)
 
@@ -35,7 +35,7 @@ unfolding or_else
 right_none None b none = none
 right_none (Some x) b none = cc
 
--- what is found is the one, or the other where the one is not there
+-- what is found is the one, or the other if the one is not there
 pub or_else_cases : {X : Type 0} → (a b : Option X) (x : X) → or_else a b ≡ Some x → (a ≡ Some x) ⊎ ((a ≡ None) × (b ≡ Some x))
 unfolding or_else
 or_else_cases None b x found = inr (refl, found)

@@ -96,7 +96,7 @@ total_term n i f within = omega (arith, total_grows (suc i) n f within, total_su
 pub total_terms : (n i j : ℕ) (f : ℕ → ℕ) → i < j → j < n → f i + f j ≤ total n f
 total_terms n i j f before within = omega (arith, total_grows (suc j) n f within, total_suc j f, total_term j i f before)
 
--- where the sum is zero, each term is
+-- if the sum is zero, each term is
 pub total_zero_at : (n i : ℕ) (f : ℕ → ℕ) → total n f ≡ 0 → i < n → f i ≡ 0
 total_zero_at n i f zeros within = omega (arith, total_term n i f within)
 

@@ -5,11 +5,11 @@ use Rattle.std.proofs.Math.IntN.{pos-*ℤ-pos}
 use Rattle.std.proofs.lemmas.Int.{ints}
 use Rattle.ra_base.specs.Whole.{above_zero}
 
--- a difference of natural numbers, where it is one
+-- a difference of natural numbers, if it is one
 pub difference : (all part left : ℕ) → left + part ≡ all → pos all -ℤ pos part ≡ pos left
 difference all part left sum = omega (arith, ints)
 
--- max(0, target * a1 - a2) where a1 and a2 are natural numbers
+-- max(0, target * a1 - a2) if a1 and a2 are natural numbers
 pub above_zero_natural : (t a b : ℕ) → above_zero (pos t *ℤ pos a -ℤ pos b) ≡ t * a - b
 unfolding above_zero
 above_zero_natural t a b = by_sign (pos t *ℤ pos a -ℤ pos b) (t * a) b (ap (λ z. z -ℤ pos b) (pos-*ℤ-pos t a))

@@ -22,7 +22,7 @@ unfoldable pub least : ℕ → (ℕ → Option ℕ) → Option ℕ
 least zero f = None
 least (suc n) f = if is_better (f n) (least n f) then f n else least n f
 
--- the first place of the least answer, and zero where no answer is there
+-- the first place of the least answer, and zero if no answer is there
 unfoldable pub least_place : ℕ → (ℕ → Option ℕ) → ℕ
 least_place zero f = 0
 least_place (suc n) f = if is_better (f n) (least n f) then n else least_place n f

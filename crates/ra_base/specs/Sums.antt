@@ -14,7 +14,7 @@ one_if test = if test then 1 else 0
 abbrev pub count : ℕ → (ℕ → Bool) → ℕ
 count n test = total n (λ k. one_if (test k))
 
--- the greatest of f 0 .. f (n - 1), and zero where there is none
+-- the greatest of f 0 .. f (n - 1), and zero if there is none
 unfoldable pub greatest : ℕ → (ℕ → ℕ) → ℕ
 greatest zero f = 0
 greatest (suc n) f = max (greatest n f) (f n)

@@ -13,7 +13,7 @@ pub fn difference(added: u128, taken: u128) -> i128
     added as i128 - taken as i128
 }
 
-/// 1 where a test holds, and else 0.
+/// 1 if a test holds, and else 0.
 #[inline(always)]
 pub fn one_when(test: bool) -> u32
     ensures value { result ≡ one_if test }

@@ -43,8 +43,8 @@ pub enum Cause {
         needs: Service,
         neighbourhood: u32,
     },
-    /// The cost rises from `before` to `after`, which is by more than is allowed. (The shortest field stands first, so that a
-    /// cause takes 48 bytes and not 64.)
+    /// The cost rises from `before` to `after`, which is by more than is allowed. (The shortest field is first, so that
+    /// a cause takes 48 bytes and not 64.)
     Rise {
         allowed: u64,
         before: u128,

@@ -5,13 +5,13 @@ use crate::ids::Service;
 pub struct Parts {
     /// Use above the safety capacities.
     pub load: u128,
-    /// Want of one available resource beside another.
+    /// What is lacking of one available resource beside another.
     pub balance: u128,
     /// Moves of processes.
     pub process: u128,
     /// The greatest number of moved processes of one service.
     pub service: u128,
-    /// Ways from machine to machine.
+    /// The ways from machine to machine.
     pub machine: u128,
     /// The sum of the five.
     pub total: u128,

@@ -15,7 +15,7 @@ pub struct Service(pub u32);
 pub struct Resource(pub u32);
 
 /// What a move has to find untouched: a machine or a service. Machines come before services, and
-/// each of the two are in the order of their numbers.
+/// both are in the order of their numbers.
 #[derive(Clone, Copy, Debug, PartialEq, Eq, PartialOrd, Ord)]
 pub enum Guard {
     /// A machine that a move leaves or enters.

@@ -5,7 +5,7 @@ use Rattle.std.specs.Io.KnownBytes.{Appends, Keeps}
 use Rattle.std.proofs.KnownBytes.{Appends-trans, Appends-kept}
 use Rattle.ra_io.specs.Pieces.{AppendsPart}
 
--- so many bytes of the text were put, and no fault was forgotten
+-- the text was put up to a place, and no fault was forgotten
 pub record HasPut (old now : Option (List ℕ)) (faults_before faults_now : ℕ) (text : List ℕ) (at : ℕ) : Type 0 where
   pub within : at ≤ length text
   pub grown : Appends old now (take at text)
@@ -17,7 +17,7 @@ pub Appends-piece : (old mid new : Option (List ℕ)) (text : List ℕ) (at n : 
 Appends-piece old mid new text at n first next =
     subst (Appends old new) (sym (take-add at n text)) (Appends-trans old mid new _ _ first next)
 
--- where nothing more is taken, what was put is a prefix
+-- if nothing more is taken, what was put is a prefix
 pub Appends-stopped : (old mid new : Option (List ℕ)) (text : List ℕ) (at : ℕ)
     → at ≤ length text → Appends old mid (take at text) → Keeps mid new → AppendsPart old new text
 Appends-stopped old mid new text at within first kept = (at, within, Appends-kept old mid new _ first kept)

@@ -9,10 +9,10 @@
 -- That each count is below 2 ^ 64 is a law of both traits, `counted`, which the search finds by itself.
 use Rattle.std.specs.Prelude.{◌≡◌, ℕ, ◌+◌, ◌-◌, ◌^◌, ◌<◌, ◌⊎◌, min}
 
--- the count rose in this call, or it stands at its last value
+-- the count rose in this call, or it is at its last value
 abbrev pub Rose : ℕ → ℕ → Type 0
 Rose before now = (before < now) ⊎ (now ≡ 2 ^ 64 - 1)
 
--- one more, where the count has not reached its last value
+-- one more, if the count has not reached its last value
 abbrev pub raised : ℕ → ℕ
 raised count = min (count + 1) (2 ^ 64 - 1)

@@ -20,7 +20,7 @@ calls files = files.calls.value
 abbrev pub faults : MemoryFiles → ℕ
 faults files = files.faults.value
 
--- the bytes of a name, where it was added
+-- the bytes of a name, if it was added
 abbrev pub held : MemoryFiles → List ℕ → Option (List ℕ)
 held files name = held_in files.texts name
 

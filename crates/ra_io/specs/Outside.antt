@@ -10,7 +10,7 @@ use Rattle.ra_io.specs.declared.outside.Sink as sink
 use Rattle.ra_io.specs.Faults.{Rose}
 use Rattle.ra_io.specs.Pieces.{AppendsPart}
 
--- what files hold, where it is told, and how often reading a name failed, before a call and after it
+-- what files hold, if it is told, and how often reading a name failed, before a call and after it
 pub record Reading : Type 0 where
   pub held : List ℕ → Option (List ℕ)
   pub held_after : List ℕ → Option (List ℕ)
@@ -34,7 +34,7 @@ pub record LeavesFiles (files : Reading) : Type 0 where
   pub kept : (other : List ℕ) → files.held_after other ≡ files.held other
   pub never_fall : (other : List ℕ) → files.before other ≤ files.after other
 
--- what a sink has taken, where it is told, and how often taking failed, before a call and after it
+-- what a sink has taken, if it is told, and how often taking failed, before a call and after it
 pub record Writing : Type 0 where
   pub taken : Option (List ℕ)
   pub taken_after : Option (List ℕ)

@@ -1,6 +1,6 @@
 -- What is held, what of it a fetch gives, and what a sink takes of a text.
 --
--- A function over `F: Files` speaks of what is held only where it is told, and leaves it as it was:
+-- A function over `F: Files` speaks of what is held only if it is told, and leaves it as it was:
 --   ensures done { OnOk result (IfSome (F.held files.old name.now) (λ bytes. ..)) }
 --   ensures kept { (other : List ℕ) → F.held files.new other ≡ F.held files.old other }
 -- A function over `O: Sink` says which text was taken by `Appends`, that nothing was taken by `Keeps`, both

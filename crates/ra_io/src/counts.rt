@@ -5,7 +5,7 @@ ghost use Rattle.ra_io.specs.Faults.{raised};
 use crate::outside::Failed;
 use std::io;
 
-/// A count that stands still at its last value.
+/// A count that goes no further than its last value.
 #[derive(Drop)]
 pub struct Count {
     value: u64,

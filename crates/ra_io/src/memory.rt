@@ -12,7 +12,7 @@ use ra_base::{Fixed, NoMemory};
 use std::alloc::Global;
 use std::collections::BTreeMap;
 
-/// Files in memory that give few bytes at once, and fail where a test wants it.
+/// Files in memory that give few bytes at once, and fail when a test wants it.
 #[derive(Drop)]
 pub struct MemoryFiles {
     texts: Texts,
@@ -70,7 +70,7 @@ impl Files for MemoryFiles {
     ghost counted = { λ s name. files.counted s };
 
     fn fetch(&mut self, name: &str, at: u64, into: &mut [u8]) -> Result<usize, Failed>
-        // It fails exactly where its number is listed or the name isn't held.
+        // It fails exactly if its number is listed or the name isn't held.
         ensures fails { is_err result ≡
             (is_listed (files.fails self.old) (files.calls self.old) || is_none
             (files.held self.old name.now)) }
@@ -99,7 +99,7 @@ impl Files for MemoryFiles {
     }
 }
 
-/// A sink in memory with a room, which takes few bytes at once and fails where a test wants it.
+/// A sink in memory with a room, which takes few bytes at once and fails when a test wants it.
 #[derive(Drop)]
 pub struct MemorySink {
     bytes: Fixed<u8>,
@@ -157,7 +157,7 @@ impl Sink for MemorySink {
     ghost counted = { sink.counted };
 
     fn put(&mut self, piece: &[u8]) -> Result<usize, Failed>
-        // It fails exactly where its number is listed or no room is left.
+        // It fails exactly if its number is listed or no room is left.
         ensures fails { is_err result ≡
             (is_listed (sink.fails self.old) (sink.calls self.old) || nat_eq
             (sink.left self.old) 0) }

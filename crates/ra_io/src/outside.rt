@@ -10,19 +10,19 @@ pub struct Failed;
 
 /// Files that are read in pieces, by name.
 pub trait Files {
-    /// The bytes of a name, where they are told.
+    /// The bytes of a name, if they are told.
     ghost held: { Self → List ℕ → Option (List ℕ) };
 
     /// How often reading a name failed. An implementation may keep one count for all names.
     ghost faults: { Self → List ℕ → ℕ };
 
     /// Reads from place `at` of a file on into the front of `into`, and gives the number of bytes,
-    /// which is 0 only at the end of the file or where `into` is empty.
+    /// which is 0 only at the end of the file or if `into` is empty.
     fn fetch(&mut self, name: &str, at: u64, into: &mut [u8]) -> Result<usize, Failed>
         requires { at < 2 ^ 62 }
         ensures bound { IfOk result (λ n. n ≤ length into.new) }
 
-        // Where the bytes are told.
+        // What holds if the bytes are told.
         ensures bytes { IfSome (held self.old name.now)
             (λ bytes. IfOk result (λ n. take n into.new ≡ take n (drop at bytes))) }
         ensures end { IfSome (held self.old name.now)
@@ -38,7 +38,7 @@ pub trait Files {
 
 /// What takes bytes in pieces.
 pub trait Sink {
-    /// The bytes that were taken so far, where they are told.
+    /// The bytes that were taken so far, if they are told.
     ghost taken: { Self → Option (List ℕ) };
 
     /// How often taking failed.

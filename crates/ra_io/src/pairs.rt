@@ -5,25 +5,25 @@ use std::sync::atomic::{AtomicBool, Ordering};
 /// How often a worker looks for the other one.
 const MOST_LOOKS: u32 = 100_000_000;
 
-/// A gate at which workers 0 and 1 wait for each other, each with its first proposal, and no longer than it takes to
-/// look 100,000,000 times. It shows whether they ran beside each other.
+/// A gate at which workers 0 and 1 wait for each other, each before its first proposal is committed, and no longer than
+/// it takes to look 100,000,000 times. It shows whether they ran beside each other.
 #[derive(Drop)]
 pub struct PairGate {
     first: Place,
     second: Place,
 }
 
-/// Where one of the two stands.
+/// How far one of the two workers is.
 #[derive(Drop)]
 struct Place {
-    /// It has come.
+    /// It has come to the gate.
     here: AtomicBool,
     /// It saw the other one.
     saw: AtomicBool,
 }
 
 impl PairGate {
-    /// The gate at which nobody has come.
+    /// The gate to which nobody has come.
     pub fn make() -> PairGate {
         PairGate {
             first: Place::empty(),
@@ -45,7 +45,7 @@ impl Place {
         }
     }
 
-    /// Comes, and looks for the other one.
+    /// Comes to the gate, and looks for the other worker.
     fn meet(&self, other: &Place) {
         self.here.store(true, Ordering::SeqCst);
         for _ in 0..MOST_LOOKS {

@@ -22,7 +22,7 @@ pub fn set_text(texts: &mut Texts, alloc: Global, name: &str, bytes: &[u8]) -> R
     Ok(())
 }
 
-/// The bytes of a name, where there are some.
+/// The bytes of a name, if there are some.
 pub fn text_of<'t>(texts: &'t Texts, name: &str) -> Option<&'t [u8]>
     ensures { option_map (λ t. t.now) result ≡ held_in texts.now name.now }
 {
@@ -32,7 +32,7 @@ pub fn text_of<'t>(texts: &'t Texts, name: &str) -> Option<&'t [u8]>
     }
 }
 
-/// Copies what stands in `bytes` from place `at` on to the front of `into`, at most `most` bytes,
+/// Copies `bytes` from place `at` on to the front of `into`, at most `most` bytes,
 /// and gives their number.
 pub fn copy_piece(bytes: &[u8], at: u64, most: usize, into: &mut [u8]) -> usize
     ensures number { result ≡ piece_len (length into.new) most at bytes.now }

@@ -57,7 +57,7 @@ behind_given expected text agreed faults (Some b) sound (inr part) = record {
   first = refl;
 }
 
--- the first byte behind those that agree is the one that was expected only where all agree
+-- the first byte behind those that agree is the one that was expected only if all agree
 first_left : (expected : List ℕ) (agreed : ℕ) (b : ℕ) → slice_get (drop agreed expected) 0 ≡ Some b → is_byte_at expected agreed b ≡ true
 first_left expected agreed b e =
     let inside : 0 < length (drop agreed expected) = slice_get_within (drop agreed expected) 0 b e in
@@ -76,14 +76,14 @@ pub all_agree : (expected : List ℕ) (agreed : ℕ) (other : Option ℕ) → ag
 all_agree expected agreed None within differs e = (refl, let past : length expected ≤ agreed = none_left expected agreed (sym e) in omega arith)
 all_agree expected agreed (Some b) within differs e = absurd (let no : is_byte_at expected agreed b ≡ false = differs b refl in let yes : is_byte_at expected agreed b ≡ true = first_left expected agreed b (sym e) in (cc))
 
--- where the text is what is expected, all agree
+-- if the text is what is expected, all agree
 pub same_agrees : (expected text : List ℕ) (agreed faults : ℕ) (other : Option ℕ) → agreed ≤ length expected → ForSome other (λ b. is_byte_at expected agreed b ≡ false) → ForNone other (faults ≡ 0) → WasPut (given_of expected agreed other) faults text → text ≡ expected → (other ≡ None) × (agreed ≡ length expected)
 same_agrees expected text agreed faults other within differs sound given same =
     let b = behind_given expected text agreed faults other sound given in
     let left : b.rest ≡ drop agreed expected = append_cancel_left (take agreed expected) b.rest (drop agreed expected) (sym b.split ∙ same ∙ sym (take-append-drop agreed expected)) in
     all_agree expected agreed other within differs (sym b.first ∙ ap (λ xs. slice_get xs 0) left)
 
--- and where all agree, it is
+-- and if all agree, it is
 none_first : (xs : List ℕ) → slice_get xs 0 ≡ None → xs ≡ []
 none_first [] e = refl
 none_first (x ∷ xs) e = absurd (none-some x (sym e))

@@ -15,7 +15,7 @@ pub record KeepsFiles (held_before held_now : List ℕ → Option (List ℕ)) (f
   pub kept : (other : List ℕ) → held_now other ≡ held_before other
   pub never_fell : (other : List ℕ) → faults_before other ≤ faults_now other
 
--- of the bytes from a place on so many were given, behind those of a list, and there is no LF among them
+-- of the bytes from a place on some were given, behind those of a list, and there is no LF among them
 pub record GaveNoEnd (bytes : List ℕ) (place given : ℕ) (before line ready : List ℕ) : Type 0 where
   pub gave : Gave bytes place given before line ready
   pub unended : HasNoEnd (take given (drop place bytes))
@@ -137,7 +137,7 @@ pub told_end : (told told_now : Option (List ℕ)) (place now : ℕ) → told_no
 told_end None told_now place now same at end = tt
 told_end (Some bytes) told_now place now same at end = subst (λ k. drop k bytes ≡ []) at (subst (λ o. IfSome o (λ xs. drop now xs ≡ [])) same end)
 
--- where nothing is left, all lines were given, or what was given is the last line
+-- if nothing is left, all lines were given, or what was given is the last line
 ended_here : (bytes after : List ℕ) (room given : ℕ) (next : Next) → (given ≡ 0 → next ≡ End) → (0 < given → next ≡ Last) → (given ≡ 0 → bytes ≡ []) → (0 < given → IsLastLine room bytes after) → IsNext room bytes after next
 ended_here bytes after room given next none some end last = ⊎_elim
     (λ (more : 0 < given). subst (IsNext room bytes after) (sym (some more)) (last more))

@@ -73,7 +73,7 @@ some_lines b bytes = either (eqb b 10) (lines_of bytes)
     either false [] = omega arith
     either false (l ∷ ls) = omega arith
 
--- bytes have no line only where there are none
+-- bytes have no line only if there are none
 pub lines_none : (bytes : List ℕ) → lines_of bytes ≡ [] → bytes ≡ []
 lines_none [] e = refl
 lines_none (b ∷ bytes) e = absurd (let some : 0 < length (lines_of (b ∷ bytes)) = some_lines b bytes in let none : length (lines_of (b ∷ bytes)) ≡ 0 = ap length e in omega arith)

@@ -19,7 +19,7 @@ line_start (b ∷ z) = either (eqb b 10) (lines_of z)
     either false [] = refl
     either false (l ∷ ls) = refl
 
--- a line with one more byte in front, where it is the first
+-- a line with one more byte in front, if it is the first
 abbrev onto_line : ℕ → ℕ → Option (List ℕ) → Option (List ℕ)
 onto_line b zero None = Some (b ∷ [])
 onto_line b zero (Some line) = Some (b ∷ line)
@@ -80,7 +80,7 @@ unlike_onto b x y n test u = record {
   here = λ e. u.here (same_onto b n x y (sym (at_onto b x n test) ∙ e ∙ at_onto b y n test));
 }
 
--- the lines differ first where the byte stands before which the texts are the same
+-- the first line that differs is that of the first byte that differs
 pub unlike_at : (p x y : List ℕ) → slice_get x 0 ≢ slice_get y 0 → FirstUnlike (p ++ x) (p ++ y) (end_count p)
 unfolding end_count
 unlike_at [] x y other = record {

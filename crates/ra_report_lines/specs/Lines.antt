@@ -27,7 +27,7 @@ ends_line [] = false
 ends_line (byte ∷ []) = byte == 10
 ends_line (byte ∷ next ∷ bytes) = ends_line (next ∷ bytes)
 
--- the bytes before the first LF, or all where there is none: of a line, what it says
+-- the bytes before the first LF, or all if there is none: of a line, what it says
 unfoldable pub body_of : List ℕ → List ℕ
 body_of [] = []
 body_of (byte ∷ bytes) = if byte == 10 then [] else byte ∷ body_of bytes

@@ -12,7 +12,7 @@ use Rattle.ra_report_lines.specs.Standing.{Standing}
 pub record StandsIn (bytes : List ℕ) (reader : Standing) : Type 0 where
   pub front : take (length reader.ready) (drop reader.place bytes) ≡ reader.ready
 
--- where the bytes of the file are told, the reader stands in them
+-- if the bytes of the file are told, the reader stands in them
 abbrev pub Reads : Option (List ℕ) → Standing → Type 0
 Reads told reader = IfSome told (λ bytes. StandsIn bytes reader)
 
@@ -45,12 +45,12 @@ IsNext room bytes after Last = IsLastLine room bytes after
 IsNext room bytes after Long = BeginsOverLong room bytes
 IsNext room bytes after End = (bytes ≡ [])
 
--- the next line was asked for, with room for so many bytes before its end: it was added to a list as far as there was
--- room, and the answer says what it is
+-- the next line was asked for, with room for a number of bytes before its end: it was added to a list as far as there
+-- was room, and the answer says what it is
 pub record TakesLine (files : Reading) (most_before : ℕ) (old new : Standing) (before after : Fixed ℕ)
     (answer : Result Next ReadFault) : Type 0 where
   pub reads : Reads (files.held_after new.name) new
-  -- where the bytes are told, those from the old place to the new one were given, whatever the answer is
+  -- if the bytes are told, those from the old place to the new one were given, whatever the answer is
   pub given :
       IfSome (files.held old.name) (λ bytes.
       after.items ≡ before.items ++ take (new.place - old.place) (drop old.place bytes))

@@ -19,7 +19,7 @@ pub record IsEnded (bytes : List ℕ) : Type 0 where
   pub unended : HasNoEnd body
   pub split : bytes ≡ body ++ 10 ∷ []
 
--- of the bytes from a place on so many were given, behind those of a list, and others are ready
+-- of the bytes from a place on some were given, behind those of a list, and others are ready
 pub record Gave (bytes : List ℕ) (place given : ℕ) (before line ready : List ℕ) : Type 0 where
   pub text : line ≡ before ++ take given (drop place bytes)
   pub front : take (length ready) (drop (place + given) bytes) ≡ ready

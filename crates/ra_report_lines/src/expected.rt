@@ -50,7 +50,7 @@ impl<'a> Expected<'a> {
     }
 
     /// The number of the first line, counted from 0, at which what it was given differs from the bytes that are
-    /// expected, or one of them has none; none where they are the same.
+    /// expected, or one of them has none; none if they are the same.
     pub fn unlike_line(&self) -> Option<usize>
         ensures same { (expected text : List ℕ) → WasGiven expected
             (sink.taken self.now) (sink.faults self.now) text →

@@ -27,8 +27,8 @@ impl Model for LineReader {
 }
 
 impl LineReader {
-    /// A reader that stands at the start of a file, of which it has fetched nothing yet. So it reads whichever files the
-    /// first call of `next` is given.
+    /// A reader at the start of a file, of which it has fetched nothing yet. So it reads whichever files the first call
+    /// of `next` is given.
     pub fn make(alloc: Global, name: &str) -> Result<LineReader, NoMemory>
         ensures name { IfOk result (λ r. r.name ≡ name.now) }
         ensures reads { IfOk result (λ r. (told : Option (List ℕ)) → Reads told r) }
@@ -43,9 +43,9 @@ impl LineReader {
         })
     }
 
-    /// Adds the next line behind what `line` has, its LF with it, where at most `room` bytes stand before the LF or the
-    /// end, and says what it is. Of a longer line the first `room + 1` bytes are added. Each call needs the files of the
-    /// first: where the bytes of its file are told, they have to be the same.
+    /// Adds the next line behind what `line` has, with its LF, if at most `room` bytes come before the LF or the end,
+    /// and says what it is. Of a longer line the first `room + 1` bytes are added. Each call needs the files of the
+    /// first: if the bytes of its file are told, they have to be the same.
     ///
     /// # Errors
     ///

@@ -2,7 +2,7 @@ ghost use Rattle.std.specs.Prelude.{◌≡◌, ◌<◌, ◌≤◌, ◌≢◌, tr
 ghost use Rattle.ra_report_lines.specs.Lines.{body_of, HasNoEnd, end_count};
 ghost use Rattle.ra_report_lines.specs.Windows.{IsEnded};
 
-/// How many bytes stand before the first LF, or all where there is none.
+/// How many bytes come before the first LF, or all if there is none.
 pub fn body_length(bytes: &[u8]) -> usize
     ensures body { take result bytes.now ≡ body_of bytes.now }
     ensures within { result ≤ length bytes.now }

@@ -71,7 +71,7 @@ impl Window {
         Ok(Next::Long)
     }
 
-    /// Whether bytes are ready, once those from `place` on were fetched where none were.
+    /// Whether bytes are ready. If none were, those from `place` on are fetched first.
     pub fn has_ready<F: Files>(
         &mut self,
         files: &mut F,
@@ -94,8 +94,8 @@ impl Window {
         Ok(number > 0)
     }
 
-    /// Gives the bytes that are ready up to the first LF, with it, or all of them, but at most `most`: they are added to
-    /// `line`. Whether there was an LF.
+    /// Gives the bytes that are ready up to the first LF, with it, or all of them, but at most `most`: they are added
+    /// to `line`. Says whether there was an LF.
     pub fn give(&mut self, most: usize, line: &mut Fixed<u8>) -> bool
         requires room { length line.old.items + most ≤ line.old.room }
         ensures { GivesFront most (ready_of self.old) (ready_of self.new) line.old line.new
@@ -108,7 +108,7 @@ impl Window {
     }
 }
 
-/// What comes next where the file ends behind so many bytes of a line.
+/// What comes next if the file ends behind `given` bytes of a line.
 fn at_end(given: usize) -> Next
     ensures none { given ≡ 0 → result ≡ Next.End }
     ensures some { 0 < given → result ≡ Next.Last }

@@ -129,7 +129,7 @@ is_digit byte digit = record { is = grind arith; small = digit_below byte digit 
 byte_first : (bytes : List ℕ) (from : ℕ) → get_or bytes (from + 0) 0 ≡ get_or bytes from 0
 byte_first bytes from = let same : from + 0 ≡ from = omega arith in ap (λ i. get_or bytes i 0) same
 
--- so many digits, moved and joined
+-- the digits of a run, moved and joined
 abbrev JoinsTo : List ℕ → ℕ → ℕ → Type 0
 JoinsTo bytes from n = joined (moved (get_or bytes from 0 + 256 * (get_or bytes (from + 1) 0 + 256 * (get_or bytes (from + 2) 0 + 256 * (get_or bytes (from + 3) 0 + 256 * (get_or bytes (from + 4) 0 + 256 * (get_or bytes (from + 5) 0 + 256 * (get_or bytes (from + 6) 0 + 256 * get_or bytes (from + 7) 0))))))) n) ≡ digits_worth bytes from n
 
@@ -170,7 +170,7 @@ joins bytes from (suc (suc (suc (suc (suc (suc (suc zero))))))) some few digits 
 joins bytes from (suc (suc (suc (suc (suc (suc (suc (suc zero)))))))) some few digits = joins_eight bytes from digits
 joins bytes from (suc (suc (suc (suc (suc (suc (suc (suc (suc n))))))))) some few digits = absurd (omega arith)
 
--- so many digits are worth little, and a run goes on over them
+-- few digits are worth little, and a run goes on over them
 
 pub digits_small : (piece : List ℕ) (from : ℕ) → (n : ℕ) → ((k : ℕ) → k < n → digit_at piece (from + k) ≡ true) → digits_worth piece from n < 10 ^ n
 digits_small piece from zero digits = rw (digits_none piece from) (omega arith)

@@ -65,7 +65,7 @@ pub told_unread : (told : Option (List ℕ)) (from : ℕ) (fault : TokenFault) �
 told_unread None from fault is = tt
 told_unread (Some bytes) from fault is = inl is
 
--- where it stands nothing was passed
+-- at the place itself nothing was passed
 pub told_stands : (told : Option (List ℕ)) (place : ℕ) → IfSome told (λ bytes. IsBetween bytes place) → IfSome told (λ bytes. IsReached bytes place place)
 told_stands None place between = tt
 told_stands (Some bytes) place between = reached_here bytes place between

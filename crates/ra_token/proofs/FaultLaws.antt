@@ -38,7 +38,7 @@ unfolding other_fault
 fault_byte bytes k below other bad =
     fault_below bytes k below ∙ cond-false (digit_at bytes k) _ _ other ∙ cond-false (is_blank (get_or bytes k 0)) _ _ bad
 
--- the first fault is where no fault shows before
+-- the first fault is at the place before which no fault shows
 pub first_fault_at : (bytes : List ℕ) (k : ℕ) (fault : TokenFault) → k < length bytes → first k (fault_at bytes) ≡ None → fault_at bytes k ≡ Some fault → first_fault bytes ≡ Some fault
 unfolding first_fault
 first_fault_at bytes k fault within before here = first_found k (length bytes) (fault_at bytes) fault within before here

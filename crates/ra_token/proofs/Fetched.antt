@@ -30,7 +30,7 @@ first_ready items fetched at byte is some front =
     let here : at - at ≡ 0 = omega arith in
     ap (λ k. get_or items k 0) here ∙ sym (get_or_read items 0 byte (omega (arith, ap length is)) front 0)
 
--- where a fetch gives nothing, the file has ended
+-- if a fetch gives nothing, the file has ended
 pub told_past : (told : Option (List ℕ)) (room at n : ℕ) → IfSome told (λ bytes. (n ≡ 0) ↔ ((room ≡ 0) ⊎ (length bytes ≤ at))) → 0 < room → n ≡ 0 → IfSome told (λ bytes. None ≡ slice_get bytes at)
 told_past None room at n end some nothing = tt
 told_past (Some bytes) room at n end some nothing = ⊎_elim

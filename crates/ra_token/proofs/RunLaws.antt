@@ -77,7 +77,7 @@ pub start_begins : (bytes : List ℕ) (k : ℕ) → cuts_run bytes k ≡ false �
 start_begins bytes zero whole digit = start_none bytes
 start_begins bytes (suc k) whole digit = start_other bytes k (other_before bytes k whole digit)
 
--- where the run did not begin here, the byte before is a digit
+-- if the run did not begin here, the byte before is a digit
 pub digit_before : (bytes : List ℕ) (start k : ℕ) → run_start bytes (suc k) ≡ start → start < suc k → digit_at bytes k ≡ true
 digit_before bytes start k is before = ⊎_elim
     (λ (digit : digit_at bytes k ≡ true). digit)

@@ -15,7 +15,7 @@ pub record PassesBlanks (told told_now : Option (List ℕ)) (window : Window) (f
   pub shows : Shows told_now window
   pub reached : IfSome told (λ bytes. IsReached bytes from place)
 
--- digits alone were passed, of a run that is worth so much so far
+-- digits alone were passed, of a run with its worth so far
 pub record PassesDigits (told told_now : Option (List ℕ)) (window : Window) (start place value : ℕ) : Type 0 where
   pub low : place ≤ PLACE_LIMIT
   pub after : start ≤ place

@@ -20,7 +20,7 @@ pub between_start : (bytes : List ℕ) → IsBetween bytes 0
 unfolding cuts_run
 between_start bytes = record { within = omega arith; whole = refl; sound = first_none (fault_at bytes) }
 
--- where it stands nothing was passed
+-- at the place itself nothing was passed
 pub reached_here : (bytes : List ℕ) (place : ℕ) → IsBetween bytes place → IsReached bytes place place
 reached_here bytes place between = record { between = between; given = refl }
 
@@ -37,7 +37,7 @@ reached_blank bytes from k within below blank reached =
       given = before_no bytes k (no_end_here bytes k other) ∙ reached.given;
     }
 
--- a fault where all before it was given
+-- a fault if all before it was given
 pub all_before_fault : (bytes : List ℕ) (from k : ℕ) (fault : TokenFault) → k < length bytes → first k (fault_at bytes) ≡ None → fault_at bytes k ≡ Some fault → tokens_before bytes k ≡ tokens_before bytes from → FaultsAt bytes from fault
 all_before_fault bytes from k fault within sound here given =
     inr (sym given ∙ ap (tokens_before bytes) (sym (fault_place_at bytes k fault within sound here)) ∙ before_all bytes, first_fault_at bytes k fault within sound here)

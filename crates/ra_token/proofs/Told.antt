@@ -1,4 +1,4 @@
--- What the bytes that are ready show, where the bytes of the file are told.
+-- What the bytes that are ready show, if the bytes of the file are told.
 use Rattle.std.proofs.Common.{◌≡◌, ℕ, ◌+◌, ◌-◌, ◌<◌, ◌≤◌, true, false, List, length, take, get_or, slice_get, Option, Some, None, IfSome, sym, ap, ◌∙◌, subst, arith, length-take, get_or-take}
 use Rattle.std.specs.Char.{is_ascii_digit}
 use Rattle.std.proofs.lemmas.List.{get_or_read}
@@ -72,7 +72,7 @@ told_in P (Some bytes) piece start place shows low after holds = λ between.
     let here : place ≡ start + (place - start) = omega arith in
     subst (P bytes start) (sym here) (holds bytes start low shows (subst (IsBetween bytes) here between))
 
--- what holds where nothing was passed
+-- what holds if nothing was passed
 pub told_still : (P : List ℕ → Type 0) (told : Option (List ℕ)) (place : ℕ) → ((bytes : List ℕ) → IsBetween bytes place → P bytes) → IfSome told (λ bytes. IsBetween bytes place → P bytes)
 told_still P None place holds = tt
 told_still P (Some bytes) place holds = holds bytes

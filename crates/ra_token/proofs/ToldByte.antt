@@ -1,4 +1,4 @@
--- What the byte at a place tells, where the bytes of the file are told.
+-- What the byte at a place tells, if the bytes of the file are told.
 use Rattle.std.proofs.Common.{◌≡◌, ℕ, ◌<◌, ◌≤◌, Bool, true, false, List, length, get_or, slice_get, Option, Some, None, Ok, IfSome, sym, ap, ◌∙◌, subst, ⊎_elim, arith}
 use Rattle.std.specs.Char.{is_ascii_digit}
 use Rattle.std.proofs.lemmas.Bool.{cases_lt, both_ways}

@@ -1,4 +1,4 @@
--- What is known from one moment to the next, where the bytes of a file may be told.
+-- What is known from one moment to the next of a file whose bytes may be told.
 use Rattle.std.proofs.Common.{◌≡◌, ℕ, ◌-◌, ◌^◌, ◌<◌, ◌≤◌, inl, inr, ⊎_elim, refl, ap, ◌∙◌, sym, subst, List, Option, Some, None, Result, Ok, Err, IfSome, IfErr, IsErr, IsErrAnd, arith}
 use Rattle.ra_io.specs.Faults.{Rose}
 use Rattle.ra_token.specs.Reads.{StandsIn}
@@ -76,7 +76,7 @@ refuses_next {E} {read} {fault} {P} {Q} {R} {a} {b} {c} one two f = record {
   told = told_both (a.held a.tokens.name) one.told (told_before _ a b one.goes two.told) (λ bytes p q. f bytes a.tokens.place b.tokens.place p q);
 }
 
--- where the reader stands, what was told is told of it too
+-- what was told is told of the place of the reader too
 pub went_standing : {P : List ℕ → ℕ → ℕ → Type 0} {a b : Here} → Went P a b → IfSome (a.held a.tokens.name) (λ bytes. StandsIn bytes b.tokens)
 went_standing {P} {a} {b} one = told_before _ a b one.goes one.goes.stands
 
@@ -89,7 +89,7 @@ told_fault renamed (Some bytes) place next fault e h = record { token_fault = ne
 pub told_as : (P : List ℕ → Type 0) (f : List ℕ → Option (List ℕ)) (name other : List ℕ) → name ≡ other → IfSome (f name) P → IfSome (f other) P
 told_as P f name other e h = subst (λ (n : List ℕ). IfSome (f n) P) e h
 
--- a refusal for where the reader stands
+-- a refusal at the place of the reader
 pub refuses_standing : {E : Type 0} {read fault : E} {P : List ℕ → ℕ → ℕ → Type 0} {R : List ℕ → ℕ → Type 0} {a b : Here} → Went P a b → (fault ≡ read → ⊥) → ((bytes : List ℕ) (x : ℕ) → P bytes x b.tokens.place → StandsIn bytes b.tokens → R bytes x) → Refuses read R a b fault
 refuses_standing {E} {read} {fault} {P} {R} {a} {b} one no_read f = record {
   goes = one.goes;

@@ -60,7 +60,7 @@ pub adds_more : (bytes : List ℕ) (from at start place value n : ℕ) (xs ys zs
 adds_more bytes from at start place value n xs ys zs adds next pushed =
     adds_then bytes from at place n 1 (n + 1) xs ys zs refl adds (adds_one bytes at place (token_of value start) ys zs next.token next.given next.between pushed)
 
--- where the bytes of the file are told
+-- if the bytes of the file are told
 
 pub told_none : (told : Option (List ℕ)) (reader : Standing) (xs : List ℕ) → Reads told reader → IfSome told (λ bytes. AddsValues bytes reader.place reader.place 0 xs xs)
 told_none None reader xs reads = tt

@@ -10,7 +10,7 @@ unfoldable pub digit_fault : List ℕ → ℕ → Option TokenFault
 digit_fault bytes k =
     if nat_lt 4294967295 (worth bytes (suc k)) then Some (TooLarge (run_start bytes k)) else None
 
--- a byte that is no digit, where it is no blank either
+-- a byte that is neither a digit nor a blank
 unfoldable pub other_fault : List ℕ → ℕ → Option TokenFault
 other_fault bytes k =
     if is_blank (slice_index bytes k) then None else Some (BadByte k (slice_index bytes k))

@@ -87,8 +87,8 @@ pub record EndsRun (o : Outside) (name : List ℕ) (first : ℕ) (after : Window
   pub kept : (other : List ℕ) → o.held_after other ≡ o.held other
   pub never_fall : (other : List ℕ) → o.faults other ≤ o.faults_after other
 
--- the next token, and none where all were given and the file has no fault; or the first fault, where the tokens before it
--- were given, or a failed fetch. Nothing is lost where none was given
+-- the next token, and none if all were given and the file has no fault; or the first fault, if the tokens before it
+-- were given, or a failed fetch. Nothing is lost if none was given
 pub record GivesNext (o : Outside) (before after : Standing)
     (said : Result (Option Token) TokenFault) : Type 0 where
   pub reads : Reads (o.held_after after.name) after
@@ -105,8 +105,8 @@ pub record GivesNext (o : Outside) (before after : Standing)
   pub kept : (other : List ℕ) → o.held_after other ≡ o.held other
   pub never_fall : (other : List ℕ) → o.faults other ≤ o.faults_after other
 
--- the values of the next tokens were added to a list, so many of them, or all that were left; or a fault came first, and
--- the values of the tokens before it were added
+-- the values of the next tokens were added to a list, `count` of them, or all that were left; or a fault came first,
+-- and the values of the tokens before it were added
 pub record GivesValues (o : Outside) (before after : Standing) (count : ℕ) (old new : Listed ℕ)
     (said : Result ℕ TokenFault) : Type 0 where
   pub reads : Reads (o.held_after after.name) after

@@ -21,7 +21,7 @@ here held faults tokens = record { held = held; faults = faults; tokens = tokens
 abbrev pub moment : {F : Type 0} → files.Ghosts F → F → Standing → Here
 moment told lent tokens = here (told.held lent) (told.faults lent) tokens
 
--- the reader stands in the bytes of its file, where they are told
+-- the reader stands in the bytes of its file, if they are told
 abbrev pub Stands : Here → Type 0
 Stands a = Reads (a.held a.tokens.name) a.tokens
 
@@ -32,19 +32,19 @@ pub record Goes (a b : Here) : Type 0 where
   pub kept : (other : List ℕ) → b.held other ≡ a.held other
   pub never_fall : (other : List ℕ) → a.faults other ≤ b.faults other
 
--- on the way from one moment to another, this holds of the bytes and the two places, where the bytes are told
+-- on the way from one moment to another, this holds of the bytes and the two places, if the bytes are told
 pub record Went (means : List ℕ → ℕ → ℕ → Type 0) (a b : Here) : Type 0 where
   pub goes : Goes a b
   pub told : IfSome (a.held a.tokens.name) (λ bytes. means bytes a.tokens.place b.tokens.place)
 
--- a refusal: a failed fetch was counted, and this holds of the bytes and the place before, where the bytes are told
+-- a refusal: a failed fetch was counted, and this holds of the bytes and the place before, if the bytes are told
 pub record Refuses {E : Type 0} (read : E) (means : List ℕ → ℕ → Type 0) (a b : Here) (fault : E) :
     Type 0 where
   pub goes : Goes a b
   pub rose : fault ≡ read → Rose (a.faults a.tokens.name) (b.faults a.tokens.name)
   pub told : IfSome (a.held a.tokens.name) (λ bytes. means bytes a.tokens.place)
 
--- the next token, or none where all were given and the file has no fault
+-- the next token, or none if all were given and the file has no fault
 pub record HasNext (bytes : List ℕ) (before after : ℕ) (next : Option Token) : Type 0 where
   pub answer : IsAnswer bytes (tokens_before bytes before) (Ok next)
   pub one_more : OnSome next (tokens_before bytes after ≡ tokens_before bytes before + 1)

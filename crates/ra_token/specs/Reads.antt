@@ -20,6 +20,6 @@ pub record StandsIn (bytes : List ℕ) (reader : Standing) : Type 0 where
   pub piece : IsPiece bytes reader.start reader.ready
   pub between : IsBetween bytes reader.place
 
--- where the bytes of the file are told, the reader stands in them
+-- if the bytes of the file are told, the reader stands in them
 abbrev pub Reads : Option (List ℕ) → Standing → Type 0
 Reads told reader = IfSome told (λ bytes. StandsIn bytes reader)

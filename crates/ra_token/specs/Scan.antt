@@ -11,7 +11,7 @@ use Rattle.ra_token.specs.TokenList.{tokens, tokens_before, IsAnswer}
 use Rattle.ra_token.specs.Reads.{IsBetween, IsPiece}
 use Rattle.ra_token.specs.Values.{AddsValues}
 
--- where the bytes of the file are told, the window shows some of them
+-- if the bytes of the file are told, the window shows some of them
 abbrev pub Shows : Option (List ℕ) → Window → Type 0
 Shows told w = IfSome told (λ bytes. IsPiece bytes w.start (take w.filled w.buffer.items))
 
@@ -34,7 +34,7 @@ pub record Begins (bytes : List ℕ) (from place : ℕ) : Type 0 where
   pub reached : IsReached bytes from place
   pub digit : digit_at bytes place ≡ true
 
--- the run that begins at a place was looked at up to another, and is worth so much there
+-- the run that begins at a place was looked at up to another, where it is worth `value`
 pub record InRun (bytes : List ℕ) (start place value : ℕ) : Type 0 where
   pub within : place ≤ length bytes
   pub worth_is : worth bytes place ≡ value
@@ -64,8 +64,8 @@ digits_worth bytes from zero = 0
 digits_worth bytes from (suc k) =
     digits_worth bytes from k * 10 + (slice_index bytes (from + k) - 48)
 
--- runs of a piece of bytes, from one index on up to another, were taken, so many at most: their values were put behind
--- those of a list
+-- runs of a piece of bytes, from one index on up to another, were taken, no more than a limit: their values were put
+-- behind those of a list
 pub record TakesRuns (piece : List ℕ) (from end limit : ℕ) (old new : Listed ℕ) : Type 0 where
   pub low : from ≤ end
   pub within : end ≤ length piece
@@ -77,7 +77,7 @@ pub record TakesRuns (piece : List ℕ) (from end limit : ℕ) (old new : Listed
       → AddsValues bytes (start + from) (start + end) (length new.items - length old.items)
       old.items new.items
 
--- what holds of whatever bytes have this piece, where a run is worth so much at an index of it
+-- what holds of whatever bytes have this piece, if a run is worth `carried` at an index of it
 abbrev pub RunsOn : List ℕ → ℕ → ℕ → (List ℕ → ℕ → ℕ → Type 0) → Type 0
 RunsOn piece from carried P =
     (bytes : List ℕ) (start first : ℕ) → start + length piece ≤ 536870912 → IsPiece bytes start piece

@@ -23,7 +23,7 @@ tokens_before bytes place = count place (ends_at bytes)
 abbrev pub GaveAll : List ℕ → ℕ → Type 0
 GaveAll bytes n = n ≡ length (tokens bytes)
 
--- what comes after n tokens: token n; or, where there is none, the end or the first fault; or a failed fetch
+-- what comes after n tokens: token n; or, if there is none, the end or the first fault; or a failed fetch
 abbrev pub IsAnswer : List ℕ → ℕ → Result (Option Token) TokenFault → Type 0
 IsAnswer bytes n (Ok (Some token)) = slice_get (tokens bytes) n ≡ Some token
 IsAnswer bytes n (Ok None) = GaveAll bytes n × (first_fault bytes ≡ None)

@@ -38,8 +38,8 @@ impl Model for Tokens {
 }
 
 impl Tokens {
-    /// A reader that stands at the start of a file, of which it has fetched nothing yet. So it reads whichever
-    /// files the first call of `next` is given.
+    /// A reader at the start of a file, of which it has fetched nothing yet. So it reads whichever files the first call
+    /// of `next` is given.
     pub fn make(alloc: Global, name: &str) -> Result<Tokens, TokenFault>
         ensures name { IfOk result (λ t. t.name ≡ name.now) }
         ensures reads { IfOk result (λ t. (told : Option (List ℕ)) → Reads told t) }
@@ -59,13 +59,13 @@ impl Tokens {
         })
     }
 
-    /// The next token, and none where all were given and the file has no fault. Each call needs the files of the
-    /// first: where the bytes of its file are told, they have to be the same.
+    /// The next token, and none if all were given and the file has no fault. Each call needs the files of the first: if
+    /// the bytes of its file are told, they have to be the same.
     ///
     /// # Errors
     ///
-    /// The first fault of the file, once all tokens before it were given, or `ReadFault`. Nothing is lost: the
-    /// reader stands where it stood, so the next call gives the same fault, or tries to fetch again.
+    /// The first fault of the file, once all tokens before it were given, or `ReadFault`. Nothing is lost: the reader
+    /// stays where it was, so the next call gives the same fault, or tries to fetch again.
     pub fn next<F: Files>(&mut self, files: &mut F) -> Result<Option<Token>, TokenFault>
         requires reads { Reads (F.held files.old self.old.name) self.old }
         ensures { GivesNext (outside (F.held files.old) (F.held files.new) (F.faults files.old)
@@ -83,13 +83,13 @@ impl Tokens {
         }))
     }
 
-    /// Adds the values of the next tokens to a list: `count` of them, or all that are left where these are fewer. How
-    /// many were added. Each call needs the files of the first, as in `next`.
+    /// Adds the values of the next tokens to a list: `count` of them, or all that are left if these are fewer. Gives
+    /// how many were added. Each call needs the files of the first, as in `next`.
     ///
     /// # Errors
     ///
-    /// The first fault of the file, or `ReadFault`, once the values of all tokens before it were added. The reader
-    /// stands behind those tokens then, so the next call gives the same fault, or tries to fetch again.
+    /// The first fault of the file, or `ReadFault`, once the values of all tokens before it were added. The reader is
+    /// behind those tokens then, so the next call gives the same fault, or tries to fetch again.
     pub fn next_values<F: Files>(
         &mut self,
         files: &mut F,

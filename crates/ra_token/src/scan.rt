@@ -74,8 +74,8 @@ pub fn gather(bytes: &[u8], from: usize, carried: u64) -> Stretch
     }
 }
 
-/// The next run of digits from `from` on, with the index of its first digit, where the blanks before it and a byte
-/// behind it are there, and it is worth no more than `LARGEST`.
+/// The next run of digits from `from` on, with the index of its first digit, if the blanks before it and a byte behind
+/// it are there, and it is worth no more than `LARGEST`.
 #[inline]
 pub fn whole_run(bytes: &[u8], from: usize) -> Option<(usize, Stretch)>
     requires { from ≤ length bytes.now }
@@ -99,7 +99,7 @@ pub fn whole_run(bytes: &[u8], from: usize) -> Option<(usize, Stretch)>
 /// How many bytes of a run `near_digits` looks at.
 pub const NEAR: usize = 8;
 
-/// The digits from `from` on, where the run is worth nothing before them and ends within `NEAR` bytes. The loop has a
+/// The digits from `from` on, if the run is worth nothing before them and ends within `NEAR` bytes. The loop has a
 /// fixed length, so that it costs no count.
 #[inline]
 pub fn near_digits(bytes: &[u8], from: usize) -> Option<Stretch>
@@ -127,7 +127,7 @@ pub fn near_digits(bytes: &[u8], from: usize) -> Option<Stretch>
     None
 }
 
-/// The run of digits behind one blank at `from`, where it ends within `NEAR` bytes.
+/// The run of digits behind one blank at `from`, if it ends within `NEAR` bytes.
 #[inline]
 pub fn near_run(bytes: &[u8], from: usize) -> Option<Stretch>
     requires { from ≤ length bytes.now }
@@ -183,7 +183,7 @@ pub fn without(bits: u64, bit: usize) -> u64
     bits & !(1 << bit)
 }
 
-/// What `count` digits from `from` on are worth, eight at most, where eight bytes are there: eight at a time, then their
+/// What `count` digits from `from` on are worth, eight at most, if eight bytes are there: eight at a time, then their
 /// pairs, then the pairs of these.
 #[inline(always)]
 pub fn eight_worth(bytes: &[u8], from: usize, count: usize) -> u32
@@ -210,7 +210,7 @@ pub fn eight_worth(bytes: &[u8], from: usize, count: usize) -> u32
 }
 
 /// Adds the values of the runs that end among the `BLOCK` bytes behind the blank at `from` to a list, at most `most` of
-/// them, as far as each stands behind one blank and has few digits. The index behind the last.
+/// them, as far as each stands behind one blank and has few digits. Gives the index behind the last.
 #[inline]
 pub fn block_runs(bytes: &[u8], from: usize, most: usize, values: &mut Fixed<u32>) -> usize
     requires within { from + BLOCK + NEAR < length bytes.now }
@@ -235,7 +235,7 @@ pub fn block_runs(bytes: &[u8], from: usize, most: usize, values: &mut Fixed<u32
     at
 }
 
-/// Adds the value of the next run from `from` on to a list, if `near_run` gives it. The index behind it.
+/// Adds the value of the next run from `from` on to a list, if `near_run` gives it. Gives the index behind it.
 #[inline]
 pub fn one_run(bytes: &[u8], from: usize, values: &mut Fixed<u32>) -> usize
     requires within { from ≤ length bytes.now }
@@ -249,8 +249,8 @@ pub fn one_run(bytes: &[u8], from: usize, values: &mut Fixed<u32>) -> usize
     stretch.end
 }
 
-/// Adds the values of the next runs from `from` on to a list, at most `most` of them, as far as they stand close
-/// together: each behind one blank, and ending well before the end of the bytes. The index behind the last.
+/// Adds the values of the next runs from `from` on to a list, at most `most` of them, as far as they are close
+/// together: each behind one blank, and ending well before the end of the bytes. Gives the index behind the last.
 #[inline(never)]
 pub fn take_runs(bytes: &[u8], from: usize, most: usize, values: &mut Fixed<u32>) -> usize
     requires within { from ≤ length bytes.now }

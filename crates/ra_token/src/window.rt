@@ -58,7 +58,7 @@ impl Window {
         })
     }
 
-    /// The next run of digits from `place` on, with the place of its first digit, and none where blanks alone are left.
+    /// The next run of digits from `place` on, with the place of its first digit, and none if blanks alone are left.
     pub fn next_run<F: Files>(
         &mut self,
         files: &mut F,
@@ -78,7 +78,7 @@ impl Window {
         }
     }
 
-    /// The next run, where it, the blanks before it and the byte behind it are ready, and it is not too large.
+    /// The next run, if it, the blanks before it and the byte behind it are ready, and it is not too large.
     fn ready_run(&self, place: u64) -> Option<(u64, Run)>
         ensures next { (told : Option (List ℕ)) → Shows told self.now →
             IfSome told (λ bytes. IsBetween bytes place
@@ -100,9 +100,9 @@ impl Window {
         Some((self.start + first as u64, run))
     }
 
-    /// Adds the values of the next runs from `place` on to a list, at most `most` of them, as far as they stand close
-    /// together in the buffer: each behind one blank, and ending well before the buffer's end. The place behind the
-    /// last.
+    /// Adds the values of the next runs from `place` on to a list, at most `most` of them, as far as they are close
+    /// together in the buffer: each behind one blank, and ending well before the buffer's end. Gives the place behind
+    /// the last.
     pub fn ready_values(&self, place: u64, most: usize, values: &mut Fixed<u32>) -> u64
         requires place { place ≤ PLACE_LIMIT }
         requires room { length values.old.items + most ≤ values.old.room }
@@ -123,7 +123,7 @@ impl Window {
         self.start + end as u64
     }
 
-    /// The next run, byte by byte where the bytes have to be fetched.
+    /// The next run, byte by byte if its bytes have to be fetched.
     #[cold]
     #[inline(never)]
     fn fetched_run<F: Files>(
@@ -146,8 +146,7 @@ impl Window {
         Ok(Some((first, run)))
     }
 
-    /// The byte at a place, and none past the end of the file. It is held ready then, unless it stands at
-    /// `PLACE_LIMIT`.
+    /// The byte at a place, and none past the end of the file. It is held ready then, unless it is at `PLACE_LIMIT`.
     fn byte<F: Files>(
         &mut self,
         files: &mut F,
@@ -203,7 +202,7 @@ impl Window {
         self.start + index as u64
     }
 
-    /// Where the next run of digits begins, from `place` on, and none where blanks alone are left.
+    /// Where the next run of digits begins, from `place` on, and none if blanks alone are left.
     fn first_digit<F: Files>(
         &mut self,
         files: &mut F,
