@@ -20,7 +20,7 @@ use Rattle.ra_assign.specs.Lists.{assign_fault, none_left, machine_test, process
 use Rattle.ra_assign.specs.Answers.{AssignSays}
 use Rattle.ra_assign.specs.Reading.{TakesMachine, HasTaken, HasEnded}
 
--- what says so of one finding says so of another
+-- a refusal that says what one finding is says what another one is, if that is the same
 says_same : (found other : Option AssignFault) (fault : AssignFault) → (found ≡ Some fault → other ≡ Some fault) → AssignSays found fault → AssignSays other fault
 says_same found other ReadFault same says = tt
 says_same found other (BadByte at byte) same says = same says
@@ -35,7 +35,7 @@ refusal_at : (bytes : List ℕ) (i : Tables) (n : ℕ) (fault : AssignFault) →
 unfolding assign_refusal
 refusal_at bytes i n fault within before here = rw (first_found n (process_count i) (process_test bytes i) fault within before here) (or_else_some fault _)
 
--- what was found says so of every fault of a token
+-- a fault of a token that was found is what its refusal says
 pub says_fault : (found : Option AssignFault) (fault : TokenFault) → (fault ≡ told.ReadFault) ⊎ (found ≡ Some (assign_fault fault)) → AssignSays found (assign_fault fault)
 unfolding assign_fault
 says_fault found told.ReadFault h = tt
@@ -44,7 +44,7 @@ says_fault found (told.TooLarge at) h = ⊎_elim (λ (e : told.TooLarge at ≡ t
 says_fault found told.TooLong h = ⊎_elim (λ (e : told.TooLong ≡ told.ReadFault). cc) (λ (e : found ≡ Some TooLong). e) h
 says_fault found told.NoMemory h = tt
 
--- where no token is found, the tokens have ended
+-- if no token is found, the tokens have ended
 pub past_none : (ts : List Token) (n : ℕ) → slice_get ts n ≡ None → length ts ≤ n
 past_none ts n none = ⊎_elim
     (λ found. absurd (let e : slice_get ts n ≡ Some found.0 = found.2 in cc))
@@ -125,7 +125,7 @@ end_none : (bytes : List ℕ) (n : ℕ) → end_test bytes n ≡ None → (first
 unfolding end_test
 end_none bytes n none = behind_none (first_fault bytes) (slice_get (tokens bytes) n) none
 
--- where no process lacks its machine, there are as many tokens
+-- if no process lacks its machine, there are as many tokens
 many : (bytes : List ℕ) (i : Tables) (n : ℕ) → first n (process_test bytes i) ≡ None → n ≤ length (tokens bytes)
 many bytes i zero sound = omega arith
 many bytes i (suc n) sound =
@@ -133,7 +133,7 @@ many bytes i (suc n) sound =
     let there : n < length (tokens bytes) = slice_get_within (tokens bytes) n named.0 named.1 in
     omega arith
 
--- nothing is refused exactly where the bytes are an assignment file
+-- nothing is refused exactly if the bytes are an assignment file
 pub assign_accepts : (bytes : List ℕ) (i : Tables) → (assign_refusal bytes i ≡ None) ↔ IsAssignmentFile bytes i
 unfolding assign_refusal
 assign_accepts bytes i = (there, back)

@@ -55,7 +55,7 @@ pub closed_refused_at : (bytes : List ℕ) (i : Tables) (place : ℕ) (flags : L
 unfolding closed_refusal
 closed_refused_at bytes i place flags t flagged found here = rw (first_found (tokens_before bytes place) (length (tokens bytes)) (token_test bytes i) (NoMachine t.at t.value) (slice_get_within (tokens bytes) (tokens_before bytes place) t found) flagged.sound here) (or_else_some (NoMachine t.at t.value) (file_fault (first_fault bytes)))
 
--- the fault of the file is the refusal, where all tokens were taken
+-- the fault of the file is the refusal, if all tokens were taken
 pub closed_refused_end : (bytes : List ℕ) (i : Tables) (place : ℕ) (flags : List Bool) (fault : TokenFault) → HasFlagged bytes i place flags → IsAnswer bytes (tokens_before bytes place) (Err fault) → ClosedSays (closed_refusal bytes i) (closed_fault fault)
 unfolding closed_refusal file_fault
 closed_refused_end bytes i place flags fault flagged answer = says_fault (closed_refusal bytes i) fault (⊎_elim (λ (e : fault ≡ told.ReadFault). inl e) (λ (h : GaveAll bytes (tokens_before bytes place) × (first_fault bytes ≡ Some fault)). inr (rw (sym h.0, flagged.sound, h.1) (or_else_none (Some (closed_fault fault))))) answer)
@@ -129,7 +129,7 @@ no_fault_none : (fault : Option TokenFault) → fault ≡ None → file_fault fa
 unfolding file_fault
 no_fault_none fault none = rw none refl
 
--- nothing is refused exactly where the bytes are a closed list
+-- nothing is refused exactly if the bytes are a closed list
 pub closed_accepts : (bytes : List ℕ) (i : Tables) → (closed_refusal bytes i ≡ None) ↔ IsClosedFile bytes i
 unfolding closed_refusal
 closed_accepts bytes i = (there, back)

@@ -55,6 +55,6 @@ first_more bytes i x y n flags after m before one within e = record {
   given = one.next ∙ ap (λ (k : ℕ). k + 1) before.given;
 }
 
--- a reader cannot stand behind more tokens than a file can have
+-- a reader cannot be behind more tokens than a file can have
 pub too_many : (bytes : List ℕ) (i : Tables) (n : ℕ) (flags : List Bool) (reader : Standing) → HasFlaggedFirst bytes i reader.place n flags → StandsIn bytes reader → PLACE_LIMIT < n → IsClosedRefusal bytes i TooLong
 too_many bytes i n flags reader first stands many = absurd (omega (arith, few_tokens bytes reader.place stands.between, first.given, many))

@@ -22,7 +22,7 @@ assign_fault (token.TooLarge at) = TooLarge at
 assign_fault token.TooLong = TooLong
 assign_fault token.NoMemory = NoMemory
 
--- where no token is left: the first fault of the file, or else that the machine of process p is missing
+-- if no token is left: the first fault of the file, or else that the machine of process p is missing
 unfoldable pub none_left : Option TokenFault → ℕ → AssignFault
 none_left None p = Missing (record { 0 = p })
 none_left (Some fault) p = assign_fault fault

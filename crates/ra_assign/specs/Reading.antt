@@ -51,7 +51,7 @@ abbrev pub ClosedNext : List ℕ → Tables → ℕ → ℕ → Option Machine �
 ClosedNext bytes i before after (Some m) = TakesClosed bytes i before after m
 ClosedNext bytes i before after None = IsAnswer bytes (tokens_before bytes before) (Ok None)
 
--- the fault is the refusal of the list, where the tokens before were sound
+-- the fault is the refusal of the list, if the tokens before were sound
 abbrev pub ClosedStop : List ℕ → Tables → ℕ → ClosedFault → Type 0
 ClosedStop bytes i before fault =
     (flags : List Bool) → HasFlagged bytes i before flags → IsClosedRefusal bytes i fault

@@ -37,7 +37,7 @@ crowd_same : (e : ℕ → ℕ) (n m : ℕ) → m ≢ e n → crowd_test e (n + 1
 unfolding crowd_test
 crowd_same e n m apart = ap (λ v. cond (ltb 1 v) (Some (record { 0 = m })) None) (count_no n (λ k. eqb (e k) m) (ne_eqb (e n) m (λ s. apart (sym s))))
 
--- a machine more, where it was there before
+-- one machine more, if it was there before
 first_again : (n : ℕ) (f g : ℕ → Option Machine) (m : Machine) (o : Option Machine) → m.0 < n → g m.0 ≡ Some m → ((x : ℕ) → x ≢ m.0 → g x ≡ f x) → ((x : ℕ) (p : Machine) → f x ≡ Some p → p ≡ record { 0 = x }) → first n f ≡ o → lowered o true m ≡ first n g
 unfolding lowered
 first_again n f g m None within here same means none =

@@ -87,7 +87,7 @@ stamp_test members places a size last u x marks h is_last within = ⊎_elim
     (λ (none : holds_site places a (members_of members u) x ≡ false). ne_eqb (get_or marks x 0) (u + 1) (λ same. both_ways (holds_site places a (members_of members u) x) none (h.sound x u within (same ∙ add-one u))) ∙ sym none)
     (cases_Bool (holds_site places a (members_of members u) x))
 
--- the machine of a process that is found far, and none where all are near
+-- the machine of a process that is found far, and none if all are near
 pub far_yes : (marks : List ℕ) (stamp : ℕ) (places a : List Machine) (processes : List Process) (k : ℕ) (m : Machine) (place : ℕ) → place ≡ site_of places a processes k → m.0 ≡ seat_of a processes k → eqb (get_or marks place 0) stamp ≡ false → far_seat marks stamp places a processes k ≡ Some m
 unfolding far_seat
 far_yes marks stamp places a processes k m place is_place is_seat apart =
@@ -109,7 +109,7 @@ far_means marks stamp places a processes k m found = chosen (eqb (get_or marks (
 
 pub ruleset far_seats = (far_yes, far_no, site_within)
 
--- a needed service has a process near where its mark is
+-- a needed service has a process near exactly if its mark is there
 near_named : (i : Tables) (a : List Machine) (u label : ℕ) (processes : List Process) → AreProcessesOf i u processes → ltb 0 (in_neighbourhood i a u label) ≡ is_named (length processes) (λ k. neighbourhood_of i (seat_of a processes k)) label
 unfolding in_neighbourhood seat_of
 near_named i a u label processes h =

@@ -1,4 +1,4 @@
--- Marks: where processes stand, what a stamp leaves, and marks that are clear.
+-- Marks: where processes are, what a stamp leaves, and marks that are clear.
 use Rattle.std.proofs.Common.{◌≡◌, ℕ, ◌+◌, ◌<◌, ◌≤◌, ◌≢◌, true, false, Bool, eqb, ◌||◌, List, length, get_or, set, sym, refl, ap, ◌∙◌, ⊎_elim, arith, length-set, get_or-set_other, get_or-set_same, eq-eqb, ne_eqb}
 use Rattle.std.proofs.lemmas.Bool.{cases_eq, or_right}
 use Rattle.std.proofs.lemmas.List.{get_or_read}

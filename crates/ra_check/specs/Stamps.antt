@@ -1,4 +1,4 @@
--- Where the processes of a service stand, and marks that are stamped there.
+-- Where the processes of a service are, and marks that are stamped there.
 use Rattle.std.specs.Prelude.{◌≡◌, ℕ, suc, ◌<◌, List, length, slice_index_or, Option, Some, None, Bool, true, false, if◌then◌else◌, ◌==◌, nat_lt}
 use Rattle.ra_base.specs.Sums.{count, is_named}
 use Rattle.ra_base.specs.declared.ids.Machine.{Machine}
@@ -28,7 +28,7 @@ pub record ArePlaced (places : List Machine) (size : ℕ) : Type 0 where
   pub one_each : length places ≡ size
   pub within : (m : ℕ) → m < size → machine_at places m < size
 
--- so many marks, all below a bound
+-- a mark for each place, all below a bound
 pub record AreBelow (marks : List ℕ) (size bound : ℕ) : Type 0 where
   pub one_each : length marks ≡ size
   pub below : (x : ℕ) → x < size → slice_index_or marks x 0 < bound
@@ -37,17 +37,17 @@ pub record AreBelow (marks : List ℕ) (size bound : ℕ) : Type 0 where
 pub record AreStamped (marks : List ℕ) (size stamp n : ℕ) (e : ℕ → ℕ) : Type 0 where
   pub exactly : (x : ℕ) → x < size → (slice_index_or marks x 0 == stamp) ≡ is_named n e x
 
--- machine m, where more than one of the first n machines e 0, e 1 .. is it
+-- machine m, if more than one of the first n machines e 0, e 1 .. is it
 unfoldable pub crowd_test : (ℕ → ℕ) → ℕ → ℕ → Option Machine
 crowd_test e n m = if nat_lt 1 (count n (λ k. e k == m)) then Some (record { 0 = m }) else None
 
--- the lesser of what was found and machine m, where m counts
+-- the lesser of what was found and machine m, if m counts
 unfoldable pub lowered : Option Machine → Bool → Machine → Option Machine
 lowered least false m = least
 lowered None true m = Some m
 lowered (Some l) true m = if nat_lt m.0 l.0 then Some m else Some l
 
--- the machine of process k, where the mark of its place isn't the stamp
+-- the machine of process k, if the mark of its place isn't the stamp
 unfoldable pub far_seat : List ℕ → ℕ → List Machine → List Machine → List Process → ℕ
     → Option Machine
 far_seat marks stamp places a processes k =

@@ -39,7 +39,7 @@ has_moved a0 p at = if machine_at a0 p == at then false else true
 pub record HasMoved (i : Tables) (a0 a : List Machine) (n : ℕ) (counts : List ℕ) : Type 0 where
   pub each : (s : ℕ) → slice_index counts s ≡ tally n (of_service i s (has_moved a0)) a
 
--- each number has grown by one where process p is of its service and isn't on its initial machine
+-- each number has grown by one if process p is of its service and isn't on its initial machine
 pub record AddsMoved (i : Tables) (a0 a : List Machine) (p : ℕ) (old new : List ℕ) : Type 0 where
   pub each : (s : ℕ)
       → slice_index new s ≡ slice_index old s + of_service i s (has_moved a0) p (machine_at a p)

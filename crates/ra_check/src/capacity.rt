@@ -59,7 +59,7 @@ fn row_capacity(inst: &Instance, used: &Fixed<u64>, m: Machine) -> Option<Cause>
     None
 }
 
-/// The use of one resource of one machine, where it is above its capacity.
+/// The use of one resource of one machine, if it is above its capacity.
 
 fn capacity_test(inst: &Instance, used: &Fixed<u64>, m: Machine, r: Resource) -> Option<Cause>
     requires machine { m.0 < machine_count inst.now.tables }

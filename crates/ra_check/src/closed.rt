@@ -21,7 +21,7 @@ pub(crate) fn broken_closed(inst: &Instance, a0: &Assignment, a: &Assignment) ->
     None
 }
 
-/// One process, where it is put on a closed machine.
+/// One process, if it is put on a closed machine.
 fn closed_test(inst: &Instance, a0: &Assignment, a: &Assignment, p: Process) -> Option<Cause>
     requires process { p.0 < process_count inst.now.tables }
     requires a0_fits { IsAssignment inst.now.tables a0.now.items }

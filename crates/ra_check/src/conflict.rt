@@ -73,7 +73,7 @@ fn crowded(
     least
 }
 
-/// The lesser of what was found and a machine, where that counts.
+/// The lesser of what was found and a machine, if that counts.
 #[tactic(auto, unfolding(crate::specs::Stamps::lowered))]
 fn lower(least: Option<Machine>, again: bool, machine: Machine) -> Option<Machine>
     ensures { result ≡ lowered least again machine }

@@ -17,7 +17,7 @@ use ra_model::Instance;
 
 /// The first constraint that an assignment breaks, with the numbers of its cause: capacity by machine, then resource;
 /// transient use by machine, then resource; conflict by service, then machine; spread by service; dependency by
-/// service, its dependency in file order, then process; closed by process. There is none exactly where the
+/// service, its dependency in file order, then process; closed by process. There is none exactly if the
 /// assignment is feasible. The work is linear, and no memory is taken.
 pub fn first_broken(
     inst: &Instance,

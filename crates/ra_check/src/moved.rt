@@ -28,7 +28,7 @@ pub(crate) fn service_cost(
     u128::from(inst.service_weight()) * u128::from(most)
 }
 
-/// The greatest of some counts, and 0 where there is none.
+/// The greatest of some counts, and 0 if there is none.
 #[tactic(auto, using(ra_base::proofs::Greatest::greatests))]
 fn most(counts: &Fixed<u32>) -> u32
     ensures { result ≡ greatest (length counts.now.items) (slice_index counts.now.items) }
@@ -40,7 +40,7 @@ fn most(counts: &Fixed<u32>) -> u32
     most
 }
 
-/// Writes the number of moved processes of each service into a list, whatever stands in it.
+/// Writes the number of moved processes of each service into a list, whatever is in it.
 fn count_moved(inst: &Instance, a0: &Assignment, a: &Assignment, counts: &mut Fixed<u32>)
     requires a0_fits { IsAssignment inst.now.tables a0.now.items }
     requires fits { IsAssignment inst.now.tables a.now.items }

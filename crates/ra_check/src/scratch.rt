@@ -6,7 +6,7 @@ use ra_base::{Fixed, NoMemory};
 use ra_model::Instance;
 use std::alloc::Global;
 
-/// Tables that the checks of one instance write into, so that a check takes no memory. What stands in them between
+/// Tables that the checks of one instance write into, so that a check takes no memory. What is in them between
 /// two calls says nothing.
 pub struct Scratch {
     pub(crate) used: Fixed<u64>,
@@ -42,7 +42,7 @@ impl Scratch {
     }
 }
 
-/// A table of so many equal items.
+/// A table of `count` equal items.
 fn filled<T: Copy + Drop>(alloc: Global, count: usize, item: T) -> Result<Fixed<T>, NoMemory>
     ensures { IfOk result (λ t. t.items ≡ replicate count item) }
 {
@@ -51,7 +51,7 @@ fn filled<T: Copy + Drop>(alloc: Global, count: usize, item: T) -> Result<Fixed<
     Ok(table)
 }
 
-/// Makes a table one of so many equal items.
+/// Makes a table one of `count` equal items.
 pub(crate) fn fill<T: Copy>(table: &mut Fixed<T>, count: usize, item: T)
     requires { count ≤ table.old.room }
     ensures { table.new.items ≡ replicate count item }

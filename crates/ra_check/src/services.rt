@@ -5,7 +5,7 @@ use ra_base::{Fixed, NoMemory};
 use ra_model::{Instance, Members, Places, copies};
 use std::alloc::Global;
 
-/// What the checks of services stand on: the processes of each service, places in the stead of labels, and one mark
+/// What the checks of services stand on: the processes of each service, places instead of labels, and one mark
 /// for each machine, which a check may stamp as it likes.
 #[derive(Drop)]
 pub(crate) struct Services {

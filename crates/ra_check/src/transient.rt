@@ -61,7 +61,7 @@ fn row_transient(inst: &Instance, used: &Fixed<u64>, m: Machine) -> Option<Cause
     None
 }
 
-/// The transient use of one resource of one machine, where it is above its capacity.
+/// The transient use of one resource of one machine, if it is above its capacity.
 
 fn transient_test(inst: &Instance, used: &Fixed<u64>, m: Machine, r: Resource) -> Option<Cause>
     requires machine { m.0 < machine_count inst.now.tables }

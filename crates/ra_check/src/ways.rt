@@ -60,7 +60,7 @@ fn way_sum(inst: &Instance, a0: &Assignment, a: &Assignment) -> u64
     sum
 }
 
-/// What one process costs where it isn't on its initial machine.
+/// What one process costs if it isn't on its initial machine.
 fn process_share(inst: &Instance, a0: &Assignment, a: &Assignment, p: Process) -> u32
     requires process { p.0 < process_count inst.now.tables }
     requires a0_fits { IsAssignment inst.now.tables a0.now.items }

@@ -136,7 +136,7 @@ no_fault_none : (fault : Option TokenFault) → fault ≡ None → file_fault fa
 unfolding file_fault
 no_fault_none fault none = rw none refl
 
--- nothing is refused exactly where the bytes are a file of edits
+-- nothing is refused exactly if the bytes are a file of edits
 pub edits_accept : (bytes : List ℕ) (i : Tables) → (edits_refusal bytes i ≡ None) ↔ ((count : ℕ) × IsEditsFile bytes i count)
 unfolding edits_refusal
 edits_accept bytes i = (there, back)

@@ -212,7 +212,7 @@ each_passes bytes i c file k below = edit_passes bytes i k (record {
   within = omega (arith, file.all, (kind_before (resource_count i) bytes k c below).1);
 })
 
--- where no edit is refused, the tokens end with an edit
+-- if no edit is refused, the tokens end with an edit
 start_place : (R : ℕ) (bytes : List ℕ) → kind_place R bytes 0 ≡ 0
 unfolding kind_place
 start_place R bytes = refl

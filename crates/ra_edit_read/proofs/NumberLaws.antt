@@ -18,7 +18,7 @@ use Rattle.ra_edit_read.specs.EditTexts.{value_at, edits_fault, none_left, any_t
 use Rattle.ra_edit_read.specs.Answers.{EditsSays}
 use Rattle.ra_edit_read.specs.Reading.{TakesNumber, TakesValues}
 
--- what says so of one finding says so of another
+-- a refusal that says what one finding is says what another one is, if that is the same
 pub says_same : (found other : Option EditsFault) (fault : EditsFault) → (found ≡ Some fault → other ≡ Some fault) → EditsSays found fault → EditsSays other fault
 says_same found other ReadFault same says = tt
 says_same found other (BadByte at byte) same says = same says
@@ -29,7 +29,7 @@ says_same found other (Range at value least most) same says = same says
 says_same found other (TooMany at) same says = same says
 says_same found other NoMemory same says = tt
 
--- what was found says so of every fault of a token
+-- a fault of a token that was found is what its refusal says
 pub says_fault : (found : Option EditsFault) (fault : TokenFault) → (fault ≡ told.ReadFault) ⊎ (found ≡ Some (edits_fault fault)) → EditsSays found (edits_fault fault)
 unfolding edits_fault
 says_fault found told.ReadFault h = tt
@@ -51,7 +51,7 @@ fault_read told.NoMemory e = cc
 pub past_all : (bytes : List ℕ) (n : ℕ) → GaveAll bytes n → slice_get (tokens bytes) n ≡ None
 past_all bytes n all = slice_get_past (tokens bytes) n (omega (arith, all))
 
--- a fault where a number may be any
+-- a fault in the place of a number that may be any
 any_fault : (bytes : List ℕ) (k n : ℕ) (fault : TokenFault) → IsAnswer bytes n (Err fault) → EditsSays (any_at bytes k n) (edits_fault fault)
 unfolding any_at any_test none_left
 any_fault bytes k n fault answer = says_fault (any_at bytes k n) fault (⊎_elim (λ (e : fault ≡ told.ReadFault). inl e) (λ (h : GaveAll bytes n × (first_fault bytes ≡ Some fault)). inr (rw (past_all bytes n h.0, h.1) refl)) answer)
@@ -87,7 +87,7 @@ takes_value bytes x y value h = worth_of bytes (tokens_before bytes x) h.token h
 pub takes_any : (bytes : List ℕ) (k x y value : ℕ) → TakesNumber bytes x y value → any_at bytes k (tokens_before bytes x) ≡ None
 takes_any bytes k x y value h = any_there bytes k (tokens_before bytes x) h.token h.found
 
--- where a number is to be below a count
+-- a number that is to be below a count
 below_fault : (bytes : List ℕ) (k count n : ℕ) (fault : TokenFault) → IsAnswer bytes n (Err fault) → EditsSays (below_at bytes k count n) (edits_fault fault)
 unfolding below_at below_test none_left
 below_fault bytes k count n fault answer = says_fault (below_at bytes k count n) fault (⊎_elim (λ (e : fault ≡ told.ReadFault). inl e) (λ (h : GaveAll bytes n × (first_fault bytes ≡ Some fault)). inr (rw (past_all bytes n h.0, h.1) refl)) answer)

@@ -20,7 +20,7 @@ use Rattle.ra_edit_read.specs.EditLists.{EditLists, FitsInstance}
 unfoldable pub value_at : List ℕ → ℕ → ℕ
 value_at bytes n = (slice_index_or (tokens bytes) n (record { value = 0; at = 0 })).value
 
--- how many numbers stand behind the kind of an edit, where there are R resources
+-- how many numbers stand behind the kind of an edit, if there are R resources
 unfoldable pub numbers_behind : ℕ → ℕ → ℕ
 numbers_behind R kind = if kind == 1 then R + 3 else if kind == 2 then 1 else R + 1
 
@@ -72,7 +72,7 @@ pub record IsEdit (bytes : List ℕ) (i : Tables) (k : ℕ) : Type 0 where
   pub most : kind_of (resource_count i) bytes k ≤ 3
   pub fits : FitsInstance i (edit_of (resource_count i) bytes k)
 
--- the bytes are a file of so many edits, 100,000 at most: they have no fault, each of its edits is one, and behind the
+-- the bytes are a file of `count` edits, 100,000 at most: they have no fault, each of its edits is one, and behind the
 -- last of them stands no token
 pub record IsEditsFile (bytes : List ℕ) (i : Tables) (count : ℕ) : Type 0 where
   pub sound : first_fault bytes ≡ None
@@ -88,7 +88,7 @@ edits_fault (token.TooLarge at) = TooLarge at
 edits_fault token.TooLong = TooLong
 edits_fault token.NoMemory = NoMemory
 
--- where no token is left inside edit k: the first fault of the file, or else that the rest of the edit is missing
+-- if no token is left inside edit k: the first fault of the file, or else that the rest of the edit is missing
 unfoldable pub none_left : Option TokenFault → ℕ → EditsFault
 none_left None k = Missing k
 none_left (Some fault) k = edits_fault fault
@@ -137,7 +137,7 @@ kind_test k t =
     then (if nat_lt 0 t.value && nat_lt t.value 4 then None else Some (Range t.at t.value 1 3))
     else Some (TooMany t.at)
 
--- what is wrong with edit k, whose kind is token n where there is one; where there is none, the file has ended
+-- what is wrong with edit k, whose kind is token n if there is one; if there is none, the file has ended
 unfoldable pub found_test : List ℕ → Tables → ℕ → ℕ → Option Token → Option EditsFault
 found_test bytes i k n None = None
 found_test bytes i k n (Some t) = or_else (kind_test k t) (numbers_test bytes i k t.value (suc n))

@@ -67,7 +67,7 @@ pub record HasEdits (bytes : List ℕ) (i : Tables) (place k : ℕ) (edits : Lis
   pub edits_are : edits ≡ edits_to (resource_count i) bytes k
   pub requirements_are : requirements ≡ requirements_to (resource_count i) bytes k
 
--- the fault is the refusal of the file, where the edits before edit k were sound and its kind is due here
+-- the fault is the refusal of the file, if the edits before edit k were sound and its kind is due here
 abbrev pub EditStop : List ℕ → Tables → ℕ → ℕ → EditsFault → Type 0
 EditStop bytes i k before fault =
     tokens_before bytes before ≡ kind_place (resource_count i) bytes k

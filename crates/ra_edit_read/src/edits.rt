@@ -8,17 +8,17 @@ use std::marker::Model;
 /// One edit of an instance's processes.
 #[derive(Clone, Copy, Debug, PartialEq, Eq)]
 pub enum Edit {
-    /// A process more, of a service and with a move cost. It stands on a machine at first and now.
+    /// Adds a process, of a service and with a move cost. It is on this machine at the start and now.
     Add {
         service: Service,
         machine: Machine,
         move_cost: u32,
     },
-    /// A process less. The last process takes its number.
+    /// Takes a process away. The last process takes its number.
     Retire {
         process: u32,
     },
-    /// Other requirements of a process.
+    /// Gives a process other requirements.
     Resize {
         process: u32,
     },

@@ -1,4 +1,4 @@
--- No constraint is named as broken exactly where the assignment is feasible, constraint by constraint.
+-- No constraint is named as broken exactly if the assignment is feasible, constraint by constraint.
 use Rattle.std.proofs.Common.{◌≡◌, ◌≢◌, ℕ, zero, suc, ◌<◌, ◌≤◌, Bool, true, false, cond, not, eqb, ltb, ◌&&◌, List, Option, Some, None, IfSome, IsTrue, sym, refl, ◌∙◌, ⊎_elim, arith}
 use Rattle.std.proofs.lemmas.Bool.{cases_eq, cases_Bool, cond-true, cond-false, both_ways, ltb-false, le-ltb, eqb-true, eqb-false, eq-eqb, ne_eqb, and_parts, and_from, and_left, and_right, and_cases, not-false, not_from_true}
 use Rattle.ra_base.specs.Sums.{count}
@@ -19,7 +19,7 @@ use Rattle.ra_model.specs.Causes.{IsConstraint}
 use Rattle.ra_model.specs.Laws.{BrokenNamesConstraints}
 use Rattle.ra_model.specs.Broken.{cause_if, capacity_test, row_capacity, broken_capacity, transient_test, row_transient, broken_transient, conflict_test, service_conflict, broken_conflict, spread_test, broken_spread, near_of, far_test, dependency_test, pair_dependency, service_dependency, broken_dependency, closed_test, broken_closed, first_broken}
 
--- a test names no cause exactly where it is false
+-- a test names no cause exactly if it is false
 
 pub cause_none : (failed : Bool) (cause : Cause) → cause_if failed cause ≡ None → failed ≡ false
 unfolding cause_if
@@ -100,7 +100,7 @@ pub neighbourhood_count : (i : Tables) (a : List Machine) (s label : ℕ) → in
 unfolding in_neighbourhood
 neighbourhood_count i a s label = members_count i a s (λ q at. eqb (neighbourhood_of i at) label)
 
--- a process of service s is near exactly where the count of those near is above zero
+-- a process of service s is near exactly if the count of those near is above zero
 
 pub near_from_count : (i : Tables) (a : List Machine) (s label : ℕ) → 0 < in_neighbourhood i a s label → HasNear i a s label
 unfolding is_of

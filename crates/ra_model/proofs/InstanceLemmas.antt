@@ -73,7 +73,7 @@ with_lists i j = record j {
   };
 }
 
--- j is well formed where its lists are those of i, but for processes that fit
+-- j is well formed if its lists are those of i, but for processes that fit
 pub well_formed_with : (i j : Tables) → WellFormed i → 1 ≤ process_count j → process_count j ≤ 50000 → length j.raw.requirements.items ≡ process_count j * resource_count i → ((p : ℕ) → p < process_count j → service_of j p < service_count i) → WellFormed (with_lists i j)
 unfolding resource_count machine_count service_count process_count balance_count service_row process_row balance_row dependency_end dependency_start need_at service_of first_of second_of
 well_formed_with i j h some few table served = record {

@@ -10,7 +10,7 @@ use Rattle.ra_base.proofs.Searches.{first_none, first_more, first_some_at, first
 use Rattle.ra_model.specs.Assignments.{machine_at}
 use Rattle.ra_model.specs.Places.{IsFirstLike, AreFirst}
 
--- machine m, where it has label x
+-- machine m, if it has label x
 unfoldable pub labelled : (ℕ → ℕ) → ℕ → ℕ → Option Machine
 labelled label x m = cond (eqb (label m) x) (Some (record { 0 = m })) None
 
@@ -52,7 +52,7 @@ unfolding or_else
 found_or None m = refl
 found_or (Some p) m = refl
 
--- machine n is looked up, and is known from then on where no other was
+-- machine n is looked up, and is known from then on if no other was
 pub place_found : (label : ℕ → ℕ) (n x : ℕ) (p : Machine) (known : ℕ → Option Machine) → IsKnown label n known → x ≡ label n → p ≡ unwrap_or (known x) (record { 0 = n }) → first_labelled label (n + 1) x ≡ Some p
 place_found label n x p known h is found =
     first_labelled_more label n x
@@ -115,7 +115,7 @@ places_more label n x p known places h before is found = record {
 pub place_le : (label : ℕ → ℕ) (n m : ℕ) (places : List Machine) → AreFirst label n places → m < n → machine_at places m ≤ m
 place_le label n m places h within = (h.each m within).first m refl
 
--- two machines have one place where they have one label, and else two
+-- two machines have one place if they have one label, and else two
 pub place_same : (label : ℕ → ℕ) (n m k : ℕ) (places : List Machine) → AreFirst label n places → m < n → k < n → label m ≡ label k → machine_at places m ≡ machine_at places k
 place_same label n m k places h m_within k_within same =
     let at_m = h.each m m_within in

@@ -10,7 +10,7 @@ use Rattle.ra_model.specs.Usage.{use_of}
 use Rattle.ra_model.specs.Costs.{available, shortfall, balance_part, balance_cost}
 use Rattle.ra_model.specs.WholeCosts.{whole_available, whole_shortfall, whole_balance_cost, BalanceIsWhole}
 
--- what is available, where the use is within the capacity
+-- what is available, if the use is within the capacity
 pub available_is_whole : (i : Tables) (a : List Machine) (m r : ℕ) → use_of i a m r ≤ capacity_of i m r → whole_available i a m r ≡ pos (available i a m r)
 unfolding available whole_available
 available_is_whole i a m r within = difference (capacity_of i m r) (use_of i a m r) (capacity_of i m r - use_of i a m r) (omega arith)

@@ -12,7 +12,7 @@ use Rattle.ra_model.specs.Assignments.{machine_at}
 use Rattle.ra_model.specs.Usage.{use_of, transient_of}
 use Rattle.ra_model.specs.Services.{is_of, on_machine, in_neighbourhood, locations_of}
 
--- a cause where the test that failed is true
+-- a cause if the test that failed is true
 unfoldable pub cause_if : Bool → Cause → Option Cause
 cause_if failed cause = if failed then Some cause else None
 

@@ -37,7 +37,7 @@ balance_part i a b = balance_weight_of i b * total (machine_count i) (shortfall 
 unfoldable pub balance_cost : Tables → List Machine → ℕ
 balance_cost i a = total (balance_count i) (balance_part i a)
 
--- PMC(p) where process p, which is on machine `at`, isn't on its initial machine
+-- PMC(p) if process p, which is on machine `at`, isn't on its initial machine
 unfoldable pub process_share : Tables → List Machine → ℕ → ℕ → ℕ
 process_share i a0 p at = if at == machine_at a0 p then 0 else process_cost_of i p
 

@@ -1,4 +1,4 @@
--- Places in the stead of labels: for each machine the first machine with the same label.
+-- Places instead of labels: for each machine the first machine with the same label.
 use Rattle.std.specs.Prelude.{◌≡◌, ℕ, ◌<◌, ◌≤◌, List, length}
 use Rattle.ra_base.specs.declared.ids.Machine.{Machine}
 use Rattle.ra_model.specs.declared.labels.Label.{Label}

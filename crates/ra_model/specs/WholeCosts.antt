@@ -1,4 +1,4 @@
--- The balance cost in whole numbers, as the challenge writes it, and where it is the balance cost.
+-- The balance cost in whole numbers, as the challenge writes it, and when it is the balance cost.
 use Rattle.std.specs.Prelude.{◌≡◌, ℕ, ◌*◌, ℤ, pos, ◌-ℤ◌, ◌*ℤ◌, List}
 use Rattle.ra_base.specs.Sums.{total}
 use Rattle.ra_base.specs.Whole.{above_zero}
@@ -10,7 +10,7 @@ use Rattle.ra_model.specs.Usage.{use_of}
 use Rattle.ra_model.specs.Feasible.{Feasible}
 use Rattle.ra_model.specs.Costs.{balance_cost}
 
--- A(m, r) = C(m, r) - U(m, r), which is below zero where the use is above the capacity
+-- A(m, r) = C(m, r) - U(m, r), which is below zero if the use is above the capacity
 unfoldable pub whole_available : Tables → List Machine → ℕ → ℕ → ℤ
 whole_available i a m r = pos (capacity_of i m r) -ℤ pos (use_of i a m r)
 

@@ -12,8 +12,8 @@ use std::collections::BTreeMap;
 use std::marker::Model;
 
 /// For each machine the first machine with the same location label, and the first with the same neighbourhood label.
-/// Labels may be any numbers; places are below the number of machines, and two machines have one place exactly where
-/// they have one label.
+/// Labels may be any numbers; places are below the number of machines, and two machines have one place exactly if they
+/// have one label.
 #[derive(Drop)]
 pub struct Places {
     locations: Fixed<Machine>,
@@ -98,7 +98,7 @@ fn firsts(alloc: Global, inst: &Instance, label: Label) -> Result<Fixed<Machine>
     Ok(places)
 }
 
-/// The machine that is known for a label; where there is none, `m` is from now on.
+/// The machine that is known for a label; if there is none, `m` is from now on.
 fn first_of(known: &mut BTreeMap<u32, Machine>, label: u32, m: Machine) -> Result<Machine, NoMemory>
     ensures place { IfOk result (λ p. p ≡ unwrap_or (get nat_cmp known.old label) m) }
     ensures known { IfOk result (λ p. (q : ℕ) →

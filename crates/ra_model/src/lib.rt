@@ -1,7 +1,7 @@
 //! An instance of the machine reassignment problem and what the problem's words mean over it.
 //!
-//! The words (usage, feasible, the first broken constraint, the costs) stand in `specs/`, each with a sentence
-//! of the challenge's problem definition; the code here is the instance with its accessors. Laws of the words stand in
+//! The words (use, feasible, the first broken constraint, the costs) are in `specs/`, each with a sentence of the
+//! challenge's problem definition; the code here is the instance with its accessors. Laws of the words are in
 //! `ra_laws`.
 #![tactic(auto)]
 

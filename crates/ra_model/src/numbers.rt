@@ -19,7 +19,7 @@ pub struct Instance {
 }
 
 impl Instance {
-    /// The instance of these lists, where they are one, as `RawInstance::is_instance` tells. No machine is closed.
+    /// The instance of these lists, if they are one, as `RawInstance::is_instance` tells. No machine is closed.
     pub fn of(raw: RawInstance) -> Instance
         requires { WellFormed (all_open raw) }
         ensures { result.tables ≡ all_open raw }

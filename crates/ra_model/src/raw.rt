@@ -28,8 +28,8 @@ pub struct MachineRow {
 pub struct ServiceRow {
     /// The least number of different locations that hold a process of the service.
     pub spread_min: u32,
-    /// The place behind the service's last dependency in the list of all dependencies. Those of service `s` stand
-    /// from the end of service `s - 1` to its own end.
+    /// The place behind the service's last dependency in the list of all dependencies. Those of service `s` go from the
+    /// end of service `s - 1` to its own end.
     pub dependency_end: u32,
     ghost small_spread: { spread_min < 2 ^ 32 },
     ghost small_end: { dependency_end < 2 ^ 32 },

@@ -1,4 +1,4 @@
--- The number of its service has grown by one where the process has moved.
+-- The number of its service has grown by one if the process has moved.
 use Rattle.std.proofs.Common.{◌≡◌, ◌∙◌, sym, ap, ◌+◌, ◌<◌, false, true, eqb, get_or, length, arith}
 use Rattle.std.proofs.lemmas.Bool.{not-true, not-false}
 use Rattle.std.proofs.lemmas.List.{get_or_read}

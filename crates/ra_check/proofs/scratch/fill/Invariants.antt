@@ -1,4 +1,4 @@
--- So many equal items so far, in the room that was there.
+-- As many equal items as rounds so far, in the room that was there.
 use Rattle.std.proofs.Common.{◌≡◌, ◌≤◌, replicate}
 use Rattle.ra_check.proofs.scratch.fill.Given as goal
 
