@@ -29,7 +29,7 @@ pub load_below : (i : Tables) (a : List Machine) → IsAssignment i a → load_b
 unfolding load_bound load_cost load_part
 load_below i a fits = total_le (resource_count i) (λ r. load_weight_of i r * overload i r) (λ r. load_weight_of i r * total (machine_count i) (excess_on i a r)) (λ r within. mul-le-mul_left (load_weight_of i r) (overload_below i a r fits))
 
--- where no use is above a capacity, what is available of a resource is what is spare of it
+-- if no use is above a capacity, what is available of a resource is what is spare of it
 pub available_total : (i : Tables) (a : List Machine) (r : ℕ) → IsAssignment i a → ((m : ℕ) → m < machine_count i → use_of i a m r ≤ capacity_of i m r) → total (machine_count i) (λ m. available i a m r) + required i r ≡ capacity i r
 unfolding available capacity
 available_total i a r fits within = omega (arith, use_total i a r fits, total_of_sum (machine_count i) (λ m. capacity_of i m r - use_of i a m r) (λ m. use_of i a m r), total_same (machine_count i) (λ m. (capacity_of i m r - use_of i a m r) + use_of i a m r) (λ m. capacity_of i m r) (λ m h. omega (arith, within m h)))

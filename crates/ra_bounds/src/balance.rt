@@ -64,7 +64,7 @@ fn lack(
     shortage(objective.target, first, second)
 }
 
-/// What `second` lacks of the target times `first`, and zero where it lacks nothing. Either may be below zero.
+/// What `second` lacks of the target times `first`, and zero if it lacks nothing. Either may be below zero.
 fn shortage(target: u32, first: i128, second: i128) -> u128
     requires first { unsigned_abs first ≤ 2 ^ 48 }
     requires second { unsigned_abs second ≤ 2 ^ 48 }

@@ -3,7 +3,7 @@
 pub struct Bound {
     /// What all processes together require above the safety capacities of all machines together.
     pub load: u128,
-    /// What the machines together lack of one available resource beside another.
+    /// What all machines together lack of one available resource beside another.
     pub balance: u128,
     /// The sum of the two.
     pub total: u128,

@@ -8,7 +8,7 @@ use Rattle.ra_draws.specs.declared.words.Reader.{Reader}
 use Rattle.ra_draws.specs.declared.words.Reader.TheVariants.{Generator, List}
 use Rattle.ra_draws.specs.Words.{after_words, seed_stream}
 
--- the generator stands where the stream of the seed is after the words of k proposals, or the list is the written one
+-- the generator is where the stream of the seed is after the words of k proposals, or the list is the written one
 unfoldable pub ReadsFrom : Reader → Lot → ℕ → Type 0
 ReadsFrom (Generator state) lot k =
     (seed : ℕ) × (lot.source ≡ Seed seed)

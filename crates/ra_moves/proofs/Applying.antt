@@ -68,7 +68,7 @@ applied_more a b steps i s is made = rw (add-one, is, made) refl
 
 -- all at once
 
--- step by step is all at once, where no process is named twice
+-- step by step is all at once, if no process is named twice
 pub applied_at_once : (a : List Machine) (steps : List Step) → Distinct steps → ((j : ℕ) → j < length steps → process_in steps j < length a) → Applied steps a (applied a steps)
 unfolding applied
 applied_at_once a steps distinct known = record {

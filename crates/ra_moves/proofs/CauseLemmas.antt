@@ -71,7 +71,7 @@ pair_guarded i a0 a b steps s k both guarded needed = pair_told i (applied a ste
     (λ p of. (service_after i a0 a b steps s both guarded).each p of)
     (λ label. in_neighbourhood_alike i (applied a steps) (applied b steps) (need_of i s k) label (service_after i a0 a b steps (need_of i s k) both needed))
 
--- where one of two services moves both are guarded, and where none moves nothing breaks
+-- if one of two services moves, both are guarded, and if none moves, nothing breaks
 pub pair_same : (i : Tables) (a0 a b : List Machine) (steps : List Step) (s k : ℕ) → BothMove i a0 a b steps → s < service_count i → k < dependency_count i s → pair_dependency i (applied a steps) s k ≡ pair_dependency i (applied b steps) s k
 pair_same i a0 a b steps s k both known within = ⊎_elim
     (λ (moved : moves_service i steps s ≡ true). pair_guarded i a0 a b steps s k both (moved_guarded i steps s moved) (need_guarded i steps s k within moved))

@@ -23,7 +23,7 @@ use Rattle.ra_moves.specs.Weighing.{local_cost, local_change}
 use Rattle.ra_moves.proofs.StayLemmas.{tally_applied, use_same}
 use Rattle.ra_moves.proofs.AlikeLemmas.{same_on_after, use_alike}
 
--- sums change by as much, where each term is kept or is the same in both
+-- sums change by as much, if each term is kept or is the same in both
 pub total_agrees : (n : ℕ) (test : ℕ → Bool) (old_one new_one old_other new_other : ℕ → ℕ) → ((k : ℕ) → test k ≡ false → new_one k ≡ old_one k) → ((k : ℕ) → test k ≡ false → new_other k ≡ old_other k) → ((k : ℕ) → test k ≡ true → old_one k ≡ old_other k) → ((k : ℕ) → test k ≡ true → new_one k ≡ new_other k) → total n new_one + total n old_other ≡ total n new_other + total n old_one
 total_agrees n test old_one new_one old_other new_other one_kept other_kept old_same new_same = total_balance n new_one old_other new_other old_one (λ k within. ⊎_elim
     (λ (yes : test k ≡ true). omega (arith, old_same k yes, new_same k yes))
@@ -41,7 +41,7 @@ pub balance_stays : (i : Tables) (a : List Machine) (steps : List Step) (m : ℕ
 unfolding machine_balance
 balance_stays i a steps m limits move none = row_balance_same i m (use_of i (applied a steps) m) (use_of i a m) limits (λ r h. use_same i a steps m r move none)
 
--- where the machine holds the same processes they are the same
+-- if the machine holds the same processes, they are the same
 pub load_alike : (i : Tables) (a b : List Machine) (m : ℕ) → SameOn a b m → machine_load i a m ≡ machine_load i b m
 unfolding machine_load
 load_alike i a b m same = row_load_same i m (use_of i a m) (use_of i b m) (λ r h. use_alike i a b m r same)

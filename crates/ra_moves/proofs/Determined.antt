@@ -34,7 +34,7 @@ weighed_whole local other_local counts other_counts changes moved =
     ∙ ap (λ x. let w : Weighed = record { broken = None; local = other_local; first = other_counts 0; second = x; third = counts 2 } in w) (moved 1)
     ∙ ap (λ x. let w : Weighed = record { broken = None; local = other_local; first = other_counts 0; second = other_counts 1; third = x } in w) (moved 2)
 
--- where a cause is there, nothing else is told
+-- if a cause is there, nothing else is told
 weighed_as : (broken : Option Cause) (local other_local : ℤ) (counts other_counts : ℕ → Option MovedCount) → local ≡ other_local → ((k : ℕ) → counts k ≡ other_counts k) → weighed_by broken local counts ≡ weighed_by broken other_local other_counts
 unfolding weighed_by
 weighed_as None local other_local counts other_counts changes moved = weighed_whole local other_local counts other_counts changes moved

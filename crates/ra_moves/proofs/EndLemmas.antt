@@ -93,7 +93,7 @@ need_joined i s k within =
     let named = is_named_at (dependency_count i s) k (need_of i s) (need_of i s k) within refl in
     (or_left _ _ named, or_right _ _ named)
 
--- where one of two services moves, the other one is guarded too
+-- if one of two services moves, the other one is guarded too
 pub need_guarded : (i : Tables) (steps : List Step) (s k : ℕ) → k < dependency_count i s → moves_service i steps s ≡ true → guards_service i steps (need_of i s k) ≡ true
 need_guarded i steps s k within moved = joined_guarded i steps s (need_of i s k) moved (need_joined i s k within).0
 

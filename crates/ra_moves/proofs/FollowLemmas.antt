@@ -1,4 +1,4 @@
--- The steps of a move one after another, where no process is named twice and no step stays: what each needs.
+-- The steps of a move one after another, if no process is named twice and no step stays: what each needs.
 use Rattle.std.proofs.Common.{◌≡◌, ◌≢◌, ℕ, ◌<◌, List, length, None, eqb, sym, ap, ◌∙◌, arith, eq-eqb}
 use Rattle.std.proofs.lemmas.Bool.{both_ways}
 use Rattle.ra_base.specs.declared.ids.Machine.{Machine}
@@ -18,7 +18,7 @@ pub apart_from_none : (steps : List Step) → same_of steps ≡ None → (j : �
 unfolding same_of same_test
 apart_from_none steps none j within same = both_ways (eqb (from_in steps j) (to_in steps j)) (cause_none _ _ (first_none_at j (length steps) (same_test steps) within none)) (eq-eqb (from_in steps j) (to_in steps j) same)
 
--- what one of the steps needs, where those before it are done
+-- what one of the steps needs, if those before it are done
 pub record IsStep (i : Tables) (b : List Machine) (s : Step) : Type 0 where
   pub known : s.process.0 < process_count i
   pub reach : s.to.0 < machine_count i

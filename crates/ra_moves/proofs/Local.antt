@@ -119,7 +119,7 @@ closed_local i a0 a steps move fine = record {
   others = λ p within none. closed_told i a0 (applied a steps) a p (process_stays i a steps p move none) ∙ first_none_at p (process_count i) (closed_test i a0 a) within fine.closed;
 }
 
--- the failures of machines and of conflicts, where the ends are named by their numbers
+-- the failures of machines and of conflicts, if the ends are named by their numbers
 
 -- all together
 

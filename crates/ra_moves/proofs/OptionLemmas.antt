@@ -33,7 +33,7 @@ option_chain a x m d i p q r to is p_is q_is r_is to_is = rw (is, p_is, q_is, r_
 
 -- each step of an option leaves the machine of its process, and enters one of the machines
 
--- step j of these steps, where each machine of a is below m
+-- step j of these steps, if each machine of a is below m
 record Stepping (a : List Machine) (m : ℕ) (steps : List Step) (j : ℕ) : Type 0 where
   known : process_in steps j < length a
   at : machine_at a (process_in steps j) ≡ from_in steps j

@@ -1,4 +1,4 @@
--- No process is named twice exactly where the move isn't refused as Repeat.
+-- No process is named twice exactly if the move isn't refused as Repeat.
 use Rattle.std.proofs.Common.{◌≡◌, Bool, true, false, List, length, None, refl}
 use Rattle.std.proofs.lemmas.Bool.{both_ways}
 use Rattle.ra_base.specs.Sums.{is_named}

@@ -36,13 +36,13 @@ settled_whole broken rise cost is = rw is refl
 product_small : (a b : ℕ) → a < 2 ^ 32 → b < 2 ^ 32 → a * b < 2 ^ 64
 product_small a b a_small b_small = grind arith
 
--- where the local change is below zero
+-- if the local change is below zero
 pub fallen : (kept now after weight : ℕ) (local : ℤ) → local <ℤ pos 0 → pos 0 ≤ℤ settled_cost kept now after weight local → (unsigned_abs local + weight * now ≤ kept + weight * after) × (pos (kept + weight * after - (unsigned_abs local + weight * now)) ≡ settled_cost kept now after weight local)
 unfolding settled_cost
 fallen kept now after weight (pos n) below some = absurd (omega (arith, ints))
 fallen kept now after weight (negsuc n) below some = (omega (arith, ints), omega (arith, ints))
 
--- where it isn't
+-- if it isn't
 pub grown : (kept now after weight : ℕ) (local : ℤ) → pos 0 ≤ℤ local → pos 0 ≤ℤ settled_cost kept now after weight local → (weight * now ≤ kept + unsigned_abs local + weight * after) × (pos (kept + unsigned_abs local + weight * after - weight * now) ≡ settled_cost kept now after weight local)
 unfolding settled_cost
 grown kept now after weight (pos n) above some = (omega (arith, ints), omega (arith, ints))

@@ -44,7 +44,7 @@ tally_after n f a steps (suc k) few long stands distinct =
     let here = tally_step n f a steps k few long stands distinct in
     omega (arith, earlier, here, total_suc k (gone f steps), total_suc k (come f steps))
 
--- an assignment stays one, where each machine that is entered exists
+-- an assignment stays one, if each machine that is entered exists
 pub fits_after : (i : Tables) (a : List Machine) (steps : List Step) (k : ℕ) → k ≤ length steps → IsAssignment i a → StandsAt from_in steps a → ((j : ℕ) → j < length steps → to_in steps j < machine_count i) → IsAssignment i (after_steps a steps k)
 unfolding after_steps to_in
 fits_after i a steps zero few fits stands there = fits

@@ -15,7 +15,7 @@ use Rattle.ra_moves.specs.Moving.{IsMove, IsOffered}
 use Rattle.ra_moves.specs.Weighing.{weighed_of}
 use Rattle.ra_moves.specs.Alike.{HeldAlike}
 
--- a cause is found at a place below n only where a test of the place is true
+-- a cause is found at a place below n only if a test of the place is true
 pub record OnlyWhere (n : ℕ) (test : ℕ → Bool) (found : ℕ → Option Cause) : Type 0 where
   pub others : (k : ℕ) → k < n → test k ≡ false → found k ≡ None
 
@@ -30,7 +30,7 @@ pub record AreLocal (i : Tables) (a0 b : List Machine) (steps : List Step) : Typ
       → OnlyWhere (machine_count i) (ends_at steps) (conflict_test i b s)
   -- spread, for a service that moves
   pub spread : OnlyWhere (service_count i) (moves_service i steps) (spread_test i b)
-  -- dependency, for a service that moves or is joined with one, and where one of the two services moves
+  -- dependency, for a service that moves or is joined with one, and only if one of the two services moves
   pub dependency : OnlyWhere (service_count i) (guards_service i steps) (service_dependency i b)
   pub pair : (s k : ℕ) → s < service_count i → k < dependency_count i s
       → moves_service i steps s ≡ false → moves_service i steps (need_of i s k) ≡ false

@@ -8,7 +8,7 @@ use Rattle.ra_moves.specs.declared.steps.Step.{Step}
 use Rattle.ra_moves.specs.Steps.{from_in, to_in, StandsAt, Distinct}
 use Rattle.ra_moves.specs.Judging.{repeat_of}
 
--- a move of an assignment: each process is named once, stands on the machine that its step leaves, and enters a machine
+-- a move of an assignment: each process is named once, is on the machine that its step leaves, and enters a machine
 -- of the instance
 pub record IsMove (i : Tables) (a : List Machine) (steps : List Step) : Type 0 where
   pub fits : IsAssignment i a

@@ -82,13 +82,13 @@ unfoldable pub done_cost : Verdict → Option ℕ
 done_cost (Done cost) = Some cost
 done_cost (Refused cause) = None
 
--- the cost of option k, where it is judged Done
+-- the cost of option k, if it is judged Done
 unfoldable pub option_cost : Tables → List Machine → List Machine → List ℕ → Drawing → ℕ → ℕ
     → Option ℕ
 option_cost i a0 a x d allowed k =
     done_cost (judge i a0 a (option_at a x (machine_count i) d k).steps allowed)
 
--- the first option of least cost among those that are judged Done, and option 0 where there is none
+-- the first option of least cost among those that are judged Done, and option 0 if there is none
 unfoldable pub plan_place : Tables → List Machine → List Machine → List ℕ → Drawing → ℕ → ℕ
 plan_place i a0 a x d allowed =
     least_place (option_count x (machine_count i) d) (option_cost i a0 a x d allowed)

@@ -42,7 +42,7 @@ services_moved i steps (suc n) =
     if is_new_service i steps n then services_moved i steps n ++ service_in i steps n ∷ []
     else services_moved i steps n
 
--- the moved counts of service k of some, where there are as many
+-- the moved counts of service k of some, if there are as many
 unfoldable pub count_at : Tables → List Machine → List Machine → List Step → List ℕ → ℕ
     → Option MovedCount
 count_at i a0 a steps [] k = None
@@ -54,7 +54,7 @@ unfoldable pub changed_count : Tables → List Machine → List Machine → List
     → Option MovedCount
 changed_count i a0 a steps k = count_at i a0 a steps (services_moved i steps (length steps)) k
 
--- where a cause is there nothing else is told
+-- if a cause is there, nothing else is told
 unfoldable pub weighed_by : Option Cause → ℤ → (ℕ → Option MovedCount) → Weighed
 weighed_by None local counts =
     record { broken = None; local = local; first = counts 0; second = counts 1; third = counts 2 }

@@ -31,7 +31,7 @@ pub fn repeat_of(mv: &Move) -> Option<Cause>
     None
 }
 
-/// One step, where it names a process of an earlier step.
+/// One step, if it names a process of an earlier step.
 #[inline(always)]
 #[tactic(auto, unfolding(crate::specs::Judging::repeat_test, crate::specs::Steps::process_in, ra_model::specs::Broken::cause_if))]
 fn repeat_test(mv: &Move, j: u32) -> Option<Cause>
@@ -74,7 +74,7 @@ pub fn same_of(mv: &Move) -> Option<Cause>
     None
 }
 
-/// One step, where it leaves its process where it is.
+/// One step, if it leaves its process where it is.
 #[inline(always)]
 #[tactic(auto, unfolding(crate::specs::Judging::same_test, crate::specs::Steps::process_in, crate::specs::Steps::from_in, crate::specs::Steps::to_in, ra_model::specs::Broken::cause_if))]
 fn same_test(mv: &Move, j: u32) -> Option<Cause>

@@ -18,7 +18,7 @@ pub enum Verdict {
 /// What a move breaks or changes, which doesn't depend on the other services.
 #[derive(Clone, Copy, Debug, PartialEq, Eq)]
 pub struct Weighed {
-    /// The cause other than Rise for which the move is refused. Where there is one, `local` is 0 and no count is there.
+    /// The cause other than Rise for which the move is refused. If there is one, `local` is 0 and no count is there.
     pub broken: Option<Cause>,
     /// The change of load, balance, process and machine cost together.
     pub local: i128,
@@ -63,7 +63,7 @@ pub fn settle(
     }
 }
 
-/// The verdict on a move that breaks nothing: Rise, where the cost after it is above `kept`, the cost so far, by more
+/// The verdict on a move that breaks nothing: Rise, if the cost after it is above `kept`, the cost so far, by more
 /// than is allowed, and else Done.
 #[tactic(auto, using(crate::proofs::Settled::risen, crate::proofs::Settled::done))]
 pub fn by_rise(kept: u128, cost: u128, allowed: u64) -> Verdict

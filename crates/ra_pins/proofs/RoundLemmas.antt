@@ -206,7 +206,7 @@ more_if_some i a0 n some =
     (omega (arith, one_if_false (rounds i a0 n p) (not-true _ parts.1), one_if_true (rounds i a0 (suc n) p) after))
     (λ k h. one_if_order (rounds i a0 n k) (rounds i a0 (suc n) k) (λ e. ap (λ (f : ℕ → Bool). f k) (rounds_next i a0 n) ∙ rounds_only_add i a0 (rounds i a0 n) k e))
 
--- so many rounds flag as many processes, or add nothing more
+-- n rounds flag at least n processes, or add nothing more
 rounds_close : (i : Tables) (a0 : List Machine) (n : ℕ) → (n ≤ count (process_count i) (rounds i a0 n)) ⊎ IsClosed i a0 (rounds i a0 n)
 rounds_close i a0 zero = inl (omega arith)
 rounds_close i a0 (suc n) = ⊎_elim

@@ -283,7 +283,7 @@ pass_ends i a0 first s t n some all w = record {
   rests = λ q h. w.done q h (omega (arith, all));
 }
 
--- a process that is blocked from nowhere else to go, and isn't flagged, would look again
+-- a process that is blocked from every other machine is flagged, or else it would look again
 free_flag : (i : Tables) (a0 : List Machine) (s : Search) (t p : ℕ) → IsAssignment i a0 → IsSearch i a0 s → IsBefore i s t → Rests i a0 s t p → p < process_count i → stuck i a0 (flag_at s.flags.items) p ≡ true → flag_at s.flags.items p ≡ true
 unfolding looks_at
 free_flag i a0 s t p fits search before r h shut = true_from_ne_false _ (λ free.

@@ -200,7 +200,7 @@ between_sum i a0 m r e = tally_same (process_count i) (row_share i Transient m r
 between_nothing : (i : Tables) (a0 : List Machine) (m r : ℕ) → transient_at i r ≡ false → tally (process_count i) (row_share i Transient m r) a0 ≡ 0
 between_nothing i a0 m r e = tally_zero (process_count i) (row_share i Transient m r) a0 (λ z h. row_share_nothing i Transient m r z (machine_at a0 z) (takes_transient (transient_at i r) ∙ e))
 
--- where nothing is flagged
+-- if nothing is flagged
 pub kept_start : (i : Tables) (a0 : List Machine) (x : ℕ → Bool) (table : List ℕ) → ((z : ℕ) → z < process_count i → x z ≡ false) → IsTally i (process_count i) (row_share i Transient) a0 table → AreKept i a0 x table
 kept_start i a0 x table none sums = record {
   grid = sums.grid;
@@ -309,7 +309,7 @@ or_assoc : (a b c : Bool) → ((a || b) || c) ≡ (a || (b || c))
 or_assoc true b c = refl
 or_assoc false b c = refl
 
--- a process is blocked where the machine is closed, the table has too little room, or the machine is taken
+-- a process is blocked if the machine is closed, the table has too little room, or the machine is taken
 pub blocked_is : (i : Tables) (a0 : List Machine) (x : ℕ → Bool) (kept : List ℕ) (p m : ℕ) → AreKept i a0 x kept → blocked i a0 x p m ≡ (closed_at i m || (some_of (resource_count i) (overfull i kept p m) || taken i a0 x (service_of i p) m))
 unfolding blocked
 blocked_is i a0 x kept p m stands =

@@ -75,7 +75,7 @@ walked_set i a0 flags places p place walked come = record {
     place_set : (i : Tables) (a0 : List Machine) (flags : List Bool) (places : List ℕ) (p place : ℕ) → p < length places → HasCome i a0 flags p place → HasCome i a0 flags p (get_or (set places p place) p 0)
     place_set i a0 flags places p place within come = rw (get_or-set_same places p place 0 within) come
 
--- more flags: who has come to a place has come there still
+-- more flags: a process that has come to a place has still come there
 pub come_more : (i : Tables) (a0 : List Machine) (old new : List Bool) (p place : ℕ) → ((m : ℕ) → BelowAt i a0 m (flag_at old) (flag_at new)) → HasCome i a0 old p place → HasCome i a0 new p place
 unfolding blocked_at
 come_more i a0 old new p place below come = record {

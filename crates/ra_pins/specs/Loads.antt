@@ -16,15 +16,15 @@ takes All transient = true
 takes Transient transient = transient
 takes Others transient = not transient
 
--- what process p requires of resource r where that is meant
+-- what process p requires of resource r if that is meant
 unfoldable pub amount_in : Tables → Columns → ℕ → ℕ → ℕ
 amount_in i columns p r = if takes columns (transient_at i r) then requirement_of i p r else 0
 
--- what that is in row m, where the process is on machine `at`
+-- what that is in row m, if the process is on machine `at`
 unfoldable pub row_share : Tables → Columns → ℕ → ℕ → ℕ → ℕ → ℕ
 row_share i columns m r p at = if at == m then amount_in i columns p r else 0
 
--- in every cell that has come
+-- each cell has grown by that
 pub record AddsRow (i : Tables) (columns : Columns) (p at : ℕ) (old new : List ℕ) : Type 0 where
   pub each : (m r : ℕ) → r < resource_count i
       → cell (resource_count i) new m r
@@ -42,7 +42,7 @@ pub record IsTally (i : Tables) (n : ℕ) (share : ℕ → ℕ → ℕ → ℕ �
   pub each : (m r : ℕ) → r < resource_count i
       → cell (resource_count i) table m r ≡ tally n (share m r) a
 
--- what of resource r of machine m is used at all times: by all that start there where it is transient, else by those
+-- what of resource r of machine m is used at all times: by all that start there if it is transient, else by those
 -- that are flagged
 unfoldable pub kept_use : Tables → List Machine → (ℕ → Bool) → ℕ → ℕ → ℕ
 kept_use i a0 x m r = if transient_at i r then use_of i a0 m r else flagged_use i a0 x m r

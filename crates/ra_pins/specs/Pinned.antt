@@ -14,7 +14,7 @@ use Rattle.ra_model.specs.Services.{is_of}
 unfoldable pub some_of : ℕ → (ℕ → Bool) → Bool
 some_of n test = nat_lt 0 (count n test)
 
--- what process z, which starts on machine `at`, requires of resource r of machine m where it is flagged
+-- what process z, which starts on machine `at`, requires of resource r of machine m if it is flagged
 unfoldable pub flagged_share : Tables → (ℕ → Bool) → ℕ → ℕ → ℕ → ℕ → ℕ
 flagged_share i x m r z at = if x z && (at == m) then requirement_of i z r else 0
 
@@ -60,7 +60,7 @@ stuck i a0 x p = count (machine_count i) (is_open i a0 x p) == 0
 unfoldable pub round : Tables → List Machine → (ℕ → Bool) → ℕ → Bool
 round i a0 x p = x p || stuck i a0 x p
 
--- what is flagged after so many rounds, from no flags
+-- what is flagged after n rounds, from no flags
 unfoldable pub rounds : Tables → List Machine → ℕ → ℕ → Bool
 rounds i a0 zero = λ p. false
 rounds i a0 (suc n) = round i a0 (rounds i a0 n)

@@ -9,7 +9,7 @@ use Rattle.ra_model.specs.Assignments.{machine_at}
 use Rattle.ra_pins.specs.Pinned.{blocked}
 use Rattle.ra_pins.specs.PinLists.{flag_at}
 
--- the machine that is so many places after machine `home`, of so many in a circle
+-- the machine that is some places after machine `home`, of those in a circle
 unfoldable pub spot : ℕ → ℕ → ℕ → ℕ
 spot machines home place =
     if nat_lt (home + place) machines then home + place else (home + place) - machines
@@ -19,7 +19,7 @@ unfoldable pub overfull : Tables → List ℕ → ℕ → ℕ → ℕ → Bool
 overfull i kept p m r =
     nat_lt (capacity_of i m r) (cell (resource_count i) kept m r + requirement_of i p r)
 
--- whether process p is blocked from the machine that is so many places after its own
+-- whether process p is blocked from the machine that is some places after its own
 unfoldable pub blocked_at : Tables → List Machine → List Bool → ℕ → ℕ → Bool
 blocked_at i a0 flags p place =
     blocked i a0 (flag_at flags) p (spot (machine_count i) (machine_at a0 p) place)

@@ -12,7 +12,7 @@ use ra_base::{Fixed, Machine, Process, Resource, Service, Steps, read_cell};
 use ra_model::Instance;
 use std::sync::ledger::Ledger;
 
-/// Whether a process is blocked from another machine, where the marks of its service are set.
+/// Whether a process is blocked from another machine, if the marks of its service are set.
 pub(crate) fn is_blocked<L: Ledger>(
     inst: &Instance,
     kept: &Fixed<u64>,
@@ -102,7 +102,7 @@ fn exceeds<L: Ledger>(
     wants > cap || stays > cap - wants
 }
 
-/// The machine that is so many places after a home machine, in the circle of all machines.
+/// The machine that is `place` places after a home machine, in the circle of all machines.
 #[tactic(auto, unfolding(crate::specs::Walks::spot))]
 pub(crate) fn spot(home: Machine, place: u32, machines: u32) -> Machine
     requires home { home.0 < machines }

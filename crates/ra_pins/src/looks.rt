@@ -42,7 +42,7 @@ pub(crate) fn find_pinned<L: Ledger>(
     }
 }
 
-/// Lets each process look again, where it needs to, in the pass after pass `t`. Says whether one was flagged.
+/// Lets each process look again, if it needs to, in the pass after pass `t`. Says whether one was flagged.
 fn pass<L: Ledger>(
     inst: &Instance,
     a0: &Assignment,
@@ -70,8 +70,8 @@ fn pass<L: Ledger>(
     some
 }
 
-/// Lets a process look again where it isn't flagged, and the machine that it looked at has become fuller since. It goes
-/// on to the next machine from which it isn't blocked, and is flagged where there is none. Says whether it was.
+/// Lets a process look again if it isn't flagged, and the machine that it looked at has become fuller since. It goes on
+/// to the next machine from which it isn't blocked, and is flagged if there is none. Says whether it was.
 fn look<L: Ledger>(
     inst: &Instance,
     a0: &Assignment,
@@ -121,7 +121,7 @@ fn rests(inst: &Instance, search: &Search, p: Process, home: Machine, t: u32) ->
 }
 
 /// Lets a process go on from its place to the next one whose machine it isn't blocked from, and says how many places
-/// after its own that is, or how many machines there are where there is none.
+/// after its own that is, or how many machines there are if there is none.
 fn walk<L: Ledger>(
     inst: &Instance,
     a0: &Assignment,
@@ -154,7 +154,7 @@ fn walk<L: Ledger>(
     place
 }
 
-/// The next place from one on whose machine a process isn't blocked from, where the marks of its service are set.
+/// The next place from one on whose machine a process isn't blocked from, if the marks of its service are set.
 fn next_open<L: Ledger>(
     inst: &Instance,
     kept: &Fixed<u64>,

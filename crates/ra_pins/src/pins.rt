@@ -57,7 +57,7 @@ impl Model for Pins {
 }
 
 impl Pins {
-    /// Finds the pinned processes. A process is pinned where it is blocked from every other machine:
+    /// Finds the pinned processes. A process is pinned if it is blocked from every other machine:
     /// the machine is closed, or the pinned processes that start there leave too little of some
     /// resource, or all that start there leave too little of some transient resource, or a pinned
     /// process of the same service starts there. So one that is pinned may pin others, round after

@@ -16,7 +16,7 @@ use std::sync::ledger::{Blank, Ledger};
 pub(crate) struct Search {
     /// For each process whether it is flagged: it is known to stay.
     pub(crate) flags: Fixed<bool>,
-    /// By machine, then resource: what is used at all times, by all that start there where the resource is transient,
+    /// By machine, then resource: what is used at all times, by all that start there if the resource is transient,
     /// else by the flagged ones.
     pub(crate) kept: Fixed<u64>,
     /// For each process how many places after its own machine it has come, in the circle of all machines: it is blocked

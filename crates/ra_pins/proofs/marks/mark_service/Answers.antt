@@ -1,4 +1,4 @@
--- The marks after the stamp, and where no process of the service is flagged.
+-- The marks after the stamp, and the case that no process of the service is flagged.
 use Rattle.std.proofs.Common.{◌+◌, ◌<◌, length, arith}
 use Rattle.ra_pins.proofs.MarkLemmas.{seated, marks_after, stamped_after, stamped_free, flag_read}
 use Rattle.ra_pins.proofs.marks.mark_service.Goals as goal

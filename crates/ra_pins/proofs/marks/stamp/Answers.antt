@@ -1,4 +1,4 @@
--- One process more is stamped, where it is flagged.
+-- One process more is stamped, if it is flagged.
 use Rattle.std.proofs.Common.{refl, arith, get_or}
 use Rattle.ra_model.specs.Members.{member_at}
 use Rattle.ra_pins.specs.Marks.{is_seat}
