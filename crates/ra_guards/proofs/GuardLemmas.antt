@@ -174,7 +174,7 @@ meets_written i steps others k within meets apart =
     both_ways (moves_service i others u.0) (apart.each (guard.Service u) (service_guard i steps u ∙ service)) (is_named_at (length others) k (service_in i others) u.0 within refl))
     (or_cases _ _ meets)
 
--- so the moves are apart exactly where no step writes a guard
+-- so the moves are apart exactly if no step writes a guard
 pub apart_all : (i : Tables) (steps others : List Step) (n : ℕ) → n ≡ length others → NoneMeets i steps others n → (true ≡ true) ↔ Apart i steps others
 apart_all i steps others n all none =
     let every : NoneMeets i steps others (length others) = rw all at none in

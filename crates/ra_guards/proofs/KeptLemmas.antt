@@ -118,7 +118,7 @@ same_guard (guard.Machine m) (guard.Service s) = inr (λ same. absurd (cc))
 same_guard (guard.Service s) (guard.Machine m) = inr (λ same. absurd (cc))
 same_guard (guard.Service s) (guard.Service t) = ⊎_elim (λ (same : s.0 ≡ t.0). inl (ap (λ (k : ℕ). guard.Service (record { 0 = k })) same)) (λ (apart : s.0 ≢ t.0). inr (λ same. apart (service_number s t same))) (cases_eq s.0 t.0)
 
--- no version is above n after a guard was set to at most n, where none was before
+-- no version is above n after a guard was set to at most n, if none was before
 pub still_at_most : (a b : VersionTable) (g : Guard) (x newest n : ℕ) → IsSet a b g x → AreAtMost newest a → newest ≤ n → x ≤ n → AreAtMost n b
 still_at_most a b g x newest n change most old new h = ⊎_elim
     (λ same. omega (arith, ap (version_in b) same, change.set, new))

@@ -1,4 +1,4 @@
--- What the first newer guard is: in a table of the versions, where there is none, and where no write guard is newer.
+-- What the first newer guard is: in a table of the versions, if there is none, and if no write guard is newer.
 use Rattle.std.proofs.Common.{◌≡◌, ◌↔◌, ℕ, ◌-◌, ◌<◌, ◌≤◌, Bool, true, false, cond, ◌&&◌, ltb, List, All, length, get_or, Option, Some, None, sym, ap, ap₂, ◌∙◌, ⊎_elim, arith, lit<}
 use Rattle.std.proofs.lemmas.Bool.{cases_lt, cases_Bool, both_ways, or_left, or_cases, ltb-true}
 use Rattle.std.proofs.lemmas.List.{get_or_past}
@@ -126,7 +126,7 @@ touched_sized i before after guards version sized touched = record { machines = 
 
 pub ruleset had = (writes_had, zero_sized, touched_sized)
 
--- there is none exactly where no guard has a version above q
+-- there is none exactly if no guard has a version above q
 
 none_at : (i : Tables) (test : Guard → Bool) (v : Guard → ℕ) (q : ℕ) (g : Guard) → IsKnown i g → first_that i test v q ≡ None → newer_at test v q g ≡ None
 unfolding first_that IsKnown

@@ -1,4 +1,4 @@
--- The guards of a move are untouched exactly where the move is apart from all that was made since.
+-- The guards of a move are untouched exactly if the move is apart from all that was made since.
 use Rattle.std.proofs.Common.{◌≡◌, ℕ, suc, ◌+◌, ◌<◌, ◌≤◌, true, false, List, Option, Some, None, refl, ap, ◌∙◌, ⊎_elim, arith}
 use Rattle.std.proofs.lemmas.Bool.{cases_Bool, cases_lt, cond-true, cond-false, false_from_ne_true}
 use Rattle.ra_base.specs.declared.ids.Guard.{Guard}
@@ -28,7 +28,7 @@ pub touches_done : (i : Tables) (made : List (Option (List Step))) (g : Guard) (
 unfolding touches
 touches_done i made g j others is = ap (λ (m : Option (List Step)). touches i m g) is
 
--- what is made touches no guard where it is apart
+-- what is made touches no guard if it is apart
 touches_apart : (i : Tables) (steps : List Step) (g : Guard) (m : Option (List Step)) → ((others : List Step) → m ≡ Some others → Apart i steps others) → is_guard i steps g ≡ true → touches i m g ≡ false
 unfolding touches
 touches_apart i steps g None apart guarded = refl

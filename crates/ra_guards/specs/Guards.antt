@@ -1,4 +1,4 @@
--- The guards of a move: the machines and services on which its verdict stands (this project's).
+-- The guards of a move: the machines and services on which its verdict rests (this project's).
 use Rattle.std.specs.Prelude.{ℕ, ◌<◌, List, length, Bool, false, ◌||◌}
 use Rattle.ra_base.specs.declared.ids.Guard.{Guard}
 use Rattle.ra_base.specs.declared.ids.Guard.TheVariants as guard

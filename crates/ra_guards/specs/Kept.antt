@@ -14,7 +14,7 @@ unfoldable pub HasGuard : VersionTable → Guard → Type 0
 HasGuard v (guard.Machine m) = m.0 < length v.machines
 HasGuard v (guard.Service s) = s.0 < length v.services
 
--- the version of a guard in a table, and 0 where the table doesn't have it
+-- the version of a guard in a table, and 0 if the table doesn't have it
 unfoldable pub version_in : VersionTable → Guard → ℕ
 version_in v (guard.Machine m) = slice_index_or v.machines m.0 0
 version_in v (guard.Service s) = slice_index_or v.services s.0 0
@@ -23,7 +23,7 @@ version_in v (guard.Service s) = slice_index_or v.services s.0 0
 abbrev pub AreAtMost : ℕ → VersionTable → Type 0
 AreAtMost n v = (g : Guard) → version_in v g ≤ n
 
--- a table for so many machines and services, with each version 0
+-- a table for these numbers of machines and services, with each version 0
 pub record AreZero (machines services : ℕ) (v : VersionTable) : Type 0 where
   pub count_machines : length v.machines ≡ machines
   pub count_services : length v.services ≡ services

@@ -14,7 +14,7 @@ use Rattle.ra_guards.specs.Guards.{writes}
 use Rattle.ra_guards.specs.Order.{IsKnown, number_in, guard_of}
 
 -- the number of the first guard of the instance that passes a test and has a version above q, and the number of all its
--- guards where there is none
+-- guards if there is none
 pub record IsFirstNumber (i : Tables) (test : Guard → Bool) (v : Guard → ℕ) (q n : ℕ) : Type 0 where
   pub within : n ≤ machine_count i + service_count i
   pub least : (g : Guard) → IsKnown i g → test g ≡ true → q < v g
@@ -31,7 +31,7 @@ pub record IsLower (i : Tables) (v : Guard → ℕ) (q : ℕ) (among : Guard →
       (n ≡ before) ⊎
       ((g : Guard) × among g × IsKnown i g × (q < v g) × (n ≡ number_in (machine_count i) g))
 
--- the less of two numbers, where the version of the second is above q
+-- the lesser of two numbers, if the version of the second is above q
 unfoldable pub lowered : ℕ → ℕ → ℕ → ℕ → ℕ
 lowered version q n before = if nat_lt q version then min before n else before
 

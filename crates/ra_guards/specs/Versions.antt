@@ -16,12 +16,12 @@ unfoldable pub touches : Tables → Option (List Step) → Guard → Bool
 touches i None g = false
 touches i (Some steps) g = writes i steps g
 
--- one more than place j, where the entry there touches a guard
+-- one more than place j, if the entry there touches a guard
 unfoldable pub stamp : Tables → List (Option (List Step)) → Guard → ℕ → ℕ
 stamp i made g j = if touches i (made_at made j) g then suc j else 0
 
--- the version of a guard after the first n entries: one more than the place of the last that touches it, and 0 where
--- none does
+-- the version of a guard after the first n entries: one more than the place of the last that touches it, and 0 if none
+-- does
 unfoldable pub version : Tables → List (Option (List Step)) → ℕ → Guard → ℕ
 version i made n g = greatest n (stamp i made g)
 

@@ -1,5 +1,5 @@
-//! The least number of a move's guards with a newer version. Machine m has the number m, and service s stands s behind
-//! the machines.
+//! The least number of a move's guards with a newer version. Machine m has the number m, and service s the machine
+//! count plus s.
 ghost use Rattle.std.specs.Prelude.{◌≡◌, ℕ, ◌+◌, ◌<◌, ◌≤◌, length, All};
 ghost use Rattle.ra_model.specs.Numbers.{machine_count, service_count};
 ghost use Rattle.ra_topology.specs.Fits.{IsTopologyOf};
@@ -15,7 +15,7 @@ use ra_model::Instance;
 use ra_moves::Move;
 use ra_topology::Topology;
 
-/// The least number of a guard with a version above q, and the number of all guards where there is none.
+/// The least number of a guard with a version above q, and the number of all guards if there is none.
 #[tactic(auto, using(crate::proofs::LowestLemmas::written_none, crate::proofs::LowestLemmas::written_more))]
 pub(crate) fn least_guard(
     topo: &Topology,
@@ -127,7 +127,7 @@ fn lower_listed(
     least
 }
 
-/// The less of a number and that of a service, where it is newer and isn't moved.
+/// The lesser of a number and that of a service, if it is newer and isn't moved.
 fn lower_service(
     inst: &Instance,
     mv: &Move,
@@ -154,7 +154,7 @@ fn lower_service(
     }
 }
 
-/// The less of a number and that of a guard, where the guard's version is above q.
+/// The lesser of a number and that of a guard, if the guard's version is above q.
 #[tactic(auto, unfolding(crate::specs::Lowest::lowered))]
 fn lower(versions: &Versions, q: u64, guard: Guard, number: u32, before: u32) -> u32
     requires { HasGuard versions.now guard }

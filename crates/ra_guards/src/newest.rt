@@ -45,8 +45,8 @@ pub fn first_newer(
     newer_of(inst, versions, least_guard(topo, inst, mv, versions, q))
 }
 
-/// The first, in guard order, of a move's guards that aren't write guards, that has a version above q. Its time is as
-/// that of `first_newer`.
+/// The first, in guard order, of a move's guards that aren't write guards, that has a version above q. It takes the
+/// time of `first_newer`.
 #[tactic(auto, using(crate::proofs::LowestLemmas::first_read_is, crate::proofs::LowestLemmas::first_read_none))]
 pub fn first_newer_read(
     topo: &Topology,

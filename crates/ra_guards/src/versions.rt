@@ -7,7 +7,7 @@ use ra_model::copies;
 use std::alloc::Global;
 use std::marker::Model;
 
-/// The version of each guard: one more than the place of the last entry that touched it, and 0 where none did. Contracts
+/// The version of each guard: one more than the place of the last entry that touched it, and 0 if none did. Contracts
 /// see the versions of the machines and those of the services.
 pub struct Versions {
     machines: Fixed<u64>,
@@ -40,7 +40,7 @@ impl Model for Versions {
 }
 
 impl Versions {
-    /// Versions for so many machines and services, all 0.
+    /// Versions for these numbers of machines and services, all 0.
     pub fn make(alloc: Global, machines: u32, services: u32) -> Result<Versions, NoMemory>
         ensures { IfOk result (AreZero machines services) }
     {

@@ -185,7 +185,8 @@ module _ (o : Opening) (h : List Entry) (g : Guard) (known : IsKnown o.inst.tabl
   pub touched_stamp : (j : ℕ) → TouchedAt touched_by h j → stamp i (made_in h) g j ≡ suc j
   touched_stamp j t = stamp_touched i (made_in h) g j (same_touch j ∙ (ap touched_by (get_entry h j t.0 t.1) ∙ t.2))
 
-  -- where only worker w's entries touch it from a place on that isn't behind q, and all of these stand before q, its version is at most q
+  -- if only worker w's entries touch it from a place on that isn't behind q, and all of these are before q, its version
+  -- is at most q
   pub held_version : (w q v : ℕ) → v ≤ q → OnlyBy touched_by (λ (e : Entry). e.worker) w h v → ((j : ℕ) → j < length h → (entry_at h j).worker ≡ w → j < q) → version i (made_in h) (length h) g ≤ q
   unfolding version
   held_version w q v le only before = greatest_least (length h) q (stamp i (made_in h) g) (λ j lt. ⊎_elim
@@ -196,7 +197,7 @@ module _ (o : Opening) (h : List Entry) (g : Guard) (known : IsKnown o.inst.tabl
       (λ (untouched : touches i (made_at (made_in h) j) g ≡ false). omega (arith, stamp_untouched i (made_in h) g j untouched))
       (cases_Bool (touches i (made_at (made_in h) j) g)))
 
-  -- where an entry at place q or later touches a write guard of a move, some guard of it is newer
+  -- if an entry at place q or later touches a write guard of a move, some guard of it is newer
   pub newer_there : (q v : ℕ) (steps : List Step) → WellFormed i → AreWithin i steps → writes i steps g ≡ true → q < v → v - 1 < length h → TouchedAt touched_by h (v - 1) → newer_since i h q steps ≡ None → ⊥
   unfolding version is_guard
   newer_there q v steps limits within written above inside t none =
@@ -204,7 +205,7 @@ module _ (o : Opening) (h : List Entry) (g : Guard) (known : IsKnown o.inst.tabl
       let most = greatest_at (length h) (v - 1) (stamp i (made_in h) g) inside in
       omega (arith, touched_stamp (v - 1) t)
 
--- no write guard of a move was touched since place q, where all are held and the worker's own entries stand before q
+-- no write guard of a move was touched since place q, if all are held and the worker's own entries are before q
 pub are_held : (o : Opening) (h : List Entry) (w q : ℕ) (steps : List Step) (grips : List Grip) → WellFormed o.inst.tables → AreWithin o.inst.tables steps → HoldsWrites o.inst.tables steps q grips
     → ShutBy entry_touches o (λ (e : Entry). e.worker) w h grips → ((j : ℕ) → j < length h → (entry_at h j).worker ≡ w → j < q) → AreHeld o.inst.tables h q steps
 are_held o h w q steps grips limits within holds shut before = record {

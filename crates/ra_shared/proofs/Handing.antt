@@ -50,7 +50,7 @@ use Rattle.ra_shared.proofs.Agree.{touches_agree, none_before, of_place}
 use Rattle.ra_shared.proofs.Gripping.{holds_touched}
 use Rattle.ra_shared.proofs.Own.{later_commit}
 
--- the entry that is added where no guard is newer
+-- the entry that is added if no guard is newer
 
 module _ (i : Tables) (a0 : List Machine) (l : Lots) (h : List Entry) (w : ℕ) (plan : Plan) (commit : IsCommit i a0 l h w plan) where
   abbrev pub added : Entry
@@ -157,7 +157,8 @@ refused_holds o e cause grips is guard touched =
     let none : entry_touches o e guard ≡ false = ap (λ (made : Option (List Step)). touches_number o.inst.tables made guard) (refused_makes_none e cause is) ∙ none_touched o.inst.tables guard in
     absurd (let clash : true ≡ false = sym touched ∙ none in cc clash)
 
--- what may be given back of a plan whose move breaks a constraint: its entry touches nothing, so no guard is held for it
+-- what may be given back of a plan whose move breaks a constraint: its entry touches nothing, so no guard is held for
+-- it
 pub may_give_refused : (o : Opening) (h xs : List Entry) (w : ℕ) (plan : Plan) (grips : List Grip) (cause : Cause) → IsStartOf o → IsLegalSeen o h → IsCommitOf o h w plan → plan.weighed.broken ≡ Some cause
     → xs ≡ (committed_in o h w plan.q).journal → MayGive o grips w h xs
 may_give_refused o h xs w plan grips cause start legal commit broken is = ⊎_elim

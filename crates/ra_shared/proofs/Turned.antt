@@ -69,7 +69,7 @@ turned_refused o p w v u h found xs plan kept cause opened number worker here st
     let gives : MayGive o kept w h xs = may_give_refused o h xs w plan kept cause start' legal' commit broken (is ∙ ap₂ (λ (x : Opening) (n : ℕ). (committed_in x h n plan.q).journal) opened worker) in
     subst (λ (ys : List Entry). MayGive o kept v ys xs) (sym here) (subst (λ (n : ℕ). MayGive o kept n h xs) (sym number) gives)
 
--- what is given back where a write guard was newer
+-- what is given back if a write guard was newer
 pub turned_stale : (o p : Opening) (w u : ℕ) (h found xs : List Entry) (plan : Plan) (g : Guard) (version : ℕ) → p ≡ o → u ≡ w → found ≡ h → IsStartOf p → IsLegalSeen p h → IsCommitOf o h w plan
     → writes o.inst.tables plan.mv.steps g ≡ true → plan.q < version → IsNews entry_touches o found (grip (number_of o.inst.tables g) version) → xs ≡ (committed_in p h u plan.q).journal → xs ≡ found
 turned_stale o p w u h found xs plan g version opened worker here start legal commit written above news is =

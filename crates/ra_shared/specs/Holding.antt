@@ -27,7 +27,8 @@ use Rattle.ra_shared.specs.Shares.{start_of, IsCommitted}
 abbrev pub number_at : Tables → List Guard → ℕ → ℕ
 number_at i guards k = number_of i (guard_at guards k)
 
--- the first k guards of a list are held, each at a version of at most q, and all guards that are held come before the rest
+-- the first k guards of a list are held, each at a version of at most q, and all guards that are held come before the
+-- rest
 pub record HoldsFirst (i : Tables) (guards : List Guard) (q k : ℕ) (grips : List Grip) : Type 0
   where
     pub count : length grips ≡ k
@@ -40,7 +41,8 @@ pub record HoldsWrites (i : Tables) (steps : List Step) (q : ℕ) (grips : List 
   pub each : (g : Guard) → writes i steps g ≡ true
       → (v : ℕ) × (v ≤ q) × Contains grips (grip (number_of i g) v)
 
--- the version of a write guard of a move behind an answer: the number of entries where the move was done, and else what it was before
+-- the version of a write guard of a move after an answer: the number of entries if the move was done, and else what it
+-- was before
 unfoldable pub then_version : Option Reply → ℕ → ℕ → ℕ
 then_version (Some (Recorded at (Done cost))) version seen = seen
 then_version _ version seen = version
@@ -73,11 +75,13 @@ module _ {g : Ghosts Book Entry Opening} where
     pub above : plan.q < version
     pub told : WillSee p (number_of i guard) version
 
-  -- No guard need be held to hand in the plan: its move breaks a constraint, so its entry touches nothing, or it will be found stale
+  -- No guard need be held to hand in the plan: its move breaks a constraint, so its entry touches nothing, or it will
+  -- be found stale
   abbrev pub NeedsNoGuard : Tables → Plan → Pass Book Entry Opening g → Type 0
   NeedsNoGuard i plan p = ((cause : Cause) × (plan.weighed.broken ≡ Some cause)) ⊎ IsNewer i plan p
 
-  -- What is known of the guards that are given to hand in the plan: they are the write guards of its move, and the pass holds each. If none are given, none need be held
+  -- What is known of the guards that are given to hand in the plan: they are the write guards of its move, and the pass
+  -- holds each. If none are given, none need be held
   abbrev pub KnowsGuards : Tables → Plan → Pass Book Entry Opening g → Option (List Guard) → Type 0
   KnowsGuards i plan p (Some guards) =
       AreWrites i plan.mv.steps guards × HoldsWrites i plan.mv.steps plan.q (grips_of p)

@@ -31,7 +31,8 @@ module _ {g : Ghosts Book Entry Opening} where
   abbrev pub HasTakenTurn : Pass Book Entry Opening g → Pass Book Entry Opening g → Type 0
   HasTakenTurn p q = (worker_of q ≡ worker_of p) × (turns_left q + 1 ≡ turns_left p)
 
-  -- A pass of these between two calls: it has no turn and holds no guard, it knows which entries it has made, and what it has seen is a legal journal
+  -- A pass of these between two calls: it has no turn and holds no guard, it knows which entries it has made, and what
+  -- it has seen is a legal journal
   pub record IsAtRest (s : Shared) (p : Pass Book Entry Opening g) : Type 0 where
     pub ready : IsReady s.turn p
     pub free : grips_of p ≡ []
@@ -51,8 +52,9 @@ module _ {g : Ghosts Book Entry Opening} where
     pub rest : IsAtRest s p
     pub number : p.number ≡ n
 
--- Worker w, which had seen and made these entries, has handed in its next proposal, planned at place q: there was a history in which all that it had made stood,
--- and this is what it answered. The worker has now seen what the history became, and has made what was added
+-- Worker w, which had seen and made these entries, has handed in its next proposal, planned at place q: there was a
+-- history in which all that it had made stood, and this is what it answered. The worker has now seen what the history
+-- became, and has made what was added
 pub record IsCommitted (o : Opening) (w q : ℕ) (seen mine seen' mine' : List Entry) (reply : Reply)
     : Type 0 where
   pub history : List Entry

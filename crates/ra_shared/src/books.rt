@@ -14,8 +14,8 @@ pub struct Opening {
     pub lots: Lots,
 }
 
-/// A journal as the value behind a lock: its notes are its entries. It lies in a block of its own, so that a turn moves its
-/// address alone.
+/// A journal as the value behind a lock: its notes are its entries. It lies in a block of its own, so that a turn moves
+/// its address alone.
 #[derive(Drop)]
 pub struct Book<'a> {
     pub(crate) journal: Box<Journal<'a>>,

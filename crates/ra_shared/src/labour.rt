@@ -6,7 +6,7 @@ use std::thread;
 use std::thread::Threads;
 
 /// A worker's whole run over what all workers share, `C`.
-/// The loop of a run stands in `labour` itself, which may call what `C` offers.
+/// The loop of a run is in `labour` itself, which may call what `C` offers.
 pub trait Labour<C> {
     /// The worker may run.
     ghost able: { C → Self → Type 0 };

@@ -8,9 +8,9 @@ use ra_journal::Reply;
 use ra_model::Instance;
 use ra_moves::Verdict;
 
-/// How many numbers of the lock come before the first guard's, and are no guard's. The lock's words lie side by side, those
-/// of guards behind three others: so 64 bytes or more lie between the last of these and the first guard's, and no guard's
-/// word shares a line with a ticket's.
+/// How many numbers of the lock come before the first guard's, and are no guard's. The lock's words lie side by side,
+/// those of guards behind three others: so 64 bytes or more lie between the last of these and the first guard's, and no
+/// guard's word shares a line with a ticket's.
 pub(crate) const FIRST_NUMBER: u32 = 7;
 
 /// The number of a guard in the lock: behind `FIRST_NUMBER`, machine m has m, and service s the machine count plus s.
@@ -25,8 +25,8 @@ pub(crate) fn number_of(inst: &Instance, guard: Guard) -> u32
     }
 }
 
-/// The version of a write guard behind an answer, which it had at `version` before: the number of entries that were seen,
-/// where the move was done.
+/// The version of a write guard after an answer, with `version` before it: the number of entries that were seen if the
+/// move was done, and else what it was before.
 #[tactic(auto, unfolding(crate::specs::Holding::then_version))]
 pub(crate) fn then_version(reply: &Option<Reply>, version: u64, seen: u64) -> u64
     ensures { result ≡ then_version reply.now version seen }

@@ -87,9 +87,9 @@ impl<'a> Shared<'a> {
         number
     }
 
-    /// Hands in a plan in one turn: the worker's next proposal is recorded, judged at the state after all entries, unless
-    /// a guard of its move was touched since it was planned. It holds the write guards of the move meanwhile. For a plan
-    /// whose move breaks a constraint it holds none, since its entry touches nothing.
+    /// Hands in a plan in one turn: the worker's next proposal is recorded, judged at the state after all entries,
+    /// unless a guard of its move was touched since it was planned. It holds the write guards of the move meanwhile.
+    /// For a plan whose move breaks a constraint it holds none, since its entry touches nothing.
     pub fn commit<R: Wait>(&self, rt: &R, pass: &mut WorkerPass<'a>, plan: &Plan) -> Reply
         requires rest { IsAtRest self.now pass.old }
         requires left { 0 < turns_left pass.old }
@@ -111,7 +111,7 @@ impl<'a> Shared<'a> {
         }
     }
 
-    /// Holds the write guards from place k on, hands the plan in, and gives these guards back. `None` where one of them is
+    /// Holds the write guards from place k on, hands the plan in, and gives these guards back. `None` if one of them is
     /// newer than the plan; then it has held none for longer, and the plan is not handed in.
     fn commit_from<R: Wait>(
         &self,

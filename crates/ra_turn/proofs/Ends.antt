@@ -254,7 +254,7 @@ module _ {V N O : Type 0} (opening : V → O) (notes : V → List N) (author : N
             (locks_view author touches o guards c.history r.guard_words s.views i v both r.locks at refl refl (λ h. h) (r.locks.news i v at)) at' empty' refl refl;
       }
 
-  -- where one idle seat has every number, the slot is at home, and its value stands for what the seat knows
+  -- if one idle seat has every number, the slot is at home, and its value stands for what the seat knows
   pub ends : (i : ℕ) (v : Sight N O) (ws : List ℕ) (xs : List (Option V)) → v.stage ≡ Idle → Covers passes v → Final (Seen Rule i v) ws xs
       → (x : V) × (get_elem? xs 0 ≡ some (Some x)) × (opening x ≡ o) × All (Stands author (notes x)) (v.own ∷ v.joined) × All (λ n. author n < passes) (notes x)
   ends i v ws xs stage covers final =

@@ -50,7 +50,7 @@ module _ {V N O : Type 0} (opening : V → O) (notes : V → List N) (author : N
       (slot_stays opening notes author passes turns o c.history c.serving s.homes s.views i v w at (subst (λ (x : Stage). ¬ HasSlot x) (sym stage) (λ h. h)) k.slot)
       mine (λ j u ne e. k.each j u e)
 
-  -- an even word tells of a note, where it isn't 0
+  -- an even word tells of a note, if it isn't 0
   heard_even : (history : List N) (guard word p : ℕ) (latch : Latch) (news : List Grip) → Latched (touching touches o guard) author history word latch → word ≡ 2 * p
       → All (IsNews touches o history) news → All (IsNews touches o history) (at_version guard p news)
   heard_even history guard word zero latch news l even all = all

@@ -15,12 +15,12 @@ module _ {V N O : Type 0} (opening : V → O) (notes : V → List N) (author : N
   abbrev Rule : Scene N → List ℕ → State (Option V) (Sight N O) → Type 0
   Rule = Kept opening notes author passes turns o
 
-  -- a ticket stands where its seat gets another view with the same ticket
+  -- a ticket stays with its seat if that gets another view with the same ticket
   pub waits_stay : (c : Scene N) (gs : List ℕ) (s : State (Option V) (Sight N O)) (i : ℕ) (v w : Sight N O) → Rule c gs s → get_elem? s.views i ≡ some v → ((t : ℕ) → AtTicket t v → AtTicket t w)
       → (t : ℕ) → c.serving ≤ t → t < c.ticket → (u : Sight N O) × AtTicket t u × (get_elem? (set s.views i w) (c.queue t) ≡ some u)
   waits_stay c gs s i v w k at has t from below = stands_at (AtTicket t) s.views i v w (c.queue t) at (has t) (k.waits t from below)
 
-  -- the seat i goes from v to w, and what the others know stands
+  -- the seat i goes from v to w, and what the others know stays true
   pub moved : (c c' : Scene N) (gs gs' : List ℕ) (s : State (Option V) (Sight N O)) (i : ℕ) (v w : Sight N O) (ws : List ℕ) (homes : List (maybe.Option (Option V)))
       → Kept opening notes author passes turns o c gs s → get_elem? s.views i ≡ some v
       → ws ≡ c'.ticket ∷ c'.serving ∷ length c'.history ∷ gs'
@@ -48,7 +48,7 @@ module _ {V N O : Type 0} (opening : V → O) (notes : V → List N) (author : N
         (λ h. others j u h.0 h.1) (at_set s.views i j w u e);
   }
 
-  -- where a seat that hasn't the slot gets another view, the slot stays where it is
+  -- if a seat that hasn't the slot gets another view, the slot stays where it is
   pub slot_stays : (history : List N) (serving : ℕ) (homes : List (maybe.Option (Option V))) (views : List (Sight N O)) (i : ℕ) (v w : Sight N O)
       → get_elem? views i ≡ some v → ¬ HasSlot v.stage → Slot opening notes author passes turns o history serving homes views → Slot opening notes author passes turns o history serving homes (set views i w)
   slot_stays history serving homes views i v w at not slot = ⊎_elim (λ h. inl h) (λ h. inr (

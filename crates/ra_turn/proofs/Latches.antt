@@ -99,7 +99,7 @@ module _ {N O : Type 0} (author : N → ℕ) (touches : O → N → ℕ → Bool
   news_longer : (xs ys : List N) → IsPrefix xs ys → (k : Grip) → IsNews touches o xs k → IsNews touches o ys k
   news_longer xs ys p k h = (h.0, touched_longer (touching touches o k.guard) xs ys (k.version - 1) p h.1)
 
-  -- a latch stands where a note is added by who holds each guard that it touches
+  -- a latch stays right if a note is added by a pass that holds each guard that it touches
   latched_more : (history : List N) (n : N) (guard word : ℕ) (latch : Latch) (i : ℕ) (number : ℕ) → author n ≡ number
       → (touches o n guard ≡ true → (v : ℕ) × (latch ≡ taken i number v)) → Latched (touching touches o guard) author history word latch
       → (b : Bool) → touches o n guard ≡ b → Latched (touching touches o guard) author (history ++ n ∷ []) word latch
@@ -134,7 +134,7 @@ module _ {N O : Type 0} (author : N → ℕ) (touches : O → N → ℕ → Bool
       (ap free same, subst (λ (z : ℕ). IsVersion (touching touches o guard) history z) same l.1)
   latch_free history guard word p (taken j number q) l even = absurd (let a = l.0 in omega arith)
 
-  -- one guard's word and latch change, and another's stand
+  -- one guard's word and latch change, and another's stay
   latch_changes : (history : List N) (words : List ℕ) (latch : ℕ → Latch) (guard word : ℕ) (new : Latch) → length words ≡ guards → guard < guards
       → ((g : ℕ) → g < guards → Latched (touching touches o g) author history (slice_index words g) (latch g))
       → Latched (touching touches o guard) author history word new
@@ -151,7 +151,7 @@ module _ {N O : Type 0} (author : N → ℕ) (touches : O → N → ℕ → Bool
       subst (λ (z : ℕ). Latched (touching touches o g) author history z (cond (g == guard) new (latch g))) (sym there)
       (subst (Latched (touching touches o g) author history (slice_index words g)) (sym kept) (shows g lt))))
 
-  -- a grip of another guard stands
+  -- a grip of another guard stays
   held_else : (latch : ℕ → Latch) (guard : ℕ) (new : Latch) (i number : ℕ) (k : Grip) → k.guard ≢ guard → Gripped latch i number k → Gripped (λ g. cond (g == guard) new (latch g)) i number k
   held_else latch guard new i number k ne h = (h.0, ap (λ (b : Bool). cond b new (latch k.guard)) (ne_eqb k.guard guard ne) ∙ h.1)
 

@@ -1,4 +1,4 @@
--- Beginnings of lists, the notes by one number, and sums where one element changes.
+-- Beginnings of lists, the notes by one number, and sums of which one element changes.
 use Rattle.std.proofs.Common.{◌≡◌, ◌≢◌, ℕ, zero, suc, ◌+◌, ◌==◌, ◌⊎◌, ◌≤◌, ◌<◌, Bool, true, false, cond, List, [], ◌∷◌, ◌++◌, length, drop, set, All, sum_by, filter, refl, ap, sym, subst, ◌∙◌, inl, inr, ne_eqb, eq-eqb, arith, append_assoc}
 use Rattle.std.proofs.Math.Seq.{drop-append_seam}
 use Rattle.std.proofs.lemmas.List.{append-nil}
@@ -32,7 +32,7 @@ module _ {A : Type 0} where
   at_below (x ∷ xs) zero b e = omega arith
   at_below (x ∷ xs) (suc j) b e = omega (arith, at_below xs j b e)
 
-  -- what the element at a place has, it has where one element changes and keeps it
+  -- what the element at a place has, it still has if one element changes and keeps it
   pub stands_at : (P : A → Type 0) (l : List A) (i : ℕ) (v w : A) (j : ℕ) → get_elem? l i ≡ some v → (P v → P w)
       → (u : A) × P u × (get_elem? l j ≡ some u) → (u : A) × P u × (get_elem? (set l i w) j ≡ some u)
   stands_at P l i v w j at has g =
@@ -41,7 +41,7 @@ module _ {A : Type 0} where
       (w, has (subst P same g.1), ap (get_elem? (set l i w)) e ∙ set_here l i w (at_below l i v at))))
       (λ ne. (g.0, g.1, set_else l i j w ne ∙ g.2))
 
-  -- a sum where one element changes
+  -- a sum of which one element changes
   pub sum_changes : (f : A → ℕ) (l : List A) (i : ℕ) (v w : A) → get_elem? l i ≡ some v → sum_by f (set l i w) + f v ≡ sum_by f l + f w
   sum_changes f [] i v w e = absurd (some-ne-none v (sym e))
   sum_changes f (x ∷ xs) zero v w e =

@@ -1,4 +1,5 @@
--- What the rule of the table refuses, whatever a step tells its seat: a guard that stays taken without a holder, and a turn that isn't passed on.
+-- What the rule of the table refuses, whatever a step tells its seat: a guard that stays taken without a holder, and a
+-- turn that isn't passed on.
 use Rattle.std.proofs.Common.{◌≡◌, ℕ, ◌+◌, ◌*◌, ◌==◌, ◌<◌, Bool, true, not, List, set, slice_index, All, Contains, refl, ap, sym, subst, ◌∙◌, ⊎_elim, eq-eqb, arith, Option}
 use Rattle.std.proofs.lemmas.List.Elements.{All-contains}
 use mathlib.Core.Option.{some}

@@ -1,4 +1,4 @@
--- What follows from where a seat stands.
+-- What follows from how far a seat is in its turn.
 use Rattle.std.proofs.Common.{◌≤◌, arith}
 use Rattle.ra_turn.specs.declared.sight.Stage.{Stage}
 use Rattle.ra_turn.specs.declared.sight.Stage.TheVariants.{Maker, Spent, Idle, Drawn, Called, InTurn, Counted}

@@ -267,7 +267,7 @@ module _ {V N O : Type 0} (opening : V → O) (notes : V → List N) (author : N
       × looked (step slots 1 0 0 none) m (get_or ws 1 0) (w', carried_after m.1 a) in
       subst P (sym r.kept.words) (looks_at slots i m s stage r at (r.scene.serving == m.0.at) refl)
 
-  -- the note counts are below the bound where a ticket is served
+  -- the note counts are below the bound while a ticket is served
   pub few_notes : (c : Scene N) (gs : List ℕ) (s : State (Option V) (Sight N O)) (i : ℕ) (v : Sight N O) → Base c gs s → get_elem? s.views i ≡ some v → IsServed v.stage → c.serving < passes * turns
   few_notes c gs s i v k at sv =
       let kv = k.each i v at in let t = kv.ticket (served_ticket v.stage sv) in let e = kv.served sv in

@@ -32,21 +32,21 @@ module _ {A : Type 0} where
   kept_some true y ys e h = omega arith
   kept_some false y ys e h = cc e
 
-  -- where no element passes, none that stands there does
+  -- if no element of a list passes, none at a place of it does
   pub filter_none : (test : A → Bool) (xs : List A) (k : ℕ) (x : A) → length (filter test xs) ≡ 0 → slice_get xs k ≡ Some x → test x ≡ true → ⊥
   filter_none test [] k x none e pass = cc e
   filter_none test (y ∷ xs) zero x none e pass = kept_some (test y) y (filter test xs) (let same : y ≡ x = cc e in ap test same ∙ pass) none
   filter_none test (y ∷ xs) (suc k) x none e pass = filter_none test xs k x (fewer (test y) y (filter test xs) none) e pass
 
 module _ {N : Type 0} (author : N → ℕ) where
-  -- where what was seen has all notes of the number, the rest has none
+  -- if what was seen has all notes of the number, the rest has none
   pub none_later : (number : ℕ) (xs rest mine : List N) → by author number xs ≡ mine → by author number (xs ++ rest) ≡ mine → length (by author number rest) ≡ 0
   none_later number xs rest mine seen all =
       let test : N → Bool = λ x. author x == number in
       let parts : filter test xs ++ filter test rest ≡ mine = sym (filter-append test xs rest) ∙ all in
       let a = ap length parts in let b = length-append (filter test xs) (filter test rest) in let c = ap length seen in omega arith
 
-  -- where no note is by a number from `given` on, each author is below a bound that isn't below `given`
+  -- if no note is by a number from `given` on, each author is below a bound that isn't below `given`
   pub all_below : (bound given : ℕ) (xs : List N) → given ≤ bound → ((n : ℕ) → given ≤ n → by author n xs ≡ []) → All (λ x. author x < bound) xs
   all_below bound given xs le none k d lt =
       let x : N = slice_index_or xs k d in
@@ -88,7 +88,8 @@ module _ {N : Type 0} (touched : N → Bool) where
     quiet = λ k x ge e. is.quiet k x ge (subst (λ (zs : List N). slice_get zs k ≡ Some x) p.1 (get_front xs p.0 k x e));
   }
 
-  -- Where only the number's notes touch the guard from v on, and all of its notes are seen, the version in what was seen is that of the history
+  -- If only the number's notes touch the guard from v on, and all of its notes are seen, the version in what was seen
+  -- is that of the history
   pub version_whole : (author : N → ℕ) (number : ℕ) (xs ys mine : List N) (v w : ℕ) → IsPrefix xs ys → by author number xs ≡ mine → by author number ys ≡ mine
       → v ≤ length xs → OnlyBy touched author number ys v → IsVersion touched xs w → IsVersion touched ys w
   version_whole author number xs ys mine v w p told all le only is =
@@ -114,7 +115,7 @@ module _ {N : Type 0} (touched : N → Bool) where
     quiet = λ k x ge e. ⊎_elim (λ h. is.quiet k x ge h) (λ h. ap touched (sym (get_last n x h.0 h.2).1) ∙ away) (get_cases xs (n ∷ []) k x e);
   }
 
-  -- one note more, which is by the number where it touches the guard
+  -- one note more, which is by the number if it touches the guard
   pub only_more : (author : N → ℕ) (number : ℕ) (xs : List N) (n : N) (v : ℕ) → (touched n ≡ true → author n ≡ number) → OnlyBy touched author number xs v → OnlyBy touched author number (xs ++ n ∷ []) v
   only_more author number xs n v its only k x ge e t = ⊎_elim (λ h. only k x ge h t)
       (λ h. (let same : n ≡ x = (get_last n x h.0 h.2).1 in ap author (sym same) ∙ its (ap touched same ∙ t)))
@@ -130,7 +131,8 @@ module _ {N : Type 0} (touched : N → Bool) where
       (λ le. ⊎_elim (λ lt. absurd (not_above xs w v is' is lt)) (λ le'. omega arith) (cases_lt w v))
       (cases_lt v w)
 
-  -- A version past what was seen, whose note is there, is the version where from there on only the number's notes touch the guard and all of its notes were seen
+  -- A version past what was seen, whose note is there, is the version if from there on only the number's notes touch
+  -- the guard and all of its notes were seen
   pub version_past : (author : N → ℕ) (number : ℕ) (xs ys mine : List N) (v : ℕ) → IsPrefix xs ys → by author number xs ≡ mine → by author number ys ≡ mine
       → length xs < v → TouchedAt touched ys (v - 1) → OnlyBy touched author number ys v → IsVersion touched ys v
   version_past author number xs ys mine v p seen all past last only =

@@ -21,7 +21,8 @@ module _ {S N O : Type 0} where
       × KeepsNews (view m).news (view m').news
 
 module _ {N O : Type 0} (author : N → ℕ) (touches : O → N → ℕ → Bool) where
-  -- The view v is that after the answer. Held: the guard is held besides, at a version of at most the one asked for. Newer: the view was told of a version above, and holds what it held
+  -- The view v is that after the answer. Held: the guard is held besides, at a version of at most the one asked for.
+  -- Newer: the view was told of a version above, and holds what it held
   abbrev pub IsAnswerAt : ℕ → ℕ → List Grip → Sight N O → Hold → Type 0
   IsAnswerAt guard asked grips v (Held at) =
       (at ≤ asked) × (v.grips ≡ grips ++ grip guard at ∷ []) × IsShut author touches v

@@ -12,7 +12,8 @@ use Rattle.ra_turn.specs.Notes.{by}
 use Rattle.ra_turn.specs.Stages.{IsLive, IsPass, HasTicket, IsServed, HasSlot, counted_by}
 use Rattle.ra_turn.specs.Locks.{Locks}
 
--- What all seats are measured by: the words, the history, and two maps, from a ticket and from a pass's number to the seat that has it
+-- What all seats are measured by: the words, the history, and two maps, from a ticket and from a pass's number to the
+-- seat that has it
 pub record Scene (N : Type 0) : Type 0 where
   pub ticket : ℕ
   pub serving : ℕ
@@ -24,7 +25,8 @@ pub record Scene (N : Type 0) : Type 0 where
 abbrev pub left_of : {N O : Type 0} → Sight N O → ℕ
 left_of v = v.left
 
--- What the seat i knows of a number: its `seen` begins the history, and its notes are those of the history by the number
+-- What the seat i knows of a number: its `seen` begins the history, and its notes are those of the history by the
+-- number
 pub record Fits {N : Type 0} (author : N → ℕ) (history : List N) (given : ℕ) (owner : ℕ → ℕ) (i : ℕ)
     (p : Part N) : Type 0 where
   pub below : p.number < given
@@ -48,10 +50,10 @@ pub record IsMakers {N O : Type 0} (passes turns given i t : ℕ) (v : Sight N O
   pub numbers : v.at ≡ given
   pub left : v.left + given * t ≡ passes * t
 
--- What the seat i knows, where its view is v
+-- What the seat i knows, if its view is v
 pub record Knows {V N O : Type 0} (author : N → ℕ) (passes turns : ℕ) (o : O) (c : Scene N)
     (homes : List (maybe.Option (Option V))) (i : ℕ) (v : Sight N O) : Type 0 where
-  -- where it is the maker's seat
+  -- if it is the maker's seat
   pub maker : (t : ℕ) → v.stage ≡ Maker t → IsMakers passes turns c.given i t v
   pub opened : IsLive v.stage → v.opened ≡ Some o
   pub parts : IsPass v.stage → All (Fits author c.history c.given c.owner i) (v.own ∷ v.joined)
@@ -85,13 +87,14 @@ module _ {V N O : Type 0} (opening : V → O) (notes : V → List N) (author : N
       ((x : V) × AtHome opening notes o history serving homes x)
       ⊎ ((j : ℕ) × (v : Sight N O) × OutWith history serving homes views j v)
 
-  -- The words stand for the scene, and behind them stand the guards' words
+  -- The words stand for the scene, and behind them are the guards' words
   pub record Kept (c : Scene N) (guard_words : List ℕ) (s : State (Option V) (Sight N O)) : Type 0
     where
       pub words : s.words ≡ c.ticket ∷ c.serving ∷ length c.history ∷ guard_words
       pub order : c.serving ≤ c.ticket
       pub turns_left : c.ticket + sum_by left_of s.views ≤ passes * turns
-      -- each ticket from the serving word to the ticket word less one stands in the view of its seat, so no ticket is lost before the next one is served
+      -- each ticket from the serving word to the ticket word less one stands in the view of its seat, so no ticket is
+      -- lost before the next one is served
       pub waits : (t : ℕ) → c.serving ≤ t → t < c.ticket
           → (v : Sight N O) × AtTicket t v × (get_elem? s.views (c.queue t) ≡ some v)
       pub numbers : c.given ≤ passes

@@ -55,7 +55,8 @@ module _ {N O : Type 0} (touches : O → N → ℕ → Bool) (o : O) where
   HoldsAll grips n =
       (guard : ℕ) → touches o n guard ≡ true → (v : ℕ) × Contains grips (grip guard v)
 
-  -- while a pass of the number holds these guards, no note of another touches one of them from the version on at which it was taken
+  -- while a pass of the number holds these guards, no note of another touches one of them from the version on at which
+  -- it was taken
   abbrev pub ShutBy : (N → ℕ) → ℕ → List N → List Grip → Type 0
   ShutBy author number xs grips =
       All (λ k. OnlyBy (touching touches o k.guard) author number xs k.version) grips

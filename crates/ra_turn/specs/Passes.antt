@@ -85,14 +85,16 @@ module _ {V N O : Type 0} {g : Ghosts V N O} where
     pub made : made_by p ≡ []
     pub grips : grips_of p ≡ []
 
-  -- The notes xs are those that the pass has seen, or these and one more by its number, of which it holds each guard that it touches
+  -- The notes xs are those that the pass has seen, or these and one more by its number, of which it holds each guard
+  -- that it touches
   abbrev pub MayFollow : O → Pass V N O g → List N → Type 0
   MayFollow o p xs =
       (xs ≡ seen_by p)
       ⊎ ((n : N) × (xs ≡ seen_by p ++ n ∷ []) × (g.author n ≡ p.number)
       × HoldsAll g.touches o (grips_of p) n)
 
-  -- Of the guards that the pass holds, no note of another pass that it has seen touches one, from the version on at which it was taken
+  -- Of the guards that the pass holds, no note of another pass that it has seen touches one, from the version on at
+  -- which it was taken
   abbrev pub Shut : Turn V N O → Pass V N O g → Type 0
   Shut t p = ShutBy g.touches (opening_of g.opening t) g.author p.number (seen_by p) (grips_of p)
 
@@ -148,8 +150,8 @@ module _ {V N O : Type 0} {g : Ghosts V N O} where
         Contains ((view s.me).own ∷ (view s.me).joined) (view p.seat.me).own)
         ps
 
-  -- Where `Turn::hold` answers Held: the pass holds the guard besides, at a version of at most the one asked for. It is the guard's version in what the pass
-  -- has seen, where that reaches so far, and the next take shows the note before it
+  -- If `Turn::hold` answers Held: the pass holds the guard besides, at a version of at most the one asked for. It is
+  -- the guard's version in what the pass has seen, if that reaches so far, and the next take shows the note before it
   pub record IsGripped (t : Turn V N O) (p q : Pass V N O g) (guard asked at : ℕ) : Type 0 where
     pub within : at ≤ asked
     pub grips : grips_of q ≡ grips_of p ++ grip guard at ∷ []
@@ -157,7 +159,8 @@ module _ {V N O : Type 0} {g : Ghosts V N O} where
     pub version : at ≤ length (seen_by q) → HasVersion t q guard at
     pub news : 0 < at → WillSee q guard at
 
-  -- where it answers Newer: the guard's version was above the one asked for, the pass holds what it held, and the next take shows the note before the version
+  -- if it answers Newer: the guard's version was above the one asked for, the pass holds what it held, and the next
+  -- take shows the note before the version
   pub record IsNewer (p q : Pass V N O g) (guard asked at : ℕ) : Type 0 where
     pub above : asked < at
     pub grips : grips_of q ≡ grips_of p

@@ -1,4 +1,4 @@
--- Where a seat stands.
+-- How far a seat is in its turn.
 use Rattle.std.specs.Prelude.{ℕ}
 use Rattle.ra_turn.specs.declared.sight.Stage.{Stage}
 use Rattle.ra_turn.specs.declared.sight.Stage.TheVariants.{Maker, Spent, Drawn, Called, InTurn, Counted}

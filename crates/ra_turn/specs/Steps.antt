@@ -16,7 +16,8 @@ abbrev pub turns_of : Stage → ℕ
 turns_of (Maker turns) = turns
 turns_of _ = 0
 
--- the versions that a pass was told of, after a look at the guard's word: 0 tells of no note, and an odd word of no version
+-- the versions that a pass was told of, after a look at the guard's word: 0 tells of no note, and an odd word of no
+-- version
 abbrev pub at_version : ℕ → ℕ → List Grip → List Grip
 at_version guard zero ks = ks
 at_version guard (suc v) ks = grip guard (suc v) ∷ ks
@@ -101,7 +102,7 @@ module _ {V N O : Type 0} where
       → Type 0
   peeked s m n m' = (m' ≡ m) × (n < 2 ^ 62)
 
-  -- a ticket is drawn exactly where the word was as expected, and is the word that was found
+  -- a ticket is drawn exactly if the word was as expected, and is the word that was found
   abbrev pub drawn : Step (Option V) → Me (Option V) (Sight N O) → ℕ → Me (Option V) (Sight N O)
       → Type 0
   drawn s m n m' = MatchBool (n == s.first) (m' ≡ (with_ticket (view m) n, slots m)) (m' ≡ m)
@@ -111,7 +112,7 @@ module _ {V N O : Type 0} where
       → Type 0
   queued s m n m' = m' ≡ (with_ticket (view m) n, slots m)
 
-  -- it is its turn exactly where the word is its ticket
+  -- it is its turn exactly if the word is its ticket
   abbrev pub looked : Step (Option V) → Me (Option V) (Sight N O) → ℕ → Me (Option V) (Sight N O)
       → Type 0
   looked s m n m' =
@@ -136,7 +137,7 @@ module _ {V N O : Type 0} where
       (m' ≡ (with_grips (view m) ((view m).grips ++ grip guard v ∷ []), slots m))
       × IsShut author touches (view m') × IsCurrent touches (view m') guard v
 
-  -- the guard is taken exactly where the word was as expected, which is twice its version
+  -- the guard is taken exactly if the word was as expected, which is twice its version
   abbrev pub gripped : (N → ℕ) → (O → N → ℕ → Bool) → Step (Option V) → Me (Option V) (Sight N O)
       → ℕ → Me (Option V) (Sight N O) → Type 0
   gripped author touches s m n m' = MatchBool (n == s.first)
@@ -156,7 +157,8 @@ module _ {V N O : Type 0} where
       (guard : ℕ) → s.word ≡ 3 + guard → Gave author touches m m' guard
 
 module _ {V N O : Type 0} (opening : V → O) (notes : V → List N) (author : N → ℕ) where
-  -- the value in the slot: its opening, and its notes, which begin with those seen and have of the pass's own just those that it made
+  -- the value in the slot: its opening, and its notes, which begin with those seen and have of the pass's own just
+  -- those that it made
   pub record Shows (m : Sight N O) (n : ℕ) (x : V) : Type 0 where
     pub opened : m.opened ≡ Some (opening x)
     pub seen : IsPrefix m.own.seen (notes x)

@@ -45,7 +45,7 @@ fn look<V: Story>(desk: &Desk<V>, seat: &mut Place<V>, guard: u32) -> u64
     desk.load::<Glance>(seat, FIRST_GUARD + guard as usize)
 }
 
-/// Takes the guard where its word is still that of a free one, and says whether it did.
+/// Takes the guard if its word is still that of a free one, and says whether it did.
 fn grasp<V: Story>(desk: &Desk<V>, seat: &mut Place<V>, guard: u32, word: u64) -> bool
     requires table { (seat.old.table_id ≡ desk.now.table_id) ×
         IsSized desk.now.table_id desk.now.key }
@@ -60,7 +60,7 @@ fn grasp<V: Story>(desk: &Desk<V>, seat: &mut Place<V>, guard: u32, word: u64) -
     desk.compare_exchange::<Grasp>(seat, place, free, free + 1) == free
 }
 
-/// Looks once, and takes the guard where it is free and has at most the version. `None` where another pass has it.
+/// Looks once, and takes the guard if it is free and has at most the version. `None` if another pass has it.
 fn try_hold<V: Story>(desk: &Desk<V>, seat: &mut Place<V>, guard: u32, version: u64) -> Option<Hold>
     requires table { (seat.old.table_id ≡ desk.now.table_id) ×
         IsSized desk.now.table_id desk.now.key }

@@ -1,7 +1,7 @@
 //! The table of the lock and its rule.
 //! Word 0 is the next ticket, word 1 the ticket that is served, word 2 the number of notes.
-//! Word 3 + g is that of the guard g: twice its version while no pass holds it, and else one more than twice the version at which it was taken.
-//! Slot 0 holds the value.
+//! Word 3 + g is that of the guard g: twice its version while no pass holds it, and else one more than twice the
+//! version at which it was taken. Slot 0 holds the value.
 use crate::sight::Sight;
 use crate::story::Story;
 use atomic_table::{Seat, Shared, Table, TableRule};

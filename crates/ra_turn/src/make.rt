@@ -16,7 +16,8 @@ use std::alloc::Global;
 use std::snapshot::Snapshot;
 
 impl<V: Story> Turn<V> {
-    /// A lock round `value` with that many passes, of so many turns each, and guards. At `Err` the value was dropped.
+    /// A lock round `value` with these numbers of passes, of turns for each of them, and of guards. At `Err` the value
+    /// was dropped.
     pub fn make(
         alloc: Global,
         value: V,

@@ -71,7 +71,8 @@ impl<V: Story> Drop for Pass<V> {
     }
 }
 
-/// The value, while a pass is in its turn. It has no `Drop` and a field of its own, so it can't be let go: only `Turn::give` takes it.
+/// The value, while a pass is in its turn. It has no `Drop` and a field of its own, so it can't be let go: only
+/// `Turn::give` takes it.
 pub struct Held<V> {
     /// The value behind the lock.
     pub value: V,

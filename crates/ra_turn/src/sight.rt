@@ -1,4 +1,4 @@
-//! What a seat at the table knows. No value of these types is made: they stand in proofs alone.
+//! What a seat at the table knows. No value of these types is made: they are for proofs alone.
 use std::collections::LinkedList;
 
 /// What is known of one pass's number.
@@ -19,7 +19,7 @@ pub struct Grip {
     pub version: u64,
 }
 
-/// Where a seat stands.
+/// How far a seat is in its turn.
 pub enum Stage {
     /// The first seat, from which the passes are cut, and how many turns each of them gets.
     Maker(u64),
@@ -41,7 +41,7 @@ pub enum Stage {
 pub struct Sight<N, O> {
     /// The opening of the value.
     pub opened: Option<O>,
-    /// Where it stands.
+    /// How far it is in its turn.
     pub stage: Stage,
     /// Its ticket, or of the maker's seat how many numbers were given.
     pub at: u64,

@@ -22,7 +22,7 @@ const COUNT: usize = 2;
 /// How often a pass looks for a turn that is free before it queues up.
 const LOOKS: usize = 1_000;
 
-/// Draws the next ticket where the ticket word is the one given, and says whether it did.
+/// Draws the next ticket if the ticket word is the one given, and says whether it did.
 fn try_draw<V: Story>(desk: &Desk<V>, seat: &mut Place<V>, ticket: u64) -> bool
     requires table { (seat.old.table_id ≡ desk.now.table_id) ×
         IsSized desk.now.table_id desk.now.key }
@@ -47,7 +47,7 @@ fn queue<V: Story>(desk: &Desk<V>, seat: &mut Place<V>) -> u64
     desk.fetch_add::<Queue>(seat, TICKET, 1)
 }
 
-/// Draws a ticket, and returns it. It looks first, and draws where the ticket would be served at once: so nobody waits
+/// Draws a ticket, and returns it. It looks first, and draws if the ticket would be served at once: so nobody waits
 /// behind a worker that has drawn one and doesn't run. After `LOOKS` looks that found others in their turns it queues
 /// up, so that its turn comes after those that are before it then.
 pub(crate) fn draw<V: Story>(desk: &Desk<V>, seat: &mut Place<V>) -> u64

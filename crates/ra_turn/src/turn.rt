@@ -47,8 +47,8 @@ impl<V: Story> Turn<V> {
         Held { value, taken: () }
     }
 
-    /// Gives the value back, whose notes are those that the pass has seen, or these and one more of its own, of which it
-    /// holds each guard that it touches.
+    /// Gives the value back, whose notes are those that the pass has seen, or these and one more of its own, of which
+    /// it holds each guard that it touches.
     pub fn give(&self, pass: &mut Pass<V>, held: Held<V>)
         requires pass { IsPassOf self.now pass.old × IsInTurn pass.old }
         requires opening { V.opening held.value ≡ opening_of V.opening self.now }
@@ -71,8 +71,8 @@ impl<V: Story> Turn<V> {
         }
     }
 
-    /// Takes a guard for the pass, where its version is at most the one given; no note of another pass then touches it.
-    /// Where the version is above, the guard isn't taken, and the pass's next take shows the note that made it so.
+    /// Takes a guard for the pass, if its version is at most the one given; no note of another pass then touches it. If
+    /// the version is above, the guard isn't taken, and the pass's next take shows the note that made it so.
     pub fn hold<R: Wait>(&self, rt: &R, pass: &mut Pass<V>, guard: u32, version: u64) -> Hold
         requires pass { IsReady self.now pass.old }
         requires guard { (guard < guards_of self.now) ×
