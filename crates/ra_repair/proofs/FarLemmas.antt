@@ -1,4 +1,4 @@
--- The failing triples of dependencies, counted by neighbourhood: what one process that moves can change of them.
+-- The processes that lack one that they need, counted by neighbourhood: what one process that moves can change of that.
 use Rattle.std.proofs.Common.{◌≡◌, ◌≢◌, ℕ, ◌+◌, ◌*◌, ◌^◌, ◌<◌, Bool, true, false, cond, eqb, ◌||◌, ◌&&◌, List, set, sym, refl, ap, ◌∙◌, ⊎_elim, arith, zero-mul, mul-zero, mul_comm, eq-eqb, ne_eqb}
 use Rattle.std.proofs.lemmas.Bool.{cases_Bool, cond-true, cond-false, eqb-true, eqb-false, or_parts, both_ways, and_left, and_right}
 use Rattle.ra_base.specs.Sums.{total, count, one_if}
@@ -16,7 +16,7 @@ use Rattle.ra_repair.specs.Touched.{is_missing, missing_near, is_link, links, le
 
 -- over plain functions: n u x is how many of u are in x
 
--- those of u in x, where none of v is there
+-- those of u in x, if none of v is there
 pub alone : (ℕ → ℕ → ℕ) → ℕ → ℕ → ℕ → ℕ
 alone n u v x = cond (eqb (n v x) 0) (n u x) 0
 
@@ -24,7 +24,7 @@ alone n u v x = cond (eqb (n v x) 0) (n u x) 0
 pub is_tied : ℕ → ℕ → ℕ → Bool
 is_tied s u v = eqb u s || eqb v s
 
--- the same where that is so
+-- the same if that is so
 pub tied : (ℕ → ℕ → ℕ) → ℕ → ℕ → ℕ → ℕ → ℕ
 tied n s u v x = cond (is_tied s u v) (alone n u v x) 0
 
@@ -73,7 +73,7 @@ all_change c m d need n f s x y x_in y_in apart differ =
     let both = total_balance c (row_alone m d need f) (λ u. row_tied d need n s x u + row_tied d need n s y u) (row_alone m d need n) (λ u. row_tied d need f s x u + row_tied d need f s y u) (λ u h. row_change m d need n f s u x y x_in y_in apart differ) in
     omega (arith, old, new, both)
 
--- where all counts are the same, so is the sum
+-- if all counts are the same, so is the sum
 all_same : (c m : ℕ) (d : ℕ → ℕ) (need n f : ℕ → ℕ → ℕ) → ((u z : ℕ) → f u z ≡ n u z) → total c (row_alone m d need f) ≡ total c (row_alone m d need n)
 all_same c m d need n f same = total_same c (row_alone m d need f) (row_alone m d need n) (λ u h. total_same (d u) (λ k. total m (alone f u (need u k))) (λ k. total m (alone n u (need u k))) (λ k j. total_same m (alone f u (need u k)) (alone n u (need u k)) (λ z l. alone_same n f u (need u k) z (same u z) (same (need u k) z))))
 
@@ -105,7 +105,7 @@ other_row d need n s u x apart =
     let each = total_same (d u) (λ k. tied n s u (need u k) x) (λ k. one_if (eqb (need u k) s) * alone n u s x) (λ k h. other_tied n s u (need u k) x apart) in
     each ∙ total_times_right (d u) (alone n u s x) (λ k. one_if (eqb (need u k) s))
 
--- the part of another u in x, where none of s is there
+-- the part of another u in x, if none of s is there
 abbrev pub other_part : (ℕ → ℕ) → (ℕ → ℕ → ℕ) → (ℕ → ℕ → ℕ) → ℕ → ℕ → ℕ → ℕ
 other_part d need n s x u = cond (eqb u s) 0 (count (d u) (λ k. eqb (need u k) s) * n u x)
 
@@ -163,7 +163,7 @@ full_share i a s v x p some = ⊎_elim
     (λ (is : eqb (neighbourhood_of i (machine_at a p)) x ≡ false). rw is refl)
     (cases_Bool (eqb (neighbourhood_of i (machine_at a p)) x))
 
--- the failing triples of a dependency, by the label of the neighbourhood
+-- the processes for which a dependency fails, by the label of the neighbourhood
 labelled : (i : Tables) (a : List Machine) (s : ℕ) (v m x : ℕ) → total (process_count i) (λ p. cond (eqb (neighbourhood_of i (machine_at a p)) x) (one_if (is_of i s p && eqb (in_neighbourhood i a v (neighbourhood_of i (machine_at a p))) 0)) 0) ≡ alone (in_neighbourhood i a) s v x
 unfolding alone
 labelled i a s v m x = ⊎_elim
@@ -193,7 +193,7 @@ far_is : (i : Tables) (a : List Machine) (s x : ℕ) → s < service_count i →
 unfolding far_near all_alone left_alone links is_link missing_near is_missing
 far_is i a s x within = tied_is (service_count i) (dependency_count i) (need_of i) (in_neighbourhood i a) s x within
 
--- counts in neighbourhoods, where process p of service s goes from a neighbourhood x to y
+-- counts in neighbourhoods, if process p of service s goes from a neighbourhood x to y
 in_set : (i : Tables) (a : List Machine) (p : ℕ) (to : Machine) (u z : ℕ) → IsAssignment i a → p < process_count i → in_neighbourhood i (set a p to) u z + one_if (is_of i u p && eqb (neighbourhood_of i (machine_at a p)) z) ≡ in_neighbourhood i a u z + one_if (is_of i u p && eqb (neighbourhood_of i to.0) z)
 unfolding in_neighbourhood of_service
 in_set i a p to u z fits within = members_set i a p to u (λ q at. eqb (neighbourhood_of i at) z) fits within
@@ -236,6 +236,6 @@ far_changed m i a p to small fits within known =
     omega (arith, old, new, change, before, after, far_is i a s x known, far_is i a s y known, far_is i (set a p to) s x known, far_is i (set a p to) s y known))
     (cases_Bool (eqb x y))
 
--- the change of the failing triples
+-- the change of how many processes lack one that they need
 pub far_set : (i : Tables) (a : List Machine) (p : ℕ) (to : Machine) → Small i → IsAssignment i a → p < process_count i → service_of i p < service_count i → dependency_penalty i (set a p to) + far_between i a (service_of i p) (neighbourhood_of i (machine_at a p)) (neighbourhood_of i to.0) ≡ dependency_penalty i a + far_between i (set a p to) (service_of i p) (neighbourhood_of i (machine_at a p)) (neighbourhood_of i to.0)
 far_set i a p to small fits within known = far_changed (2 ^ 32) i a p to small.neighbourhoods fits within known

@@ -29,7 +29,7 @@ keeps_on kept now i a0 stands is = record {
   penalty_is = is;
 }
 
--- the penalty after a step: what was kept, with what is touched after it in the stead of what was before
+-- the penalty after a step: what was kept, with what is touched after it in place of what was before
 pub record Renews (i : Tables) (a0 b : List Machine) (now before after : ℕ) : Type 0 where
   pub fits : now + after < 2 ^ 128
   pub enough : before ≤ now + after

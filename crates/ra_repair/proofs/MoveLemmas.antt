@@ -26,7 +26,7 @@ steps_from i a steps stand reach none = record {
   reach = reach;
 }
 
--- what one of the steps needs, where those before it are done
+-- what one of the steps needs, if those before it are done
 pub step_of : (i : Tables) (a b : List Machine) (steps : List Step) (j : ℕ) (s : Step) → IsAssignment i a → AreSteps i a steps → j < length steps → b ≡ after_steps a steps j → s ≡ step_at steps j → IsStep i b s
 step_of i a b steps j s fits are within made is = step_needs i a b steps j s fits are.stand are.distinct are.apart are.reach within made is
 
@@ -44,7 +44,7 @@ pub length_turned : (steps : List Step) → length (turned steps) ≡ length ste
 unfolding turned
 length_turned steps = length-map steps turned_step
 
--- what a step back needs, where those before it are taken back
+-- what a step back needs, if those before it are taken back
 pub back_of : (i : Tables) (a b : List Machine) (steps : List Step) (j : ℕ) (s : Step) → IsAssignment i a → AreMade i a steps → j < length steps → b ≡ after_steps a (turned steps) j → s ≡ step_at steps j → IsStep i b (turned_step s)
 unfolding process_in from_in to_in turned_step
 back_of i a b steps j s fits are within made is = record {

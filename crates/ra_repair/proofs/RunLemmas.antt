@@ -50,11 +50,11 @@ chosen_reaches : (i : Tables) (a0 a : List Machine) (x : List ℕ) → WellForme
 unfolding chosen try_option
 chosen_reaches i a0 a x limits fits j within = option_reaches a x (machine_count i) Two (least_place (try_count i x) (option_penalty i a0 a x)) (omega (arith, fits.one_each, limits.some_process)) (omega (arith, limits.some_machine)) (λ p known. fits.in_range p (omega (arith, fits.one_each))) j within
 
--- where an option is left, the one that is chosen can be made
+-- if an option is left, the one that is chosen can be made
 chosen_steps : (i : Tables) (a0 a : List Machine) (x : List ℕ) (v : ℕ) → WellFormed i → IsAssignment i a → least_after i a0 a x ≡ Some v → AreSteps i a (chosen i a0 a x).steps
 chosen_steps i a0 a x v limits fits is = steps_from i a (chosen i a0 a x).steps (chosen_stands i a0 a x limits fits) (chosen_reaches i a0 a x limits fits) (chosen_left i a0 a x v is)
 
--- a move is taken only where an option is left
+-- a move is taken only if an option is left
 taken_left : (before : ℕ) (after : Option ℕ) → is_taken before after ≡ true → (v : ℕ) × (after ≡ Some v)
 unfolding is_taken
 taken_left before None is = absurd (cc)

@@ -37,7 +37,7 @@ pub pair_listed : (i : Tables) (a : List Machine) (s k : ℕ) (list : List Proce
 unfolding is_far pair_far far_share
 pair_listed i a s k list are = members_count i s list (λ p. eqb (near_of i a s k p) 0) are
 
--- on a machine where none of them is, none is too many
+-- on a machine with none of them, none is too many
 none_crowd : (i : Tables) (a : List Machine) (s m : ℕ) (list : List Process) → AreProcessesOf i s list → is_named (length list) (seat_of a list) m ≡ false → crowd_on i a s m ≡ 0
 unfolding crowd_on on_machine seat_of
 none_crowd i a s m list are none =

@@ -1,4 +1,4 @@
--- The penalty is 0 exactly where no constraint is broken, sum by sum.
+-- The penalty is 0 exactly if no constraint is broken, sum by sum.
 use Rattle.std.proofs.Common.{◌≡◌, ℕ, ◌-◌, Bool, true, false, cond, eqb, ltb, ◌&&◌, not, List, None, refl, arith}
 use Rattle.std.specs.Prelude.{Option}
 use Rattle.std.proofs.lemmas.Bool.{ltb-false, le-ltb}
@@ -19,7 +19,8 @@ use Rattle.ra_model.proofs.BrokenLemmas.{Fine, cause_none, cause_free, feasible_
 use Rattle.ra_repair.specs.Penalty.{use_above, row_above, capacity_penalty, transient_above, row_transient_above, transient_penalty, crowd_on, service_crowd, conflict_penalty, spread_lack, spread_penalty, far_share, pair_far, service_far, dependency_penalty, closed_share, closed_penalty, penalty}
 use Rattle.ra_repair.specs.Laws.{ZeroIsFeasible}
 
--- a sum is 0 exactly where a search over the same places finds nothing, if each term is 0 exactly where the test finds nothing
+-- a sum is 0 exactly if a search over the same places finds nothing, if each term is 0 exactly if the test finds
+-- nothing
 
 -- a term of a sum and the test of its place
 pub record Agree (term : ℕ) (found : Option Cause) : Type 0 where
@@ -32,7 +33,7 @@ all_agree n f found each = record {
   zero = λ nones. total_zero n f (λ k within. (each k).zero (first_none_at k n found within nones));
 }
 
--- what is above a bound is more than 0 where the test is true
+-- what is above a bound is more than 0 if the test is true
 above_agrees : (used bound : ℕ) (cause : Cause) → Agree (used - bound) (cause_if (ltb bound used) cause)
 above_agrees used bound cause = record {
   none = λ zeros. cause_free (ltb bound used) cause (le-ltb bound used (omega arith));

@@ -6,14 +6,14 @@ use Rattle.ra_model.specs.Numbers.{machine_count}
 use Rattle.ra_moves.specs.declared.steps.Step.{Step}
 use Rattle.ra_moves.specs.Steps.{from_in, to_in, StandsAt, Distinct}
 
--- each process is named once and stands at its `from`, and goes to another machine of the instance
+-- each process is named once and is at its `from`, and goes to another machine of the instance
 pub record AreSteps (i : Tables) (a : List Machine) (steps : List Step) : Type 0 where
   pub stand : StandsAt from_in steps a
   pub distinct : Distinct steps
   pub apart : (j : ℕ) → j < length steps → from_in steps j ≢ to_in steps j
   pub reach : (j : ℕ) → j < length steps → to_in steps j < machine_count i
 
--- each process is named once and stands at its `to`, and goes back to another machine of the instance
+-- each process is named once and is at its `to`, and goes back to another machine of the instance
 pub record AreMade (i : Tables) (a : List Machine) (steps : List Step) : Type 0 where
   pub stand : StandsAt to_in steps a
   pub distinct : Distinct steps

@@ -9,7 +9,7 @@ use Rattle.ra_model.specs.Feasible.{Feasible}
 use Rattle.ra_repair.specs.Penalty.{penalty}
 use Rattle.ra_repair.specs.Runs.{repair_run}
 
--- the penalty is 0 exactly where all constraints are met
+-- the penalty is 0 exactly if all constraints are met
 abbrev pub ZeroIsFeasible : Type 0
 ZeroIsFeasible =
     (i : Tables) (a0 a : List Machine) → WellFormed i → IsAssignment i a

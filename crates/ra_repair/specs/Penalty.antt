@@ -1,4 +1,4 @@
--- How far an assignment is from meeting all constraints: six sums, each of them 0 exactly where its constraint is met.
+-- How far an assignment is from meeting all constraints: six sums, each of them 0 exactly if its constraint is met.
 -- ℕ's minus is never below 0.
 use Rattle.std.specs.Prelude.{ℕ, ◌+◌, ◌-◌, List, if◌then◌else◌, ◌==◌, ◌&&◌, not}
 use Rattle.ra_base.specs.Sums.{total, one_if}
@@ -32,7 +32,7 @@ row_transient_above i a0 a m = total (resource_count i) (transient_above i a0 a 
 unfoldable pub transient_penalty : Tables → List Machine → List Machine → ℕ
 transient_penalty i a0 a = total (machine_count i) (row_transient_above i a0 a)
 
--- max(0, n - 1), where n processes of service s are on machine m
+-- max(0, n - 1), if n processes of service s are on machine m
 unfoldable pub crowd_on : Tables → List Machine → ℕ → ℕ → ℕ
 crowd_on i a s m = on_machine i a s m - 1
 

@@ -1,5 +1,5 @@
--- The run of tries: at each try one move is chosen among the options that the words of the lot's next proposal name, and
--- is taken unless the penalty rises by it.
+-- The run of tries: at each try one move is chosen among the options that the words of the lot's next proposal name,
+-- and is taken unless the penalty rises by it.
 use Rattle.std.specs.Prelude.{ℕ, zero, suc, List, [], ◌∷◌, ◌++◌, Bool, false, if◌then◌else◌, ◌==◌, nat_le, Option, Some, None, unwrap_or}
 use Rattle.ra_base.specs.Searches.{or_else, least, least_place}
 use Rattle.ra_base.specs.declared.causes.Cause.{Cause}
@@ -35,24 +35,24 @@ unfoldable pub penalty_by : Tables → List Machine → List Machine → List St
 penalty_by i a0 a steps =
     unless (or_else (repeat_of steps) (same_of steps)) (penalty i a0 (applied a steps))
 
--- the penalty after option k, where that is left
+-- the penalty after option k, if that is left
 unfoldable pub option_penalty : Tables → List Machine → List Machine → List ℕ → ℕ → Option ℕ
 option_penalty i a0 a x k = penalty_by i a0 a (try_option i a x k).steps
 
--- the least penalty after an option, where one is left
+-- the least penalty after an option, if one is left
 unfoldable pub least_after : Tables → List Machine → List Machine → List ℕ → Option ℕ
 least_after i a0 a x = least (try_count i x) (option_penalty i a0 a x)
 
--- the first option with that penalty, and option 0 where none is left
+-- the first option with that penalty, and option 0 if none is left
 unfoldable pub chosen : Tables → List Machine → List Machine → List ℕ → MoveSteps
 chosen i a0 a x = try_option i a x (least_place (try_count i x) (option_penalty i a0 a x))
 
--- a move is taken where the penalty after it, if it has one, is no more than before
+-- a move is taken if the penalty after it, if it has one, is no more than before
 unfoldable pub is_taken : ℕ → Option ℕ → Bool
 is_taken before None = false
 is_taken before (Some after) = nat_le after before
 
--- try k at assignment a, with the words x: where no option is left, `after` is the penalty before
+-- try k at assignment a, with the words x: if no option is left, `after` is the penalty before
 unfoldable pub try_with : Tables → List Machine → List Machine → List ℕ → ℕ → Try
 try_with i a0 a x k =
     let before = penalty i a0 a in
@@ -69,7 +69,7 @@ try_with i a0 a x k =
 unfoldable pub try_at : Tables → List Machine → List Machine → Lot → ℕ → Try
 try_at i a0 a lot k = try_with i a0 a (proposal_words lot.source k) k
 
--- assignment a after a try: the move is applied where it was taken
+-- assignment a after a try: the move is applied if it was taken
 unfoldable pub after_try : List Machine → Try → List Machine
 after_try a t = if t.taken then applied a t.mv.steps else a
 
@@ -78,7 +78,7 @@ pub record Repaired : Type 0 where
   pub assignment : List Machine
   pub tries : List Try
 
--- one try more, or none where the penalty is 0
+-- one try more, or none if the penalty is 0
 unfoldable pub next_try : Tables → List Machine → Lot → ℕ → Repaired → Repaired
 next_try i a0 lot k r =
     let t = try_at i a0 r.assignment lot k in

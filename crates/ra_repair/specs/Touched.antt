@@ -24,20 +24,21 @@ is_link i s u k = need_of i u k == s
 unfoldable pub links : Tables → ℕ → ℕ → ℕ
 links i s u = count (dependency_count i u) (is_link i s u)
 
--- the failing triples of another service u there, where service s that it needs has no process there
+-- how many processes of another service u there lack one of service s, if that has none there, once for each dependency
 unfoldable pub left_alone : Tables → List Machine → ℕ → ℕ → ℕ → ℕ
 left_alone i a s label u = if u == s then 0 else links i s u * in_neighbourhood i a u label
 
 unfoldable pub all_alone : Tables → List Machine → ℕ → ℕ → ℕ
 all_alone i a s label = total (service_count i) (left_alone i a s label)
 
--- the failing triples there of service s, or of the others for want of service s
+-- how many processes there lack one that they need: those of service s, or, if it has none there, those of the others
+-- that depend on it
 unfoldable pub far_near : Tables → List Machine → ℕ → ℕ → ℕ
 far_near i a s label =
     let here = in_neighbourhood i a s label in
     if here == 0 then all_alone i a s label else here * missing_near i a s label
 
--- the same in two neighbourhoods; nothing changes where they are one
+-- the same in two neighbourhoods; nothing changes if they are one
 unfoldable pub far_between : Tables → List Machine → ℕ → ℕ → ℕ → ℕ
 far_between i a s left come = if left == come then 0 else far_near i a s left + far_near i a s come
 

@@ -56,7 +56,7 @@ pub(crate) fn row_transient_above(
     sum
 }
 
-/// What is used in between of a resource of a machine above its capacity, where the resource is transient.
+/// What is used in between of a resource of a machine above its capacity, if the resource is transient.
 #[tactic(auto, unfolding(crate::specs::Penalty::transient_above))]
 fn transient_above(
     inst: &Instance,

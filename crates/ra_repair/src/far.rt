@@ -11,8 +11,8 @@ use ra_base::{Assignment, Service};
 use ra_model::Instance;
 use ra_topology::Topology;
 
-/// The failing triples of a service, or of others for want of it, in the neighbourhoods with these two labels; 0 where
-/// they are one.
+/// How many processes in the neighbourhoods with these two labels lack one that they need, as `far_near` counts them; 0
+/// if the labels are one.
 #[tactic(auto, unfolding(crate::specs::Touched::far_between))]
 pub(crate) fn far_between(
     inst: &Instance,
@@ -37,7 +37,8 @@ pub(crate) fn far_between(
     }
 }
 
-/// The failing triples of a service, or of others for want of it, in the neighbourhood with this label.
+/// How many processes in the neighbourhood with this label lack one that they need: those of service `s`, or, if it has
+/// none there, those of other services that depend on it. A process counts once for each dependency that fails.
 #[tactic(auto, unfolding(crate::specs::Touched::far_near))]
 fn far_near(
     inst: &Instance,
@@ -142,7 +143,7 @@ fn is_link(inst: &Instance, s: Service, u: Service, k: usize, need: Service) -> 
     need.0 == s.0
 }
 
-/// The failing triples of other services there for want of service `s`, which has no process there.
+/// How many processes of other services there lack one of service `s`, which has none there.
 fn all_alone(
     inst: &Instance,
     topo: &Topology,
@@ -165,7 +166,7 @@ fn all_alone(
     sum
 }
 
-/// Those of one other service.
+/// How many of these are of service `u`.
 #[tactic(auto, unfolding(crate::specs::Touched::left_alone))]
 fn left_alone(
     inst: &Instance,

@@ -26,7 +26,7 @@ pub(crate) struct Choice {
 }
 
 /// The first option of least penalty among those that the words of a proposal name and that aren't left out, and option
-/// 0 where all are. Each option is made on what is kept, and taken back.
+/// 0 if all are. Each option is made on what is kept, and taken back.
 pub(crate) fn choose<L: Ledger>(
     inst: &Instance,
     topo: &Topology,
@@ -139,7 +139,7 @@ fn penalty_beyond<L: Ledger>(
     after
 }
 
-/// The second of two moves where the penalty after it is lower, else the first.
+/// The second of two moves if the penalty after it is lower, else the first.
 fn better(first: Choice, second: Choice) -> Choice
     ensures { result ≡ (if is_better second.after first.after then second else first) }
 {

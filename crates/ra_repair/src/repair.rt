@@ -114,7 +114,7 @@ impl<'a> Repair<'a> {
         &self.kept.assignment
     }
 
-    /// Its penalty, which is 0 exactly where it is feasible.
+    /// Its penalty, which is 0 exactly if it is feasible.
     pub fn penalty(&self) -> u128
         ensures { result ≡ penalty self.now.inst.now.tables self.now.start.now.items
             self.now.kept.assignment.items }

@@ -133,7 +133,7 @@ fn service_crowd(
     sum
 }
 
-/// How many processes of a service are too many on the machine of one of them, where none before is there.
+/// How many processes of a service are too many on the machine of one of them, if none before is there.
 #[tactic(auto, using(ra_base::proofs::Named::names))]
 fn crowd_at(
     inst: &Instance,

@@ -14,8 +14,8 @@ use ra_model::Instance;
 use ra_moves::Step;
 use ra_topology::Topology;
 
-/// All that a process can change of the penalty by going from one machine to another: what the rows of the two machines,
-/// the counters of its service there and its own machine add to it now.
+/// All that a process can change of the penalty by going from one machine to another: what the rows of the two
+/// machines, the counters of its service there and its own machine add to it now.
 #[tactic(auto, unfolding(crate::specs::Touched::touched))]
 pub(crate) fn touched(
     inst: &Instance,

@@ -83,7 +83,7 @@ fn make_try<L: Ledger>(
     }
 }
 
-/// Follows a move where it is taken.
+/// Follows a move if it is taken.
 fn take_if<L: Ledger>(
     inst: &Instance,
     topo: &Topology,

@@ -1,4 +1,4 @@
--- What is chosen is the try's move, and is taken where the try says so.
+-- What is chosen is the try's move, and is taken if the try says so.
 use Rattle.std.proofs.Common.{◌∙◌, sym}
 use Rattle.ra_repair.proofs.RunLemmas.{taken_steps, try_is, taken_try}
 use Rattle.ra_repair.proofs.trying.make_try.Goals as goal
