@@ -201,7 +201,7 @@ moved_le : (i : Tables) (a0 a : List Machine) (s : ℕ) → moved_of i a0 a s �
 unfolding moved_of members_at of_service
 moved_le i a0 a s = omega (arith, tally_bound (process_count i) 1 (λ p at. one_if (is_of i s p && cond (eqb (machine_at a0 p) at) false true)) a (λ p within. one_if_le (is_of i s p && cond (eqb (machine_at a0 p) (machine_at a p)) false true)))
 
--- where some assignment has the process on its machine, its service's count can change as it does
+-- if some assignment has the process on its machine, its service's count can change as it does
 pub recount_some : (cells : Cells) (p m s home : ℕ) → (h : HavePlaced cells p m) → p < process_count cells.inst.now.tables → service_of cells.inst.now.tables p ≡ s → s < service_count cells.inst.now.tables → home ≡ machine_at cells.start.now.items p → away home m ≤ get_or cells.greatest.counts s 0
 recount_some cells p m s home h within is s_in home_is =
     let same = h.stand.instance in

@@ -19,6 +19,6 @@ mark_of i InNeighbourhood m = neighbourhood_of i m
 unfoldable pub marked : Tables → Mark → List Machine → ℕ → ℕ → ℕ
 marked i mark a s x = members_at i a s (λ p at. mark_of i mark at == x)
 
--- 1 for a process whose initial machine is `home` and whose machine is `at`, where they are two
+-- 1 for a process whose initial machine is `home` and whose machine is `at`, if they are two
 unfoldable pub away : ℕ → ℕ → ℕ
 away home at = one_if (not (home == at))

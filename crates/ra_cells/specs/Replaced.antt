@@ -1,15 +1,15 @@
--- Moved counts where a move changes those of some services.
+-- Moved counts if a move changes those of some services.
 use Rattle.std.specs.Prelude.{◌≡◌, ℕ, ◌+◌, ◌<◌, ◌≤◌, ◌≢◌, Bool, ◌==◌, List, length, slice_index, if◌then◌else◌, Option, Some, None, IfSome}
 use Rattle.ra_base.specs.Sums.{one_if, greatest}
 use Rattle.ra_base.specs.declared.costs.MovedCount.{MovedCount}
 use Rattle.ra_cells.specs.MovedCounts.{MovedCounts}
 
--- the count of service s, where a move changes that of one service
+-- the count of service s, if a move changes that of one service
 unfoldable pub counted_after : Option MovedCount → (ℕ → ℕ) → ℕ → ℕ
 counted_after None f s = f s
 counted_after (Some c) f s = if s == c.service.0 then c.after else f s
 
--- the greatest count, where a move changes those of up to three services
+-- the greatest count, if a move changes those of up to three services
 unfoldable pub greatest_with : List ℕ → Option MovedCount → Option MovedCount → Option MovedCount
     → ℕ
 greatest_with counts first second third =
@@ -22,11 +22,11 @@ pub record IsChange (moved : MovedCounts) (c : MovedCount) : Type 0 where
   pub before : slice_index moved.counts c.service.0 ≡ c.before
   pub within : c.after ≤ moved.limit
 
--- two changes, where both are there, are of different services
+-- two changes, if both are there, are of different services
 abbrev pub AreApart : Option MovedCount → Option MovedCount → Type 0
 AreApart first second = IfSome first (λ c. IfSome second (λ d. c.service.0 ≢ d.service.0))
 
--- one where a change takes its service's count away from v, and one where it makes it v
+-- one if a change takes its service's count away from v, and one if it makes it v
 unfoldable pub lost_at : Option MovedCount → ℕ → ℕ
 lost_at None v = 0
 lost_at (Some c) v = one_if (c.before == v)

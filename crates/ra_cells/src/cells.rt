@@ -169,7 +169,8 @@ impl<'a> Cells<'a> {
         &self.greatest
     }
 
-    /// Puts a process on another machine: the cells then stand for each assignment that they stood for with this change.
+    /// Puts a process on another machine: the cells then stand for each assignment that they stood for with this
+    /// change.
     pub fn change(&mut self, p: Process, from: Machine, to: Machine)
         requires process { p.0 < process_count self.old.inst.now.tables }
         requires machine { to.0 < machine_count self.old.inst.now.tables }

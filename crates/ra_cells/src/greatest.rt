@@ -42,7 +42,7 @@ impl Model for Greatest {
 }
 
 impl Greatest {
-    /// The counts where no process has moved. The limit is the number of all processes.
+    /// The counts before any process has moved. The limit is the number of all processes.
     pub fn make(alloc: Global, inst: &Instance) -> Result<Greatest, NoMemory>
         ensures counts { IfOk result (λ g. g.counts ≡ replicate (service_count inst.now.tables) 0) }
         ensures limit { IfOk result (λ g. g.limit ≡ process_count inst.now.tables) }
@@ -91,7 +91,7 @@ impl Greatest {
         self.most = highest(&self.tallies, top, None, None, None);
     }
 
-    /// The greatest count where a move changes the counts of up to three services, which are different ones.
+    /// The greatest count if a move changes the counts of up to three services, which are different ones.
     pub fn greatest_after(
         &self,
         first: Option<MovedCount>,
@@ -113,7 +113,7 @@ impl Greatest {
     }
 }
 
-/// Changes how many services have each count, where that of one service changes.
+/// Changes how many services have each count, if that of one service changes.
 #[tactic(auto, using(crate::proofs::GreatestLemmas::retallying))]
 fn retally(tallies: &mut Fixed<u32>, left: u32, come: u32)
     requires left { left < length tallies.old.items }
@@ -128,8 +128,8 @@ fn retally(tallies: &mut Fixed<u32>, left: u32, come: u32)
     tallies.set(come, tallies.get(come) + 1);
 }
 
-/// The greatest number up to `top` that some service has as its count, once up to three counts have changed; 0 where
-/// there is none.
+/// The greatest number up to `top` that some service has as its count, once up to three counts have changed; 0 if there
+/// is none.
 fn highest(
     tallies: &Fixed<u32>,
     top: u32,
@@ -187,7 +187,7 @@ fn free_at(
     had + gained == lost
 }
 
-/// 1 where a change takes its service's count away from a number.
+/// 1 if a change takes its service's count away from a number.
 #[tactic(auto, unfolding(crate::specs::Replaced::lost_at))]
 fn lost_at(change: Option<MovedCount>, v: u32) -> u64
     ensures value { result ≡ lost_at change v }
@@ -199,7 +199,7 @@ fn lost_at(change: Option<MovedCount>, v: u32) -> u64
     }
 }
 
-/// 1 where a change makes its service's count a number.
+/// 1 if a change makes its service's count a number.
 #[tactic(auto, unfolding(crate::specs::Replaced::gained_at))]
 fn gained_at(change: Option<MovedCount>, v: u32) -> u64
     ensures value { result ≡ gained_at change v }
@@ -211,7 +211,7 @@ fn gained_at(change: Option<MovedCount>, v: u32) -> u64
     }
 }
 
-/// The new count of a change, and 0 where there is none.
+/// The new count of a change, and 0 if there is none.
 #[tactic(auto, unfolding(crate::specs::Replaced::after_in))]
 fn after_in(change: Option<MovedCount>) -> u32
     ensures { result ≡ after_in change }

@@ -1,7 +1,7 @@
 ghost use Rattle.std.specs.Prelude.{◌≡◌, ℕ, ◌+◌, ◌-◌, ◌<◌, ◌≤◌, ◌^◌, true, false, length, slice_index, slice_index_or};
 ghost use Rattle.ra_cells.specs.Held.{held, different, Ascends};
 
-/// Up to so many labels are counted one by one.
+/// Up to this many labels are counted one by one.
 const SHORT: usize = 16;
 
 /// How many of the labels from start to end, which ascend, are x.
@@ -37,7 +37,7 @@ fn scan(labels: &Vec<u32>, start: usize, end: usize, x: u32) -> u32
     count
 }
 
-/// The first place from start to end whose label is x or greater, and the end where there is none, found by halving.
+/// The first place from start to end whose label is x or greater, and the end if there is none, found by halving.
 pub(crate) fn first_from(labels: &Vec<u32>, start: usize, end: usize, x: u64) -> usize
     requires part { start ≤ end }
     requires there { end ≤ length labels.now.items }

@@ -1,4 +1,4 @@
--- The guards of a move are untouched exactly where the move is apart from all that was made since.
+-- The guards of a move are untouched exactly if the move is apart from all that was made since.
 use Rattle.ra_laws.specs.GuardLaws.{UntouchedIsApart}
 use Rattle.ra_guards.proofs.TouchLemmas.{apart_from_untouched, untouched_from_apart}
 

@@ -15,7 +15,7 @@ first_least n f = record {
   none = λ nones. (least_none_from n f nones).1;
 }
 
--- where each place has a value, the least one is that of its place
+-- if each place has a value, the least one is that of its place
 least_of_all : (n : ℕ) (cost : ℕ → ℕ) → IsLeast (suc n) (λ j. Some (cost j)) (least_place (suc n) (λ j. Some (cost j))) (cost (least_place (suc n) (λ j. Some (cost j))))
 least_of_all n cost =
     let f = λ (j : ℕ). Some (cost j) in

@@ -1,4 +1,4 @@
--- No constraint is named as broken exactly where all are met; and a count may go over the members of a service alone.
+-- No constraint is named as broken exactly if all are met; and a count may go over the members of a service alone.
 use Rattle.std.proofs.Common.{◌≡◌, ℕ, ◌<◌, Bool, List, length, get_or, sym, ap, ◌∙◌}
 use Rattle.ra_base.specs.Sums.{count, pick}
 use Rattle.ra_base.specs.declared.ids.Machine.{Machine}
@@ -15,7 +15,7 @@ use Rattle.ra_model.proofs.TallyLemmas.{members_count}
 pub unbroken_is_feasible : BrokenNamesAll
 unbroken_is_feasible i a0 a limits fits = (feasible_from_unbroken i a0 a limits fits, unbroken_from_feasible i a0 a)
 
--- and a count over the members alone, where g lists them
+-- and a count over the members alone, if g lists them
 pub members_listed : (i : Tables) (a : List Machine) (s : ℕ) (test : ℕ → ℕ → Bool) (n : ℕ) (g : ℕ → ℕ) → n ≡ count (process_count i) (is_of i s) → ((j : ℕ) → j < n → g j ≡ get_or (pick (process_count i) (is_of i s)) j 0) → members_at i a s test ≡ count n (λ j. test (g j) (machine_at a (g j)))
 members_listed i a s test n g as_many listed =
     let members = pick (process_count i) (is_of i s) in

@@ -13,7 +13,7 @@ use Rattle.ra_laws.specs.SharedLaws.{VersionsAgree}
 use Rattle.ra_base.proofs.Greatest.{greatest_at, greatest_least}
 use Rattle.ra_shared.proofs.Agree.{touches_agree}
 
--- what an entry of a history makes stands at its place
+-- what an entry of a history makes is at its place
 made_there : {N : Type 0} (makes : N → Option (List Step)) (history : List N) (j : ℕ) (x : N) → slice_get history j ≡ Some x → made_at (map makes history) j ≡ makes x
 unfolding made_at
 made_there makes history j x e = get_or_from_slice_get (map makes history) j (makes x) None (slice_get-map makes history j ∙ ap (option_map makes) e)
@@ -30,7 +30,7 @@ module _ {N : Type 0} (i : Tables) (makes : N → Option (List Step)) (history :
   abbrev made : List (Option (List Step))
   made = map makes history
 
-  -- the entry at a place touches the guard where it touches its number
+  -- the entry at a place touches the guard exactly if it touches its number
   there : (j : ℕ) (x : N) → slice_get history j ≡ Some x → touches i (made_at made j) g ≡ touches_number i (makes x) (number_of i g)
   there j x e = ap (λ (m : Option (List Step)). touches i m g) (made_there makes history j x e) ∙ sym (touches_agree i (makes x) g known)
 

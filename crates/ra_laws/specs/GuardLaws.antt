@@ -9,7 +9,7 @@ use Rattle.ra_guards.specs.Versions.{made_at, Untouched, ApartSince}
 use Rattle.ra_guards.specs.VersionTable.{VersionTable}
 use Rattle.ra_guards.specs.Kept.{AreZero, AreVersions, IsTouched}
 
--- no guard of a move has a version above q exactly where the move is apart from all that was made from place q on
+-- no guard of a move has a version above q exactly if the move is apart from all that was made from place q on
 abbrev pub UntouchedIsApart : Type 0
 UntouchedIsApart =
     (i : Tables) (made : List (Option (List Step))) (q n : ℕ) (steps : List Step)

@@ -28,12 +28,13 @@ use Rattle.ra_jobs.specs.declared.refusals.File.{File}
 use Rattle.ra_jobs.specs.Files.{Held, Names, name_of, IsNamed, Accepts}
 use Rattle.ra_run.specs.Trials.{IsTrialLots, TrialPrinted}
 
--- the flags of a closed list, where there is one
+-- the flags of a closed list, if there is one
 unfoldable pub flags_of : Option (Listed Bool) → Option (List Bool)
 flags_of None = None
 flags_of (Some flags) = Some flags.items
 
--- two instances have the same numbers in their lists and the same flags of closed machines, whatever rooms the lists have
+-- two instances have the same numbers in their lists and the same flags of closed machines, whatever rooms the lists
+-- have
 pub record AreAlike (i j : Tables) : Type 0 where
   pub lists : lists_of i.raw ≡ lists_of j.raw
   pub flags : flags_of i.closed ≡ flags_of j.closed
@@ -85,7 +86,8 @@ ToldFilesMeanOne =
     (held : Held) (names : Names) (i j : Tables) (a0 b0 a b : List Machine) → AreTold held names
     → Accepts held names i a0 a → Accepts held names j b0 b → MeanAlike names i j a0 b0 a b
 
--- the text of a trial is one, whatever rooms the lists of its instance and of its lots have: it rests on the number alone
+-- the text of a trial is one, whatever rooms the lists of its instance and of its lots have: it rests on the number
+-- alone
 abbrev pub TrialsHaveOneText : Type 0
 TrialsHaveOneText =
     (number : ℕ) (i j : Tables) (l k : Lots) → IsTrial (trial_word number) i

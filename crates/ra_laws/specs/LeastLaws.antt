@@ -11,13 +11,13 @@ use Rattle.ra_journal.specs.States.{cost_at}
 use Rattle.ra_journal.specs.Best.{best_of}
 use Rattle.ra_repair.specs.Runs.{try_count, try_option, option_penalty, chosen}
 
--- p is the first place of least value among the places below n that have one, and 0 where none has one
+-- p is the first place of least value among the places below n that have one, and 0 if none has one
 pub record IsChosen (n : ℕ) (f : ℕ → Option ℕ) (p : ℕ) : Type 0 where
   pub some : (k x : ℕ) → k < n → f k ≡ Some x → (v : ℕ) × IsLeast n f p v
   pub none : ((k : ℕ) → k < n → f k ≡ None) → p ≡ 0
 
 -- the plan of assignment a, reached from a0, is the first option of least cost among those that are judged Done, and
--- option 0 where none is
+-- option 0 if none is
 abbrev pub PlanIsLeast : Type 0
 PlanIsLeast =
     (i : Tables) (a0 a : List Machine) (x : List ℕ) (d : Drawing) (allowed : ℕ)
@@ -30,8 +30,8 @@ BestIsLeast =
     (i : Tables) (a0 : List Machine) (h : List Entry)
     → IsLeast (suc (length h)) (λ j. Some (cost_at i a0 h j)) (best_of i a0 h) (cost_at i a0 h (best_of i a0 h))
 
--- the option that a try of a repair chooses is the first with the least penalty after it among those that neither repeat
--- a process nor stay, and option 0 where all do
+-- the option that a try of a repair chooses is the first with the least penalty after it among those that neither
+-- repeat a process nor stay, and option 0 if all do
 abbrev pub ChoiceIsLeast : Type 0
 ChoiceIsLeast =
     (i : Tables) (a0 a : List Machine) (x : List ℕ)

@@ -10,13 +10,13 @@ use Rattle.ra_model.specs.Services.{is_of, members_at}
 use Rattle.ra_model.specs.Feasible.{Feasible}
 use Rattle.ra_model.specs.Broken.{first_broken}
 
--- no constraint is named as broken exactly where all are met
+-- no constraint is named as broken exactly if all are met
 abbrev pub BrokenNamesAll : Type 0
 BrokenNamesAll =
     (i : Tables) (a0 a : List Machine) → WellFormed i → IsAssignment i a
     → (first_broken i a0 a ≡ None) ↔ Feasible i a0 a
 
--- where process p is put on another machine, a sum over the processes changes by the share of p
+-- if process p is put on another machine, a sum over the processes changes by the share of p
 abbrev pub OneShareChanges : Type 0
 OneShareChanges =
     (n p : ℕ) (f : ℕ → ℕ → ℕ) (a : List Machine) (to : Machine) → p < n → p < length a

@@ -8,7 +8,8 @@ use Rattle.ra_guards.specs.Versions.{version}
 use Rattle.ra_turn.specs.Notes.{IsVersion}
 use Rattle.ra_shared.specs.Numbers.{number_of, touches_number}
 
--- the lock's version of a guard's number in a history is the guard's version, the greatest of its stamps; `makes` is what an entry makes
+-- the lock's version of a guard's number in a history is the guard's version, the greatest of its stamps; `makes` is
+-- what an entry makes
 abbrev pub VersionsAgree : Type 0 → Type 0
 VersionsAgree N =
     (i : Tables) (makes : N → Option (List Step)) (history : List N) (g : Guard) (v : ℕ)

@@ -14,7 +14,7 @@ OneNextEntry =
     → Legal i a0 l (h ++ e ∷ []) → Legal i a0 l (h ++ f ∷ []) → e.worker ≡ f.worker → e.q ≡ f.q
     → e ≡ f
 
--- where no line is wrong, the bytes are the report of a legal whole journal
+-- if no line is wrong, the bytes are the report of a legal whole journal
 abbrev pub NoneWrongIsReport : Type 0
 NoneWrongIsReport =
     (i : Tables) (a0 : List Machine) (l : Lots) (bytes : List ℕ) → IsFirstWrong i a0 l bytes None

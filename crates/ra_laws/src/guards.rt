@@ -2,17 +2,17 @@
 ghost use Rattle.ra_guards.specs.Laws.{NewestIsRight, GuardsKeepResidents, UntouchedIsRight};
 ghost use Rattle.ra_laws.specs.GuardLaws.{UntouchedIsApart, VersionsAreKept};
 
-/// The guards of a move are untouched from a place on exactly where the move is apart from each move made since.
+/// The guards of a move are untouched from a place on exactly if the move is apart from each move made since.
 pub fn untouched_is_apart()
     ensures { UntouchedIsApart }
 {}
 
-/// A table has the versions of a history entry after entry, where each entry that is done touches its write guards.
+/// A table has the versions of a history entry after entry, if each entry that is done touches its write guards.
 pub fn versions_are_kept()
     ensures { VersionsAreKept }
 {}
 
-/// The first newer guard in a table of versions is that of the history, and there is none exactly where the move is
+/// The first newer guard in a table of versions is that of the history, and there is none exactly if the move is
 /// untouched.
 pub fn newest_is_right()
     ensures { NewestIsRight }

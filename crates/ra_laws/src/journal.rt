@@ -7,8 +7,8 @@ pub fn legal_is_sound()
     ensures { LegalIsSound }
 {}
 
-/// Each move that a legal journal makes stands where it is made: its processes are named once and stand on the machines
-/// that its steps leave, and each step enters a machine of the instance.
+/// Each move that a legal journal makes fits the state at which it is made: its processes are named once and are on the
+/// machines that its steps leave, and each step enters a machine of the instance.
 pub fn legal_makes_moves()
     ensures { LegalMakesMoves }
 {}

@@ -1,5 +1,5 @@
 //! Laws of the definitions, by their subjects: each function does nothing, and its contract is a proved law. No program
-//! stands on them.
+//! rests on them.
 #![tactic(auto)]
 
 /// The lower bounds.

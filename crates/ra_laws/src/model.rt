@@ -14,7 +14,7 @@ pub fn broken_names_constraints()
     ensures { BrokenNamesConstraints }
 {}
 
-/// Where one process is put on another machine, a sum over the processes changes by its share alone.
+/// If one process is put on another machine, a sum over the processes changes by its share alone.
 pub fn one_share_changes()
     ensures { OneShareChanges }
 {}

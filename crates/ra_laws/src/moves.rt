@@ -7,14 +7,13 @@ pub fn failures_are_local()
     ensures { FailuresAreLocal }
 {}
 
-/// A move weighs the same in two assignments that break nothing, where its machines hold the same
-/// processes in both, and the processes of each service that it moves, or that is joined with one,
-/// have the same machines.
+/// A move weighs the same in two assignments that break nothing, if its machines hold the same processes in both, and
+/// the processes of each service that it moves, or that is joined with one, have the same machines.
 pub fn weighing_is_determined()
     ensures { WeighingIsDetermined }
 {}
 
-/// The plan of a proposal is the first option of least cost among those that are done, and option 0 where none is.
+/// The plan of a proposal is the first option of least cost among those that are done, and option 0 if none is.
 pub fn plan_is_least()
     ensures { PlanIsLeast }
 {}

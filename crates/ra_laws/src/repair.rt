@@ -2,7 +2,7 @@
 ghost use Rattle.ra_laws.specs.LeastLaws.{ChoiceIsLeast};
 ghost use Rattle.ra_repair.specs.Laws.{ZeroIsFeasible, UsesItsBudget};
 
-/// The penalty of an assignment is 0 exactly where it is feasible.
+/// The penalty of an assignment is 0 exactly if it is feasible.
 pub fn zero_is_feasible()
     ensures { ZeroIsFeasible }
 {}

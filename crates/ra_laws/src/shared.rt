@@ -2,7 +2,7 @@
 ghost use Rattle.ra_shared.specs.Laws.{TouchesAgree, NoneAbove, RecordedStands, StaleStands};
 ghost use Rattle.ra_laws.specs.SharedLaws.{VersionsAgree};
 
-/// The number of a guard stands for the guard: what an entry makes touches the one where it touches the other.
+/// The number of a guard stands for the guard: what an entry makes touches the one exactly if it touches the other.
 pub fn touches_agree()
     ensures { TouchesAgree }
 {}
@@ -22,8 +22,8 @@ pub fn recorded_stands()
     ensures { RecordedStands }
 {}
 
-/// A worker that is answered Stale sees another worker's entry, from the place of its plan on, that touched a guard of the
-/// plan's move.
+/// A worker that is answered Stale sees another worker's entry, from the place of its plan on, that touched a guard of
+/// the plan's move.
 pub fn stale_stands()
     ensures { StaleStands }
 {}

@@ -78,7 +78,7 @@ use_share_is : (i : Tables) (p at m r : ℕ) → use_share i m r p at ≡ share_
 unfolding use_share share_at at_row
 use_share_is i p at m r = refl
 
--- a process is counted at its home, and elsewhere where it is
+-- a process is counted at its home, and also at its machine if that is another
 transient_share_is : (i : Tables) (a0 : List Machine) (p home at m r : ℕ) → machine_at a0 p ≡ home → transient_share i a0 m r p at ≡ share_at i p home m r + share_away i p home at m r
 unfolding transient_share share_at share_away
 transient_share_is i a0 p home at m r is = rw is (⊎_elim

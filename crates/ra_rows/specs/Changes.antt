@@ -10,7 +10,7 @@ use Rattle.ra_model.specs.Assignments.{tally}
 unfoldable pub at_row : ℕ → ℕ → ℕ → ℕ
 at_row at amount m = if at == m then amount else 0
 
--- an amount at row `at` alone, and nothing where that is the home row
+-- an amount at row `at` alone, and nothing if that is the home row
 unfoldable pub away_row : ℕ → ℕ → ℕ → ℕ → ℕ
 away_row home at amount m = if home == at then 0 else at_row at amount m
 

@@ -15,8 +15,8 @@ load_asked i p r = load_weight_of i r * requirement_of i p r
 unfoldable pub load_row : Tables → List Machine → ℕ → ℕ → ℕ
 load_row i a m r = load_weight_of i r * (safety_of i m r - use_of i a m r)
 
--- the weight of objective b times max(0, target * R(p, r1) - R(p, r2)): by how much process p lowers what is wanted of the
--- second resource below what it takes of it
+-- the weight of objective b times max(0, target * R(p, r1) - R(p, r2)): by how much process p lowers what is wanted of
+-- the second resource below what it takes of it
 unfoldable pub first_asked : Tables → ℕ → ℕ → ℕ
 first_asked i p b =
     balance_weight_of i b *

@@ -39,7 +39,8 @@ pub record AreBelow (bound : ℕ) (row : List ℕ) : Type 0 where
 pub record IsBelow (width bound : ℕ) (table : List ℕ) : Type 0 where
   pub each : (m r : ℕ) → r < width → cell width table m r < bound
 
--- what all rows are: the initial assignment fits the instance, and each table has a small number for each machine and resource
+-- what all rows are: the initial assignment fits the instance, and each table has a small number for each machine and
+-- resource
 pub record AreRows (rows : RowTables) : Type 0 where
   pub start : IsAssignment rows.tables rows.start
   pub used_grid : length rows.used ≡ machine_count rows.tables * resource_count rows.tables

@@ -73,7 +73,7 @@ pub(crate) fn move_amount(
     add_to_cell(table, width, to.0, column, amount);
 }
 
-/// Moves an amount from one row of a table to another, where the home row has it at all times.
+/// Moves an amount from one row of a table to another, but for the home row, which has it at all times.
 pub(crate) fn move_beside_home(
     table: &mut Fixed<u64>,
     width: u32,

@@ -1,4 +1,4 @@
--- The first label is new, and a later one where that before it is another.
+-- The first label is new, and a later one if that before it is another.
 use Rattle.std.proofs.Common.{◌-◌, ◌∙◌, sym, arith, eq-eqb}
 use Rattle.std.proofs.lemmas.Bool.{both_ways, not-true, not-false, eqb-true}
 use Rattle.std.proofs.lemmas.List.{get_or_read}
