@@ -46,7 +46,7 @@ pub fn judge_plainly(
     verdict
 }
 
-/// The verdict on a move that gave an assignment, where none of its steps is refused.
+/// The verdict on a move that gave an assignment, if none of its steps is refused.
 fn judge_after(
     inst: &Instance,
     a0: &Assignment,

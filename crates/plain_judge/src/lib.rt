@@ -1,5 +1,5 @@
-//! The plain planner: judges a move by the checker, on an assignment that it changes and gives back, and plans by judging
-//! each option so. Slow and short, it stands beside the definitions.
+//! The plain planner: it judges a move by the checker, on an assignment that it changes and gives back, and plans by
+//! judging each option in that way. It is slow and short, and computes the definitions from scratch.
 #![tactic(auto)]
 
 mod judging;

@@ -24,7 +24,7 @@ pub struct Planned {
 }
 
 /// What the eight words of a proposal make of assignment `a`, whose cost is `before`: the first option of least cost
-/// among those that are judged Done, and option 0 where there is none. Each option is judged from scratch on `other`, a
+/// among those that are judged Done, and option 0 if there is none. Each option is judged from scratch on `other`, a
 /// second assignment that equals `a`. No memory is taken.
 pub fn plan_plainly(
     inst: &Instance,
@@ -66,7 +66,7 @@ pub fn plan_plainly(
     best
 }
 
-/// The second of two moves where it is done at a lower cost than the first, else the first.
+/// The second of two moves if it is done at a lower cost than the first, else the first.
 fn cheaper(first: Planned, second: Planned) -> Planned
     ensures { result ≡ (if is_better (done_cost second.verdict)
         (done_cost first.verdict) then second else first) }

@@ -64,13 +64,13 @@ unmoved_since i a0 h q (suc n) steps j apart since within = ⊎_elim
     unmoved_made i steps (state a0 h n) j (made_by (entry_at h n)) (λ others is. apart.each n others before (omega arith) (made_place h n ∙ is)) within ∙ unmoved_since i a0 h q n steps j fewer before within)
     (cases_lt n q)
 
--- a plan's processes stand where it was planned
+-- a plan's processes are in their places where it was planned
 plan_stands : (i : Tables) (a0 a : List Machine) (x : List ℕ) (d : Drawing) (rise : ℕ) → WellFormed i → IsAssignment i a → StandsAt from_in (plan_of i a0 a x d rise).steps a
 unfolding plan_of
 plan_stands i a0 a x d rise limits fits = option_stands a x (machine_count i) d (plan_place i a0 a x d rise) (omega (arith, fits.one_each, limits.some_process)) (omega (arith, limits.some_machine))
 
--- what is known of an entry's move: its processes and the machines that it enters exist, and its processes stand where it
--- was planned
+-- what is known of an entry's move: its processes and the machines that it enters exist, and its processes are in their
+-- places where it was planned
 pub record IsPlanAt (i : Tables) (a : List Machine) (steps : List Step) : Type 0 where
   pub known : AreKnown i steps
   pub reaches : Reaches (machine_count i) steps
@@ -83,7 +83,7 @@ plan_at i a0 a x d rise mv limits fits is = subst (λ (m : MoveSteps). IsPlanAt 
   stands = plan_stands i a0 a x d rise limits fits;
 })
 
--- they stand there still at a later place, where no guard was touched since
+-- they are still in their places at a later place, if no guard was touched since
 pub stands_later : (i : Tables) (a0 : List Machine) (h : List Entry) (q n : ℕ) (steps : List Step) → IsAssignment i (state a0 h q) → IsAssignment i (state a0 h n) → ApartSince i (made_in h) q n steps → q ≤ n → StandsAt from_in steps (state a0 h q) → StandsAt from_in steps (state a0 h n)
 stands_later i a0 h q n steps then_fits fits apart since stood = record {
   known = λ j within. omega (arith, stood.known j within, then_fits.one_each, fits.one_each);

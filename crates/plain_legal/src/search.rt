@@ -15,7 +15,7 @@ use ra_journal::Entry;
 use ra_model::Instance;
 use std::alloc::Global;
 
-/// The place of the first entry of a journal that is not legal, and none where the journal is legal. The work grows with
+/// The place of the first entry of a journal that is not legal, and none if the journal is legal. The work grows with
 /// the square of the journal's length. No entry is looked at before all earlier ones have passed.
 pub fn first_illegal(
     alloc: Global,
@@ -39,7 +39,7 @@ pub fn first_illegal(
     Ok(None)
 }
 
-/// Whether the entry at place `j` is legal, where all before it are.
+/// Whether the entry at place `j` is legal, if all before it are.
 fn is_legal(
     bench: &mut Bench,
     inst: &Instance,

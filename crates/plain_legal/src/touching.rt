@@ -10,8 +10,8 @@ use ra_journal::Entry;
 use ra_model::Instance;
 use ra_moves::{Move, Verdict};
 
-/// Whether no entry from the place where an entry for place `j` was planned, and before place `j`, touches a guard of its
-/// move.
+/// Whether no entry from the place where an entry for place `j` was planned, and before place `j`, touches a guard of
+/// its move.
 pub(crate) fn is_untouched(inst: &Instance, entries: &[Entry], j: usize, e: &Entry) -> bool
     requires there { j ≤ length entries.now }
     requires place { e.now.q ≤ j }

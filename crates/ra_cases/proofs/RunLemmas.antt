@@ -1,4 +1,4 @@
--- An ending that came is one that the top call promises, and so is the wanted one where they are the same.
+-- The ending of a run is one that the top call promises, and so is the wanted one if they are the same.
 use Rattle.std.proofs.Common.{◌≡◌, ◌↔◌, ℕ, List, [], ◌++◌, Option, Some, None, IfSome, refl, sym, ◌∙◌, subst}
 use Rattle.std.specs.Io.KnownBytes.{Appends}
 use Rattle.ra_words.specs.Jobs.{JobSays, Checks, Bounds, Solves, Trials, Verifies, Repairs, Edits, job_of}
@@ -34,7 +34,7 @@ unfolding number_of
 done_of Done e = refl
 done_of status e = cc
 
--- an output that went one way went another, where each text did
+-- an output that went one way went another, if each text did
 
 printed_more : (held : Held) (names : Names) (way more : List ℕ → Type 0) → ((text : List ℕ) → way text → more text) → Printed held names way → Printed held names more
 printed_more held names way more step p = record { tables = p.tables; a0 = p.a0; a = p.a; passes = p.passes; text = step _ p.text }

@@ -20,7 +20,7 @@ pub(crate) struct Case<'c> {
     pub(crate) texts: &'c [Text<'c>],
 }
 
-/// What stands behind a word at the head of a line.
+/// The text behind a word at the head of a line.
 pub(crate) fn behind<'t>(line: &'t str, word: &str) -> Option<&'t str> {
     match line.strip_prefix(word) {
         Some("") => Some(""),
@@ -29,7 +29,7 @@ pub(crate) fn behind<'t>(line: &'t str, word: &str) -> Option<&'t str> {
     }
 }
 
-/// What stands behind a word at the head of the first line that begins with it, and the lines below
+/// The text behind a word at the head of the first line that begins with it, and the lines below
 /// that.
 pub(crate) fn part<'c>(lines: &'c [&'c str], word: &str) -> Option<(&'c str, &'c [&'c str])> {
     let mut rest = lines;
@@ -62,7 +62,7 @@ fn strings(alloc: Global, pieces: &[Token<'_>]) -> Result<Vec<String>, Trouble> 
     Ok(words)
 }
 
-/// The text behind a word, and nothing where no line begins with it.
+/// The text behind a word, and nothing if no line begins with it.
 pub(crate) fn wanted(alloc: Global, case: &Case<'_>, word: &str) -> Result<Vec<u8>, Trouble> {
     match part(case.lines, word) {
         Some((rest, below)) => text_of(alloc, case.texts, rest, below, case.row),
@@ -70,13 +70,13 @@ pub(crate) fn wanted(alloc: Global, case: &Case<'_>, word: &str) -> Result<Vec<u
     }
 }
 
-/// The one number behind a word, where a line begins with it.
+/// The one number behind a word, if a line begins with it.
 pub(crate) fn number(alloc: Global, case: &Case<'_>, word: &str) -> Result<Option<u64>, Trouble> {
     let numbers = numbers(alloc, case, word)?;
     Ok(numbers.as_slice().first().copied())
 }
 
-/// The numbers behind a word, and none where no line begins with it.
+/// The numbers behind a word, and none if no line begins with it.
 fn numbers(alloc: Global, case: &Case<'_>, word: &str) -> Result<Fixed<u64>, Trouble> {
     let rest = match part(case.lines, word) {
         Some((rest, _)) => rest,
@@ -117,7 +117,7 @@ pub(crate) fn files_of(alloc: Global, case: &Case<'_>, each: usize) -> Result<Me
     Ok(files)
 }
 
-/// Adds a file: its name and its text stand in this rest of a line and below it.
+/// Adds a file: its name and its text are in this rest of a line and below it.
 fn add_file(
     alloc: Global,
     case: &Case<'_>,
@@ -131,7 +131,7 @@ fn add_file(
     Ok(())
 }
 
-/// A sink of a case: how much it takes at once, and which of its puts fail, stand behind these
+/// A sink of a case: how much it takes at once, and which of its puts fail, are behind these
 /// words.
 pub(crate) fn sink_of(
     alloc: Global,

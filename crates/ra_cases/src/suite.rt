@@ -55,7 +55,7 @@ impl Tally {
 ///
 /// # Errors
 ///
-/// `NoMemory`, or `Write` where a line can't be put. A paragraph that isn't a case is counted as one that failed.
+/// `NoMemory`, or `Write` if a line can't be put. A paragraph that isn't a case is counted as one that failed.
 pub fn try_all<R: Threads + Wait + Sync, O: Sink>(
     rt: &R,
     alloc: Global,
@@ -84,7 +84,7 @@ fn lines_of<'t>(alloc: Global, text: &'t str) -> Result<Vec<&'t str>, Trouble> {
     Ok(lines)
 }
 
-/// Tries the cases of lines, whose paragraphs stand between empty ones.
+/// Tries the cases of lines, whose paragraphs are between empty ones.
 fn try_lines<'t, R: Threads + Wait + Sync, O: Sink>(
     rt: &R,
     alloc: Global,
@@ -136,7 +136,7 @@ fn try_paragraph<'t, R: Threads + Wait + Sync, O: Sink>(
     try_rows(rt, alloc, name, below, texts.as_slice(), tally, sink)
 }
 
-/// Keeps a shared text: its name and its text stand in this rest of a line and below it.
+/// Keeps a shared text: its name and its text are in this rest of a line and below it.
 fn keep_text<'t>(
     alloc: Global,
     rest: &'t str,
@@ -155,7 +155,7 @@ fn are_known(lines: &[&str]) -> bool {
         || HEADS.iter().any(|head| behind(line, head).is_some()))
 }
 
-/// Tries a case once for each of its rows, or once where it has none.
+/// Tries a case once for each of its rows, or once if it has none.
 fn try_rows<R: Threads + Wait + Sync, O: Sink>(
     rt: &R,
     alloc: Global,

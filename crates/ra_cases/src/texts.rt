@@ -11,7 +11,7 @@ pub(crate) struct Text<'t> {
     pub(crate) bytes: Vec<u8>,
 }
 
-/// The text that stands behind a word of a line: the pieces of the rest of the line, then the lines
+/// The text behind a word of a line: the pieces of the rest of the line, then the lines
 /// that follow it and begin with four spaces, each with a line feed.
 pub(crate) fn text_of(
     alloc: Global,
@@ -70,8 +70,8 @@ fn push_piece(
     Ok(count)
 }
 
-/// How many pieces a text is that begins with this word: with those that it takes where it makes a text, and else one, the
-/// name of a shared text.
+/// How many pieces a text has that begins with this word: the word and those that it takes, if it makes a text, and
+/// else one, the name of a shared text.
 fn takes(word: &str) -> usize
     ensures { 0 < result }
 {
@@ -83,7 +83,7 @@ fn takes(word: &str) -> usize
     }
 }
 
-/// Adds the text of the pieces that it is.
+/// Adds the text that these pieces make.
 fn push_text(texts: &[Text<'_>], pieces: &[Token<'_>], bytes: &mut Vec<u8>) -> Result<(), Trouble> {
     match pieces {
         [first] => push_one(texts, first, bytes),
@@ -117,7 +117,7 @@ fn push_byte(number: &str, bytes: &mut Vec<u8>) -> Result<(), Trouble> {
     Ok(())
 }
 
-/// Adds the first bytes of a text, so many.
+/// Adds the first bytes of a text, `number` of them.
 fn push_front(text: &[u8], number: &str, bytes: &mut Vec<u8>) -> Result<(), Trouble> {
     let Ok(length) = number.parse::<usize>() else {
         return Err(Trouble::Unclear);
@@ -126,7 +126,7 @@ fn push_front(text: &[u8], number: &str, bytes: &mut Vec<u8>) -> Result<(), Trou
     Ok(())
 }
 
-/// Adds so many spaces.
+/// Adds `number` spaces.
 fn push_blanks(number: &str, bytes: &mut Vec<u8>) -> Result<(), Trouble> {
     let Ok(number) = number.parse::<u32>() else {
         return Err(Trouble::Unclear);
@@ -137,7 +137,7 @@ fn push_blanks(number: &str, bytes: &mut Vec<u8>) -> Result<(), Trouble> {
     Ok(())
 }
 
-/// Adds a text in which what stands for `old`, once, is `new`.
+/// Adds a text with `new` in place of the first `old`.
 fn push_swapped(text: &[u8], old: &str, new: &str, bytes: &mut Vec<u8>) -> Result<(), Trouble> {
     let mut rest = text;
     while let [first, after @ ..] = rest {

@@ -64,8 +64,8 @@ fn fill<'t>(
     Ok(all)
 }
 
-/// The place of the pieces of a row for which a piece of a line stands, where it stands for some: 0 for all of them, else that
-/// of one, counted from 1.
+/// The pieces of a row for which a piece of a line stands, if it stands for some: 0 for all of them, else the place of
+/// one, counted from 1.
 fn place(piece: &Token<'_>) -> Option<usize> {
     if piece.quoted {
         return None;
@@ -79,7 +79,7 @@ fn place(piece: &Token<'_>) -> Option<usize> {
     }
 }
 
-/// Adds the pieces of a row at a place, and none where the row is shorter.
+/// Adds the pieces of a row at a place, and none if the row is shorter.
 fn push_row<'t>(
     row: &[Token<'t>],
     place: usize,

@@ -17,7 +17,7 @@ use std::marker::Sync;
 use std::sync::Wait;
 use std::thread::Threads;
 
-/// How many bytes files give at once where a case doesn't say it: it is run with each.
+/// How many bytes files give at once if a case doesn't say it: the case is run with each.
 const CUTS: [usize; 4] = [1, 7, 65_535, 65_536];
 
 /// What a run works on.
@@ -46,8 +46,8 @@ fn stage_of(alloc: Global, case: &Case<'_>, each: usize) -> Result<Stage, Troubl
     })
 }
 
-/// Runs a stage: whether the run ends as it has to, with the wanted output and error line. Where it
-/// doesn't, what came is put beside what had to come.
+/// Runs a stage: whether the run ends as it has to, with the wanted output and error line. If it doesn't, the wanted
+/// ending is put beside the actual one.
 fn try_stage<R: Threads + Wait + Sync, O: Sink>(
     rt: &R,
     alloc: Global,
@@ -167,7 +167,7 @@ pub(crate) fn try_case<R: Threads + Wait + Sync, O: Sink>(
     tell_case(rt, alloc, case, name, &wanted, sink)
 }
 
-/// The same, where this is how it has to end.
+/// The same, if this is how it has to end.
 fn tell_case<R: Threads + Wait + Sync, O: Sink>(
     rt: &R,
     alloc: Global,

@@ -21,7 +21,7 @@ pub(crate) fn put_verdict<O: Sink>(sink: &mut O, name: &str, same: bool) -> Resu
     }
 }
 
-/// Puts what had to come beside what came.
+/// Puts the wanted ending beside the actual one.
 pub(crate) fn put_difference<O: Sink>(
     alloc: Global,
     sink: &mut O,
@@ -36,7 +36,7 @@ pub(crate) fn put_difference<O: Sink>(
     Ok(())
 }
 
-/// What had to come beside what came, with the number of bytes that files gave at once.
+/// The wanted ending beside the actual one, with the number of bytes that files gave at once.
 fn difference(
     alloc: Global,
     each: usize,
@@ -62,7 +62,7 @@ fn beside(
     Ok(text)
 }
 
-/// Adds the head, and what had to come beside what came.
+/// Adds the head, and the wanted ending beside the actual one.
 fn push_ends(
     head: &str,
     came: &Ending<'_>,
