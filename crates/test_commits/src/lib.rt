@@ -1,4 +1,5 @@
-//! Tests of the journal: what two workers are answered that hand in plans of the start. There is nothing here but tests.
+//! Tests of the journal: the answers to two workers that hand in plans made at the start. There is nothing here but
+//! tests.
 #![tactic(auto)]
 
 #[cfg(test)]

@@ -94,8 +94,8 @@ fn stale(guard: Guard) -> Reply {
     Reply::Stale { guard, at: 0 }
 }
 
-/// Process 1 goes from machine 3 to 2, of the machines 2, 1, 0 and 3 the only one that neither breaks a constraint nor is
-/// where it stands.
+/// Process 1 goes from machine 3 to 2. Of the machines 2, 1, 0 and 3 that is the only one that neither breaks a
+/// constraint nor is its own.
 const AWAY: [u64; 8] = [0, 1, 2, 1, 0, 3, 0, 0];
 
 /// What two workers are answered on the sample.
@@ -112,8 +112,8 @@ fn replies_on_sample(
 
 /// By hand: with process 1 on machine 2, load 1500, balance 1700, process 100, service 10 and way 200 cost 3510. With
 /// process 2 on machine 1, load 600, balance 2400, process 1, service 10 and way 100 cost 3111. The start costs 4200.
-/// Processes 0 and 1 are of service 0, and process 2 is of service 1, which depends on it. The first newer guard is told,
-/// machines before services.
+/// Processes 0 and 1 are of service 0, and process 2 is of service 1, which depends on it. The first newer guard is
+/// told, machines before services.
 fn each_guard_makes_a_plan_stale(rt: &impl Abort, alloc: Global, inst: &Instance) {
     let rows: &[([u64; 8], [u64; 8], u128, Guard)] = &[
         // Process 2 would enter the machine that process 1 entered, and the one that it left.
@@ -123,8 +123,8 @@ fn each_guard_makes_a_plan_stale(rt: &impl Abort, alloc: Global, inst: &Instance
         (AWAY, shift(0, 1), 3510, Guard::Service(Service(0))),
         // Process 2, from machine 0 to 1, needs that service.
         (AWAY, shift(2, 1), 3510, Guard::Service(Service(0))),
-        // Process 2 goes from machine 0 to 1. Process 1, from machine 3 to 2, is of the service that it needs; process 0
-        // would leave the machine that it left.
+        // Process 2 goes from machine 0 to 1. Process 1, from machine 3 to 2, is of the service that it needs; process
+        // 0 would leave the machine that it left.
         (shift(2, 1), AWAY, 3111, Guard::Service(Service(1))),
         (shift(2, 1), shift(0, 2), 3111, Guard::Machine(Machine(0))),
     ];

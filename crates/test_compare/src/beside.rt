@@ -33,7 +33,7 @@ pub struct Beside<'a> {
 }
 
 impl<'a> Beside<'a> {
-    /// The world of an initial assignment, where that is feasible, and the checker beside it.
+    /// The world of an initial assignment, if that is feasible, and the checker beside it.
     pub fn make(
         alloc: Global,
         inst: &'a Instance,
@@ -83,7 +83,7 @@ impl<'a> Beside<'a> {
         parts(inst, a0, &self.other, &mut self.scratch)
     }
 
-    /// Follows a move on both sides, where the plain checker judges it Done; a rise of the cost is allowed.
+    /// Follows a move on both sides, if the plain checker judges it Done; a rise of the cost is allowed.
     pub fn follow<L: Ledger>(&mut self, mv: &Move, steps: &mut Steps<L>) -> Verdict
         requires stands { StandsAt from_in mv.now.steps self.old.world.kept.assignment.items }
         requires reaches { (j : ℕ) → j < length mv.now.steps →
@@ -110,7 +110,8 @@ impl<'a> Beside<'a> {
         verdict
     }
 
-    /// Follows the move that eight words ask for, where it is judged Done: the last word picks one of those that they name.
+    /// Follows the move that eight words ask for, if it is judged Done: the last word picks one of those that they
+    /// name.
     #[tactic(auto, unfolding(crate::specs::Asked::asked))]
     pub fn propose<L: Ledger>(&mut self, words: &[u64; 8], steps: &mut Steps<L>) -> Verdict
         ensures verdict { result ≡ judge self.old.world.inst.now.tables

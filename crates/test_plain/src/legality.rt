@@ -163,7 +163,7 @@ fn other_moves_and_verdicts(rt: HostRuntime) {
     tells_of_three(&rt, alloc, 2070, &[start(), not_back()], Some(1));
 }
 
-// Process 1 stands on machine 2 when process 2 comes there.
+// Process 1 is on machine 2 when process 2 comes there.
 #[test]
 fn a_machine_that_was_touched(rt: HostRuntime) {
     let alloc = rt.alloc();

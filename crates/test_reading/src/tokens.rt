@@ -142,7 +142,7 @@ fn a_number_may_be_cut_by_the_buffer(rt: HostRuntime) {
     cut_by_the_buffer(&rt, rt.alloc(), 65_536);
 }
 
-/// Demands of a reader, for each row, what `next_values` answers for so many, and the values that the list has then.
+/// Demands of a reader, for each row, what `next_values` answers for that many, and the values that the list has then.
 fn demand_values<F: Files>(
     rt: &impl Abort,
     files: &mut F,

@@ -69,7 +69,8 @@ fn far_labels_with_a_closed_machine(rt: HostRuntime) {
     try_on(&rt, rt.alloc(), closed, &[0, 0, 1, 3, 3, 4, 1], &trials);
 }
 
-// Two processes that fill a machine each can only be swapped, and the swap costs more than any allowance: no plan is done.
+// Two processes that fill a machine each can only be swapped, and the swap costs more than any allowance: no plan is
+// done.
 #[test]
 fn the_greatest_numbers(rt: HostRuntime) {
     let trials = [Trial::Plans {

@@ -81,7 +81,7 @@ fn a_failed_put_ends_the_report(rt: HostRuntime) -> Result<(), Fail> {
     Ok(())
 }
 
-/// The word of 500 proposals that put process 1 where it stands.
+/// The word of 500 proposals that put process 1 where it is.
 fn five_hundred(alloc: Global) -> Result<String, AllocError> {
     let mut word = String::from_str(alloc, "w:0,1,3,3,3,3,0,0")?;
     for _ in 1..500 {

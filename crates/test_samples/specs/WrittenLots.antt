@@ -9,7 +9,7 @@ abbrev pub AreWords : Source → List ℕ → Type 0
 AreWords (Seed seed) words = ⊥
 AreWords (Written given) words = given.items ≡ words
 
--- a lot for each list of words, in their order, each for so many proposals, and no others
+-- a lot for each list of words, in their order, each with this budget, and no others
 abbrev pub AreWritten : List Lot → List (List ℕ) → ℕ → Type 0
 AreWritten [] [] budget = Unit {0}
 AreWritten (lot ∷ lots) (words ∷ more) budget =

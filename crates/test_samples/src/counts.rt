@@ -8,7 +8,7 @@ fn is_of(inst: &Instance, s: u32, p: u32) -> bool {
     p < inst.processes() && inst.service_of(Process(p)).0 == s
 }
 
-/// The machine of process `p`, where there is one.
+/// The machine of process `p`, if there is one.
 fn machine_of(a: &Assignment, p: u32) -> Option<Machine> {
     if (p as usize) < a.len() {
         Some(a.get(p as usize))

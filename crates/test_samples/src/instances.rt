@@ -28,8 +28,8 @@ pub fn single(alloc: Global) -> Result<Instance, NotMade> {
     )
 }
 
-/// Five machines, four services and seven processes. The second service needs itself and the first; the third, which has
-/// no process, and the fourth need the first. Locations are 5 (machines 0 to 2), 0 and the greatest label,
+/// Five machines, four services and seven processes. The second service needs itself and the first; the third, which
+/// has no process, and the fourth need the first. Locations are 5 (machines 0 to 2), 0 and the greatest label,
 /// neighbourhoods are 7 (machines 0 and 1), the greatest label and 9.
 pub fn seven_processes(alloc: Global) -> Result<Instance, NotMade> {
     let needed = Service(0);

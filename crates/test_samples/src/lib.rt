@@ -1,4 +1,4 @@
-//! Instances that the tests of other crates stand on, each made of the same few slices; the lists, assignments, lots and
+//! Instances that the tests of other crates use, each made of the same few slices; the lists, assignments, lots and
 //! command words that such tests write; and the plain counts that they compare with.
 #![tactic(auto)]
 

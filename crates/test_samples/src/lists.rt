@@ -162,7 +162,7 @@ fn copied(alloc: Global, lists: &Lists<'_>) -> Result<RawInstance, NoMemory>
     ))
 }
 
-/// The instance of these lists, where they are one. No machine is closed.
+/// The instance of these lists, if they are one. No machine is closed.
 pub fn instance(alloc: Global, lists: &Lists<'_>) -> Result<Instance, NotMade>
     ensures { IfOk result (λ inst. IsCopy inst.tables.raw lists.now) }
 {

@@ -31,7 +31,7 @@ fn are_within(inst: &Instance, mv: &Move) -> bool
     true
 }
 
-/// Whether two moves are apart, where the instance has what they name.
+/// Whether two moves are apart, if the instance has what they name.
 #[tactic(auto, using(ra_guards::proofs::GuardLemmas::within_known))]
 fn answer(inst: &Instance, mv: &Move, other: &Move) -> Option<bool> {
     if are_within(inst, mv) && are_within(inst, other) {

@@ -165,7 +165,7 @@ fn shaped(alloc: Global, shape: &Shape) -> Result<Instance, NotMade> {
     )
 }
 
-/// Why the lists of a shape are no instance, where they are none.
+/// Why the lists of a shape are no instance, if they are none.
 fn refusal(alloc: Global, shape: &Shape) -> Option<NotMade> {
     match shaped(alloc, shape) {
         Ok(inst) => {

@@ -28,8 +28,8 @@ fn compare_members(rt: &impl Abort, topology: &Topology)
     same(rt, topology.members(Service(3)), [Process(3)].as_slice());
 }
 
-/// The first service depends on the third, on itself and on the third again, the third on the first, and the last on the
-/// third and on the second.
+/// The first service depends on the third, on itself and on the third again, the third on the first, and the last on
+/// the third and on the second.
 fn compare_needs(rt: &impl Abort, topology: &Topology)
     requires { length topology.now.needs ≡ 4 }
 {
@@ -44,7 +44,7 @@ fn compare_needs(rt: &impl Abort, topology: &Topology)
     );
 }
 
-/// Each service that a service needs stands once, where the first of its dependencies names it.
+/// Each service that a service needs is listed once, where the first of its dependencies names it.
 fn compare_distinct(rt: &impl Abort, topology: &Topology)
     requires { length topology.now.distinct ≡ 4 }
 {

@@ -29,7 +29,7 @@ pub(super) fn start_parts(rt: &impl Abort, alloc: Global, inst: &Instance, a0: &
     parts(inst, a0, a0, &mut scratch)
 }
 
-/// A worker's first plan, at a world that stands at its start.
+/// A worker's first plan, at a world that is at its start.
 #[tactic(auto, unfolding(ra_journal::specs::Entries::worker_count, ra_journal::specs::Entries::budget, ra_draws::specs::Lots::budget_of))]
 pub(super) fn first_plan<L: Ledger>(
     rt: &impl Abort,
@@ -51,7 +51,7 @@ pub(super) fn first_plan<L: Ledger>(
     plan(world, &words, lots.drawing(), allowed, 0, 0, steps)
 }
 
-/// Hands in a worker's first plan, where the worker has some budget and no entry is its own so far.
+/// Hands in a worker's first plan, if the worker has some budget and no entry is its own so far.
 pub(super) fn hand_in(journal: &mut Journal<'_>, worker: u32, plan: &Plan) -> Option<Reply>
     requires { IsFirstPlan journal.old.inst.now.tables journal.old.a0.now.items
         journal.old.lots.now worker plan.now }

@@ -75,8 +75,8 @@ fn answer(reply: Reply) -> CoreReply {
     CoreReply::Answer { reply }
 }
 
-/// What worker 1 is answered at place 1: process 2 would use 16 of resource 0 of machine 2 together with process 1, where
-/// the capacity is 15.
+/// What worker 1 is answered at place 1: process 2 would use 16 of resource 0 of machine 2 together with process 1,
+/// where the capacity is 15.
 fn over_capacity() -> Reply {
     let cause = Cause::Capacity {
         machine: Machine(2),

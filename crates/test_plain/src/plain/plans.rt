@@ -76,8 +76,8 @@ fn planned_at_start(rt: &impl Abort, alloc: Global, inst: &Instance, asked: &Pro
     planned(rt, alloc, inst, &[0, 3, 0], &[0, 3, 0], asked)
 }
 
-/// The machines 2, 1, 0 and 3; then 0, 3, 1 and 2; then a window from machine 3 that goes on from machine 0. Machine 2 is
-/// done, 1 breaks the spread, 0 the conflict, and 3 is where the process is.
+/// The machines 2, 1, 0 and 3; then 0, 3, 1 and 2; then a window from machine 3 that goes on from machine 0. Machine 2
+/// is done, 1 breaks the spread, 0 the conflict, and 3 is where the process is.
 fn the_only_option_that_is_done_is_planned(rt: &impl Abort, alloc: Global, inst: &Instance) {
     let proposals = [
         ask([0, 1, 2, 1, 0, 3, 0, 0], Drawing::One, 0),
@@ -128,8 +128,8 @@ fn plans_on_the_sample(rt: HostRuntime) {
     drop(inst);
 }
 
-/// To be moved costs 1, and 1 for the service. With the way it is 4 at machines 1 and 2, and 7 at machine 3. The last row
-/// is from machine 1, whose cost is 4, back to the start.
+/// To be moved costs 1, and 1 for the service. With the way it is 4 at machines 1 and 2, and 7 at machine 3. The last
+/// row is from machine 1, whose cost is 4, back to the start.
 fn the_first_option_of_least_cost_is_planned(rt: &impl Abort, alloc: Global, inst: &Instance) {
     let rise = Cause::Rise {
         before: 0,

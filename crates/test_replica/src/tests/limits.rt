@@ -11,9 +11,9 @@ const CAP: u32 = 1073741824;
 /// The greatest number that a file may have.
 const MOST: u32 = 4294967295;
 
-/// Five machines and six processes. What the first process asks of the load rows comes to 2^30, and what the second asks
-/// to one more; so does what the third and the fourth ask for the balance. Some ways cost 2^30, some one more or less. The
-/// start is `0 1 2 3 4 2`.
+/// Five machines and six processes. What the first process asks of the load rows comes to 2^30, and what the second
+/// asks to one more; so does what the third and the fourth ask for the balance. Some ways cost 2^30, some one more or
+/// less. The start is `0 1 2 3 4 2`.
 pub(super) fn sums_at_the_cap(alloc: Global) -> Result<Instance, NotMade> {
     instance(
         alloc,
@@ -61,8 +61,8 @@ pub(super) fn sums_at_the_cap(alloc: Global) -> Result<Instance, NotMade> {
     )
 }
 
-/// Four machines and four processes. The load cost of a machine with the first or the second process is just below or just
-/// above 2^62, and so is its balance cost. The start is `0 1 2 3`.
+/// Four machines and four processes. The load cost of a machine with the first or the second process is just below or
+/// just above 2^62, and so is its balance cost. The start is `0 1 2 3`.
 pub(super) fn costs_near_the_bound(alloc: Global) -> Result<Instance, NotMade> {
     instance(
         alloc,
@@ -142,7 +142,7 @@ fn mixed(least: u32, range: u32, step: u32) -> [u32; 4225]
     numbers
 }
 
-/// So many machines, at most sixty-five, with three services and seven processes. Each process fits on each machine.
+/// `count` machines, at most sixty-five, with three services and seven processes. Each process fits on each machine.
 pub(super) fn many_machines(alloc: Global, count: usize) -> Result<Instance, NotMade>
     requires { count ≤ 65 }
 {

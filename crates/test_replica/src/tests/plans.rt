@@ -50,8 +50,8 @@ fn verdict_on(world: &World<'_>, planned: &Plan, allowed: u64) -> Verdict
     verdict(world, &planned.weighed, allowed)
 }
 
-/// Compares the two plans of a proposal: the moves, and the verdicts on them. Whether they are done, where they are the
-/// same.
+/// Compares the two plans of a proposal: the moves, and the verdicts on them. Gives whether they are done, if they are
+/// the same.
 pub(super) fn compare<L: Ledger>(
     rt: &impl Abort,
     alloc: Global,

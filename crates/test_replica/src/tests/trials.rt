@@ -18,8 +18,8 @@ use test_samples::assignment;
 /// One trial.
 #[derive(Clone, Copy)]
 pub(super) enum Trial {
-    /// Plans of so many proposals are compared along a walk; at least so many with each drawing are done, and so many
-    /// moves followed.
+    /// Plans of `proposals` proposals are compared along a walk; with each drawing at least `least` are done, and at
+    /// least `least` moves are followed.
     Plans { proposals: u32, least: u32 },
     /// What the world tells is compared after each of many moves.
     Telling,

@@ -28,8 +28,9 @@ fn allowance_from(seed: u64) -> u64 {
     }
 }
 
-/// Makes so many proposals, compares their plans with both drawings, and follows the moves that they ask for where these
-/// are done. Whether all plans are the same, at least so many with each drawing are done, and so many moves followed.
+/// Makes `proposals` proposals, compares their plans with both drawings, and follows the moves that they ask for if
+/// these are done. Whether all plans are the same, at least `least` with each drawing are done, and at least `least`
+/// moves are followed.
 pub(super) fn plans_agree<L: Ledger>(
     rt: &impl Abort,
     alloc: Global,

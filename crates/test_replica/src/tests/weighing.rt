@@ -25,8 +25,8 @@ fn offered(world: &World<'_>, words: &[u64; 8]) -> Move
     mv
 }
 
-/// Process 1 of the sample goes to machine 2, and then process 2 is weighed on its way to machine 1. Whether this is told
-/// of it.
+/// Process 1 of the sample goes to machine 2, and then process 2 is weighed on its way to machine 1. Whether this is
+/// told of it.
 pub(super) fn weighs_shift<L: Ledger>(beside: &mut Beside<'_>, steps: &mut Steps<L>) -> bool {
     if !is_done_at(&beside.propose(&shift_to(1, 2), steps), 3510) {
         return false;

@@ -12,8 +12,8 @@ use std::alloc::Global;
 use std::process::Abort;
 use test_samples::eight_machines;
 
-/// The first newer guard of a move than place 2, and the first that it only reads, where the entry at place 2 makes
-/// another move. None where memory was refused or the instance hasn't what they name.
+/// The first newer guard of a move than place 2, and the first that it only reads, if the entry at place 2 makes
+/// another move. None if memory was refused or the instance hasn't what they name.
 #[tactic(auto, using(ra_guards::proofs::NewestLemmas::had))]
 fn newest(
     alloc: Global,
@@ -54,8 +54,8 @@ fn service(s: u32) -> Option<Newer> {
     })
 }
 
-/// The newer guards of a move of process 2, of the second service, from machine 5 to machine 4,
-/// where the entry at place 2 is a shift of this process from one machine to another.
+/// The newer guards of a move of process 2, of the second service, from machine 5 to machine 4, if the entry at place 2
+/// is a shift of this process from one machine to another.
 fn after(
     alloc: Global,
     topo: &Topology,
