@@ -9,5 +9,4 @@ pub mod Legal
 pub mod Packing
 pub mod Recording
 pub mod Solo
-pub mod Starts
 pub mod States

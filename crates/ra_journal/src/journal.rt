@@ -38,7 +38,7 @@ impl<'a> Journal<'a> {
     ghost use Rattle.ra_journal.specs.Best.{best_of};
     ghost use Rattle.ra_journal.specs.Entries.{entry_at, entries_of, worker_count};
     ghost use Rattle.ra_journal.specs.Journals.{instance_in, tables_in, topology_in, start_in, lots_in, list_in, entries_in, newer_in, MayHandIn, HasHeld, IsOpened, Answers};
-    ghost use Rattle.ra_journal.specs.Starts.{IsFeasibleStart};
+    ghost use Rattle.ra_topology.specs.Starts.{IsFeasibleStart};
     ghost use Rattle.ra_journal.specs.States.{kept_cost, cost_at};
 
     /// The journal without entries, over an initial assignment that is feasible, whose cost has these parts.

@@ -2,8 +2,8 @@
 use native.Mathlib.Numerals.{unary_clauses}
 use Rattle.std.proofs.lemmas.List.{get_or_read, get_or-take, get_or-drop}
 use Rattle.std.proofs.Math.ListN.{take, drop}
-use Rattle.std.proofs.Common.{refl, ap, ◌-◌, ◌*◌, ◌≡◌, ℕ, zero, suc, ◌<◌, ◌≤◌, length, length-take, length-drop, List, Bool, arith}
-use Rattle.std.specs.Prelude.{slice_index_or}
+use Rattle.std.proofs.Common.{refl, ap, ◌∙◌, ◌+◌, ◌-◌, ◌*◌, ◌≡◌, ℕ, zero, suc, ◌<◌, ◌≤◌, length, length-take, length-drop, List, Bool, arith}
+use Rattle.std.specs.Prelude.{slice_index, slice_index_or}
 use Rattle.ra_base.specs.Listed.{Listed}
 use Rattle.ra_base.specs.declared.ids.Service.{Service}
 use Rattle.ra_base.specs.Tables.{cell}
@@ -159,3 +159,11 @@ needs_count i s needs all ordered within = rw all (grind (arith, length-take, le
 pub needs_each : (i : Tables) (s : ℕ) (needs : List Service) → needs ≡ i.raw.dependencies.items → (k : ℕ) → k < dependency_count i s → (slice_index_or (take (dependency_end i s - dependency_start i s) (drop (dependency_start i s) needs)) k (record { 0 = 0 })).0 ≡ need_of i s k
 unfolding dependency_count need_of need_at
 needs_each i s needs all k within = rw (all, get_or-take, get_or-drop) refl
+
+-- the ways from a machine, cut out of the list of all
+pub ways_count : (i : Tables) (from : ℕ) (ways : List ℕ) → ways ≡ i.raw.move_costs.items → from < machine_count i → length i.raw.move_costs.items ≡ machine_count i * machine_count i → length (take (from * machine_count i + machine_count i - from * machine_count i) (drop (from * machine_count i) ways)) ≡ machine_count i
+ways_count i from ways all within whole = rw all (grind (arith, length-take, length-drop, whole, within))
+
+pub ways_each : (i : Tables) (from : ℕ) (ways : List ℕ) → ways ≡ i.raw.move_costs.items → (to : ℕ) → to < machine_count i → slice_index (take (from * machine_count i + machine_count i - from * machine_count i) (drop (from * machine_count i) ways)) to ≡ way_cost_of i from to
+unfolding way_cost_of cell
+ways_each i from ways all to within = rw all (get_or-take {A = ℕ} (from * machine_count i + machine_count i - from * machine_count i) (drop (from * machine_count i) i.raw.move_costs.items) to 0 (omega (arith, within)) ∙ get_or-drop (from * machine_count i) i.raw.move_costs.items to 0)

@@ -11,6 +11,7 @@ mod fits;
 mod labels;
 mod members;
 mod numbers;
+mod parts;
 mod raw;
 mod tables;
 
@@ -19,4 +20,5 @@ pub use copying::copies;
 pub use labels::Places;
 pub use members::Members;
 pub use numbers::Instance;
+pub use parts::part_of;
 pub use raw::{BalanceRow, MachineRow, ProcessRow, RawInstance, ResourceRow, ServiceRow, Tables};

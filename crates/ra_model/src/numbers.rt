@@ -1,4 +1,4 @@
-ghost use Rattle.std.specs.Prelude.{◌≡◌, ℕ, ◌+◌, ◌-◌, ◌*◌, ◌<◌, ◌≤◌, length, slice_index_or};
+ghost use Rattle.std.specs.Prelude.{◌≡◌, ℕ, ◌+◌, ◌-◌, ◌*◌, ◌<◌, ◌≤◌, length, slice_index, slice_index_or};
 ghost use Rattle.ra_model.specs.Limits.{WellFormed, Small};
 ghost use Rattle.ra_model.specs.Numbers.{all_open, with_closed, resource_count, machine_count, service_count, process_count, balance_count, resource_row, machine_row, service_row, process_row, balance_row, transient_at, load_weight_of, neighbourhood_of, location_of, capacity_of, safety_of, way_cost_of, spread_of, dependency_count, dependency_start, dependency_end, need_of, service_of, requirement_of, process_cost_of, process_weight_of, service_weight_of, machine_weight_of, closed_at};
 
@@ -13,7 +13,8 @@ use std::sync::ledger::Ledger;
 /// is named in it exists.
 #[derive(Drop)]
 pub struct Instance {
-    tables: Tables,
+    /// The numbers themselves. What their lists hold is read by the methods.
+    pub tables: Tables,
     pub ghost well_formed: { WellFormed tables },
     pub ghost small: { Small tables },
 }
@@ -149,6 +150,19 @@ impl Instance {
         ensures { result ≡ way_cost_of self.now.tables a.0 b.0 }
     {
         number_at(&self.tables.raw.move_costs, self.machines(), a.0, b.0)
+    }
+
+    /// What the ways from a machine cost, before the weight: a number for each machine, in the order of their numbers.
+    #[tactic(auto, using(crate::proofs::InstanceLemmas::ways_count, crate::proofs::InstanceLemmas::ways_each))]
+    pub fn ways_from(&self, from: Machine) -> &[u32]
+        requires { from.0 < machine_count self.now.tables }
+        ensures count { length result.now ≡ machine_count self.now.tables }
+        ensures each { (to : ℕ) → to < machine_count self.now.tables →
+            slice_index result.now to ≡ way_cost_of self.now.tables from.0 to }
+    {
+        let count = self.machines() as usize;
+        let start = from.0 as usize * count;
+        &self.tables.raw.move_costs.as_slice()[start..start + count]
     }
 
     /// How many different locations a service needs.

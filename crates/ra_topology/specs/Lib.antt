@@ -2,3 +2,4 @@ pub mod TopologyLists
 pub mod Lists
 pub mod Fits
 pub mod Places
+pub mod Starts

@@ -1,9 +1,8 @@
-ghost use Rattle.std.specs.Prelude.{◌≡◌, ℕ, ◌<◌, length, slice_index};
-ghost use Rattle.std.specs.List.{slice_range};
-ghost use Rattle.ra_model.specs.Parts.{part_start, AreEnds};
+ghost use Rattle.std.specs.Prelude.{◌≡◌, ◌<◌, length};
 ghost use Rattle.ra_topology.specs.Lists.{services_of};
 
 use ra_base::{Fixed, Service};
+use ra_model::part_of;
 use std::marker::Model;
 
 /// A list of services for each service, all in one table. Contracts see one list for each service.
@@ -32,28 +31,6 @@ impl ServiceLists {
         requires { s.0 < length self.now }
         ensures { result.now ≡ services_of self.now s.0 }
     {
-        part(&self.all, &self.ends, s.0)
+        part_of(&self.all, &self.ends, s.0)
     }
-}
-
-/// A part of a table, from where it starts to its end.
-#[tactic(auto, using(ra_model::proofs::PartLemmas::part_bounds))]
-fn part<'a>(all: &'a Fixed<Service>, ends: &Fixed<u32>, k: u32) -> &'a [Service]
-    requires there { k < length ends.now.items }
-    requires ascend { AreEnds ends.now.items (length all.now.items) }
-    ensures { result.now ≡ slice_range all.now.items (part_start 0 ends.now.items k)
-        (slice_index ends.now.items k) }
-{
-    let start = start_in(ends, k);
-    let end = ends.get(k as usize);
-    &all.as_slice()[start as usize..end as usize]
-}
-
-/// Where a part starts: at the end of the part before it.
-#[tactic(auto, using(ra_model::proofs::PartLemmas::part_starts))]
-fn start_in(ends: &Fixed<u32>, k: u32) -> u32
-    requires { k < length ends.now.items }
-    ensures { result ≡ part_start 0 ends.now.items k }
-{
-    if k == 0 { 0 } else { ends.get(k as usize - 1) }
 }

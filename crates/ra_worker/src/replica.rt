@@ -4,7 +4,7 @@ ghost use Rattle.ra_base.specs.declared.causes.Drawing.TheVariants.{One, Two};
 ghost use Rattle.ra_model.specs.Numbers.{resource_count};
 ghost use Rattle.ra_journal.specs.declared.entries.Entry.{Entry as Recorded};
 ghost use Rattle.ra_journal.specs.Entries.{worker_count, budget};
-ghost use Rattle.ra_journal.specs.Starts.{IsFeasibleStart};
+ghost use Rattle.ra_topology.specs.Starts.{IsFeasibleStart};
 ghost use Rattle.ra_worker.specs.Following.{IsJudged};
 ghost use Rattle.ra_worker.specs.Replicas.{tables_at, start_at, here_at, lots_at, worker_at, next_at, budget_at, place_at, IsNextPlan, HasFollowed, IsAt, AreTold, HasTaken};
 

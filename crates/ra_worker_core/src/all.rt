@@ -1,6 +1,6 @@
 ghost use Rattle.std.specs.Prelude.{List, IfOk};
 ghost use Rattle.ra_journal.specs.declared.entries.Entry.{Entry as Recorded};
-ghost use Rattle.ra_journal.specs.Starts.{IsFeasibleStart};
+ghost use Rattle.ra_topology.specs.Starts.{IsFeasibleStart};
 ghost use Rattle.ra_worker_core.specs.Replicas.{AreAt};
 
 use ra_base::{Assignment, NoMemory, Parts};

@@ -2,7 +2,7 @@ ghost use Rattle.std.specs.Prelude.{◌≡◌, ◌<◌, ◌≤◌, [], ◌++◌,
 ghost use Rattle.ra_journal.specs.Entries.{worker_count};
 ghost use Rattle.ra_journal.specs.Journals.{lots_in, entries_in};
 ghost use Rattle.ra_journal.specs.Legal.{Whole};
-ghost use Rattle.ra_journal.specs.Starts.{IsFeasibleStart};
+ghost use Rattle.ra_topology.specs.Starts.{IsFeasibleStart};
 ghost use Rattle.ra_shared.specs.Books.{opening_of_journal};
 ghost use Rattle.ra_shared.specs.Shares.{start_of};
 ghost use Rattle.ra_worker_crew.specs.Crews.{IsFresh, AreReady, HaveRun};
