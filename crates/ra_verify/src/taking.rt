@@ -1,8 +1,5 @@
 ghost use Rattle.std.specs.Prelude.{◌≡◌, ◌≢◌, ◌≤◌, ◌↔◌, ℕ, true, false, List, None, [], ◌∷◌, ◌++◌, length, IfOk};
-ghost use Rattle.ra_model.specs.Assignments.{IsAssignment};
-ghost use Rattle.ra_model.specs.Broken.{first_broken};
-ghost use Rattle.ra_model.specs.Costs.{parts_of};
-ghost use Rattle.ra_topology.specs.Fits.{IsTopologyOf};
+ghost use Rattle.ra_topology.specs.Starts.{IsFeasibleStart};
 ghost use Rattle.ra_journal.specs.declared.entries.Entry.{Entry as Recorded};
 ghost use Rattle.ra_journal.specs.Committing.{next_entry};
 ghost use Rattle.ra_report.specs.JournalTexts.{entry_line};
@@ -28,10 +25,7 @@ impl<'a> Checker<'a> {
         start: Parts,
         lots: &'a Lots,
     ) -> Result<Checker<'a>, NoMemory>
-        requires fits { IsAssignment inst.now.tables a0.now.items }
-        requires topology { IsTopologyOf topo.now inst.now.tables }
-        requires unbroken { first_broken inst.now.tables a0.now.items a0.now.items ≡ None }
-        requires parts { start ≡ parts_of inst.now.tables a0.now.items a0.now.items }
+        requires { IsFeasibleStart inst.now.tables topo.now a0.now.items start }
         ensures instance { IfOk result (λ c. c.journal.inst.now ≡ inst.now) }
         ensures topology { IfOk result (λ c. c.journal.topo.now ≡ topo.now) }
         ensures initial { IfOk result (λ c. c.journal.a0.now ≡ a0.now) }

@@ -2,10 +2,8 @@ ghost use Rattle.std.specs.Prelude.{◌≡◌, ℕ, List, [], Option, None, IfOk
 ghost use Rattle.ra_bounds.specs.PinnedBounds.{pinned_bound_of};
 ghost use Rattle.ra_io.specs.Outside.{reading};
 ghost use Rattle.ra_model.specs.Assignments.{IsAssignment};
-ghost use Rattle.ra_model.specs.Broken.{first_broken};
-ghost use Rattle.ra_model.specs.Costs.{parts_of};
 ghost use Rattle.ra_report_lines.specs.Reading.{Reads};
-ghost use Rattle.ra_topology.specs.Fits.{IsTopologyOf};
+ghost use Rattle.ra_topology.specs.Starts.{IsFeasibleStart};
 ghost use Rattle.ra_verify.specs.Verdicts.{TellsVerdict};
 
 use crate::checker::Checker;
@@ -41,10 +39,7 @@ pub fn verify<'a, F: Files>(
     start: Parts,
     lots: &'a Lots,
 ) -> Result<u64, VerifyFault>
-    requires fits { IsAssignment inst.now.tables a0.now.items }
-    requires topology { IsTopologyOf topo.now inst.now.tables }
-    requires unbroken { first_broken inst.now.tables a0.now.items a0.now.items ≡ None }
-    requires parts { start ≡ parts_of inst.now.tables a0.now.items a0.now.items }
+    requires { IsFeasibleStart inst.now.tables topo.now a0.now.items start }
     ensures { TellsVerdict inst.now.tables a0.now.items lots.now
         (reading F.Files files.old files.new) name.now result }
 {

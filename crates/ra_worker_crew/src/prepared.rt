@@ -1,8 +1,6 @@
 ghost use Rattle.std.specs.Prelude.{◌≡◌, ◌<◌, None, IfOk};
-ghost use Rattle.ra_model.specs.Assignments.{IsAssignment};
-ghost use Rattle.ra_model.specs.Broken.{first_broken};
 ghost use Rattle.ra_model.specs.Costs.{parts_of};
-ghost use Rattle.ra_topology.specs.Fits.{IsTopologyOf};
+ghost use Rattle.ra_topology.specs.Starts.{IsFeasibleStart};
 ghost use Rattle.ra_journal.specs.Best.{best_of};
 ghost use Rattle.ra_journal.specs.States.{state};
 ghost use Rattle.ra_check.specs.Made.{IsMadeFor};
@@ -50,10 +48,7 @@ impl<'a> Prepared<'a> {
         start: Parts,
         lots: &'a Lots,
     ) -> Result<Prepared<'a>, NoMemory>
-        requires fits { IsAssignment inst.now.tables a0.now.items }
-        requires topology { IsTopologyOf topo.now inst.now.tables }
-        requires unbroken { first_broken inst.now.tables a0.now.items a0.now.items ≡ None }
-        requires parts { start ≡ parts_of inst.now.tables a0.now.items a0.now.items }
+        requires { IsFeasibleStart inst.now.tables topo.now a0.now.items start }
         ensures instance { IfOk result (λ prepared. prepared.inst.now ≡ inst.now) }
         ensures initial { IfOk result (λ prepared. prepared.a0.now ≡ a0.now) }
         ensures lots { IfOk result (λ prepared. prepared.lots.now ≡ lots.now) }

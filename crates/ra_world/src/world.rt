@@ -5,6 +5,7 @@ ghost use Rattle.ra_model.specs.Broken.{first_broken};
 ghost use Rattle.ra_model.specs.Costs.{parts_of};
 ghost use Rattle.ra_model.specs.MachineCosts.{machine_load, machine_balance};
 ghost use Rattle.ra_topology.specs.Fits.{IsTopologyOf};
+ghost use Rattle.ra_topology.specs.Starts.{IsFeasibleStart};
 ghost use Rattle.ra_moves.specs.Steps.{StandsAt, from_in, to_in};
 ghost use Rattle.ra_moves.specs.Replacing.{applied};
 ghost use Rattle.ra_moves.specs.Judging.{broken_by};
@@ -53,10 +54,7 @@ impl<'a> World<'a> {
         a0: &'a Assignment,
         start: Parts,
     ) -> Result<World<'a>, NoMemory>
-        requires fits { IsAssignment inst.now.tables a0.now.items }
-        requires topology { IsTopologyOf topo.now inst.now.tables }
-        requires unbroken { first_broken inst.now.tables a0.now.items a0.now.items ≡ None }
-        requires parts { start ≡ parts_of inst.now.tables a0.now.items a0.now.items }
+        requires { IsFeasibleStart inst.now.tables topo.now a0.now.items start }
         ensures instance { IfOk result (λ world. instance_of world ≡ inst.now) }
         ensures topology { IfOk result (λ world. topology_of world ≡ topo.now) }
         ensures initial { IfOk result (λ world. initial_of world ≡ a0.now) }
