@@ -1,4 +1,4 @@
-ghost use Rattle.std.specs.Prelude.{◌≡◌, ℕ, ◌+◌, ◌<◌, length, slice_index, slice_set, ◌==◌};
+ghost use Rattle.std.specs.Prelude.{◌≡◌, ◌<◌, length, slice_index, slice_set, ◌==◌};
 ghost use Rattle.ra_model.specs.Members.{member_at};
 ghost use Rattle.ra_check.specs.Stamps.{seat_of, site_of, AreBelow};
 

@@ -1,5 +1,5 @@
 //! Numbers of an edit, one or some of them.
-ghost use Rattle.std.specs.Prelude.{◌≡◌, ℕ, ◌+◌, ◌-◌, ◌<◌, ◌≤◌, List, length, slice_get, IfSome, IfOk, IfErr, OnOk};
+ghost use Rattle.std.specs.Prelude.{◌≡◌, ◌+◌, ◌-◌, ◌<◌, ◌≤◌, length, IfOk, IfErr, OnOk};
 ghost use Rattle.ra_token.specs.TokenList.{tokens, tokens_before};
 ghost use Rattle.ra_token.specs.Moments.{moment, Stands, Went, Refuses, HasNext, HasFault};
 ghost use Rattle.ra_edit_read.specs.EditTexts.{edits_fault, any_at, below_at, any_from};

@@ -1,7 +1,6 @@
-ghost use Rattle.std.specs.Prelude.{◌≡◌, ℕ, ◌+◌, ◌*◌, ◌<◌, ◌≤◌, List, [], ◌++◌, length, replicate, IfSome, IfOk, IfErr, OnOk, OnSome, Ok, Err, None};
+ghost use Rattle.std.specs.Prelude.{◌≡◌, ℕ, ◌+◌, ◌*◌, ◌<◌, ◌≤◌, List, ◌++◌, length, replicate, IfSome, IfOk, IfErr, OnOk, Ok, Err, None};
 ghost use Rattle.ra_io.specs.Faults.{Rose};
 ghost use Rattle.ra_token.specs.TokenList.{tokens_before};
-ghost use Rattle.ra_model.specs.Numbers.{resource_count};
 ghost use Rattle.ra_token.specs.Moments.{moment, Stands, Went, Refuses};
 ghost use Rattle.ra_edit_read.specs.EditLists.{AreEditsFor};
 ghost use Rattle.ra_edit_read.specs.EditTexts.{AreEditsOf, numbers_test, added_test, resized_test, any_at};

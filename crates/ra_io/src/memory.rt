@@ -1,9 +1,7 @@
-ghost use Rattle.std.specs.Prelude.{◌≡◌, ℕ, ◌-◌, ◌<◌, ◌||◌, nat_eq, if◌then◌else◌, List, [], ◌++◌, Some, None, length, take, drop, min, IfSome, IfOk, OnOk, OnErr};
+ghost use Rattle.std.specs.Prelude.{◌≡◌, ℕ, ◌-◌, ◌<◌, ◌||◌, nat_eq, List, [], ◌++◌, Some, None, length, take, drop, min, IfSome, IfOk, OnOk, OnErr};
 ghost use Rattle.std.specs.Option.{is_none};
 ghost use Rattle.std.specs.Result.{is_err, result_unwrap_or};
-ghost use Rattle.ra_io.specs.Faults.{raised};
 ghost use Rattle.ra_io.specs.Pieces.{Sets, piece_len, is_listed};
-ghost use Rattle.ra_io.specs.Texts.{held_in};
 
 use crate::counts::Count;
 use crate::outside::{Failed, Files, Sink};

@@ -1,4 +1,4 @@
-ghost use Rattle.std.specs.Prelude.{◌≡◌, ℕ, ◌-◌, ◌≤◌, List, [], Some, None, length, take, drop, min, OnOk, OnErr, IsNone};
+ghost use Rattle.std.specs.Prelude.{◌≡◌, ℕ, ◌-◌, List, Some, None, length, take, drop, OnOk, OnErr};
 ghost use Rattle.std.specs.Option.{option_map};
 ghost use Rattle.ra_io.specs.Pieces.{Sets, piece_len};
 ghost use Rattle.ra_io.specs.Texts.{held_in};

@@ -1,4 +1,4 @@
-ghost use Rattle.std.specs.Prelude.{◌≡◌, ℕ, None, ◌+◌, ◌%◌, ◌^◌, ◌<◌, ◌≤◌, length, slice_index};
+ghost use Rattle.std.specs.Prelude.{◌≡◌, ℕ, None, ◌+◌, ◌%◌, ◌<◌, ◌≤◌, length};
 ghost use Rattle.ra_model.specs.Assignments.{machine_at};
 ghost use Rattle.ra_moves.specs.declared.steps.MoveKind.TheVariants.{Shift};
 ghost use Rattle.ra_moves.specs.Judging.{repeat_of};

@@ -1,7 +1,7 @@
 ghost use Rattle.std.specs.Prelude.{◌≡◌, List};
 ghost use Rattle.ra_base.specs.declared.ids.Machine.{Machine};
 ghost use Rattle.ra_moves.specs.Steps.{StandsAt, Distinct, from_in, to_in};
-ghost use Rattle.ra_moves.specs.Replacing.{Applied, applied, turned};
+ghost use Rattle.ra_moves.specs.Replacing.{Applied, applied};
 
 use crate::moves::Move;
 use ra_base::Assignment;

@@ -1,12 +1,11 @@
-ghost use Rattle.std.specs.Prelude.{◌≡◌, ◌≢◌, ℕ, ◌+◌, ◌*◌, ◌<◌, ◌≤◌, true, false, List, Bool, length};
+ghost use Rattle.std.specs.Prelude.{◌≡◌, ◌+◌, ◌*◌, ◌<◌, ◌≤◌, true, false, List, Bool, length};
 ghost use Rattle.ra_base.specs.declared.ids.Machine.{Machine};
 ghost use Rattle.ra_model.specs.Numbers.{resource_count, machine_count, service_count, process_count, service_of};
-ghost use Rattle.ra_model.specs.Assignments.{IsAssignment, machine_at};
 ghost use Rattle.ra_pins.specs.Pinned.{some_of, taken, blocked};
 ghost use Rattle.ra_pins.specs.PinLists.{flag_at};
 ghost use Rattle.ra_pins.specs.Loads.{AreKept};
 ghost use Rattle.ra_pins.specs.Marks.{AreStamped};
-ghost use Rattle.ra_pins.specs.Walks.{spot, overfull, IsWalk};
+ghost use Rattle.ra_pins.specs.Walks.{spot, overfull};
 
 use ra_base::{Fixed, Machine, Process, Resource, Service, Steps, read_cell};
 use ra_model::Instance;

@@ -1,4 +1,4 @@
-ghost use Rattle.std.specs.Prelude.{◌≡◌, ℕ, ◌+◌, ◌*◌, ◌^◌, ◌<◌, ◌≤◌, ◌⊎◌, true, false, Bool, List, length, slice_index};
+ghost use Rattle.std.specs.Prelude.{◌≡◌, ◌+◌, ◌*◌, ◌^◌, ◌<◌, ◌≤◌, ◌⊎◌, true, false, Bool, List, length, slice_index};
 ghost use Rattle.ra_base.specs.declared.ids.Machine.{Machine};
 ghost use Rattle.ra_model.specs.Numbers.{resource_count, machine_count, service_count, process_count, service_of};
 ghost use Rattle.ra_model.specs.Assignments.{IsAssignment, machine_at};

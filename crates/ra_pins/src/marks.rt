@@ -1,8 +1,7 @@
-ghost use Rattle.std.specs.Prelude.{◌≡◌, ℕ, ◌+◌, ◌<◌, Bool, List, length, ◌==◌, slice_index};
-ghost use Rattle.ra_model.specs.Numbers.{machine_count, service_count, process_count};
+ghost use Rattle.std.specs.Prelude.{◌≡◌, ◌+◌, ◌<◌, length};
+ghost use Rattle.ra_model.specs.Numbers.{service_count, process_count};
 ghost use Rattle.ra_model.specs.Assignments.{IsAssignment};
-ghost use Rattle.ra_model.specs.Members.{AreMembers, members_of, member_at};
-ghost use Rattle.ra_pins.specs.PinLists.{flag_at};
+ghost use Rattle.ra_model.specs.Members.{AreMembers};
 ghost use Rattle.ra_pins.specs.Marks.{AreMarked, AreTouched, AreStamped, AreSeated, IsSet, is_seat};
 
 use ra_base::{Assignment, Fixed, Process, Service};

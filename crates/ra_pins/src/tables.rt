@@ -1,5 +1,5 @@
 ghost use Rattle.std.specs.Prelude.{◌≡◌, ◌*◌, ◌^◌, ◌<◌, length};
-ghost use Rattle.ra_model.specs.Numbers.{resource_count, machine_count, process_count, transient_at};
+ghost use Rattle.ra_model.specs.Numbers.{resource_count, machine_count, process_count};
 ghost use Rattle.ra_pins.specs.Loads.{takes, amount_in, AddsRow, IsBelow};
 
 use ra_base::{Fixed, Machine, Process, Resource, Steps, add_to_cell};

@@ -1,4 +1,4 @@
-ghost use Rattle.std.specs.Prelude.{◌≡◌, ◌<◌, ◌≤◌, ◌^◌, ◌↔◌, ℕ, true, false, [], List, Some, Option, length, IfSome, IfNone};
+ghost use Rattle.std.specs.Prelude.{◌≡◌, ◌<◌, ◌≤◌, ◌^◌, ◌↔◌, ℕ, true, false, List, Some, Option, length, IfSome, IfNone};
 ghost use Rattle.std.specs.Option.{ForSome, ForNone};
 ghost use Rattle.ra_report_lines.specs.Lines.{FirstUnlike};
 ghost use Rattle.ra_report_lines.specs.Comparing.{is_byte_at, opened, WasGiven};

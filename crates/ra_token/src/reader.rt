@@ -1,6 +1,5 @@
-ghost use Rattle.std.specs.Prelude.{◌≡◌, ℕ, ◌+◌, ◌-◌, ◌<◌, ◌≤◌, List, length, Option, None, Some, Ok, Err, IfSome, IfOk, IfErr, IsOkUnless, OnErr, OnSome};
-ghost use Rattle.ra_io.specs.Faults.{Rose};
-ghost use Rattle.ra_token.specs.TokenList.{IsAnswer, tokens_before};
+ghost use Rattle.std.specs.Prelude.{◌≡◌, ℕ, ◌+◌, ◌-◌, ◌<◌, ◌≤◌, List, length, Option, None, Some, Ok, Err, IfSome, IfOk, IsOkUnless};
+ghost use Rattle.ra_token.specs.TokenList.{tokens_before};
 ghost use Rattle.ra_token.specs.Reads.{Reads};
 ghost use Rattle.ra_token.specs.Finds.{outside, GivesNext, GivesValues};
 ghost use Rattle.ra_token.specs.Values.{AddsValues};

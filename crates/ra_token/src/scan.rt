@@ -1,4 +1,4 @@
-ghost use Rattle.std.specs.Prelude.{◌≡◌, ℕ, ◌+◌, ◌<◌, ◌≤◌, ◌↔◌, true, false, ◌≢◌, if◌then◌else◌, List, length, IsTrue, IfSome, slice_index};
+ghost use Rattle.std.specs.Prelude.{◌≡◌, ℕ, ◌+◌, ◌<◌, ◌≤◌, true, false, ◌≢◌, if◌then◌else◌, List, length, IfSome, slice_index};
 ghost use Rattle.std.specs.Int.{bit_at};
 ghost use Rattle.ra_token.specs.Runs.{digit_at, is_blank};
 ghost use Rattle.ra_token.specs.declared.scan.TheConstants.{NEAR};

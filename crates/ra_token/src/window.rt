@@ -1,5 +1,4 @@
-ghost use Rattle.std.specs.Prelude.{◌≡◌, ℕ, ◌+◌, ◌-◌, ◌<◌, ◌≤◌, true, List, length, Option, None, Some, Ok, Err, IfSome, IfNone, IfOk, IfErr, OnErr, slice_get, vec_len};
-ghost use Rattle.ra_io.specs.Faults.{Rose};
+ghost use Rattle.std.specs.Prelude.{◌≡◌, ℕ, ◌+◌, ◌-◌, ◌<◌, ◌≤◌, true, List, length, Option, None, Some, Ok, Err, IfSome, IfOk, vec_len};
 ghost use Rattle.ra_token.specs.declared.answers.TheConstants.{PLACE_LIMIT};
 ghost use Rattle.ra_token.specs.declared.window.TheConstants.{BUFFER_BYTES};
 
@@ -36,14 +35,12 @@ pub struct Run {
 }
 
 impl Window {
-    ghost use Rattle.std.specs.Prelude.{take};
     ghost use Rattle.ra_token.specs.declared.answers.TheConstants.{LARGEST};
     ghost use Rattle.std.specs.Char.{is_ascii_digit};
     ghost use Rattle.ra_token.specs.Runs.{is_blank};
-    ghost use Rattle.ra_token.specs.TokenList.{IsAnswer, tokens_before};
     ghost use Rattle.ra_token.specs.Reads.{IsBetween};
     ghost use Rattle.ra_token.specs.Values.{AddsValues};
-    ghost use Rattle.ra_token.specs.Scan.{Shows, Covers, ready_byte, Begins, IsTaken, IsNext, FaultsAt, IsReached, InRun};
+    ghost use Rattle.ra_token.specs.Scan.{Shows, Covers, ready_byte, Begins, IsNext, FaultsAt, IsReached, InRun};
     ghost use Rattle.ra_token.specs.Finds.{outside, ReadsByte, FindsRun, FindsDigit, EndsRun};
 
     /// A window with nothing ready.

@@ -1,4 +1,4 @@
-ghost use Rattle.std.specs.Prelude.{◌≡◌, ◌+◌, ◌<◌, IfOk, OnOk};
+ghost use Rattle.std.specs.Prelude.{◌+◌, ◌<◌, IfOk, OnOk};
 ghost use Rattle.ra_model.specs.Numbers.{service_count, dependency_count};
 ghost use Rattle.ra_topology.specs.Fits.{AreDistinctNeeds};
 ghost use Rattle.ra_topology.specs.Lists.{AreDistinct, AreDistinctNeedsOf};

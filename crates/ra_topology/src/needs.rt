@@ -1,4 +1,4 @@
-ghost use Rattle.std.specs.Prelude.{◌≡◌, ◌≤◌, IfOk};
+ghost use Rattle.std.specs.Prelude.{◌≡◌, IfOk};
 ghost use Rattle.ra_model.specs.Numbers.{service_count, dependency_start};
 ghost use Rattle.ra_topology.specs.Fits.{AreNeeds};
 
