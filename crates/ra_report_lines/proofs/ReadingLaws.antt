@@ -6,7 +6,7 @@ use Rattle.ra_report_lines.specs.Lines.{lines_of, body_of, HasNoEnd}
 use Rattle.ra_report_lines.specs.declared.answers.Next.{Next}
 use Rattle.ra_report_lines.specs.declared.answers.Next.TheVariants.{Last, Long, End}
 use Rattle.ra_report_lines.specs.Reading.{BeginsWithLine, IsLastLine, BeginsOverLong, IsNext}
-use Rattle.ra_report_lines.specs.Windows.{IsEnded, Gave}
+use Rattle.ra_report_lines.specs.Buffers.{IsEnded, Gave}
 use Rattle.ra_report_lines.proofs.BodyLaws.{body_twice, body_before, body_at_least, no_end_both, no_end_none, no_end_ends, ends_behind}
 use Rattle.ra_report_lines.proofs.SplitLaws.{line_first, line_alone, line_begins}
 
@@ -176,7 +176,7 @@ told_long (Some bytes) place given room before line ready long number gave =
           long = omega (arith, body_at_least (b ∷ t) first.more none);
         }
 
--- what a window has ready behind those that were given
+-- what a buffer has ready behind those that were given
 pub left_behind : (items : List ℕ) (at filled n : ℕ) → n ≤ filled - at → take (filled - (at + n)) (drop (at + n) items) ≡ drop n (take (filled - at) (drop at items))
 left_behind items at filled n within =
     let long : n + (filled - (at + n)) ≡ filled - at = omega arith in

@@ -1,6 +1,6 @@
 pub mod Lines
 pub mod Standing
 pub mod Reading
-pub mod Windows
+pub mod Buffers
 pub mod Comparing
 pub mod Expecteds

@@ -5,10 +5,10 @@
 #![tactic(auto)]
 
 mod answers;
+mod buffer;
 mod expected;
 mod reader;
 mod scan;
-mod window;
 
 pub use answers::{Next, ReadFault};
 pub use expected::Expected;

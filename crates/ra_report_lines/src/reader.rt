@@ -3,7 +3,7 @@ ghost use Rattle.ra_io.specs.Outside.{reading};
 ghost use Rattle.ra_report_lines.specs.Reading.{Reads, TakesLine};
 
 use crate::answers::{Next, ReadFault};
-use crate::window::Window;
+use crate::buffer::Buffer;
 use ra_base::{Fixed, Name, NoMemory};
 use ra_io::Files;
 use std::alloc::Global;
@@ -14,16 +14,16 @@ use std::marker::Model;
 pub struct LineReader {
     name: Name,
     place: u64,
-    window: Window,
+    buffer: Buffer,
 }
 
 impl Model for LineReader {
     ghost use Rattle.ra_report_lines.specs.Standing.{Standing};
-    ghost use Rattle.ra_report_lines.specs.Windows.{ready_of};
+    ghost use Rattle.ra_report_lines.specs.Buffers.{ready_of};
 
     ghost Value = { Standing };
 
-    ghost view = { λ r. record { name = r.name; place = r.place; ready = ready_of r.window } };
+    ghost view = { λ r. record { name = r.name; place = r.place; ready = ready_of r.buffer } };
 }
 
 impl LineReader {
@@ -34,12 +34,12 @@ impl LineReader {
         ensures reads { IfOk result (λ r. (told : Option (List ℕ)) → Reads told r) }
         ensures start { IfOk result (λ r. r.place ≡ 0) }
     {
-        let window = Window::make(alloc)?;
+        let buffer = Buffer::make(alloc)?;
         let name = Name::make(alloc, name)?;
         Ok(LineReader {
             name,
             place: 0,
-            window,
+            buffer,
         })
     }
 
@@ -64,7 +64,7 @@ impl LineReader {
     {
         let before = line.len();
         let next = self
-            .window
+            .buffer
             .next_line(files, self.name.as_str(), self.place, room, line);
         self.place += (line.len() - before) as u64;
         next

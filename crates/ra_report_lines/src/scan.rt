@@ -1,6 +1,6 @@
 ghost use Rattle.std.specs.Prelude.{◌≡◌, ◌<◌, ◌≤◌, ◌≢◌, true, false, length, take, get_or};
 ghost use Rattle.ra_report_lines.specs.Lines.{body_of, HasNoEnd, end_count};
-ghost use Rattle.ra_report_lines.specs.Windows.{IsEnded};
+ghost use Rattle.ra_report_lines.specs.Buffers.{IsEnded};
 
 /// How many bytes come before the first LF, or all if there is none.
 pub fn body_length(bytes: &[u8]) -> usize

@@ -1,7 +1,7 @@
 -- A file that is looked at from one place to another.
 use Rattle.std.proofs.Common.{◌≡◌, ℕ, ◌≤◌, List, Option, IfSome}
 use Rattle.ra_token.specs.declared.answers.TheConstants.{LARGEST, PLACE_LIMIT}
-use Rattle.ra_token.specs.declared.window.Window.{Window}
+use Rattle.ra_token.specs.declared.buffer.Buffer.{Buffer}
 use Rattle.ra_token.specs.Scan.{Shows, IsReached, InRun}
 
 -- nothing that is held changed, and no fault was forgotten
@@ -10,15 +10,15 @@ pub record KeepsFiles (held_before held_now : List ℕ → Option (List ℕ)) (f
   pub never_fell : (other : List ℕ) → faults_before other ≤ faults_now other
 
 -- blanks alone were passed on the way to a place
-pub record PassesBlanks (told told_now : Option (List ℕ)) (window : Window) (from place : ℕ) : Type 0 where
+pub record PassesBlanks (told told_now : Option (List ℕ)) (buffer : Buffer) (from place : ℕ) : Type 0 where
   pub low : place ≤ PLACE_LIMIT
-  pub shows : Shows told_now window
+  pub shows : Shows told_now buffer
   pub reached : IfSome told (λ bytes. IsReached bytes from place)
 
 -- digits alone were passed, of a run with its worth so far
-pub record PassesDigits (told told_now : Option (List ℕ)) (window : Window) (start place value : ℕ) : Type 0 where
+pub record PassesDigits (told told_now : Option (List ℕ)) (buffer : Buffer) (start place value : ℕ) : Type 0 where
   pub low : place ≤ PLACE_LIMIT
   pub after : start ≤ place
   pub small : value ≤ LARGEST
-  pub shows : Shows told_now window
+  pub shows : Shows told_now buffer
   pub run : IfSome told (λ bytes. InRun bytes start place value)

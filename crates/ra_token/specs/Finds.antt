@@ -1,12 +1,12 @@
--- What a window finds in a file from a place on, and what it leaves.
+-- What a buffer finds in a file from a place on, and what it leaves.
 use Rattle.std.specs.Prelude.{◌≡◌, ℕ, ◌<◌, ◌≤◌, List, Option, None, Result, Ok, Err, IfSome, IfNone, IfOk, IfErr, OnErr, OnSome, length, ◌+◌, ◌-◌, slice_get}
 use Rattle.ra_io.specs.Faults.{Rose}
 use Rattle.ra_base.specs.Listed.{Listed}
 use Rattle.ra_token.specs.declared.answers.Token.{Token}
 use Rattle.ra_token.specs.declared.answers.TokenFault.{TokenFault}
 use Rattle.ra_token.specs.declared.answers.TokenFault.TheVariants.{ReadFault, NoMemory}
-use Rattle.ra_token.specs.declared.window.Run.{Run}
-use Rattle.ra_token.specs.declared.window.Window.{Window}
+use Rattle.ra_token.specs.declared.buffer.Run.{Run}
+use Rattle.ra_token.specs.declared.buffer.Buffer.{Buffer}
 use Rattle.ra_token.specs.TokenList.{tokens_before, IsAnswer}
 use Rattle.ra_token.specs.Reads.{Reads}
 use Rattle.ra_token.specs.Standing.{Standing}
@@ -31,7 +31,7 @@ outside held held_after faults faults_after =
     }
 
 -- the byte at a place, which is held ready then, or none past the end
-pub record ReadsByte (o : Outside) (name : List ℕ) (at : ℕ) (after : Window)
+pub record ReadsByte (o : Outside) (name : List ℕ) (at : ℕ) (after : Buffer)
     (said : Result (Option ℕ) TokenFault) : Type 0 where
   pub shows : Shows (o.held_after name) after
   pub byte : IfSome (o.held name) (λ bytes. IfOk said (λ read. read ≡ slice_get bytes at))
@@ -43,7 +43,7 @@ pub record ReadsByte (o : Outside) (name : List ℕ) (at : ℕ) (after : Window)
   pub never_fall : (other : List ℕ) → o.faults other ≤ o.faults_after other
 
 -- the next run from a place on, with the place of its first digit; none at the end; or the first fault
-pub record FindsRun (o : Outside) (name : List ℕ) (from : ℕ) (after : Window)
+pub record FindsRun (o : Outside) (name : List ℕ) (from : ℕ) (after : Buffer)
     (said : Result (Option (ℕ × Run)) TokenFault) : Type 0 where
   pub shows : Shows (o.held_after name) after
   pub next : IfSome (o.held name) (λ bytes.
@@ -59,7 +59,7 @@ pub record FindsRun (o : Outside) (name : List ℕ) (from : ℕ) (after : Window
   pub never_fall : (other : List ℕ) → o.faults other ≤ o.faults_after other
 
 -- where the next run begins, from a place on; none at the end; or the first fault
-pub record FindsDigit (o : Outside) (name : List ℕ) (from : ℕ) (after : Window)
+pub record FindsDigit (o : Outside) (name : List ℕ) (from : ℕ) (after : Buffer)
     (said : Result (Option ℕ) TokenFault) : Type 0 where
   pub shows : Shows (o.held_after name) after
   pub begins : IfSome (o.held name) (λ bytes.
@@ -74,7 +74,7 @@ pub record FindsDigit (o : Outside) (name : List ℕ) (from : ℕ) (after : Wind
   pub never_fall : (other : List ℕ) → o.faults other ≤ o.faults_after other
 
 -- the run that begins at a place, or the first fault
-pub record EndsRun (o : Outside) (name : List ℕ) (first : ℕ) (after : Window)
+pub record EndsRun (o : Outside) (name : List ℕ) (first : ℕ) (after : Buffer)
     (said : Result Run TokenFault) : Type 0 where
   pub shows : Shows (o.held_after name) after
   pub taken : IfSome (o.held name) (λ bytes.

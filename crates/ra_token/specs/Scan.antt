@@ -4,25 +4,25 @@ use Rattle.ra_base.specs.Listed.{Listed}
 use Rattle.ra_base.specs.Searches.{first}
 use Rattle.ra_token.specs.declared.answers.Token.{Token}
 use Rattle.ra_token.specs.declared.answers.TokenFault.{TokenFault}
-use Rattle.ra_token.specs.declared.window.Window.{Window}
+use Rattle.ra_token.specs.declared.buffer.Buffer.{Buffer}
 use Rattle.ra_token.specs.Runs.{digit_at, worth, run_start}
 use Rattle.ra_token.specs.Faults.{fault_at}
 use Rattle.ra_token.specs.TokenList.{tokens, tokens_before, IsAnswer}
 use Rattle.ra_token.specs.Reads.{IsBetween, IsPiece}
 use Rattle.ra_token.specs.Values.{AddsValues}
 
--- if the bytes of the file are told, the window shows some of them
-abbrev pub Shows : Option (List ℕ) → Window → Type 0
-Shows told w = IfSome told (λ bytes. IsPiece bytes w.start (take w.filled w.buffer.items))
+-- if the bytes of the file are told, the buffer shows some of them
+abbrev pub Shows : Option (List ℕ) → Buffer → Type 0
+Shows told w = IfSome told (λ bytes. IsPiece bytes w.start (take w.filled w.bytes.items))
 
--- the window has the byte at a place ready
-pub record Covers (w : Window) (place : ℕ) : Type 0 where
+-- the buffer has the byte at a place ready
+pub record Covers (w : Buffer) (place : ℕ) : Type 0 where
   pub low : w.start ≤ place
   pub high : place < w.start + w.filled
 
--- the byte that the window has ready for a place
-abbrev pub ready_byte : Window → ℕ → ℕ
-ready_byte w place = slice_index w.buffer.items (place - w.start)
+-- the byte that the buffer has ready for a place
+abbrev pub ready_byte : Buffer → ℕ → ℕ
+ready_byte w place = slice_index w.bytes.items (place - w.start)
 
 -- a place that was reached from an earlier one, and no token ends between them
 pub record IsReached (bytes : List ℕ) (from place : ℕ) : Type 0 where

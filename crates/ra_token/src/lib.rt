@@ -5,9 +5,9 @@
 #![tactic(auto)]
 
 mod answers;
+mod buffer;
 mod reader;
 mod scan;
-mod window;
 
 pub use answers::{LARGEST, PLACE_LIMIT, Token, TokenFault};
 pub use reader::Tokens;

@@ -5,7 +5,7 @@ ghost use Rattle.ra_token.specs.Finds.{outside, GivesNext, GivesValues};
 ghost use Rattle.ra_token.specs.Values.{AddsValues};
 
 use crate::answers::{Token, TokenFault};
-use crate::window::Window;
+use crate::buffer::Buffer;
 use ra_base::{Fixed, Name};
 use ra_io::Files;
 use std::alloc::Global;
@@ -16,7 +16,7 @@ use std::marker::Model;
 pub struct Tokens {
     name: Name,
     place: u64,
-    window: Window,
+    buffer: Buffer,
 }
 
 impl Model for Tokens {
@@ -29,8 +29,8 @@ impl Model for Tokens {
     ghost view = { λ t. record {
       name = t.name;
       place = t.place;
-      start = t.window.start;
-      ready = take t.window.filled t.window.buffer.items;
+      start = t.buffer.start;
+      ready = take t.buffer.filled t.buffer.bytes.items;
     } };
 
     ghost invariant = { λ t. t.place ≤ PLACE_LIMIT };
@@ -45,7 +45,7 @@ impl Tokens {
         ensures start { IfOk result (λ t. (bytes : List ℕ) → tokens_before bytes t.place ≡ 0) }
         ensures memory { IsOkUnless result TokenFault.NoMemory }
     {
-        let Ok(window) = Window::make(alloc) else {
+        let Ok(buffer) = Buffer::make(alloc) else {
             return Err(TokenFault::NoMemory);
         };
         let Ok(name) = Name::make(alloc, name) else {
@@ -54,7 +54,7 @@ impl Tokens {
         Ok(Tokens {
             name,
             place: 0,
-            window,
+            buffer,
         })
     }
 
@@ -72,7 +72,7 @@ impl Tokens {
             self.old self.new result }
     {
         let name = self.name.as_str();
-        let Some((first, run)) = self.window.next_run(files, name, self.place)? else {
+        let Some((first, run)) = self.buffer.next_run(files, name, self.place)? else {
             return Ok(None);
         };
         self.place = run.end;
@@ -126,6 +126,6 @@ impl Tokens {
         ensures room { values.new.room ≡ values.old.room }
         ensures name { self.new.name ≡ self.old.name }
     {
-        self.place = self.window.ready_values(self.place, most, values);
+        self.place = self.buffer.ready_values(self.place, most, values);
     }
 }
