@@ -40,6 +40,25 @@ rest_lists t =
       weights = weight_numbers t.weights;
     }
 
+-- rows of zeros, which are read behind the last row
+
+abbrev pub zero_service : ServiceRow
+zero_service =
+    record { spread_min = 0; dependency_end = 0; small_spread = lit< tt; small_end = lit< tt }
+
+abbrev pub zero_process : ProcessRow
+zero_process = record { service = record { 0 = 0 }; move_cost = 0; small = lit< tt }
+
+abbrev pub zero_balance : BalanceRow
+zero_balance = record {
+  first = record { 0 = 0 };
+  second = record { 0 = 0 };
+  target = 0;
+  weight = 0;
+  small_target = lit< tt;
+  small_weight = lit< tt;
+}
+
 -- m machines of M were read, where there are R resources
 pub record HasMachines (R M m : ℕ) (t : MachineTables) : Type 0 where
   pub rows : length t.rows.items ≡ m
@@ -53,13 +72,7 @@ pub record HasMachines (R M m : ℕ) (t : MachineTables) : Type 0 where
 
 -- where the dependencies of service s end, and where they start
 unfoldable pub end_in : List ServiceRow → ℕ → ℕ
-end_in rows s =
-    (slice_index_or rows s (record {
-      spread_min = 0;
-      dependency_end = 0;
-      small_spread = lit< tt;
-      small_end = lit< tt;
-    })).dependency_end
+end_in rows s = (slice_index_or rows s zero_service).dependency_end
 
 unfoldable pub start_in : List ServiceRow → ℕ → ℕ
 start_in rows zero = 0
@@ -84,9 +97,7 @@ pub record HasServices (S s : ℕ) (t : ServiceTables) : Type 0 where
   pub needs : AreServices S t.dependencies.items
 
 unfoldable pub service_in : List ProcessRow → ℕ → ℕ
-service_in rows p =
-    (slice_index_or rows p
-    (record { service = record { 0 = 0 }; move_cost = 0; small = lit< tt })).service.0
+service_in rows p = (slice_index_or rows p zero_process).service.0
 
 -- p processes of P were read, of S services, where there are R resources
 pub record HasProcesses (S R P p : ℕ) (t : ProcessTables) : Type 0 where
@@ -97,26 +108,10 @@ pub record HasProcesses (S R P p : ℕ) (t : ProcessTables) : Type 0 where
   pub services : (k : ℕ) → k < p → service_in t.rows.items k < S
 
 unfoldable pub first_in : List BalanceRow → ℕ → ℕ
-first_in rows b =
-    (slice_index_or rows b (record {
-      first = record { 0 = 0 };
-      second = record { 0 = 0 };
-      target = 0;
-      weight = 0;
-      small_target = lit< tt;
-      small_weight = lit< tt;
-    })).first.0
+first_in rows b = (slice_index_or rows b zero_balance).first.0
 
 unfoldable pub second_in : List BalanceRow → ℕ → ℕ
-second_in rows b =
-    (slice_index_or rows b (record {
-      first = record { 0 = 0 };
-      second = record { 0 = 0 };
-      target = 0;
-      weight = 0;
-      small_target = lit< tt;
-      small_weight = lit< tt;
-    })).second.0
+second_in rows b = (slice_index_or rows b zero_balance).second.0
 
 -- both resources of each objective are among R
 pub record AreBalances (R : ℕ) (rows : List BalanceRow) : Type 0 where
