@@ -51,6 +51,8 @@ pub has_machine : (R M m : ℕ) (t new : MachineTables) (row : MachineRow) → H
     → length new.capacities.items ≡ length t.capacities.items + R → length new.safeties.items ≡ length t.safeties.items + R → length new.move_costs.items ≡ length t.move_costs.items + M
     → new.rows.room ≡ t.rows.room → new.capacities.room ≡ t.capacities.room → new.safeties.room ≡ t.safeties.room → new.move_costs.room ≡ t.move_costs.room → HasMachines R M (m + 1) new
 has_machine R M m t new row h e capacities safeties move_costs rows_room capacities_room safeties_room move_costs_room = record {
+  few_resources = h.few_resources;
+  few = h.few;
   rows = ap length e ∙ length_push t.rows.items row ∙ ap (λ n. n + 1) h.rows;
   capacities = omega (arith, h.capacities, capacities);
   safeties = omega (arith, h.safeties, safeties);
@@ -73,6 +75,8 @@ service_here rows row = ap (λ r. r.service.0) (get_or-append_seam rows row [] _
 
 pub has_process : (S R P p : ℕ) (t new : ProcessTables) (row : ProcessRow) → HasProcesses S R P p t → new.rows.items ≡ t.rows.items ++ row ∷ [] → length new.requirements.items ≡ length t.requirements.items + R → row.service.0 < S → new.rows.room ≡ t.rows.room → new.requirements.room ≡ t.requirements.room → HasProcesses S R P (p + 1) new
 has_process S R P p t new row h e wider here rows_room room = let full : length t.rows.items ≡ p = h.rows in record {
+  few_resources = h.few_resources;
+  few = h.few;
   rows = ap length e ∙ length_push t.rows.items row ∙ ap (λ n. n + 1) h.rows;
   requirements = omega (arith, h.requirements, wider);
   rows_room = rows_room ∙ h.rows_room;
@@ -198,10 +202,9 @@ no_services S t h = rw (nil_from_length t.rows.items h.rows, nil_from_length t.d
 pub no_processes : (S R P : ℕ) (t : ProcessTables) → HasProcesses S R P 0 t → process_lists t ≡ record { rows = []; requirements = [] }
 no_processes S R P t h = rw (nil_from_length t.rows.items h.rows, nil_from_length t.requirements.items (omega (arith, h.requirements))) refl
 
-pub all_machines : (R M m : ℕ) (t : MachineTables) → HasMachines R M m t → M ≤ m → m ≤ M → 1 ≤ M → M ≤ 5000 → IsMachines R t
-all_machines R M m t h low high some few = let full : M ≡ length t.rows.items = omega (arith, h.rows) in let last : m ≡ length t.rows.items = omega (arith, h.rows) in record {
+pub all_machines : (R M m : ℕ) (t : MachineTables) → HasMachines R M m t → M ≤ m → m ≤ M → 1 ≤ M → IsMachines R t
+all_machines R M m t h low high some = let full : M ≡ length t.rows.items = omega (arith, h.rows) in let last : m ≡ length t.rows.items = omega (arith, h.rows) in record {
   some = omega arith;
-  few = omega arith;
   has = subst (λ n. HasMachines R n (length t.rows.items) t) full (subst (λ k. HasMachines R M k t) last h);
 }
 
@@ -212,9 +215,8 @@ all_services S s t h low high some few = let full : S ≡ length t.rows.items = 
   has = subst (λ n. HasServices n (length t.rows.items) t) full (subst (λ k. HasServices S k t) last h);
 }
 
-pub all_processes : (S R P p : ℕ) (t : ProcessTables) → HasProcesses S R P p t → P ≤ p → p ≤ P → 1 ≤ P → P ≤ 50000 → IsProcesses S R t
-all_processes S R P p t h low high some few = let full : P ≡ length t.rows.items = omega (arith, h.rows) in let last : p ≡ length t.rows.items = omega (arith, h.rows) in record {
+pub all_processes : (S R P p : ℕ) (t : ProcessTables) → HasProcesses S R P p t → P ≤ p → p ≤ P → 1 ≤ P → IsProcesses S R t
+all_processes S R P p t h low high some = let full : P ≡ length t.rows.items = omega (arith, h.rows) in let last : p ≡ length t.rows.items = omega (arith, h.rows) in record {
   some = omega arith;
-  few = omega arith;
   has = subst (λ n. HasProcesses S R n (length t.rows.items) t) full (subst (λ k. HasProcesses S R P k t) last h);
 }

@@ -41,11 +41,11 @@ whole raw some_resource few_resources machines services processes few_balances b
   some_resource = some_resource;
   few_resources = few_resources;
   some_machine = machines.some;
-  few_machines = machines.few;
+  few_machines = machines.has.few;
   some_service = services.some;
   few_services = services.few;
   some_process = processes.some;
-  few_processes = processes.few;
+  few_processes = processes.has.few;
   few_balances = few_balances;
   few_dependencies = services.has.few;
   capacities = machines.has.capacities;

@@ -59,8 +59,10 @@ zero_balance = record {
   small_weight = lit< tt;
 }
 
--- m machines of M were read, where there are R resources
+-- m machines of M were read, for R resources; M and R are within their limits
 pub record HasMachines (R M m : ℕ) (t : MachineTables) : Type 0 where
+  pub few_resources : R ≤ 20
+  pub few : M ≤ 5000
   pub rows : length t.rows.items ≡ m
   pub capacities : length t.capacities.items ≡ m * R
   pub safeties : length t.safeties.items ≡ m * R
@@ -99,8 +101,10 @@ pub record HasServices (S s : ℕ) (t : ServiceTables) : Type 0 where
 unfoldable pub service_in : List ProcessRow → ℕ → ℕ
 service_in rows p = (slice_index_or rows p zero_process).service.0
 
--- p processes of P were read, of S services, where there are R resources
+-- p processes of P were read, of S services and for R resources; P and R are within their limits
 pub record HasProcesses (S R P p : ℕ) (t : ProcessTables) : Type 0 where
+  pub few_resources : R ≤ 20
+  pub few : P ≤ 50000
   pub rows : length t.rows.items ≡ p
   pub requirements : length t.requirements.items ≡ p * R
   pub rows_room : t.rows.room ≡ P
@@ -121,7 +125,6 @@ pub record AreBalances (R : ℕ) (rows : List BalanceRow) : Type 0 where
 -- all machines were read, and their count is within its limits
 pub record IsMachines (R : ℕ) (t : MachineTables) : Type 0 where
   pub some : 1 ≤ length t.rows.items
-  pub few : length t.rows.items ≤ 5000
   pub has : HasMachines R (length t.rows.items) (length t.rows.items) t
 
 pub record IsServices (t : ServiceTables) : Type 0 where
@@ -131,7 +134,6 @@ pub record IsServices (t : ServiceTables) : Type 0 where
 
 pub record IsProcesses (S R : ℕ) (t : ProcessTables) : Type 0 where
   pub some : 1 ≤ length t.rows.items
-  pub few : length t.rows.items ≤ 50000
   pub has : HasProcesses S R (length t.rows.items) (length t.rows.items) t
 
 -- what follows the services was read

@@ -73,8 +73,6 @@ fn read_machine<F: Files>(
     requires stands { Stands (seen F.Files files.old tokens.old) }
     requires has { HasMachines resource_count machine_count m tables.old }
     requires below { m < machine_count }
-    requires few { resource_count ≤ 20 }
-    requires within { machine_count ≤ 5000 }
     ensures gives { OnOk result (Gives (machine resource_count machine_count m
         (machine_lists tables.old))
         (seen F.Files files.old tokens.old) (seen F.Files files.new tokens.new)

@@ -78,12 +78,9 @@ fn read_process<F: Files>(
     requires has { HasProcesses service_count resource_count process_count p tables.old }
     requires below { p < process_count }
     requires some { 0 < service_count }
-    requires few { resource_count ≤ 20 }
-    requires within { process_count ≤ 50000 }
     ensures gives { OnOk result (Gives (process service_count resource_count p
-        (process_lists tables.old))
-        (seen F.Files files.old tokens.old) (seen F.Files files.new tokens.new)
-        (process_lists tables.new)) }
+        (process_lists tables.old)) (seen F.Files files.old tokens.old)
+        (seen F.Files files.new tokens.new) (process_lists tables.new)) }
     ensures has { OnOk result (HasProcesses service_count resource_count process_count
         (p + 1) tables.new) }
     ensures refuses { IfErr result

@@ -41,16 +41,16 @@ pub read_numbers-requires-3-clause-room : goal.read_numbers-requires-3-clause-ro
 read_numbers-requires-3-clause-room g c = row_within _ _ _ _ _ c.requires.has.move_costs c.requires.has.move_costs_room c.requires.below
 
 pub overflow_mul-row : goal.overflow_mul-row
-overflow_mul-row g c = omega (arith, row_fits c.args.resource_count _ c.args.m c.requires.below c.requires.within (omega arith))
+overflow_mul-row g c = omega (arith, row_fits c.args.resource_count _ c.args.m c.requires.below c.requires.has.few (omega (arith, c.requires.has.few_resources)))
 
 pub overflow_mul-ways : goal.overflow_mul-ways
-overflow_mul-ways g c = omega (arith, row_fits c.args.machine_count _ c.args.m c.requires.below c.requires.within c.requires.within)
+overflow_mul-ways g c = omega (arith, row_fits c.args.machine_count _ c.args.m c.requires.below c.requires.has.few c.requires.has.few)
 
 pub read_numbers-requires-clause-fits : goal.read_numbers-requires-clause-fits
-read_numbers-requires-clause-fits g c = row_fits c.args.resource_count _ c.args.m c.requires.below c.requires.within (omega arith)
+read_numbers-requires-clause-fits g c = row_fits c.args.resource_count _ c.args.m c.requires.below c.requires.has.few (omega (arith, c.requires.has.few_resources))
 
 pub read_numbers-requires-2-clause-fits : goal.read_numbers-requires-2-clause-fits
-read_numbers-requires-2-clause-fits g c = row_fits c.args.resource_count _ c.args.m c.requires.below c.requires.within (omega arith)
+read_numbers-requires-2-clause-fits g c = row_fits c.args.resource_count _ c.args.m c.requires.below c.requires.has.few (omega (arith, c.requires.has.few_resources))
 
 pub read_numbers-requires-3-clause-fits : goal.read_numbers-requires-3-clause-fits
-read_numbers-requires-3-clause-fits g c = row_fits c.args.machine_count _ c.args.m c.requires.below c.requires.within c.requires.within
+read_numbers-requires-3-clause-fits g c = row_fits c.args.machine_count _ c.args.m c.requires.below c.requires.has.few c.requires.has.few

@@ -27,4 +27,4 @@ unfolding machines
 returns-clause-gives g c = gives_bind _ c.in_ok-count.ensures.gives (gives_all _ _ _ _ c.loop-m-test.false c.loop-m.auto.m-end c.loop-m.invariant.0)
 
 pub returns-clause-shape : goal.returns-clause-shape
-returns-clause-shape g c = all_machines _ _ _ _ c.loop-m.invariant.1 c.loop-m-test.false c.loop-m.auto.m-end c.in_ok-count.ensures.low c.in_ok-count.ensures.high
+returns-clause-shape g c = all_machines _ _ _ _ c.loop-m.invariant.1 c.loop-m-test.false c.loop-m.auto.m-end c.in_ok-count.ensures.low

@@ -27,4 +27,4 @@ unfolding processes
 returns-clause-gives g c = gives_bind _ c.in_ok-count.ensures.gives (gives_all _ _ _ _ c.loop-p-test.false c.loop-p.auto.p-end c.loop-p.invariant.0)
 
 pub returns-clause-shape : goal.returns-clause-shape
-returns-clause-shape g c = all_processes _ _ _ _ _ c.loop-p.invariant.1 c.loop-p-test.false c.loop-p.auto.p-end c.in_ok-count.ensures.low c.in_ok-count.ensures.high
+returns-clause-shape g c = all_processes _ _ _ _ _ c.loop-p.invariant.1 c.loop-p-test.false c.loop-p.auto.p-end c.in_ok-count.ensures.low
