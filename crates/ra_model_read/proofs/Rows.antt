@@ -4,6 +4,7 @@ use Rattle.std.proofs.lemmas.List.{map-append, length-map, get_or_append_left, l
 use Rattle.std.proofs.lemmas.Bool.{cases_lt}
 use Rattle.std.proofs.Math.Nat.{mul-le-mul_right}
 use Rattle.std.proofs.Math.Seq.{get_or-append_seam}
+use Rattle.ra_base.specs.Listed.{Listed}
 use Rattle.ra_base.specs.declared.ids.Service.{Service}
 use Rattle.ra_model.specs.declared.raw.BalanceRow.{BalanceRow}
 use Rattle.ra_model.specs.declared.raw.MachineRow.{MachineRow}
@@ -14,7 +15,7 @@ use Rattle.ra_model_read.specs.declared.tables.MachineTables.{MachineTables}
 use Rattle.ra_model_read.specs.declared.tables.ServiceTables.{ServiceTables}
 use Rattle.ra_model_read.specs.declared.tables.ProcessTables.{ProcessTables}
 use Rattle.ra_model_read.specs.Lists.{of_resource, of_machine, of_service, of_process, of_balance}
-use Rattle.ra_model_read.specs.TableShapes.{machine_lists, service_lists, process_lists, HasMachines, HasProcesses, IsMachines, IsServices, IsProcesses, end_in, start_in, needed_in, AreServices, HasServices, service_in, first_in, second_in, AreBalances}
+use Rattle.ra_model_read.specs.TableShapes.{machine_lists, service_lists, process_lists, HasMachines, HasProcesses, IsMachines, IsServices, IsProcesses, end_in, start_in, needed_in, AreServices, HasDependencies, HasServices, service_in, first_in, second_in, AreBalances, HasBalances}
 
 pub resource_pushed : (rows new : List ResourceRow) (row : ResourceRow) → new ≡ rows ++ row ∷ [] → map of_resource new ≡ map of_resource rows ++ of_resource row ∷ []
 resource_pushed rows new row e = ap (map of_resource) e ∙ map-append of_resource rows (row ∷ [])
@@ -104,7 +105,7 @@ second_here : (rows : List BalanceRow) (row : BalanceRow) → second_in (rows ++
 unfolding second_in
 second_here rows row = ap (λ r. r.second.0) (get_or-append_seam rows row [] _)
 
-pub balances_pushed : (rows new : List BalanceRow) (row : BalanceRow) (R : ℕ) → new ≡ rows ++ row ∷ [] → AreBalances R rows → row.first.0 < R → row.second.0 < R → AreBalances R new
+balances_pushed : (rows new : List BalanceRow) (row : BalanceRow) (R : ℕ) → new ≡ rows ++ row ∷ [] → AreBalances R rows → row.first.0 < R → row.second.0 < R → AreBalances R new
 balances_pushed rows new row R e before one two = rw e record {
   firsts = rw (length_push rows row) (below_next (λ k. first_in (rows ++ row ∷ []) k < R) (length rows)
       (λ k within. omega (arith, first_before rows row k within, before.firsts k within))
@@ -114,12 +115,21 @@ balances_pushed rows new row R e before one two = rw e record {
       (omega (arith, second_here rows row)));
 }
 
-pub no_balance : (R : ℕ) → AreBalances R []
-no_balance R = record { firsts = λ b within. absurd (omega arith); seconds = λ b within. absurd (omega arith) }
+pub has_balance : (R b : ℕ) (old new : Listed BalanceRow) (row : BalanceRow) → HasBalances R b old → new.items ≡ old.items ++ row ∷ [] → row.first.0 < R → row.second.0 < R → HasBalances R (b + 1) new
+has_balance R b old new row h e one two = record {
+  rows = ap length e ∙ length_push old.items row ∙ ap (λ n. n + 1) h.rows;
+  among = balances_pushed old.items new.items row R e h.among one two;
+}
+
+pub has_no_balance : (R : ℕ) (none : Listed BalanceRow) → none.items ≡ [] → HasBalances R 0 none
+has_no_balance R none e = record {
+  rows = ap length e;
+  among = rw e (record { firsts = λ b within. absurd (omega arith); seconds = λ b within. absurd (omega arith) });
+}
 
 -- dependencies
 
-pub no_dependency : (S : ℕ) (none : List Service) → none ≡ [] → AreServices S none
+no_dependency : (S : ℕ) (none : List Service) → none ≡ [] → AreServices S none
 no_dependency S none e = rw e (record { each = λ place within. absurd (omega arith) })
 
 needed_before : (dependencies : List Service) (one : Service) (k : ℕ) → k < length dependencies → needed_in (dependencies ++ one ∷ []) k ≡ needed_in dependencies k
@@ -130,11 +140,18 @@ needed_here : (dependencies : List Service) (one : Service) → needed_in (depen
 unfolding needed_in
 needed_here dependencies one = ap (λ r. r.0) (get_or-append_seam dependencies one [] _)
 
-pub dependency_pushed : (dependencies new : List Service) (one : Service) (S : ℕ) → new ≡ dependencies ++ one ∷ [] → AreServices S dependencies → one.0 < S → AreServices S new
+dependency_pushed : (dependencies new : List Service) (one : Service) (S : ℕ) → new ≡ dependencies ++ one ∷ [] → AreServices S dependencies → one.0 < S → AreServices S new
 dependency_pushed dependencies new one S e before here = rw e record {
   each = rw (length_push dependencies one) (below_next (λ k. needed_in (dependencies ++ one ∷ []) k < S) (length dependencies)
       (λ k within. omega (arith, needed_before dependencies one k within, before.each k within))
       (omega (arith, needed_here dependencies one)));
+}
+
+pub has_dependency : (S : ℕ) (old new : Listed Service) (one : Service) → HasDependencies S old → new.items ≡ old.items ++ one ∷ [] → new.room ≡ old.room → length old.items < 100000 → one.0 < S → HasDependencies S new
+has_dependency S old new one h e room below here = record {
+  room = room ∙ h.room;
+  few = omega (arith, ap length e, length_push old.items one);
+  needs = dependency_pushed old.items new.items one S e h.needs here;
 }
 
 -- where the dependencies of services end
@@ -161,20 +178,21 @@ unfolding start_in
 has_none S t none no_need rows_room room = record {
   rows = rw none refl;
   rows_room = rows_room;
-  room = room;
-  few = rw no_need (omega arith);
+  dependencies = record {
+    room = room;
+    few = rw no_need (omega arith);
+    needs = no_dependency S t.dependencies.items no_need;
+  };
   in_order = λ k within. absurd (omega arith);
   within = λ k within. absurd (omega arith);
   all_owned = rw no_need refl;
-  needs = no_dependency S t.dependencies.items no_need;
 }
 
-pub has_service : (S s : ℕ) (t new : ServiceTables) (row : ServiceRow) → HasServices S s t → new.rows.items ≡ t.rows.items ++ row ∷ [] → row.dependency_end ≡ length new.dependencies.items → length t.dependencies.items ≤ length new.dependencies.items → length new.dependencies.items ≤ 100000 → AreServices S new.dependencies.items → new.rows.room ≡ t.rows.room → new.dependencies.room ≡ t.dependencies.room → HasServices S (s + 1) new
-has_service S s t new row h e ends more few needs rows_room room = let full : length t.rows.items ≡ s = h.rows in record {
+pub has_service : (S s : ℕ) (t new : ServiceTables) (row : ServiceRow) → HasServices S s t → new.rows.items ≡ t.rows.items ++ row ∷ [] → row.dependency_end ≡ length new.dependencies.items → length t.dependencies.items ≤ length new.dependencies.items → new.rows.room ≡ t.rows.room → HasDependencies S new.dependencies → HasServices S (s + 1) new
+has_service S s t new row h e ends more rows_room dependencies = let full : length t.rows.items ≡ s = h.rows in record {
   rows = ap length e ∙ length_push t.rows.items row ∙ ap (λ n. n + 1) h.rows;
   rows_room = rows_room ∙ h.rows_room;
-  room = room ∙ h.room;
-  few = few;
+  dependencies = dependencies;
   in_order = rw e (below_next (λ k. start_in (t.rows.items ++ row ∷ []) k ≤ end_in (t.rows.items ++ row ∷ []) k) s
       (λ k within. omega (arith, start_before t.rows.items row k (omega arith), end_before t.rows.items row k (omega arith), h.in_order k within))
       (rw (← full) (omega (arith, start_before t.rows.items row (length t.rows.items) (omega arith), end_here t.rows.items row, ap (start_in t.rows.items) full, h.all_owned))));
@@ -182,7 +200,6 @@ has_service S s t new row h e ends more few needs rows_room room = let full : le
       (λ k within. omega (arith, end_before t.rows.items row k (omega arith), h.within k within))
       (rw (← full) (omega (arith, end_here t.rows.items row))));
   all_owned = rw e (start_next (t.rows.items ++ row ∷ []) s ∙ ap (end_in (t.rows.items ++ row ∷ [])) (sym full) ∙ end_here t.rows.items row ∙ ends);
-  needs = needs;
 }
 
 -- tables with nothing in them, and with all rows

@@ -47,7 +47,7 @@ whole raw some_resource few_resources machines services processes few_balances b
   some_process = processes.some;
   few_processes = processes.has.few;
   few_balances = few_balances;
-  few_dependencies = services.has.few;
+  few_dependencies = services.has.dependencies.few;
   capacities = machines.has.capacities;
   safeties = machines.has.safeties;
   way_costs = machines.has.move_costs;
@@ -55,7 +55,7 @@ whole raw some_resource few_resources machines services processes few_balances b
   in_order = λ s within. omega (arith, start_is raw s, end_is raw s, services.has.in_order s within);
   within = λ s within. omega (arith, end_is raw s, services.has.within s within);
   all_owned = start_is raw (length raw.services.items) ∙ services.has.all_owned;
-  needs = λ place within. omega (arith, need_is raw place, services.has.needs.each place within);
+  needs = λ place within. omega (arith, need_is raw place, services.has.dependencies.needs.each place within);
   services = λ p within. omega (arith, service_is raw p, processes.has.services p within);
   firsts = λ b within. omega (arith, first_is raw b, balances.firsts b within);
   seconds = λ b within. omega (arith, second_is raw b, balances.seconds b within);

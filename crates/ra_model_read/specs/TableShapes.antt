@@ -1,6 +1,7 @@
 -- The lengths and references of tables that are read row by row.
 use Rattle.std.specs.Prelude.{◌≡◌, ℕ, zero, suc, ◌*◌, ◌<◌, ◌≤◌, List, length, map, slice_index_or}
 use Rattle.std.proofs.Common.{lit<}
+use Rattle.ra_base.specs.Listed.{Listed}
 use Rattle.ra_base.specs.declared.ids.Service.{Service}
 use Rattle.ra_model.specs.declared.raw.ServiceRow.{ServiceRow}
 use Rattle.ra_model.specs.declared.raw.ProcessRow.{ProcessRow}
@@ -87,16 +88,20 @@ needed_in dependencies place = (slice_index_or dependencies place (record { 0 = 
 pub record AreServices (S : ℕ) (dependencies : List Service) : Type 0 where
   pub each : (place : ℕ) → place < length dependencies → needed_in dependencies place < S
 
--- s services of S were read
+-- dependencies on S services were read, and there is room for as many as all services may have
+pub record HasDependencies (S : ℕ) (dependencies : Listed Service) : Type 0 where
+  pub room : dependencies.room ≡ 100000
+  pub few : length dependencies.items ≤ 100000
+  pub needs : AreServices S dependencies.items
+
+-- s services of S were read, with their dependencies
 pub record HasServices (S s : ℕ) (t : ServiceTables) : Type 0 where
   pub rows : length t.rows.items ≡ s
   pub rows_room : t.rows.room ≡ S
-  pub room : t.dependencies.room ≡ 100000
-  pub few : length t.dependencies.items ≤ 100000
+  pub dependencies : HasDependencies S t.dependencies
   pub in_order : (k : ℕ) → k < s → start_in t.rows.items k ≤ end_in t.rows.items k
   pub within : (k : ℕ) → k < s → end_in t.rows.items k ≤ length t.dependencies.items
   pub all_owned : start_in t.rows.items s ≡ length t.dependencies.items
-  pub needs : AreServices S t.dependencies.items
 
 unfoldable pub service_in : List ProcessRow → ℕ → ℕ
 service_in rows p = (slice_index_or rows p zero_process).service.0
@@ -121,6 +126,11 @@ second_in rows b = (slice_index_or rows b zero_balance).second.0
 pub record AreBalances (R : ℕ) (rows : List BalanceRow) : Type 0 where
   pub firsts : (b : ℕ) → b < length rows → first_in rows b < R
   pub seconds : (b : ℕ) → b < length rows → second_in rows b < R
+
+-- b balance objectives were read, on R resources
+pub record HasBalances (R b : ℕ) (t : Listed BalanceRow) : Type 0 where
+  pub rows : length t.items ≡ b
+  pub among : AreBalances R t.items
 
 -- all machines were read, and their count is within its limits
 pub record IsMachines (R : ℕ) (t : MachineTables) : Type 0 where

@@ -3,7 +3,7 @@ ghost use Rattle.ra_model_read.specs.Lists.{of_balance};
 ghost use Rattle.ra_model_read.specs.ModelText.{balance, balances};
 ghost use Rattle.ra_token.specs.Moments.{Stands};
 ghost use Rattle.ra_model_read.specs.Reading.{seen, Gives, Refuses};
-ghost use Rattle.ra_model_read.specs.TableShapes.{AreBalances};
+ghost use Rattle.ra_model_read.specs.TableShapes.{AreBalances, HasBalances};
 
 use crate::faults::{Field, ModelFault};
 use crate::fields::{read_any, read_field};
@@ -49,14 +49,13 @@ fn read_balance<F: Files>(
 ) -> Result<(), ModelFault>
     requires stands { Stands (seen F.Files files.old tokens.old) }
     requires some { 0 < resource_count }
-    requires room { length rows.old.items < rows.old.room }
-    requires among { AreBalances resource_count rows.old.items }
+    requires has { HasBalances resource_count b rows.old }
+    requires room { b < rows.old.room }
     ensures gives { OnOk result (Gives (balance resource_count b (map of_balance rows.old.items))
         (seen F.Files files.old tokens.old) (seen F.Files files.new tokens.new)
         (map of_balance rows.new.items)) }
-    ensures length { OnOk result (length rows.new.items ≡ length rows.old.items + 1) }
+    ensures has { OnOk result (HasBalances resource_count (b + 1) rows.new) }
     ensures room { rows.new.room ≡ rows.old.room }
-    ensures among { OnOk result (AreBalances resource_count rows.new.items) }
     ensures refuses { IfErr result
         (Refuses (balance resource_count b (map of_balance rows.old.items))
         (seen F.Files files.old tokens.old) (seen F.Files files.new tokens.new)) }

@@ -2,7 +2,7 @@ ghost use Rattle.std.specs.Prelude.{◌≡◌, ◌+◌, ◌<◌, ◌≤◌, leng
 ghost use Rattle.ra_model_read.specs.ModelText.{dependencies_more, service, services};
 ghost use Rattle.ra_token.specs.Moments.{Stands};
 ghost use Rattle.ra_model_read.specs.Reading.{seen, Gives, Refuses};
-ghost use Rattle.ra_model_read.specs.TableShapes.{service_lists, AreServices, HasServices, IsServices};
+ghost use Rattle.ra_model_read.specs.TableShapes.{service_lists, HasDependencies, HasServices, IsServices};
 
 use crate::faults::{Field, ModelFault};
 use crate::fields::{read_any, read_field};
@@ -90,26 +90,20 @@ fn read_dependencies<F: Files>(
     tokens: &mut Tokens,
     service_count: u32,
     count: u32,
-    dependencies: &mut Fixed<Service>,
+    list: &mut Fixed<Service>,
 ) -> Result<(), ModelFault>
     requires stands { Stands (seen F.Files files.old tokens.old) }
     requires some { 0 < service_count }
-    requires room { length dependencies.old.items + count ≤ dependencies.old.room }
-    requires few { dependencies.old.room ≤ 100000 }
-    requires needs { AreServices service_count dependencies.old.items }
-    ensures gives { OnOk result (Gives
-        (dependencies_more service_count count dependencies.old.items)
-        (seen F.Files files.old tokens.old) (seen F.Files files.new tokens.new)
-        dependencies.new.items) }
-    ensures needs { OnOk result (AreServices service_count dependencies.new.items) }
-    ensures length { OnOk result (length dependencies.new.items ≡
-        length dependencies.old.items + count) }
-    ensures room { dependencies.new.room ≡ dependencies.old.room }
-    ensures refuses { IfErr result
-        (Refuses (dependencies_more service_count count dependencies.old.items)
+    requires has { HasDependencies service_count list.old }
+    requires room { length list.old.items + count ≤ list.old.room }
+    ensures gives { OnOk result (Gives (dependencies_more service_count count list.old.items)
+        (seen F.Files files.old tokens.old) (seen F.Files files.new tokens.new) list.new.items) }
+    ensures has { HasDependencies service_count list.new }
+    ensures length { OnOk result (length list.new.items ≡ length list.old.items + count) }
+    ensures refuses { IfErr result (Refuses (dependencies_more service_count count list.old.items)
         (seen F.Files files.old tokens.old) (seen F.Files files.new tokens.new)) }
 {
-    let first = dependencies.len() as u64;
+    let first = list.len() as u64;
     for k in 0..count {
         let needed = read_field(
             files,
@@ -119,7 +113,7 @@ fn read_dependencies<F: Files>(
             0,
             service_count - 1,
         )?;
-        dependencies.push(Service(needed));
+        list.push(Service(needed));
     }
     Ok(())
 }

@@ -1,9 +1,8 @@
-use Rattle.std.proofs.Common.{sym, ap, ◌∙◌, length, arith}
-use Rattle.std.proofs.lemmas.List.{length_push}
+use Rattle.std.proofs.Common.{sym, ap, arith}
 use Rattle.ra_model_read.specs.Formats.{pure}
 use Rattle.ra_model_read.specs.ModelText.{balance}
 use Rattle.ra_model_read.proofs.Steps.{gives_bind, gives_then, refuses_first, refuses_next, refused_at_exit}
-use Rattle.ra_model_read.proofs.Rows.{balance_pushed, balances_pushed}
+use Rattle.ra_model_read.proofs.Rows.{balance_pushed, has_balance}
 use Rattle.ra_model_read.proofs.balances.read_balance.Goals as goal
 
 pub returns-in_err-first-clause-refuses : goal.returns-in_err-first-clause-refuses
@@ -26,11 +25,8 @@ pub returns-clause-gives : goal.returns-clause-gives
 unfolding balance
 returns-clause-gives g c = gives_bind _ c.in_ok-first.ensures.gives (gives_bind _ c.in_ok-second.ensures.gives (gives_bind _ c.in_ok-target.ensures.gives (gives_then _ c.in_ok-weight.ensures.gives (ap pure (sym (balance_pushed _ _ _ c.push.ensures.items))))))
 
-pub returns-clause-among : goal.returns-clause-among
-returns-clause-among g c = balances_pushed _ _ _ _ c.push.ensures.items c.requires.among (omega (arith, c.in_ok-first.ensures.high)) (omega (arith, c.in_ok-second.ensures.high))
-
-pub returns-clause-length : goal.returns-clause-length
-returns-clause-length g c = ap length c.push.ensures.items ∙ length_push _ _
+pub returns-clause-has : goal.returns-clause-has
+returns-clause-has g c = has_balance _ _ _ _ _ c.requires.has c.push.ensures.items (omega (arith, c.in_ok-first.ensures.high)) (omega (arith, c.in_ok-second.ensures.high))
 
 pub push-requires : goal.push-requires
-push-requires g c = c.requires.room
+push-requires g c = omega (arith, c.requires.room, c.requires.has.rows)

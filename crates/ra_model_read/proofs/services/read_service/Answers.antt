@@ -21,4 +21,4 @@ unfolding service
 returns-clause-gives g c = gives_bind _ c.in_ok-spread_min.ensures.gives (gives_bind _ (rw c.len.ensures.value at c.in_ok-count.ensures.gives) (gives_then _ c.in_ok-read_dependencies.ensures.gives (rw (service_pushed _ _ _ c.push.ensures.items, c.len-dependency_end.ensures.value) refl)))
 
 pub returns-clause-has : goal.returns-clause-has
-returns-clause-has g c = has_service _ _ _ _ _ c.requires.has c.push.ensures.items c.len-dependency_end.ensures.value (omega (arith, c.in_ok-read_dependencies.ensures.length)) (omega (arith, c.in_ok-read_dependencies.ensures.length, c.in_ok-count.ensures.high, c.len.ensures.value, c.requires.has.few)) c.in_ok-read_dependencies.ensures.needs c.push.ensures.room c.in_ok-read_dependencies.ensures.room
+returns-clause-has g c = has_service _ _ _ _ _ c.requires.has c.push.ensures.items c.len-dependency_end.ensures.value (omega (arith, c.in_ok-read_dependencies.ensures.length)) c.push.ensures.room c.in_ok-read_dependencies.ensures.has
