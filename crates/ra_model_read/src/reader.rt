@@ -2,13 +2,12 @@ ghost use Rattle.std.specs.Prelude.{◌≡◌, ℕ, ◌<◌, ◌≤◌, List, So
 ghost use Rattle.ra_io.specs.Faults.{Rose};
 ghost use Rattle.ra_model.specs.Limits.{WellFormed};
 ghost use Rattle.ra_model.specs.Numbers.{all_open};
-ghost use Rattle.ra_model_read.specs.FieldOrder.{IsTextOf};
 ghost use Rattle.ra_model_read.specs.Lists.{lists_of};
-ghost use Rattle.ra_model_read.specs.ModelText.{weights, rest, model, IsModel, model_refusal};
+ghost use Rattle.ra_model_read.specs.ModelText.{weights, rest, model, model_refusal};
 ghost use Rattle.ra_token.specs.Moments.{Stands};
 ghost use Rattle.ra_model_read.specs.Reading.{seen, Gives, Refuses, is_by_content};
 ghost use Rattle.ra_model_read.specs.TableShapes.{IsRest, rest_lists, weight_numbers};
-ghost use Rattle.ra_model_read.specs.Texts.{ModelIsItsNumbers};
+ghost use Rattle.ra_model_read.specs.Texts.{IsToldModel, IsToldText, ModelIsItsNumbers};
 
 use crate::balances::read_balances;
 use crate::faults::{Field, ModelFault};
@@ -27,22 +26,19 @@ use std::alloc::Global;
 ///
 /// # Errors
 ///
-/// The first thing that is wrong with the file, field after field; `ReadFault` where a fetch failed; `NoMemory`.
+/// The first thing that is wrong with the file, field after field; `ReadFault` if a fetch failed; `NoMemory`.
 pub fn read_model<F: Files>(
     alloc: Global,
     files: &mut F,
     name: &str,
 ) -> Result<Instance, ModelFault>
-    // Where the bytes are told, they mean this instance, or this is what is wrong with them first.
-    ensures model { IfOk result (λ inst. IfSome (F.held files.old name.now) (λ bytes.
-        IsModel bytes inst.tables)) }
+    // If the bytes are told, they mean this instance and are its text, or this is wrong with them first.
+    ensures model { IfOk result (λ inst. IsToldModel (F.held files.old name.now) inst.tables) }
+    ensures text { IfOk result (λ inst. IsToldText (F.held files.old name.now) inst.tables) }
     ensures refused { IfErr result (λ fault. IsTrue (is_by_content fault) →
         IfSome (F.held files.old name.now) (λ bytes. model_refusal bytes ≡ Some fault)) }
 
-    // The told bytes have no fault, and their tokens are the numbers of the instance, no more and no fewer; and they
-    // mean whatever instance this holds of, and no other.
-    ensures text { IfOk result (λ inst. IfSome (F.held files.old name.now) (λ bytes.
-        IsTextOf bytes inst.tables)) }
+    // They mean an instance exactly if it is within the limits, no machine of it is closed, and they are its text.
     ensures every_text { IfSome (F.held files.old name.now) ModelIsItsNumbers }
 
     // A failed fetch is counted.
