@@ -19,7 +19,7 @@ use Rattle.ra_model_read.specs.Reading.{left_from, left_of, Gives, Refuses}
 use Rattle.ra_model_read.proofs.Outcomes.{bind_read, bind_refused}
 use Rattle.ra_model_read.proofs.NextToken.{told_read, told_refused, if_both, if_one, same_file, token_missing, no_fault, by_content_read, content_not_read, shown_fault}
 
--- what is left where these tokens are
+-- these tokens and this fault are left
 abbrev pub with_tokens : List Token → Option TokenFault → Left
 with_tokens ts fault = record { tokens = ts; fault = fault }
 

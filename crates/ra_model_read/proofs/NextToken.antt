@@ -48,7 +48,7 @@ end_extra : (place : ℕ) (bytes : List ℕ) (t : Token) → slice_get (tokens b
 unfolding ends left_from
 end_extra place bytes t next = rw (drop_from (tokens bytes) (tokens_before bytes place) t next) (extra_first (first_fault bytes) t (drop (suc (tokens_before bytes place)) (tokens bytes)))
 
--- where the bytes are told
+-- if the bytes are told
 
 pub told_read : {X : Type 0} → (f : Format X) (x : X) (before now : Option (List ℕ)) (place after : ℕ) → now ≡ before → IfSome before (λ bytes. f (left_from place bytes) ≡ Read x (left_from after bytes)) → option_map f (option_map (left_from place) before) ≡ option_map (Read x) (option_map (left_from after) now)
 told_read f x None None place after same here = refl

@@ -22,8 +22,8 @@ resources = do
   count ← field ResourceCount 0 1 20
   along count resource []
 
--- machine m of M, where there are R resources: its capacities and safety capacities are a row for it, and so are the
--- costs of the ways from it
+-- machine m of M, for R resources: its capacities and safety capacities are a row for it, and so are the costs of the
+-- ways from it
 unfoldable pub machine : ℕ → ℕ → ℕ → MachineLists → Format MachineLists
 machine R M m so_far = do
   neighbourhood ← any Neighbourhood m
@@ -115,7 +115,7 @@ weights = do
   machine ← any MachineWeight 0
   pure (record { process = process; service = service; machine = machine })
 
--- what follows S services, where there are R resources, up to the end of the file
+-- what follows S services, for R resources, up to the end of the file
 unfoldable pub rest : ℕ → ℕ → Format Rest
 rest S R = do
   processes ← processes S R

@@ -1,5 +1,5 @@
 -- A format that is read from a file: what was read and what is left, or the refusal.
-use Rattle.std.specs.Prelude.{◌≡◌, ℕ, ◌≤◌, Bool, true, false, IsTrue, List, drop, Option, option_map}
+use Rattle.std.specs.Prelude.{◌≡◌, ℕ, Bool, true, false, IsTrue, List, drop, Option, option_map}
 use Rattle.ra_io.specs.declared.outside.Files as files
 use Rattle.ra_io.specs.Faults.{Rose}
 use Rattle.ra_token.specs.Faults.{first_fault}
@@ -19,7 +19,7 @@ unfoldable pub left_from : ℕ → List ℕ → Left
 left_from place bytes =
     record { tokens = drop (tokens_before bytes place) (tokens bytes); fault = first_fault bytes }
 
--- what is left, where the bytes are told
+-- what is left, if the bytes are told
 unfoldable pub left_of : Here → Option Left
 left_of a = option_map (left_from a.tokens.place) (a.held a.tokens.name)
 

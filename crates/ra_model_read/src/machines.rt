@@ -13,7 +13,7 @@ use ra_model::MachineRow;
 use ra_token::Tokens;
 use std::alloc::Global;
 
-/// The machines, where there are so many resources: their count, and then each.
+/// The machines, for so many resources: their count, and then each.
 pub(crate) fn read_machines<F: Files>(
     alloc: Global,
     files: &mut F,

@@ -13,7 +13,7 @@ use ra_model::ProcessRow;
 use ra_token::Tokens;
 use std::alloc::Global;
 
-/// The processes, where there are so many services and resources: their count, and then each.
+/// The processes, of so many services and for so many resources: their count, and then each.
 pub(crate) fn read_processes<F: Files>(
     alloc: Global,
     files: &mut F,

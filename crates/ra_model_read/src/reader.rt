@@ -91,7 +91,7 @@ fn read_raw<F: Files>(
     })
 }
 
-/// What follows so many services, where there are so many resources, up to the end of the file.
+/// What follows so many services, for so many resources, up to the end of the file.
 fn read_rest<F: Files>(
     alloc: Global,
     files: &mut F,
