@@ -11,6 +11,7 @@ use Rattle.ra_turn.specs.declared.sight.Sight.{Sight}
 use Rattle.atomic_table.specs.declared.shared.Seat.{Seat}
 use Rattle.ra_turn.specs.declared.sight.Grip.{Grip}
 use Rattle.ra_turn.specs.Views.{view, slots}
+use Rattle.ra_turn.specs.Holds.{IsLastTold}
 use Rattle.ra_turn.specs.Notes.{by, grip, touching, IsVersion, IsNews, HoldsAll, ShutBy}
 
 -- P holds of each element, with its place
@@ -159,12 +160,13 @@ module _ {V N O : Type 0} {g : Ghosts V N O} where
     pub version : at ≤ length (seen_by q) → HasVersion t q guard at
     pub news : 0 < at → WillSee q guard at
 
-  -- if it answers Newer: the guard's version was above the one asked for, the pass holds what it held, and the next
-  -- take shows the note before the version
+  -- if it answers Newer: the guard's version was above the one asked for, which is the last that the pass was told; the
+  -- pass holds what it held, and the next take shows the note before the version
   pub record IsNewer (p q : Pass V N O g) (guard asked at : ℕ) : Type 0 where
     pub above : asked < at
     pub grips : grips_of q ≡ grips_of p
     pub news : WillSee q guard at
+    pub told : IsLastTold (news_of p) (news_of q) guard at
 
   -- what `Turn::hold` tells
   abbrev pub IsAnswer : Turn V N O → Pass V N O g → Pass V N O g → ℕ → ℕ → Hold → Type 0

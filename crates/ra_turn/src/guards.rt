@@ -67,7 +67,7 @@ fn try_hold<V: Story>(desk: &Desk<V>, seat: &mut Place<V>, guard: u32, version: 
     requires guard { ((view seat.old.me).stage ≡ Idle) × (guard < desk.now.key.guards) }
     ensures same { IsSameSeat seat.old seat.new × OnlyHolds seat.old.me seat.new.me }
     ensures some { IfSome result (IsAnswerAt V.author V.touches guard version
-        (view seat.old.me).grips (view seat.new.me)) }
+        (view seat.old.me).grips (view seat.old.me).news (view seat.new.me)) }
     ensures none { IfNone result ((view seat.new.me).grips ≡ (view seat.old.me).grips) }
 {
     let word = look(desk, seat, guard);
@@ -98,7 +98,7 @@ pub(crate) fn hold_guard<V: Story, R: Wait>(
     requires guard { ((view seat.old.me).stage ≡ Idle) × (guard < desk.now.key.guards) }
     ensures same { IsSameSeat seat.old seat.new × OnlyHolds seat.old.me seat.new.me }
     ensures answer { IsAnswerAt V.author V.touches guard version (view seat.old.me).grips
-        (view seat.new.me) result }
+        (view seat.old.me).news (view seat.new.me) result }
 {
     let mut patience = Patience::make();
     for _ in rt.forever() {
