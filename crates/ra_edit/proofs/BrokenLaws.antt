@@ -18,7 +18,7 @@ use Rattle.ra_model.specs.Broken.{cause_if, capacity_test, row_capacity, broken_
 use Rattle.ra_model.proofs.BrokenLemmas.{cause_free, cause_none, capacity_met, capacity_unbroken, transient_met, transient_unbroken, spread_met, spread_unbroken, dependency_met, closed_met, closed_unbroken, count_from_near, near_from_count, fine_from_unbroken, Fine}
 use Rattle.ra_edit.specs.Drafts.{Drafted, with_processes, instance_of}
 use Rattle.ra_edit.specs.OneMore.{IsSame, OneMore}
-use Rattle.ra_edit.specs.Touched.{far_from, added_breaks, left_alone, retired_breaks, first_of_two, resized_breaks}
+use Rattle.ra_edit.specs.Touched.{far_from, added_breaks, left_alone, left_by, retired_breaks, first_of_two, resized_breaks}
 use Rattle.ra_edit.specs.Locality.{AddsAreLocal, RetiresAreLocal, ResizesAreLocal}
 use Rattle.ra_edit.proofs.ShareLaws.{neighbourhood_with, use_more, transient_more, machine_more, neighbourhood_more, locations_other, locations_more}
 
@@ -427,7 +427,7 @@ retired_closed d e p more fine = closed_unbroken (instance_of d) d.initial d.cur
     same.home ∙ closed_met (instance_of e) e.initial e.current fine was.0 (omega (arith, was.1, processes_with e)) (closed_with e (machine_at e.current was.0) ∙ ap (λ (i : Tables). closed_at i (machine_at e.current was.0)) more.origin ∙ ap (λ m. closed_at d.origin m) (sym same.here) ∙ sym (closed_with d (machine_at d.current q)) ∙ shut) ∙ sym same.here)
 
 pub retired_law : RetiresAreLocal
-unfolding first_broken retired_breaks
+unfolding first_broken retired_breaks left_by
 retired_law d e p s label more unbroken mine s_in there =
     let fine : Fine (instance_of e) e.initial e.current = fine_from_unbroken (instance_of e) e.initial e.current unbroken in
     let capacity : broken_capacity (instance_of d) d.current ≡ None = capacity_unbroken (instance_of d) d.current (λ k r k_in r_in. omega (arith, use_less d e p k r more (omega (arith, r_in, resources_with d)), capacity_both d e k r more.origin, capacity_met (instance_of e) e.current fine.capacity k r (omega (arith, k_in, machines_with d, machines_with e, ap machine_count more.origin)) (omega (arith, r_in, resources_with d, resources_with e, ap resource_count more.origin)))) in

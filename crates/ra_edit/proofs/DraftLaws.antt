@@ -24,11 +24,10 @@ use Rattle.ra_edit.specs.Replies.{broken_in, cost_in, judged, barred, answer, ed
 use Rattle.ra_edit.specs.SameLists.{AreSameLists}
 use Rattle.ra_edit.specs.Keeping.{IsSound, IsKept}
 use Rattle.ra_edit.proofs.RowLaws.{process_same}
-use Rattle.ra_edit.proofs.JudgeLaws.{current_fits}
 use Rattle.ra_edit.specs.Kinds.{IsEdited}
 use Rattle.ra_edit.proofs.SoundLaws.{edited_sound}
 use Rattle.ra_edit.proofs.VerdictLaws.{edited_is}
-use Rattle.ra_edit.proofs.SameLaws.{same_well, same_broken, same_parts}
+use Rattle.ra_edit.proofs.SameLaws.{same_well, same_fits, same_broken, same_parts}
 
 -- a row with a small move cost is a process
 pub row_is : (row : ProcessRow) → row ≡ process_of row.service row.move_cost
@@ -113,7 +112,7 @@ kept_feasible d parts h = feasible_from_unbroken (instance_of d) d.initial d.cur
 -- and feasible in the instance that is built
 pub built_feasible : (d : Drafted) (parts : Parts) (j : Tables) → IsKept d parts → AreSameLists (instance_of d) j → Feasible j d.initial d.current
 unfolding broken_in
-built_feasible d parts j h same = feasible_from_unbroken j d.initial d.current (same_well (instance_of d) j same.lists h.sound.well_formed) (current_fits d j same h.sound) (same_broken (instance_of d) j d.initial d.current same h.sound.current ∙ h.unbroken)
+built_feasible d parts j h same = feasible_from_unbroken j d.initial d.current (same_well (instance_of d) j same.lists h.sound.well_formed) (same_fits (instance_of d) j d.current same.lists h.sound.current) (same_broken (instance_of d) j d.initial d.current same h.sound.current ∙ h.unbroken)
 
 pub built_parts : (d : Drafted) (j : Tables) → AreSameLists (instance_of d) j → parts_of j d.initial d.current ≡ parts_of (instance_of d) d.initial d.current
 built_parts d j same = same_parts (instance_of d) j d.initial d.current same.lists

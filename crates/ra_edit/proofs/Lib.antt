@@ -4,7 +4,6 @@ pub mod SameLaws
 pub mod BuildLaws
 pub mod ListLaws
 pub mod SoundLaws
-pub mod JudgeLaws
 pub mod DraftLaws
 pub mod ListsLaws
 pub mod RunLaws
@@ -13,4 +12,5 @@ pub mod ShareLaws
 pub mod BrokenLaws
 pub mod ScanLaws
 pub mod TestLaws
+pub mod SeenLaws
 pub mod VerdictLaws

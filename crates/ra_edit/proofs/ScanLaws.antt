@@ -10,6 +10,7 @@ use Rattle.ra_model.specs.Numbers.{resource_count, machine_count, process_count,
 use Rattle.ra_model.specs.Limits.{Small}
 use Rattle.ra_model.specs.Assignments.{machine_at, tally}
 use Rattle.ra_model.specs.Usage.{use_share, use_of, transient_share, transient_of}
+use Rattle.ra_model.specs.Costs.{process_share}
 use Rattle.ra_model.specs.Services.{is_of, of_service, members_at, on_machine, in_location, in_neighbourhood}
 use Rattle.ra_edit.specs.declared.scanning.Spot.TheVariants.{OnMachine, InNeighbourhood, InLocation}
 use Rattle.ra_edit.specs.declared.lists.Lists.{Lists}
@@ -33,6 +34,10 @@ requirement_told i l p r place x sound p_in r_in place_is read =
 pub service_told : (i : Tables) (l : Lists) (p : ℕ) (row : ProcessRow) → p < length l.rows.items → row ≡ get_or l.rows.items p row → row.service.0 ≡ service_of (tables_with i l) p
 unfolding service_of
 service_told i l p row p_in read = ap (λ (x : ProcessRow). x.service.0) (read ∙ sym (row_read i l.rows.items l.requirements.items p row p_in))
+
+pub cost_told : (i : Tables) (l : Lists) (p : ℕ) (row : ProcessRow) → p < length l.rows.items → row ≡ get_or l.rows.items p row → row.move_cost ≡ process_cost_of (tables_with i l) p
+unfolding process_cost_of
+cost_told i l p row p_in read = ap (λ (x : ProcessRow). x.move_cost) (read ∙ sym (row_read i l.rows.items l.requirements.items p row p_in))
 
 -- sums over the processes are those of the definitions
 
@@ -69,6 +74,14 @@ between_here i a0 m r p at amount away here is = is ∙ sym (rw (ne_eqb (machine
 pub between_away : (i : Tables) (a0 : List Machine) (m r p at : ℕ) → machine_at a0 p ≢ m → at ≢ m → 0 ≡ transient_share i a0 m r p at
 unfolding transient_share
 between_away i a0 m r p at away apart = sym (rw (ne_eqb (machine_at a0 p) m away, ne_eqb at m apart) refl)
+
+pub cost_stays : (i : Tables) (a0 : List Machine) (p at w : ℕ) → at ≡ machine_at a0 p → 0 ≡ w * process_share i a0 p at
+unfolding process_share
+cost_stays i a0 p at w same = sym (rw (eq-eqb at (machine_at a0 p) same) (grind arith))
+
+pub cost_moves : (i : Tables) (a0 : List Machine) (p at w weight cost : ℕ) → at ≢ machine_at a0 p → weight ≡ w → cost ≡ process_cost_of i p → weight * cost ≡ w * process_share i a0 p at
+unfolding process_share
+cost_moves i a0 p at w weight cost apart weight_is cost_is = rw (ne_eqb at (machine_at a0 p) apart, weight_is, cost_is) refl
 
 pub of_other : (i : Tables) (s : ℕ) (test : ℕ → ℕ → Bool) (p at : ℕ) → service_of i p ≢ s → 0 ≡ of_service i s test p at
 unfolding of_service is_of

@@ -1,19 +1,22 @@
 -- What the numbers that were found say of each test.
-use Rattle.std.proofs.Common.{◌≡◌, ◌≢◌, ℕ, zero, suc, ◌<◌, ◌≤◌, Bool, true, false, Option, Some, None, refl, sym, ◌∙◌, arith, lt-ltb, le-ltb, ne_eqb, eq-eqb}
+use Rattle.std.proofs.Common.{◌≡◌, ◌≢◌, ℕ, zero, suc, ◌<◌, ◌≤◌, Bool, true, false, cond, List, length, get_or, Option, Some, None, refl, sym, ap, ◌∙◌, arith, lt-ltb, le-ltb, ne_eqb, eq-eqb}
 use Rattle.std.proofs.lemmas.Bool.{cond-true, cond-false, and_from, and_left, and_right}
+use Rattle.std.proofs.lemmas.List.{get_or_read}
+use Rattle.ra_base.specs.declared.ids.Service.{Service}
 use Rattle.ra_base.specs.declared.causes.Cause.{Cause}
 use Rattle.ra_base.specs.declared.causes.Cause.TheVariants.{Capacity, Transient, Conflict, Spread, Dependency}
 use Rattle.ra_model.specs.declared.raw.Tables.{Tables}
-use Rattle.ra_model.specs.Numbers.{resource_row, service_row, machine_row, resource_count, dependency_count, dependency_start, dependency_end, transient_at, capacity_of, spread_of, need_of, need_at, neighbourhood_of}
+use Rattle.ra_model.specs.Numbers.{resource_row, service_row, machine_row, resource_count, service_count, process_count, dependency_count, dependency_start, dependency_end, transient_at, capacity_of, spread_of, need_of, need_at, neighbourhood_of, service_weight_of}
 use Rattle.ra_model.specs.Usage.{use_of, transient_of}
+use Rattle.ra_model.specs.Relations.{depends}
 use Rattle.ra_model.specs.Services.{on_machine, in_neighbourhood, locations_of}
 use Rattle.ra_model.specs.Broken.{cause_if, capacity_test, row_capacity, transient_test, row_transient, conflict_test, spread_test}
 use Rattle.ra_edit.specs.declared.lists.Lists.{Lists}
 use Rattle.ra_edit.specs.Drafts.{with_processes}
 use Rattle.ra_edit.specs.Keeping.{tables_with}
-use Rattle.ra_edit.specs.Touched.{far_from, left_alone, first_of_two, resized_breaks}
-use Rattle.ra_base.specs.Searches.{or_else}
-use Rattle.ra_base.proofs.Searches.{or_else_none}
+use Rattle.ra_edit.specs.Touched.{far_from, left_alone, left_by, first_of_two, resized_breaks}
+use Rattle.ra_base.specs.Searches.{or_else, first}
+use Rattle.ra_base.proofs.Searches.{or_else_none, first_none_from}
 
 failed_if : (failed : Bool) (cause : Cause) → failed ≡ true → Some cause ≡ cause_if failed cause
 unfolding cause_if
@@ -120,6 +123,45 @@ pub need_same : (i : Tables) (l : Lists) (s k : ℕ) → need_of (tables_with i 
 unfolding with_processes need_of need_at dependency_start dependency_end service_row
 need_same i l zero k = refl
 need_same i l (suc s) k = refl
+
+pub processes_in : (i : Tables) (l : Lists) → process_count (tables_with i l) ≡ length l.rows.items
+unfolding with_processes process_count
+processes_in i l = refl
+
+pub services_in : (i : Tables) (l : Lists) → service_count (tables_with i l) ≡ service_count i
+unfolding with_processes service_count
+services_in i l = refl
+
+pub service_weight_in : (i : Tables) (l : Lists) → service_weight_of (tables_with i l) ≡ service_weight_of i
+unfolding with_processes service_weight_of
+service_weight_in i l = refl
+
+-- who depends on whom
+
+pub need_read : (i : Tables) (s k : ℕ) (needs : List Service) → ((j : ℕ) → j < dependency_count i s → (get_or needs j (record { 0 = 0 })).0 ≡ need_of i s j) → length needs ≡ dependency_count i s → k < length needs → (x : Service) → x ≡ get_or needs k x → need_of i s k ≡ x.0
+need_read i s k needs each long within x read = sym (ap (λ (v : Service). v.0) (get_or_read needs k x within read (record { 0 = 0 })) ∙ each k (omega arith))
+
+pub depends_in : (i : Tables) (l : Lists) (s u : ℕ) → depends (tables_with i l) s u ≡ depends i s u
+unfolding with_processes depends dependency_count dependency_end dependency_start need_of need_at service_row
+depends_in i l zero u = refl
+depends_in i l (suc s) u = refl
+
+pub left_depends : (i : Tables) (l : Lists) (s label u : ℕ) (x : Option Cause) → depends i u s ≡ true → x ≡ left_alone (tables_with i l) l.current.items s label u → x ≡ left_by (tables_with i l) l.current.items s label u
+unfolding left_by
+left_depends i l s label u x needs is = is ∙ sym (cond-true _ (left_alone (tables_with i l) l.current.items s label u) None (depends_in i l u s ∙ needs))
+
+pub left_free : (i : Tables) (l : Lists) (s label u : ℕ) → depends i u s ≡ false → None ≡ left_by (tables_with i l) l.current.items s label u
+unfolding left_by
+left_free i l s label u needs = sym (cond-false _ (left_alone (tables_with i l) l.current.items s label u) None (depends_in i l u s ∙ needs))
+
+either_none : {X : Type 0} → (b : Bool) (x : Option X) → x ≡ None → cond b x None ≡ None
+either_none true x none = none
+either_none false x none = refl
+
+-- no service is left alone while one of its processes is near
+pub none_left : (i : Tables) (l : Lists) (s label n : ℕ) → 0 < in_neighbourhood (tables_with i l) l.current.items s label → None ≡ first n (left_by (tables_with i l) l.current.items s label)
+unfolding left_by
+none_left i l s label n some = sym (first_none_from n _ (λ u within. either_none (depends (tables_with i l) u s) _ (sym (left_near i l s label u some))))
 
 -- two machines in the order of their numbers
 

@@ -1,5 +1,5 @@
 -- What is found after an edit is what the edited draft breaks, or what it costs.
-use Rattle.std.proofs.Common.{◌≡◌, ℕ, ◌+◌, ◌*◌, ◌^◌, ◌<◌, ◌≤◌, Bool, true, false, eqb, ◌&&◌, List, [], ◌∷◌, ◌++◌, length, get_or, None, refl, sym, ap, ◌∙◌, subst, arith, eq-eqb}
+use Rattle.std.proofs.Common.{◌≡◌, ℕ, ◌+◌, ◌-◌, ◌*◌, ◌^◌, ◌<◌, ◌≤◌, Bool, true, false, cond, eqb, ◌&&◌, List, [], ◌∷◌, ◌++◌, length, get_or, None, refl, sym, ap, ◌∙◌, subst, arith, eq-eqb}
 use Rattle.std.proofs.lemmas.Nat.{mul-lt}
 use Rattle.ra_base.specs.Sums.{greatest, one_if}
 use Rattle.ra_base.specs.declared.costs.Parts.{Parts}
@@ -10,7 +10,7 @@ use Rattle.ra_base.proofs.Greatest.{greatest_same}
 use Rattle.ra_model.specs.declared.raw.ProcessRow.{ProcessRow}
 use Rattle.ra_model.specs.declared.raw.Tables.{Tables}
 use Rattle.ra_model.specs.Limits.{WellFormed, Small}
-use Rattle.ra_model.specs.Numbers.{resource_count, machine_count, service_count, process_count, process_row, service_of, process_cost_of, way_cost_of, process_weight_of, service_weight_of, machine_weight_of}
+use Rattle.ra_model.specs.Numbers.{resource_count, machine_count, service_count, process_count, process_row, neighbourhood_of, service_of, process_cost_of, way_cost_of, process_weight_of, service_weight_of, machine_weight_of}
 use Rattle.ra_model.specs.Assignments.{machine_at, tally}
 use Rattle.ra_model.specs.Usage.{use_of}
 use Rattle.ra_model.specs.Services.{is_of, of_service, members_at, moved_of}
@@ -24,14 +24,14 @@ use Rattle.ra_edit.specs.declared.costs.MachineCosts.{MachineCosts}
 use Rattle.ra_edit.specs.Drafts.{Drafted, with_processes, instance_of}
 use Rattle.ra_edit.specs.Editing.{process_of, added, retired, resized, edited}
 use Rattle.ra_edit.specs.OneMore.{OneMore}
-use Rattle.ra_edit.specs.Kinds.{HasCome, HasOther, IsEdited}
+use Rattle.ra_edit.specs.Kinds.{HasCome, HasGone, HasOther, IsEdited}
 use Rattle.ra_edit.specs.MachineCosts.{AreCostsOn}
-use Rattle.ra_edit.specs.Touched.{added_breaks, resized_breaks}
+use Rattle.ra_edit.specs.Touched.{added_breaks, retired_breaks, resized_breaks}
 use Rattle.ra_edit.specs.Replies.{barred, broken_in}
 use Rattle.ra_edit.specs.Keeping.{IsSound, IsKept}
 use Rattle.ra_edit.proofs.ShareLaws.{load_more, balance_more, process_more, way_more, moved_more, load_term, balance_term}
-use Rattle.ra_edit.proofs.BrokenLaws.{added_law, resized_law}
-use Rattle.ra_edit.proofs.SoundLaws.{few_of, free_resize}
+use Rattle.ra_edit.proofs.BrokenLaws.{added_law, retired_law, resized_law}
+use Rattle.ra_edit.proofs.SoundLaws.{few_of, free_retire, free_resize}
 use Rattle.ra_edit.proofs.OneMoreLaws.{more_joined, more_retired, put_cell_other}
 
 -- a process has come
@@ -57,6 +57,14 @@ has_come d e s m c requirements sound s_in m_in same =
       machine_in = m_in;
     })
 
+has_gone : (d e : Drafted) (p : ℕ) → IsSound d → p < length d.rows → e ≡ retired d p → HasGone d e p
+has_gone d e p sound within same =
+    let few = few_of d sound in
+    subst (λ (f : Drafted). HasGone d f p) (sym same) (record {
+      there = within;
+      fewer = more_retired d d p refl refl refl refl (λ q r q_in apart column. refl) few.table few.initial few.current within;
+    })
+
 has_other : (d e : Drafted) (p : ℕ) (requirements : List ℕ) → IsSound d → p < length d.rows → length requirements ≡ resource_count d.origin → e ≡ resized d p requirements → HasOther d e p
 unfolding resized
 has_other d e p requirements sound within width same =
@@ -73,7 +81,7 @@ has_other d e p requirements sound within width same =
 pub edited_is : (d e : Drafted) (edit : Edit) (requirements : List ℕ) → IsSound d → barred (length d.rows) edit ≡ None → FitsInstance d.origin edit → length requirements ≡ resource_count d.origin → e ≡ edited d edit requirements → IsEdited d edit e
 unfolding edited
 edited_is d e (Add s m c) requirements sound free fits width same = has_come d e s m c requirements sound fits.0 fits.1 same
-edited_is d e (Retire p) requirements sound free fits width same = tt
+edited_is d e (Retire p) requirements sound free fits width same = has_gone d e p sound (free_retire (length d.rows) p free).0 same
 edited_is d e (Resize p) requirements sound free fits width same = has_other d e p requirements sound (free_resize (length d.rows) p free) width same
 
 -- what is broken
@@ -81,6 +89,21 @@ edited_is d e (Resize p) requirements sound free fits width same = has_other d e
 pub come_broken : (d e : Drafted) (parts : Parts) (s m : ℕ) → IsKept d parts → HasCome d e s m → broken_in e ≡ added_breaks (instance_of e) e.initial e.current s m
 unfolding broken_in
 come_broken d e parts s m kept come = added_law d e (length d.rows) s m come.more kept.unbroken come.service come.home come.here come.service_in come.machine_in
+
+pub service_there : (d : Drafted) (p : ℕ) → IsSound d → p < length d.rows → service_of (instance_of d) p < service_count d.origin
+unfolding with_processes process_count service_count
+service_there d p sound within = sound.well_formed.services p within
+
+pub gone_service : (d e : Drafted) (p s : ℕ) → IsSound d → HasGone d e p → s ≡ service_of (instance_of d) p → s < service_count d.origin
+gone_service d e p s sound gone s_is = omega (arith, s_is, service_there d p sound gone.there)
+
+pub gone_broken : (d e : Drafted) (parts : Parts) (p s label : ℕ) → IsKept d parts → HasGone d e p → s ≡ service_of (instance_of d) p → label ≡ neighbourhood_of d.origin (machine_at d.current p) → broken_in e ≡ retired_breaks (instance_of e) e.current s label
+unfolding broken_in
+gone_broken d e parts p s label kept gone s_is label_is =
+    let origin = gone.fewer.origin in
+    retired_law e d p s label gone.fewer kept.unbroken (sym s_is)
+    (subst (λ (i : Tables). s < service_count i) origin (gone_service d e p s kept.sound gone s_is))
+    (ap (λ (i : Tables). neighbourhood_of i (machine_at d.current p)) (sym origin) ∙ sym label_is)
 
 machines_less : (d : Drafted) (p : ℕ) → machine_count (retired d p).origin ≡ machine_count d.origin
 unfolding retired
@@ -191,6 +214,29 @@ come_parts d e cost s m l b w before after well has come before_is after_is l_is
     (has.process ∙ sym (process_same d e n more home))
     (has.service ∙ sym (service_same d e n more home))
     (omega (arith, has.machine, way, w_is))
+
+-- a process has gone: what it added to the process cost and to the machine cost
+pub gone_process : (d e : Drafted) (p : ℕ) → HasGone d e p → process_cost (instance_of d) d.initial d.current ≡ process_cost (instance_of e) e.initial e.current + process_weight_of d.origin * process_share (instance_of d) d.initial p (machine_at d.current p)
+unfolding process_share
+gone_process d e p gone = process_more e d p gone.fewer ∙ ap (λ (i : Tables). process_cost (instance_of e) e.initial e.current + process_weight_of i * cond (eqb (machine_at d.current p) (machine_at d.initial p)) 0 (process_cost_of (instance_of d) p)) (sym gone.fewer.origin)
+
+pub gone_way : (d e : Drafted) (p : ℕ) → HasGone d e p → machine_cost (instance_of d) d.initial d.current ≡ machine_cost (instance_of e) e.initial e.current + machine_weight_of d.origin * way_cost_of d.origin (machine_at d.initial p) (machine_at d.current p)
+gone_way d e p gone = way_more e d p gone.fewer ∙ ap (λ (i : Tables). machine_cost (instance_of e) e.initial e.current + machine_weight_of i * way_cost_of i (machine_at d.initial p) (machine_at d.current p)) (sym gone.fewer.origin)
+
+-- the numbers of the parts
+pub gone_parts : (d e : Drafted) (cost : Parts) (p m l b q s w : ℕ) (before after : MachineCosts) → WellFormed d.origin → HasParts d cost → HasGone d e p → m ≡ machine_at d.current p → m < machine_count d.origin → AreCostsOn d m before → AreCostsOn e m after → l + before.load ≡ cost.load + after.load → b + before.balance ≡ cost.balance + after.balance → q ≡ cost.process - process_weight_of d.origin * process_share (instance_of d) d.initial p (machine_at d.current p) → s ≡ service_cost (instance_of e) e.initial e.current → w ≡ cost.machine - machine_weight_of d.origin * way_cost_of d.origin (machine_at d.initial p) (machine_at d.current p) → record { load = l; balance = b; process = q; service = s; machine = w; total = l + b + q + s + w } ≡ parts_of (instance_of e) e.initial e.current
+gone_parts d e cost p m l b q s w before after well has gone here m_in before_is after_is l_is b_is q_is s_is w_is =
+    let origin = gone.fewer.origin in
+    let low_in : m < machine_count e.origin = subst (λ (i : Tables). m < machine_count i) origin m_in in
+    let low_well : WellFormed e.origin = subst WellFormed origin well in
+    let before_load : before.load ≡ row_load e.origin m (use_of (instance_of d) d.current m) = before_is.load ∙ ap (λ (i : Tables). row_load i m (use_of (instance_of d) d.current m)) origin in
+    let before_balance : before.balance ≡ row_balance e.origin m (use_of (instance_of d) d.current m) = before_is.balance ∙ ap (λ (i : Tables). row_balance i m (use_of (instance_of d) d.current m)) origin in
+    parts_from e l b q s w
+    (omega (arith, l_is, has.load, before_load, after_is.load, load_more e d p m gone.fewer (sym here) low_in))
+    (omega (arith, b_is, has.balance, before_balance, after_is.balance, balance_more e d p m low_well gone.fewer (sym here) low_in))
+    (omega (arith, q_is, has.process, gone_process d e p gone))
+    s_is
+    (omega (arith, w_is, has.machine, gone_way d e p gone))
 
 -- a process requires something else
 

@@ -17,6 +17,11 @@ pub record HasCome (d e : Drafted) (s m : ℕ) : Type 0 where
   pub service_in : s < service_count d.origin
   pub machine_in : m < machine_count d.origin
 
+-- process p has gone
+pub record HasGone (d e : Drafted) (p : ℕ) : Type 0 where
+  pub there : p < length d.rows
+  pub fewer : OneMore e d p
+
 -- process p requires something else
 pub record HasOther (d e : Drafted) (p : ℕ) : Type 0 where
   pub there : p < length d.rows
@@ -28,5 +33,5 @@ pub record HasOther (d e : Drafted) (p : ℕ) : Type 0 where
 
 abbrev pub IsEdited : Drafted → Edit → Drafted → Type 0
 IsEdited d (Add s m c) e = HasCome d e s.0 m.0
-IsEdited d (Retire p) e = Unit {0}
+IsEdited d (Retire p) e = HasGone d e p
 IsEdited d (Resize p) e = HasOther d e p

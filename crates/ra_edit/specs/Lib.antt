@@ -6,6 +6,7 @@ pub mod Keeping
 pub mod OneMore
 pub mod Touched
 pub mod Spots
+pub mod Seen
 pub mod MachineCosts
 pub mod Locality
 pub mod Kinds

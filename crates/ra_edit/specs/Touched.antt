@@ -31,11 +31,14 @@ left_alone i a s label u =
     cause_if (in_neighbourhood i a s label == 0 && nat_lt 0 (in_neighbourhood i a u label))
     (Dependency (record { 0 = u }) (record { 0 = s }) label)
 
+-- the same of a service that may depend on service s or not
+unfoldable pub left_by : Tables → List Machine → ℕ → ℕ → ℕ → Option Cause
+left_by i a s label u = if depends i u s then left_alone i a s label u else None
+
 -- a process less, of service s in a neighbourhood: the spread of its service, and those in the neighbourhood that depend on it
 unfoldable pub retired_breaks : Tables → List Machine → ℕ → ℕ → Option Cause
 retired_breaks i a s label =
-    or_else (spread_test i a s)
-    (first (service_count i) (λ u. if depends i u s then left_alone i a s label u else None))
+    or_else (spread_test i a s) (first (service_count i) (left_by i a s label))
 
 -- what is found first at two machines, in the order of their numbers
 unfoldable pub first_of_two : ℕ → ℕ → (ℕ → Option Cause) → Option Cause

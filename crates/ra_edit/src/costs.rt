@@ -1,14 +1,16 @@
 //! What the lists cost after an edit, by what it touches.
-ghost use Rattle.std.specs.Prelude.{◌≡◌, ℕ, ◌+◌, ◌^◌, ◌<◌, ◌≤◌, length, slice_index, IfOk};
-ghost use Rattle.ra_model.specs.Numbers.{resource_count, machine_count};
+ghost use Rattle.std.specs.Prelude.{◌≡◌, ℕ, ◌+◌, ◌*◌, ◌^◌, ◌<◌, ◌≤◌, length, slice_index, IfOk};
+ghost use Rattle.ra_model.specs.Assignments.{machine_at};
+ghost use Rattle.ra_model.specs.Costs.{process_share};
+ghost use Rattle.ra_model.specs.Numbers.{resource_count, machine_count, way_cost_of, process_weight_of, machine_weight_of};
 ghost use Rattle.ra_model.specs.Usage.{use_of};
 ghost use Rattle.ra_edit.specs.Keeping.{drafted, tables_with, IsSound};
 ghost use Rattle.ra_edit.specs.MachineCosts.{AreCostsOn};
 
 use crate::lists::Lists;
 use crate::scanning::use_at;
-use ra_base::{Fixed, Machine, NoMemory, Parts, Resource};
-use ra_model::Instance;
+use ra_base::{Fixed, Machine, NoMemory, Parts, Process, Resource};
+use ra_model::{Instance, machine_of};
 use ra_world::{row_balance, row_load};
 use std::alloc::Global;
 
@@ -55,6 +57,33 @@ fn use_row(
         row.push(use_at(inst, lists, m, Resource(r)));
     }
     Ok(row)
+}
+
+/// What a process adds to the process cost.
+pub(crate) fn moved_share(inst: &Instance, lists: &Lists, p: Process) -> u128
+    requires sound { IsSound (drafted inst.now.tables lists.now) }
+    requires process { p.0 < length lists.now.rows.items }
+    ensures { result ≡ process_weight_of inst.now.tables *
+        process_share (tables_with inst.now.tables lists.now) lists.now.initial.items p.0
+        (machine_at lists.now.current.items p.0) }
+{
+    if machine_of(&lists.current, p).0 == machine_of(&lists.initial, p).0 {
+        return 0;
+    }
+    let row = lists.rows.get(p.0 as usize);
+    u128::from(inst.process_weight()) * u128::from(row.move_cost)
+}
+
+/// What a process adds to the machine cost.
+pub(crate) fn way_share(inst: &Instance, lists: &Lists, p: Process) -> u128
+    requires sound { IsSound (drafted inst.now.tables lists.now) }
+    requires process { p.0 < length lists.now.rows.items }
+    ensures { result ≡ machine_weight_of inst.now.tables *
+        way_cost_of inst.now.tables (machine_at lists.now.initial.items p.0)
+        (machine_at lists.now.current.items p.0) }
+{
+    let way = inst.move_cost(machine_of(&lists.initial, p), machine_of(&lists.current, p));
+    u128::from(inst.machine_weight()) * u128::from(way)
 }
 
 /// A sum in which one term is replaced.

@@ -104,15 +104,7 @@ impl<'a> Draft<'a> {
         let next = self
             .lists
             .edited(alloc, self.inst, edit, edits.requirements_of(i))?;
-        match judge(
-            alloc,
-            self.inst,
-            &self.base,
-            &self.lists,
-            self.parts,
-            &next,
-            edit,
-        )? {
+        match judge(alloc, self.inst, &self.lists, self.parts, &next, edit)? {
             Judged::Refused(cause) => Ok(EditReply::Broken { cause }),
             Judged::Fine(parts) => {
                 self.lists = next;

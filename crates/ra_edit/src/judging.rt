@@ -1,15 +1,19 @@
 //! What an edit breaks, found where it can break something.
-ghost use Rattle.std.specs.Prelude.{◌≡◌, ℕ, ◌<◌};
+ghost use Rattle.std.specs.Prelude.{◌≡◌, ℕ, ◌<◌, IfOk};
 ghost use Rattle.ra_base.specs.Searches.{or_else, first};
 ghost use Rattle.ra_model.specs.Numbers.{resource_count, machine_count, service_count, dependency_count, need_of, neighbourhood_of};
-ghost use Rattle.ra_model.specs.Broken.{capacity_test, row_capacity, transient_test, row_transient, conflict_test};
+ghost use Rattle.ra_model.specs.Broken.{capacity_test, row_capacity, transient_test, row_transient, conflict_test, spread_test};
+ghost use Rattle.ra_model.specs.Relations.{depends};
+ghost use Rattle.ra_model.specs.Services.{in_neighbourhood};
 ghost use Rattle.ra_edit.specs.Keeping.{drafted, tables_with, IsSound};
-ghost use Rattle.ra_edit.specs.Touched.{far_from, added_breaks, resized_breaks};
+ghost use Rattle.ra_edit.specs.Touched.{far_from, added_breaks, left_alone, left_by, retired_breaks, resized_breaks};
 
 use crate::lists::Lists;
+use crate::locations::locations;
 use crate::scanning::{Spot, members, transient_at, use_at};
-use ra_base::{Cause, Machine, Resource, Service};
+use ra_base::{Cause, Machine, NoMemory, Resource, Service};
 use ra_model::Instance;
+use std::alloc::Global;
 
 /// What a process more breaks, which stands on its initial machine.
 #[tactic(auto, using(ra_base::proofs::Searches::choices), unfolding(crate::specs::Touched::added_breaks))]
@@ -30,6 +34,26 @@ pub(crate) fn added_breaks(inst: &Instance, lists: &Lists, s: Service, m: Machin
         return Some(cause);
     }
     far_needs(inst, lists, s, m)
+}
+
+/// What a process less breaks, which was one of a service in a neighbourhood.
+#[tactic(auto, using(ra_base::proofs::Searches::choices), unfolding(crate::specs::Touched::retired_breaks))]
+pub(crate) fn retired_breaks(
+    alloc: Global,
+    inst: &Instance,
+    lists: &Lists,
+    s: Service,
+    label: u32,
+) -> Result<Option<Cause>, NoMemory>
+    requires sound { IsSound (drafted inst.now.tables lists.now) }
+    requires service { s.0 < service_count inst.now.tables }
+    ensures { IfOk result (λ cause. cause ≡
+        retired_breaks (tables_with inst.now.tables lists.now) lists.now.current.items s.0 label) }
+{
+    if let Some(cause) = spread_test(alloc, inst, lists, s)? {
+        return Ok(Some(cause));
+    }
+    Ok(first_left(inst, lists, s, label))
 }
 
 /// What other requirements of a process on a machine break.
@@ -209,4 +233,99 @@ fn far_need(inst: &Instance, lists: &Lists, s: Service, need: Service, label: u3
     } else {
         None
     }
+}
+
+/// The number of locations of a service, if it wants more.
+#[tactic(auto, using(crate::proofs::TestLaws::spreads))]
+fn spread_test(
+    alloc: Global,
+    inst: &Instance,
+    lists: &Lists,
+    s: Service,
+) -> Result<Option<Cause>, NoMemory>
+    requires sound { IsSound (drafted inst.now.tables lists.now) }
+    requires service { s.0 < service_count inst.now.tables }
+    ensures { IfOk result (λ cause. cause ≡
+        spread_test (tables_with inst.now.tables lists.now) lists.now.current.items s.0) }
+{
+    let has = locations(alloc, inst, lists, s)?;
+    let wants = inst.spread_min(s);
+    if has < wants {
+        Ok(Some(Cause::Spread {
+            service: s,
+            has,
+            wants,
+        }))
+    } else {
+        Ok(None)
+    }
+}
+
+/// The first service in a neighbourhood that depends on a service of which no process is left there.
+fn first_left(inst: &Instance, lists: &Lists, s: Service, label: u32) -> Option<Cause>
+    requires { IsSound (drafted inst.now.tables lists.now) }
+    ensures { result ≡ first (service_count (tables_with inst.now.tables lists.now))
+        (left_by (tables_with inst.now.tables lists.now) lists.now.current.items s.0 label) }
+{
+    if 0 < members(inst, lists, s, Spot::InNeighbourhood(label)) {
+        return None;
+    }
+    for u in 0..inst.services() {
+        if let Some(cause) = left_by(inst, lists, s, label, Service(u)) {
+            return Some(cause);
+        }
+    }
+    None
+}
+
+/// A service in a neighbourhood, if it depends on one of which no process is left there.
+fn left_by(inst: &Instance, lists: &Lists, s: Service, label: u32, u: Service) -> Option<Cause>
+    requires sound { IsSound (drafted inst.now.tables lists.now) }
+    requires there { u.0 < service_count inst.now.tables }
+    requires gone { in_neighbourhood (tables_with inst.now.tables lists.now)
+        lists.now.current.items s.0 label ≡ 0 }
+    ensures { result ≡ left_by (tables_with inst.now.tables lists.now) lists.now.current.items s.0
+        label u.0 }
+{
+    if depends(inst, u, s) {
+        left_alone(inst, lists, s, label, u)
+    } else {
+        None
+    }
+}
+
+/// A service in a neighbourhood where no process is left of one that it depends on.
+#[tactic(auto, using(crate::proofs::TestLaws::lefts))]
+fn left_alone(inst: &Instance, lists: &Lists, s: Service, label: u32, u: Service) -> Option<Cause>
+    requires sound { IsSound (drafted inst.now.tables lists.now) }
+    requires gone { in_neighbourhood (tables_with inst.now.tables lists.now)
+        lists.now.current.items s.0 label ≡ 0 }
+    ensures { result ≡ left_alone (tables_with inst.now.tables lists.now) lists.now.current.items
+        s.0 label u.0 }
+{
+    let count = members(inst, lists, u, Spot::InNeighbourhood(label));
+    if 0 < count {
+        Some(Cause::Dependency {
+            service: u,
+            needs: s,
+            neighbourhood: label,
+        })
+    } else {
+        None
+    }
+}
+
+/// Whether a service depends on another.
+#[tactic(auto, using(ra_base::proofs::Named::names, crate::proofs::TestLaws::need_read), unfolding(ra_model::specs::Relations::depends))]
+fn depends(inst: &Instance, s: Service, on: Service) -> bool
+    requires { s.0 < service_count inst.now.tables }
+    ensures { result ≡ depends inst.now.tables s.0 on.0 }
+{
+    let needs = inst.depends(s);
+    for k in 0..needs.len() {
+        if needs[k].0 == on.0 {
+            return true;
+        }
+    }
+    false
 }

@@ -9,6 +9,8 @@ mod draft;
 mod judging;
 mod laws;
 mod lists;
+mod locations;
+mod moved;
 mod replies;
 mod running;
 mod scanning;

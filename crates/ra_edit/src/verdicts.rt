@@ -2,18 +2,16 @@ ghost use Rattle.std.specs.Prelude.{◌≡◌, ◌<◌, ◌*◌, ◌^◌, length
 ghost use Rattle.ra_model.specs.Limits.{Small};
 ghost use Rattle.ra_model.specs.Numbers.{machine_count, service_count};
 ghost use Rattle.ra_model.specs.Assignments.{machine_at};
-ghost use Rattle.ra_edit.specs.SameLists.{IsBaseOf};
+ghost use Rattle.ra_model.specs.Costs.{parts_of};
 ghost use Rattle.ra_edit.specs.Keeping.{drafted, tables_with, IsSound, IsKept, IsJudged};
-ghost use Rattle.ra_edit.specs.Kinds.{HasCome, HasOther, IsEdited};
+ghost use Rattle.ra_edit.specs.Kinds.{HasCome, HasGone, HasOther, IsEdited};
 
-use crate::base::Base;
-use crate::building::build;
-use crate::costs::{costs_on, replaced, summed};
-use crate::judging::{added_breaks, resized_breaks};
+use crate::costs::{costs_on, moved_share, replaced, summed, way_share};
+use crate::judging::{added_breaks, resized_breaks, retired_breaks};
 use crate::lists::Lists;
-use crate::scanning::small;
+use crate::moved::service_cost;
+use crate::scanning::{service_of, small};
 use ra_base::{Cause, Machine, NoMemory, Parts, Process, Service};
-use ra_check::{Scratch, first_broken, parts};
 use ra_edit_read::Edit;
 use ra_model::{Instance, machine_of};
 use std::alloc::Global;
@@ -25,18 +23,16 @@ pub(crate) enum Judged {
     Fine(Parts),
 }
 
-/// Whether the current list breaks a constraint after an edit of feasible lists, and what it costs. Where a process has
-/// come, or requires something else, only what it touches is looked at.
+/// Whether the current list breaks a constraint after an edit of feasible lists, and what it costs. Only what the edit
+/// touches is looked at.
 pub(crate) fn judge(
     alloc: Global,
     inst: &Instance,
-    base: &Base,
     lists: &Lists,
     cost: Parts,
     next: &Lists,
     edit: Edit,
 ) -> Result<Judged, NoMemory>
-    requires base { IsBaseOf base.now inst.now.tables }
     requires kept { IsKept (drafted inst.now.tables lists.now) cost }
     requires sound { IsSound (drafted inst.now.tables next.now) }
     requires edited { IsEdited (drafted inst.now.tables lists.now) edit
@@ -49,14 +45,16 @@ pub(crate) fn judge(
             machine,
             ..
         } => judge_added(alloc, inst, lists, cost, next, service, machine),
-        Edit::Retire { .. } => judge_anew(alloc, inst, base, next),
+        Edit::Retire { process } => {
+            judge_retired(alloc, inst, lists, cost, next, Process(process))
+        }
         Edit::Resize { process } => {
             judge_resized(alloc, inst, lists, cost, next, Process(process))
         }
     }
 }
 
-/// The same, where a process has come.
+/// The same, if a process has come.
 fn judge_added(
     alloc: Global,
     inst: &Instance,
@@ -92,7 +90,7 @@ fn judge_added(
     Ok(Judged::Fine(cost))
 }
 
-/// The same, where a process requires something else.
+/// The same, if a process requires something else.
 fn judge_resized(
     alloc: Global,
     inst: &Instance,
@@ -122,22 +120,54 @@ fn judge_resized(
     Ok(Judged::Fine(cost))
 }
 
-/// Whether the current list breaks a constraint, and what it costs, summed anew.
-fn judge_anew(
+/// The same, if a process has gone.
+fn judge_retired(
     alloc: Global,
     inst: &Instance,
-    base: &Base,
     lists: &Lists,
+    cost: Parts,
+    next: &Lists,
+    p: Process,
 ) -> Result<Judged, NoMemory>
-    requires base { IsBaseOf base.now inst.now.tables }
-    requires sound { IsSound (drafted inst.now.tables lists.now) }
-    ensures { IfOk result (IsJudged (drafted inst.now.tables lists.now)) }
+    requires kept { IsKept (drafted inst.now.tables lists.now) cost }
+    requires sound { IsSound (drafted inst.now.tables next.now) }
+    requires gone { HasGone (drafted inst.now.tables lists.now) (drafted inst.now.tables next.now)
+        p.0 }
+    ensures { IfOk result (IsJudged (drafted inst.now.tables next.now)) }
 {
-    let next = build(alloc, inst, base, &lists.rows, &lists.requirements)?;
-    let mut scratch = Scratch::make(alloc, &next)?;
-    if let Some(cause) = first_broken(&next, &lists.initial, &lists.current, &mut scratch) {
+    let s = service_of(inst, lists, p);
+    let label = inst.neighbourhood(machine_of(&lists.current, p));
+    if let Some(cause) = retired_breaks(alloc, inst, next, s, label)? {
         return Ok(Judged::Refused(cause));
     }
-    let cost = parts(&next, &lists.initial, &lists.current, &mut scratch);
-    Ok(Judged::Fine(cost))
+    let parts = parts_without(alloc, inst, lists, cost, next, p)?;
+    Ok(Judged::Fine(parts))
+}
+
+/// What the current list costs after a process has gone.
+fn parts_without(
+    alloc: Global,
+    inst: &Instance,
+    lists: &Lists,
+    cost: Parts,
+    next: &Lists,
+    p: Process,
+) -> Result<Parts, NoMemory>
+    requires kept { IsKept (drafted inst.now.tables lists.now) cost }
+    requires sound { IsSound (drafted inst.now.tables next.now) }
+    requires gone { HasGone (drafted inst.now.tables lists.now) (drafted inst.now.tables next.now)
+        p.0 }
+    ensures { IfOk result (λ parts. parts ≡ parts_of (tables_with inst.now.tables next.now)
+        next.now.initial.items next.now.current.items) }
+{
+    small(inst, lists);
+    let here = machine_of(&lists.current, p);
+    let before = costs_on(alloc, inst, lists, here)?;
+    let after = costs_on(alloc, inst, next, here)?;
+    let load = replaced(cost.load, before.load, after.load);
+    let balance = replaced(cost.balance, before.balance, after.balance);
+    let process = cost.process - moved_share(inst, lists, p);
+    let service = service_cost(alloc, inst, next)?;
+    let machine = cost.machine - way_share(inst, lists, p);
+    Ok(summed(load, balance, process, service, machine))
 }
