@@ -1,5 +1,5 @@
 -- The instance that is built of copied lists.
-use Rattle.std.proofs.Common.{◌≡◌, ℕ, ◌<◌, List, Bool, length, refl, sym, ap, ◌∙◌, subst}
+use Rattle.std.proofs.Common.{◌≡◌, ℕ, ◌<◌, List, Bool, refl, sym, ◌∙◌}
 use Rattle.ra_base.specs.Listed.{Listed}
 use Rattle.ra_model.specs.declared.raw.ProcessRow.{ProcessRow}
 use Rattle.ra_model.specs.declared.raw.RawInstance.{RawInstance}
@@ -27,11 +27,4 @@ flags_same i rows requirements raw flags flagged m within = flagged.each m withi
 pub built : (i : Tables) (rows : List ProcessRow) (requirements : List ℕ) (raw : RawInstance) (flags : Listed Bool) → HasLists raw (with_processes i rows requirements).raw → AreClosedAs i flags.items → AreSameLists (with_processes i rows requirements) (with_closed (all_open raw) flags)
 built i rows requirements raw flags lists flagged = record { lists = lists; closed = flags_same i rows requirements raw flags flagged }
 
--- a copy of the flags
-pub flags_copied : (i : Tables) (flags copy : List Bool) → AreClosedAs i flags → copy ≡ flags → AreClosedAs i copy
-flags_copied i flags copy flagged same = subst (AreClosedAs i) (sym same) flagged
-
-pub copy_fits : (i : Tables) (flags copy : List Bool) → length flags ≡ machine_count i → copy ≡ flags → length copy ≡ machine_count i
-copy_fits i flags copy one_each same = ap length same ∙ one_each
-
-pub ruleset builds = (raw_well, flags_fit, built, copy_fits)
+pub ruleset builds = (raw_well, flags_fit, built)

@@ -1,16 +1,19 @@
-ghost use Rattle.std.specs.Prelude.{◌≡◌, IfOk};
-ghost use Rattle.ra_edit.specs.SameLists.{IsBaseOf, HasMachines, HasServices};
+ghost use Rattle.std.specs.Prelude.{◌≡◌, length, IfOk};
+ghost use Rattle.ra_model.specs.Numbers.{machine_count};
+ghost use Rattle.ra_edit.specs.Drafts.{with_processes};
+ghost use Rattle.ra_edit.specs.SameLists.{AreClosedAs, HasLists, HasMachines, HasServices, IsBaseOf};
 
-use crate::building::copy_of;
 use crate::tables::{
     balances_of, capacities_of, dependencies_of, flags_of, machines_of, resources_of, safeties_of,
     services_of, ways_of,
 };
 use ra_base::{Fixed, NoMemory, Service};
-use ra_model::{BalanceRow, Instance, MachineRow, ResourceRow, ServiceRow};
+use ra_model::{
+    BalanceRow, Instance, MachineRow, ProcessRow, RawInstance, ResourceRow, ServiceRow,
+};
 use std::alloc::Global;
 
-/// The lists of an instance that edits leave alone, copied once, so that an edit copies slices and calls no accessor.
+/// The lists of an instance that edits leave alone.
 pub(crate) struct Base {
     pub(crate) resources: Fixed<ResourceRow>,
     pub(crate) machines: MachineLists,
@@ -87,6 +90,46 @@ impl Base {
             flags,
         })
     }
+
+    /// The lists of the instance with other processes, and its closed flags.
+    pub(crate) fn raw(
+        self,
+        inst: &Instance,
+        rows: Fixed<ProcessRow>,
+        requirements: Fixed<u32>,
+    ) -> (RawInstance, Fixed<bool>)
+        requires { IsBaseOf self inst.now.tables }
+        ensures lists { HasLists result.0
+            (with_processes inst.now.tables rows.items requirements.items).raw }
+        ensures one_each { length result.1.items ≡ machine_count inst.now.tables }
+        ensures closed { AreClosedAs inst.now.tables result.1.items }
+    {
+        let Base {
+            resources,
+            machines,
+            services,
+            balances,
+            flags,
+        } = self;
+        let (services, dependencies) = services.apart();
+        let (machines, capacities, safeties, move_costs) = machines.apart();
+        let raw = RawInstance {
+            resources,
+            machines,
+            capacities,
+            safeties,
+            move_costs,
+            services,
+            dependencies,
+            processes: rows,
+            requirements,
+            balances,
+            process_weight: inst.process_weight(),
+            service_weight: inst.service_weight(),
+            machine_weight: inst.machine_weight(),
+        };
+        (raw, flags)
+    }
 }
 
 impl MachineLists {
@@ -117,23 +160,6 @@ impl MachineLists {
         } = self;
         (rows, capacities, safeties, move_costs)
     }
-
-    /// The same lists once more.
-    pub(crate) fn copy(&self, alloc: Global) -> Result<MachineLists, NoMemory>
-        ensures rows { IfOk result (λ copy. copy.rows.items ≡ self.now.rows.items) }
-        ensures capacities { IfOk result (λ copy.
-            copy.capacities.items ≡ self.now.capacities.items) }
-        ensures safeties { IfOk result (λ copy. copy.safeties.items ≡ self.now.safeties.items) }
-        ensures move_costs { IfOk result (λ copy.
-            copy.move_costs.items ≡ self.now.move_costs.items) }
-    {
-        Ok(MachineLists {
-            rows: copy_of(alloc, self.rows.as_slice())?,
-            capacities: copy_of(alloc, self.capacities.as_slice())?,
-            safeties: copy_of(alloc, self.safeties.as_slice())?,
-            move_costs: copy_of(alloc, self.move_costs.as_slice())?,
-        })
-    }
 }
 
 impl ServiceLists {
@@ -154,17 +180,5 @@ impl ServiceLists {
     {
         let ServiceLists { rows, dependencies } = self;
         (rows, dependencies)
-    }
-
-    /// The same lists once more.
-    pub(crate) fn copy(&self, alloc: Global) -> Result<ServiceLists, NoMemory>
-        ensures rows { IfOk result (λ copy. copy.rows.items ≡ self.now.rows.items) }
-        ensures dependencies { IfOk result (λ copy.
-            copy.dependencies.items ≡ self.now.dependencies.items) }
-    {
-        Ok(ServiceLists {
-            rows: copy_of(alloc, self.rows.as_slice())?,
-            dependencies: copy_of(alloc, self.dependencies.as_slice())?,
-        })
     }
 }

@@ -3,13 +3,11 @@ ghost use Rattle.ra_model.specs.Assignments.{IsAssignment};
 ghost use Rattle.ra_model.specs.Broken.{first_broken};
 ghost use Rattle.ra_model.specs.Costs.{parts_of};
 ghost use Rattle.ra_model.specs.Feasible.{Feasible};
-ghost use Rattle.ra_topology.specs.Fits.{IsTopologyOf};
 ghost use Rattle.ra_edit_read.specs.EditLists.{AreEditsFor};
 ghost use Rattle.ra_edit.specs.Drafts.{draft_of, instance_of};
 ghost use Rattle.ra_edit.specs.Replies.{barred, edit_answer, after_edit};
 ghost use Rattle.ra_edit.specs.SameLists.{AreSameLists};
 
-use crate::base::Base;
 use crate::building::build;
 use crate::lists::Lists;
 use crate::replies::EditReply;
@@ -29,23 +27,19 @@ const MOST_PROCESSES: usize = 50_000;
 #[derive(Drop)]
 pub struct Draft<'a> {
     inst: &'a Instance,
-    topo: &'a Topology,
-    base: Base,
     lists: Lists,
     parts: Parts,
 }
 
 impl<'a> Model for Draft<'a> {
     ghost use Rattle.ra_edit.specs.Drafts.{Drafted};
-    ghost use Rattle.ra_edit.specs.SameLists.{IsBaseOf};
     ghost use Rattle.ra_edit.specs.Keeping.{IsKept, drafted};
 
     ghost Value = { Drafted };
 
     ghost view = { λ d. drafted d.inst.now.tables d.lists };
 
-    ghost invariant = { λ d. IsBaseOf d.base d.inst.now.tables × IsKept (drafted
-        d.inst.now.tables d.lists) d.parts };
+    ghost invariant = { λ d. IsKept (drafted d.inst.now.tables d.lists) d.parts };
 }
 
 /// What is left of a draft: the edited instance and its two lists. The machines that were closed are closed.
@@ -57,34 +51,31 @@ pub struct Edited {
 }
 
 impl<'a> Draft<'a> {
-    /// The draft of a feasible current list, whose cost has these parts.
+    /// The draft of a feasible current list, whose cost has these parts. The instance is lent, and nothing is read of its
+    /// topology.
     pub fn make(
         alloc: Global,
         inst: &'a Instance,
-        topo: &'a Topology,
+        _topo: &'a Topology,
         a0: &Assignment,
         a: &Assignment,
         start: Parts,
     ) -> Result<Draft<'a>, NoMemory>
         requires a0_fits { IsAssignment inst.now.tables a0.now.items }
         requires fits { IsAssignment inst.now.tables a.now.items }
-        requires topology { IsTopologyOf topo.now inst.now.tables }
         requires unbroken { first_broken inst.now.tables a0.now.items a.now.items ≡ None }
         requires parts { start ≡ parts_of inst.now.tables a0.now.items a.now.items }
         ensures { IfOk result (λ d. d ≡ draft_of inst.now.tables a0.now.items a.now.items) }
     {
-        let base = Base::of(alloc, inst)?;
         let lists = Lists::of(alloc, inst, a0, a)?;
         Ok(Draft {
             inst,
-            topo,
-            base,
             lists,
             parts: start,
         })
     }
 
-    /// Does edit number `i`, where there is nothing against it. An edit that isn't done changes nothing.
+    /// Does edit number `i`, if there is nothing against it. An edit that isn't done changes nothing.
     ///
     /// # Errors
     ///
@@ -142,13 +133,11 @@ impl<'a> Draft<'a> {
     {
         let Draft {
             inst,
-            topo: _,
-            base,
             lists,
             parts: _,
         } = self;
-        let instance = build(alloc, inst, &base, &lists.rows, &lists.requirements)?;
-        let (initial, current) = lists.assignments();
+        let (rows, requirements, initial, current) = lists.apart();
+        let instance = build(alloc, inst, rows, requirements)?;
         Ok(Edited {
             instance,
             initial,

@@ -56,18 +56,20 @@ impl Lists {
         })
     }
 
-    /// The two assignments.
-    pub(crate) fn assignments(self) -> (Assignment, Assignment)
-        ensures initial { result.0.items ≡ self.initial.items }
-        ensures current { result.1.items ≡ self.current.items }
+    /// The four lists.
+    pub(crate) fn apart(self) -> (Fixed<ProcessRow>, Fixed<u32>, Assignment, Assignment)
+        ensures rows { result.0.items ≡ self.rows.items }
+        ensures requirements { result.1.items ≡ self.requirements.items }
+        ensures initial { result.2.items ≡ self.initial.items }
+        ensures current { result.3.items ≡ self.current.items }
     {
         let Lists {
-            rows: _,
-            requirements: _,
+            rows,
+            requirements,
             initial,
             current,
         } = self;
-        (initial, current)
+        (rows, requirements, initial, current)
     }
 
     /// What an edit makes of the lists, where nothing bars it.

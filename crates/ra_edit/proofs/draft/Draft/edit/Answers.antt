@@ -22,26 +22,24 @@ pub judge-requires-clause-sound : goal.judge-requires-clause-sound
 judge-requires-clause-sound c =
     let d = drafted c.self.inside.inst.now.tables c.self.inside.lists in
     let next = drafted c.self.inside.inst.now.tables c.in_ok-next.next in
-    (next_sound d c.args.self.now next c.args.edits.now c.args.i c.self.view_is c.self.invariant.1.sound c.requires.fits c.requires.edit (ap (barred (length d.rows)) (sym c.edit-edit.ensures) ∙ sym c.barred.ensures ∙ c.in_default.is) (c.in_ok-next.ensures ∙ ap (λ e. edited d e c.requirements_of.result.now) c.edit-edit.ensures ∙ ap (edited d (edit_at c.args.edits.now c.args.i)) c.requirements_of.ensures.row) (ap length (sym c.requirements_of.ensures.row) ∙ c.requirements_of.ensures.one_each))
+    (next_sound d c.args.self.now next c.args.edits.now c.args.i c.self.view_is c.self.invariant.sound c.requires.fits c.requires.edit (ap (barred (length d.rows)) (sym c.edit-edit.ensures) ∙ sym c.barred.ensures ∙ c.in_default.is) (c.in_ok-next.ensures ∙ ap (λ e. edited d e c.requirements_of.result.now) c.edit-edit.ensures ∙ ap (edited d (edit_at c.args.edits.now c.args.i)) c.requirements_of.ensures.row) (ap length (sym c.requirements_of.ensures.row) ∙ c.requirements_of.ensures.one_each))
 
 pub judge-requires-clause-edited : goal.judge-requires-clause-edited
 judge-requires-clause-edited c =
     let d = drafted c.self.inside.inst.now.tables c.self.inside.lists in
     let next = drafted c.self.inside.inst.now.tables c.in_ok-next.next in
-    (next_edited d c.args.self.now next c.args.edits.now c.args.i c.edit-edit.result c.self.view_is c.self.invariant.1.sound c.requires.fits c.requires.edit c.edit-edit.ensures (ap (barred (length d.rows)) (sym c.edit-edit.ensures) ∙ sym c.barred.ensures ∙ c.in_default.is) (c.in_ok-next.ensures ∙ ap (λ e. edited d e c.requirements_of.result.now) c.edit-edit.ensures ∙ ap (edited d (edit_at c.args.edits.now c.args.i)) c.requirements_of.ensures.row) (ap length (sym c.requirements_of.ensures.row) ∙ c.requirements_of.ensures.one_each))
+    (next_edited d c.args.self.now next c.args.edits.now c.args.i c.edit-edit.result c.self.view_is c.self.invariant.sound c.requires.fits c.requires.edit c.edit-edit.ensures (ap (barred (length d.rows)) (sym c.edit-edit.ensures) ∙ sym c.barred.ensures ∙ c.in_default.is) (c.in_ok-next.ensures ∙ ap (λ e. edited d e c.requirements_of.result.now) c.edit-edit.ensures ∙ ap (edited d (edit_at c.args.edits.now c.args.i)) c.requirements_of.ensures.row) (ap length (sym c.requirements_of.ensures.row) ∙ c.requirements_of.ensures.one_each))
 
 pub invariant_of-self : goal.invariant_of-self
 invariant_of-self c =
     let d = drafted c.self.inside.inst.now.tables c.self.inside.lists in
     let next = drafted c.self.inside.inst.now.tables c.in_ok-next.next in
-    let found = rw c.in-Fine.is at c.in_ok-cause.ensures in (
-      c.self.invariant.0,
-      record {
-        sound = (next_sound d c.args.self.now next c.args.edits.now c.args.i c.self.view_is c.self.invariant.1.sound c.requires.fits c.requires.edit (ap (barred (length d.rows)) (sym c.edit-edit.ensures) ∙ sym c.barred.ensures ∙ c.in_default.is) (c.in_ok-next.ensures ∙ ap (λ e. edited d e c.requirements_of.result.now) c.edit-edit.ensures ∙ ap (edited d (edit_at c.args.edits.now c.args.i)) c.requirements_of.ensures.row) (ap length (sym c.requirements_of.ensures.row) ∙ c.requirements_of.ensures.one_each));
-        unbroken = found.0;
-        parts_are = found.1;
-      },
-    )
+    let found = rw c.in-Fine.is at c.in_ok-cause.ensures in
+    record {
+      sound = (next_sound d c.args.self.now next c.args.edits.now c.args.i c.self.view_is c.self.invariant.sound c.requires.fits c.requires.edit (ap (barred (length d.rows)) (sym c.edit-edit.ensures) ∙ sym c.barred.ensures ∙ c.in_default.is) (c.in_ok-next.ensures ∙ ap (λ e. edited d e c.requirements_of.result.now) c.edit-edit.ensures ∙ ap (edited d (edit_at c.args.edits.now c.args.i)) c.requirements_of.ensures.row) (ap length (sym c.requirements_of.ensures.row) ∙ c.requirements_of.ensures.one_each));
+      unbroken = found.0;
+      parts_are = found.1;
+    }
 
 pub returns-in-Refused-clause-reply : goal.returns-in-Refused-clause-reply
 returns-in-Refused-clause-reply c =

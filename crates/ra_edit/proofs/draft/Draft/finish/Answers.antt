@@ -6,11 +6,14 @@ use Rattle.ra_edit.proofs.DraftLaws.{built_feasible, built_parts}
 use Rattle.ra_edit.proofs.draft.Draft.finish.Goals as goal
 
 pub returns-clause-feasible : goal.returns-clause-feasible
-returns-clause-feasible c = rw (c.assignments-initial.ensures.initial, c.assignments-initial.ensures.current) (built_feasible (drafted c.self.inside.inst.now.tables c.self.inside.lists) c.self.inside.parts c.in_ok-instance.instance.tables c.self.invariant.1 c.in_ok-instance.ensures)
+returns-clause-feasible c =
+    let same = rw (c.apart-rows.ensures.rows, c.apart-rows.ensures.requirements) at c.in_ok-instance.ensures in
+    rw (c.apart-rows.ensures.initial, c.apart-rows.ensures.current) (built_feasible (drafted c.self.inside.inst.now.tables c.self.inside.lists) c.self.inside.parts c.in_ok-instance.instance.tables c.self.invariant same)
 
 pub returns-clause-parts : goal.returns-clause-parts
 returns-clause-parts c =
     let j = c.in_ok-instance.instance.tables in
     let d = drafted c.self.inside.inst.now.tables c.self.inside.lists in
-    ap₂ (parts_of j) c.assignments-initial.ensures.initial c.assignments-initial.ensures.current
-    ∙ subst (λ (o : Drafted). parts_of j d.initial d.current ≡ parts_of (instance_of o) o.initial o.current) c.self.view_is (built_parts d j c.in_ok-instance.ensures)
+    let same = rw (c.apart-rows.ensures.rows, c.apart-rows.ensures.requirements) at c.in_ok-instance.ensures in
+    ap₂ (parts_of j) c.apart-rows.ensures.initial c.apart-rows.ensures.current
+    ∙ subst (λ (o : Drafted). parts_of j d.initial d.current ≡ parts_of (instance_of o) o.initial o.current) c.self.view_is (built_parts d j same)
