@@ -3,6 +3,7 @@ ghost use Rattle.ra_model.specs.Assignments.{IsAssignment};
 ghost use Rattle.ra_model.specs.Broken.{first_broken};
 ghost use Rattle.ra_model.specs.Costs.{parts_of};
 ghost use Rattle.ra_model.specs.Feasible.{Feasible};
+ghost use Rattle.ra_model.specs.Limits.{Small, WellFormed};
 ghost use Rattle.ra_edit_read.specs.EditLists.{AreEditsFor};
 ghost use Rattle.ra_edit.specs.Drafts.{draft_of, instance_of};
 ghost use Rattle.ra_edit.specs.Replies.{barred, edit_answer, after_edit};
@@ -11,6 +12,7 @@ ghost use Rattle.ra_edit.specs.SameLists.{AreSameLists};
 use crate::building::build;
 use crate::lists::Lists;
 use crate::replies::EditReply;
+use crate::scanning::small;
 use crate::verdicts::{Judged, judge};
 use ra_base::{Assignment, NoMemory, Parts};
 use ra_edit_read::{Edit, Edits};
@@ -120,11 +122,13 @@ impl<'a> Draft<'a> {
         self.lists.rows.len() as u32
     }
 
-    /// The edited instance and its two lists.
+    /// The edited instance and its two lists. It is within the limits, so its text is one of a model.
     pub fn finish(self, alloc: Global) -> Result<Edited, NoMemory>
         ensures lists { IfOk result (λ e. AreSameLists (instance_of self.entry) e.instance.tables) }
         ensures initial { IfOk result (λ e. e.initial.items ≡ self.entry.initial) }
         ensures current { IfOk result (λ e. e.current.items ≡ self.entry.current) }
+        ensures limits { IfOk result (λ e. WellFormed (instance_of self.entry)) }
+        ensures small { IfOk result (λ e. Small (instance_of self.entry)) }
         ensures feasible { IfOk result (λ e.
             Feasible e.instance.tables e.initial.items e.current.items) }
         ensures parts { IfOk result (λ e.
@@ -136,6 +140,7 @@ impl<'a> Draft<'a> {
             lists,
             parts: _,
         } = self;
+        small(inst, &lists);
         let (rows, requirements, initial, current) = lists.apart();
         let instance = build(alloc, inst, rows, requirements)?;
         Ok(Edited {

@@ -1,5 +1,6 @@
 use Rattle.std.proofs.Common.{◌≡◌, ap₂, ◌∙◌, subst}
 use Rattle.ra_model.specs.Costs.{parts_of}
+use Rattle.ra_model.specs.Limits.{WellFormed, Small}
 use Rattle.ra_edit.specs.Drafts.{Drafted, instance_of}
 use Rattle.ra_edit.specs.Keeping.{drafted}
 use Rattle.ra_edit.proofs.DraftLaws.{built_feasible, built_parts}
@@ -17,3 +18,9 @@ returns-clause-parts c =
     let same = rw (c.apart-rows.ensures.rows, c.apart-rows.ensures.requirements) at c.in_ok-instance.ensures in
     ap₂ (parts_of j) c.apart-rows.ensures.initial c.apart-rows.ensures.current
     ∙ subst (λ (o : Drafted). parts_of j d.initial d.current ≡ parts_of (instance_of o) o.initial o.current) c.self.view_is (built_parts d j same)
+
+pub returns-clause-limits : goal.returns-clause-limits
+returns-clause-limits c = subst (λ (o : Drafted). WellFormed (instance_of o)) c.self.view_is c.self.invariant.sound.well_formed
+
+pub returns-clause-small : goal.returns-clause-small
+returns-clause-small c = subst (λ (o : Drafted). Small (instance_of o)) c.self.view_is c.small.ensures
