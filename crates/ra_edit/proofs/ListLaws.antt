@@ -9,7 +9,7 @@ use Rattle.ra_edit_read.proofs.ListLaws.{row_within, row_length}
 use Rattle.ra_edit_read.proofs.FileLaws.{next_row}
 use Rattle.ra_edit.specs.Editing.{put_row, drop_row}
 
--- the last item takes the place of item p, or there is nothing to do where that is the last one
+-- the last item takes the place of item p, or there is nothing to do if that is the last one
 
 pub removed_last : {X : Type 0} → (xs : List X) (p n : ℕ) (d : X) → n ≡ length xs - 1 → n ≤ p → take n xs ≡ swap_remove xs p d
 removed_last xs p n d last after = rw (← last) (sym (take-set-le n xs p (get_or xs n d) after))

@@ -114,7 +114,7 @@ fn row_capacity(inst: &Instance, lists: &Lists, m: Machine) -> Option<Cause>
     None
 }
 
-/// The use of a resource of a machine, where it is above its capacity.
+/// The use of a resource of a machine, if it is above its capacity.
 #[tactic(auto, using(crate::proofs::TestLaws::capacities))]
 fn capacity_test(inst: &Instance, lists: &Lists, m: Machine, r: Resource) -> Option<Cause>
     requires sound { IsSound (drafted inst.now.tables lists.now) }
@@ -153,7 +153,7 @@ fn row_transient(inst: &Instance, lists: &Lists, m: Machine) -> Option<Cause>
     None
 }
 
-/// The transient use of a resource of a machine, where it is above its capacity.
+/// The transient use of a resource of a machine, if it is above its capacity.
 #[tactic(auto, using(crate::proofs::TestLaws::transients))]
 fn transient_test(inst: &Instance, lists: &Lists, m: Machine, r: Resource) -> Option<Cause>
     requires sound { IsSound (drafted inst.now.tables lists.now) }

@@ -72,7 +72,7 @@ impl Lists {
         (rows, requirements, initial, current)
     }
 
-    /// What an edit makes of the lists, where nothing bars it.
+    /// What an edit makes of the lists, if nothing bars it.
     #[tactic(auto, unfolding(crate::specs::Editing::edited))]
     pub(crate) fn edited(
         &self,

@@ -9,7 +9,7 @@ use ra_edit_read::Edits;
 use std::alloc::Global;
 
 impl<'a> Draft<'a> {
-    /// Does all edits in their order, each where there is nothing against it, and gives the reply to each.
+    /// Does all edits in their order, each if there is nothing against it, and gives the reply to each.
     ///
     /// # Errors
     ///
