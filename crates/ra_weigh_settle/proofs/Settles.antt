@@ -17,6 +17,7 @@ use Rattle.ra_model.proofs.BoundLemmas.{objective_under}
 use Rattle.ra_cells.specs.MovedCounts.{MovedCounts}
 use Rattle.ra_cells.specs.Replaced.{counted_after, greatest_with, IsChange, AreApart}
 use Rattle.ra_moves.specs.declared.steps.Step.{Step}
+use Rattle.ra_moves.specs.declared.verdicts.Verdict.TheVariants.{Refused}
 use Rattle.ra_moves.specs.declared.verdicts.Weighed.{Weighed}
 use Rattle.ra_moves.specs.Judging.{repeat_of, broken_by, rise_test, verdict_of, judge}
 use Rattle.ra_moves.specs.Replacing.{applied}
@@ -124,3 +125,15 @@ settles_by i a0 a steps moved kept now after weight weighed (Some cause) limits 
 
 pub settles : (i : Tables) (a0 a : List Machine) (steps : List Step) (moved : MovedCounts) (kept now after weight : ℕ) (weighed : Weighed) → WellFormed i → Small i → IsSettling i a0 a steps moved kept weighed → now ≡ greatest (length moved.counts) (λ s. get_or moved.counts s 0) → after ≡ greatest_with moved.counts weighed.first weighed.second weighed.third → weight ≡ service_weight_of i → AreSettled i a0 a steps kept now after weight weighed
 settles i a0 a steps moved kept now after weight weighed limits small settling is_now is_after weighs = settles_by i a0 a steps moved kept now after weight weighed (broken_by i a0 a steps) limits small settling refl is_now is_after weighs
+
+-- a weighing with a cause is refused for it, whatever the counts and the cost
+broken_is : (i : Tables) (a0 a : List Machine) (steps : List Step) (broken : Option Cause) → broken_by i a0 a steps ≡ broken → (weighed_of i a0 a steps).broken ≡ broken
+broken_is i a0 a steps None none = ap (λ (w : Weighed). w.broken) (whole_is i a0 a steps none)
+broken_is i a0 a steps (Some cause) some = ap (λ (w : Weighed). w.broken) (bare_is i a0 a steps cause some)
+
+judge_refuses : (i : Tables) (a0 a : List Machine) (steps : List Step) (allowed : ℕ) (cause : Cause) → broken_by i a0 a steps ≡ Some cause → Refused cause ≡ judge i a0 a steps allowed
+unfolding judge or_else verdict_of
+judge_refuses i a0 a steps allowed cause some = rw some refl
+
+pub refuses : (i : Tables) (a0 a : List Machine) (steps : List Step) (moved : MovedCounts) (kept allowed : ℕ) (weighed : Weighed) (cause : Cause) → IsSettling i a0 a steps moved kept weighed → weighed.broken ≡ Some cause → Refused cause ≡ judge i a0 a steps allowed
+refuses i a0 a steps moved kept allowed weighed cause settling is = judge_refuses i a0 a steps allowed cause (sym (broken_is i a0 a steps (broken_by i a0 a steps) refl) ∙ ap (λ (w : Weighed). w.broken) (sym settling.weighing) ∙ is)

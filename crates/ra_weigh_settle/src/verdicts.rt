@@ -22,6 +22,9 @@ pub fn settle_now(
         IsSettling inst.now.tables a0 a steps greatest.now kept weighed.now →
         result ≡ judge inst.now.tables a0 a steps allowed }
 {
+    if let Some(cause) = weighed.broken {
+        return Verdict::Refused { cause };
+    }
     let now = greatest.greatest();
     let after = greatest.greatest_after(weighed.first, weighed.second, weighed.third);
     settle(kept, now, after, inst.service_weight(), weighed, allowed)

@@ -1,6 +1,6 @@
 use Rattle.std.proofs.Common.{◌∙◌, arith}
 use Rattle.std.proofs.lemmas.Int.{ints}
-use Rattle.ra_weigh_settle.proofs.Settles.{changes, settles}
+use Rattle.ra_weigh_settle.proofs.Settles.{changes, settles, refuses}
 use Rattle.ra_weigh_settle.proofs.verdicts.settle_now.Goals as goal
 
 pub greatest_after-after-requires-clause-first : goal.greatest_after-after-requires-clause-first
@@ -40,3 +40,6 @@ pub returns : goal.returns
 returns c = λ a0 a steps settling.
     let all = settles _ a0 a steps _ _ _ _ _ _ c.args.inst.now.well_formed c.args.inst.now.small settling c.greatest-now.ensures.value c.greatest_after-after.ensures.value c.service_weight.ensures in
     c.settle.ensures all.cost all.is ∙ all.judged c.args.allowed
+
+pub returns-in-Some : goal.returns-in-Some
+returns-in-Some c = λ a0 a steps settling. refuses _ a0 a steps _ _ _ _ _ settling c.in-Some.is
