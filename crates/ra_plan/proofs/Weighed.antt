@@ -1,18 +1,23 @@
 -- What a world has for settling, and the two forms of a weighing.
-use Rattle.std.proofs.Common.{◌≡◌, List, None, ap, ◌∙◌}
+use Rattle.std.proofs.Common.{◌≡◌, ℕ, ◌*◌, ◌<◌, ◌≤◌, List, length, Some, None, sym, ap, ◌∙◌, arith, mul-le-mul_right}
+use Rattle.ra_base.specs.Searches.{or_else}
+use Rattle.ra_base.specs.declared.causes.Cause.{Cause}
 use Rattle.ra_base.specs.declared.costs.Parts.{Parts}
 use Rattle.ra_base.specs.declared.ids.Machine.{Machine}
-use Rattle.ra_base.proofs.Searches.{left_none}
+use Rattle.ra_base.proofs.Searches.{or_else_none, or_else_some, or_else_assoc, left_none}
 use Rattle.ra_model.specs.declared.raw.Tables.{Tables}
-use Rattle.ra_model.specs.Numbers.{service_count, process_count}
+use Rattle.ra_model.specs.Numbers.{resource_count, service_count, process_count}
 use Rattle.ra_model.specs.Assignments.{IsAssignment}
+use Rattle.ra_model.specs.Broken.{first_broken}
 use Rattle.ra_model.specs.Costs.{parts_of}
 use Rattle.ra_cells.specs.MovedCounts.{MovedCounts}
 use Rattle.ra_cells.specs.Stands.{StandFor}
 use Rattle.ra_cells.specs.declared.cells.Cells.{Cells}
 use Rattle.ra_moves.specs.declared.steps.Step.{Step}
 use Rattle.ra_moves.specs.declared.verdicts.Weighed.{Weighed}
-use Rattle.ra_moves.specs.Judging.{repeat_of, broken_by}
+use Rattle.ra_moves.specs.Judging.{repeat_of, same_of, broken_by}
+use Rattle.ra_moves.specs.Replacing.{applied}
+use Rattle.ra_moves.specs.Steps.{process_in}
 use Rattle.ra_moves.specs.Moving.{IsMove, IsOffered}
 use Rattle.ra_moves.specs.Weighing.{weighed_of}
 use Rattle.ra_weigh_settle.specs.Settling.{AreMovedOf, IsSettling, HasSettling}
@@ -49,3 +54,22 @@ has_settling i a0 a cells moved parts weighed start fits stand is costs some = r
 pub move_of : (i : Tables) (a0 a : List Machine) (steps : List Step) → IsOffered i a steps → broken_by i a0 a steps ≡ None → IsMove i a steps
 unfolding broken_by
 move_of i a0 a steps offered none = offered (left_none (repeat_of steps) _ none)
+
+-- a move that is refused for itself, and one that isn't
+pub flawed : (i : Tables) (a0 a : List Machine) (steps : List Step) (cause : Cause) → Some cause ≡ or_else (repeat_of steps) (same_of steps) → broken_by i a0 a steps ≡ Some cause
+unfolding broken_by
+flawed i a0 a steps cause is = sym (or_else_assoc (repeat_of steps) (same_of steps) (first_broken i a0 (applied a steps))) ∙ ap (λ o. or_else o (first_broken i a0 (applied a steps))) (sym is) ∙ or_else_some cause (first_broken i a0 (applied a steps))
+
+pub flawless : (i : Tables) (a0 a : List Machine) (steps : List Step) → None ≡ or_else (repeat_of steps) (same_of steps) → broken_by i a0 a steps ≡ first_broken i a0 (applied a steps)
+unfolding broken_by
+flawless i a0 a steps none = sym (or_else_assoc (repeat_of steps) (same_of steps) (first_broken i a0 (applied a steps))) ∙ ap (λ o. or_else o (first_broken i a0 (applied a steps))) (sym none) ∙ or_else_none (first_broken i a0 (applied a steps))
+
+pub flawless_move : (i : Tables) (a : List Machine) (steps : List Step) → IsOffered i a steps → None ≡ or_else (repeat_of steps) (same_of steps) → IsMove i a steps
+flawless_move i a steps offered none = offered (left_none (repeat_of steps) (same_of steps) (sym none))
+
+-- the requirements of a move are read for at most three processes
+pub reads_few : (i : Tables) (a : List Machine) (steps : List Step) → IsMove i a steps → length steps * resource_count i ≤ 3 * resource_count i
+reads_few i a steps move = mul-le-mul_right (resource_count i) move.few
+
+pub processes_known : (i : Tables) (a : List Machine) (steps : List Step) → IsMove i a steps → (j : ℕ) → j < length steps → process_in steps j < process_count i
+processes_known i a steps move j within = omega (arith, move.stands.known j within, move.fits.one_each)

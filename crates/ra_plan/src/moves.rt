@@ -13,7 +13,7 @@ ghost use Rattle.ra_plan.specs.Deciding.{IsMoveBelow};
 
 use crate::best::Best;
 use ra_base::{Drawing, Steps};
-use ra_moves::{Move, options, repeat_of, resolve};
+use ra_moves::{Move, first_flaw, options, resolve};
 use ra_weigh_causes::is_unbroken;
 use ra_weigh_changes::{cost_after_move, has_room};
 use ra_world::{World, requirements};
@@ -61,7 +61,7 @@ fn cost_below<L: Ledger>(
     ensures counted { steps.new ≤ steps.old
         + 2 * (length mv.now.steps * resource_count (tables_of world.now)) }
 {
-    if let Some(_cause) = repeat_of(mv) {
+    if let Some(_cause) = first_flaw(mv) {
         return None;
     }
     let required = requirements(world.instance(), mv, steps);
@@ -72,7 +72,7 @@ fn cost_below<L: Ledger>(
     if bound <= cost {
         return None;
     }
-    if !is_unbroken(world, mv, steps) {
+    if !is_unbroken(world, mv, &required) {
         return None;
     }
     Some(cost)

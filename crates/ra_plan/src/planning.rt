@@ -17,7 +17,7 @@ use crate::weighing::weigh;
 use ra_base::{Drawing, Steps};
 use ra_moves::{Move, MoveKind, Plan, Weighed, resolve};
 use ra_weigh_changes::changed_by;
-use ra_world::World;
+use ra_world::{World, requirements};
 use std::sync::ledger::Ledger;
 
 /// A move and its weighing.
@@ -156,7 +156,10 @@ fn weighing<L: Ledger>(world: &World<'_>, best: &Best, mv: &Move, steps: &mut St
     ensures counted { steps.new ≤ steps.old + 6 * resource_count (tables_of world.now) }
 {
     match best.cost {
-        Some(_) => changed_by(world, mv, steps),
+        Some(_) => {
+            let required = requirements(world.instance(), mv, steps);
+            changed_by(world, mv, &required)
+        }
         None => weigh(world, mv, steps),
     }
 }

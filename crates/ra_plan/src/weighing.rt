@@ -4,10 +4,10 @@ ghost use Rattle.ra_moves.specs.Moving.{IsOffered};
 ghost use Rattle.ra_moves.specs.Weighing.{weighed_of};
 
 use ra_base::{Cause, Steps};
-use ra_moves::{Move, Weighed};
-use ra_weigh_causes::broken_of;
+use ra_moves::{Move, Weighed, first_flaw};
+use ra_weigh_causes::first_broken;
 use ra_weigh_changes::changed_by;
-use ra_world::World;
+use ra_world::{World, requirements};
 use std::sync::ledger::Ledger;
 
 /// The weighing of a move: the cause other than a rise for which it is refused, and nothing else; or the change of
@@ -19,9 +19,13 @@ pub fn weigh<L: Ledger>(world: &World<'_>, mv: &Move, steps: &mut Steps<L>) -> W
         world.now.kept.assignment.items mv.now.steps }
     ensures counted { steps.new ≤ steps.old + 6 * resource_count world.now.inst.now.tables }
 {
-    match broken_of(world, mv, steps) {
+    if let Some(cause) = first_flaw(mv) {
+        return bare(cause);
+    }
+    let required = requirements(world.instance(), mv, steps);
+    match first_broken(world, mv, &required) {
         Some(cause) => bare(cause),
-        None => changed_by(world, mv, steps),
+        None => changed_by(world, mv, &required),
     }
 }
 

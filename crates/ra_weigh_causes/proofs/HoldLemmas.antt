@@ -9,25 +9,23 @@ use Rattle.ra_base.specs.declared.causes.Cause.{Cause}
 use Rattle.ra_base.proofs.Sums.{total_zero, total_le}
 use Rattle.ra_base.proofs.Counts.{one_if_false, count_zero_at, count_positive}
 use Rattle.ra_base.proofs.Named.{is_named_at, is_named_from}
-use Rattle.ra_base.proofs.Searches.{first_none_at, first_none_from, or_else_none, or_else_some, left_none, right_none}
+use Rattle.ra_base.proofs.Searches.{first_none_at, first_none_from, or_else_none, or_else_some}
 use Rattle.ra_model.specs.declared.raw.Tables.{Tables}
-use Rattle.ra_model.specs.Numbers.{resource_count, machine_count, service_count, transient_at, capacity_of, requirement_of, service_of, spread_of}
+use Rattle.ra_model.specs.Numbers.{resource_count, machine_count, service_count, transient_at, capacity_of, requirement_of, service_of}
 use Rattle.ra_model.specs.Assignments.{machine_at}
 use Rattle.ra_model.specs.Usage.{use_share, use_of, transient_share, transient_of}
-use Rattle.ra_model.specs.Services.{is_of, of_service, members_at, on_machine, locations_of}
-use Rattle.ra_model.specs.Broken.{capacity_test, row_capacity, transient_test, row_transient, conflict_test, service_conflict, broken_conflict, spread_test, first_broken}
+use Rattle.ra_model.specs.Services.{is_of, of_service, members_at, on_machine}
+use Rattle.ra_model.specs.Broken.{capacity_test, row_capacity, transient_test, row_transient, conflict_test, service_conflict, broken_conflict, spread_test}
 use Rattle.ra_model.proofs.BrokenLemmas.{Fine, cause_none, cause_free, capacity_met, transient_met}
 use Rattle.ra_moves.specs.declared.steps.Step.{Step}
 use Rattle.ra_moves.specs.Steps.{process_in, from_in, to_in}
 use Rattle.ra_moves.specs.Replacing.{applied}
 use Rattle.ra_moves.specs.Values.{gone, come}
 use Rattle.ra_moves.proofs.ValueLemmas.{use_elsewhere}
-use Rattle.ra_moves.specs.Judging.{repeat_of, same_of, broken_by}
 use Rattle.ra_moves.specs.Touched.{service_in, moves_service}
 use Rattle.ra_moves.specs.Moving.{IsMove}
 use Rattle.ra_moves.specs.Laws.{OnlyWhere, AreLocal}
 use Rattle.ra_moves.proofs.StayLemmas.{tally_applied}
-use Rattle.ra_weigh_causes.proofs.TestLemmas.{spread_few}
 
 -- nothing is found at the first n names
 pub record NoneAt (f : ℕ → Option Cause) (e : ℕ → ℕ) (n : ℕ) : Type 0 where
@@ -174,21 +172,14 @@ found_first a b x is = sym (ap (λ c. or_else c b) (sym is) ∙ or_else_some x b
 pub found_later : (a b y : Option Cause) → None ≡ a → y ≡ b → y ≡ or_else a b
 found_later a b y none is = is ∙ sym (ap (λ c. or_else c b) (sym none) ∙ or_else_none b)
 
--- what a move is judged by, where it names no process twice and moves each
+-- a first search, or one of the first two, that finds something
+pub found_at_once : (a b y : Option Cause) → (a ≡ None → ⊥) → y ≡ a → y ≡ or_else a b
+found_at_once None b y some is = absurd (some refl)
+found_at_once (Some x) b y some is = is ∙ sym (or_else_some x b)
 
-pub judged : (i : Tables) (a0 a : List Machine) (steps : List Step) → None ≡ repeat_of steps → None ≡ same_of steps → broken_by i a0 a steps ≡ first_broken i a0 (applied a steps)
-unfolding broken_by
-judged i a0 a steps once apart = sym (found_later (repeat_of steps) (or_else (same_of steps) (first_broken i a0 (applied a steps))) (first_broken i a0 (applied a steps)) once (found_later (same_of steps) (first_broken i a0 (applied a steps)) (first_broken i a0 (applied a steps)) apart refl))
-
-pub repeats_no : (i : Tables) (a0 a : List Machine) (steps : List Step) (x : Cause) → Some x ≡ repeat_of steps → broken_by i a0 a steps ≡ None → ⊥
-unfolding broken_by
-repeats_no i a0 a steps x is none = absurd (cc (is, left_none (repeat_of steps) (or_else (same_of steps) (first_broken i a0 (applied a steps))) none))
-
-pub same_no : (i : Tables) (a0 a : List Machine) (steps : List Step) (x : Cause) → Some x ≡ same_of steps → broken_by i a0 a steps ≡ None → ⊥
-unfolding broken_by
-same_no i a0 a steps x is none =
-    let rest = right_none (repeat_of steps) (or_else (same_of steps) (first_broken i a0 (applied a steps))) none in
-    absurd (cc (is, left_none (same_of steps) (first_broken i a0 (applied a steps)) rest))
+pub found_either : (a b c y : Option Cause) → (a ≡ None → b ≡ None → ⊥) → y ≡ or_else a b → y ≡ or_else a (or_else b c)
+found_either None b c y some is = found_later None (or_else b c) y refl (found_at_once b c y (some refl) (is ∙ or_else_none b))
+found_either (Some x) b c y some is = is ∙ or_else_some x b ∙ sym (or_else_some x (or_else b c))
 
 -- a comparison that tells
 pub told_le : {P : Type 0} → (x y : ℕ) → (x ≤ y → P) → (y < x → P → ⊥) → (nat_le x y ≡ true) ↔ P
@@ -199,6 +190,3 @@ told_le x y holds fails = (
       (λ (within : x ≤ y). le-leb x y within)
       (cases_lt y x),
 )
-
-pub spread_over : (i : Tables) (b : List Machine) (s has wants : ℕ) → has ≡ locations_of i b s → wants ≡ spread_of i s → has < wants → spread_test i b s ≡ None → ⊥
-spread_over i b s has wants has_is wants_is fewer none = absurd (cc (spread_few i b s has wants has_is wants_is fewer, none))

@@ -1,10 +1,10 @@
 -- How many locations hold a service, from those of the ends of a move.
-use Rattle.std.proofs.Common.{◌≡◌, ℕ, ◌+◌, ◌-◌, ◌*◌, ◌^◌, ◌<◌, ◌≤◌, ◌≢◌, true, false, cond, eqb, ltb, List, length, sym, refl, ap, ◌∙◌, arith, ne_eqb}
-use Rattle.std.proofs.lemmas.Bool.{and_right, both_ways}
+use Rattle.std.proofs.Common.{◌≡◌, ℕ, ◌+◌, ◌-◌, ◌*◌, ◌^◌, ◌<◌, ◌≤◌, ◌≢◌, true, false, cond, eqb, ltb, List, length, sym, refl, ap, ◌∙◌, ⊎_elim, arith, ne_eqb, le-ltb, lt-ltb}
+use Rattle.std.proofs.lemmas.Bool.{cases_Bool, cases_lt, and_right, both_ways}
 use Rattle.ra_base.specs.Sums.{total, one_if, count, is_named, fresh}
 use Rattle.ra_base.specs.declared.ids.Machine.{Machine}
-use Rattle.ra_base.proofs.Sums.{total_none, total_more, total_bound}
-use Rattle.ra_base.proofs.Counts.{one_if_le}
+use Rattle.ra_base.proofs.Sums.{total_none, total_more, total_zero, total_le, total_bound}
+use Rattle.ra_base.proofs.Counts.{one_if_true, one_if_false, one_if_le}
 use Rattle.ra_base.proofs.Named.{total_change_named, is_named_at, fresh_again, fresh_new}
 use Rattle.ra_model.specs.declared.raw.Tables.{Tables}
 use Rattle.ra_model.specs.Numbers.{location_of}
@@ -14,10 +14,10 @@ use Rattle.ra_moves.specs.declared.steps.Step.{Step}
 use Rattle.ra_moves.specs.Steps.{step_at, from_in, to_in, process_in}
 use Rattle.ra_weigh_causes.proofs.StepLemmas.{from_read, to_read}
 use Rattle.ra_moves.specs.Replacing.{applied}
-use Rattle.ra_moves.specs.Values.{end_count, end_in}
+use Rattle.ra_moves.specs.Values.{gone, end_count, end_in}
 use Rattle.ra_moves.proofs.ValueLemmas.{end_from, end_to}
 use Rattle.ra_moves.specs.Moving.{IsMove}
-use Rattle.ra_moves.proofs.StayLemmas.{tally_stays}
+use Rattle.ra_moves.proofs.StayLemmas.{tally_applied, tally_stays}
 use Rattle.ra_weigh_causes.specs.declared.marks.Mark.TheVariants.{InLocation}
 use Rattle.ra_weigh_causes.specs.Marks.{mark_of, has_mark, marked, held_in, end_location}
 
@@ -114,7 +114,7 @@ label_to i steps j n label s all after is read =
 
 pub ruleset labels = (label_from, label_to)
 
--- a move leaves no more locations than it has ends
+-- a move leaves no more locations than it has steps
 
 fresh_few : (e f : ℕ → ℕ) (j : ℕ) → ((x : ℕ) → f x ≤ 1) → fresh e f j ≤ 1
 unfolding fresh
@@ -124,12 +124,53 @@ held_few : (i : Tables) (a : List Machine) (s label : ℕ) → held_in i a s lab
 unfolding held_in
 held_few i a s label = one_if_le (ltb 0 (in_location i a s label))
 
-ends_are : (steps : List Step) → end_count steps ≡ length steps + length steps
-unfolding end_count
-ends_are steps = refl
+-- the location that a step leaves
+from_location : Tables → List Step → ℕ → ℕ
+from_location i steps j = location_of i (from_in steps j)
 
-pub left_few : (i : Tables) (a : List Machine) (steps : List Step) (s : ℕ) → Small i → IsMove i a steps → locations_of i a s ≤ locations_of i (applied a steps) s + (length steps + length steps)
+step_stays : (i : Tables) (steps : List Step) (s label j : ℕ) → is_named (length steps) (from_location i steps) label ≡ false → j < length steps → gone (of_service i s (λ q m. eqb (location_of i m) label)) steps j ≡ 0
+unfolding gone from_location
+step_stays i steps s label j none within = not_there i s label (process_in steps j) (from_in steps j) (λ same. both_ways _ none (is_named_at (length steps) j (λ k. location_of i (from_in steps k)) label within same))
+
+location_grows : (i : Tables) (a : List Machine) (steps : List Step) (s label : ℕ) → IsMove i a steps → is_named (length steps) (from_location i steps) label ≡ false → in_location i a s label ≤ in_location i (applied a steps) s label
+unfolding in_location members_at
+location_grows i a steps s label move none = omega (arith, tally_applied i a steps (of_service i s (λ q m. eqb (location_of i m) label)) move, total_zero (length steps) (gone (of_service i s (λ q m. eqb (location_of i m) label)) steps) (λ j within. step_stays i steps s label j none within))
+
+one_grows : (m n : ℕ) → m ≤ n → one_if (ltb 0 m) ≤ one_if (ltb 0 n)
+one_grows m n more = ⊎_elim
+    (λ (some : 0 < m). omega (arith, one_if_true (ltb 0 n) (lt-ltb 0 n (omega (arith, some, more))), one_if_le (ltb 0 m)))
+    (λ (none : m ≤ 0). omega (arith, one_if_false (ltb 0 m) (le-ltb 0 m none)))
+    (cases_lt 0 m)
+
+held_grows : (i : Tables) (a : List Machine) (steps : List Step) (s label : ℕ) → IsMove i a steps → is_named (length steps) (from_location i steps) label ≡ false → held_in i a s label ≤ held_in i (applied a steps) s label
+unfolding held_in
+held_grows i a steps s label move none = one_grows _ _ (location_grows i a steps s label move none)
+
+-- what the locations that no step leaves hold
+unleft : Tables → List Machine → List Step → ℕ → ℕ → ℕ
+unleft i a steps s label = cond (is_named (length steps) (from_location i steps) label) 0 (held_in i a s label)
+
+unleft_left : (i : Tables) (a : List Machine) (steps : List Step) (s label : ℕ) → is_named (length steps) (from_location i steps) label ≡ true → unleft i a steps s label ≡ 0
+unfolding unleft
+unleft_left i a steps s label left = ap (λ t. cond t 0 (held_in i a s label)) left
+
+unleft_other : (i : Tables) (a : List Machine) (steps : List Step) (s label : ℕ) → is_named (length steps) (from_location i steps) label ≡ false → unleft i a steps s label ≡ held_in i a s label
+unfolding unleft
+unleft_other i a steps s label none = ap (λ t. cond t 0 (held_in i a s label)) none
+
+unleft_stays : (i : Tables) (a : List Machine) (steps : List Step) (s label : ℕ) → IsMove i a steps → unleft i a steps s label ≤ held_in i (applied a steps) s label
+unleft_stays i a steps s label move = ⊎_elim
+    (λ (left : is_named (length steps) (from_location i steps) label ≡ true). omega (arith, unleft_left i a steps s label left))
+    (λ (other : is_named (length steps) (from_location i steps) label ≡ false). omega (arith, unleft_other i a steps s label other, held_grows i a steps s label move other))
+    (cases_Bool (is_named (length steps) (from_location i steps) label))
+
+small_from : (i : Tables) (steps : List Step) (j : ℕ) → Small i → from_location i steps j < 2 ^ 32
+unfolding from_location
+small_from i steps j small = small.locations (from_in steps j)
+
+pub left_few : (i : Tables) (a : List Machine) (steps : List Step) (s : ℕ) → Small i → IsMove i a steps → locations_of i a s ≤ locations_of i (applied a steps) s + length steps
 left_few i a steps s small move =
-    let ends : end_count steps ≡ length steps + length steps = ends_are steps in
-    let few : total (end_count steps) (fresh (end_location i steps) (held_in i a s)) ≤ end_count steps * 1 = total_bound (end_count steps) 1 (fresh (end_location i steps) (held_in i a s)) (λ j h. fresh_few (end_location i steps) (held_in i a s) j (held_few i a s)) in
-    omega (arith, few, ends, locations_change i a steps s small move)
+    let change = total_change_named (2 ^ 32) (length steps) (from_location i steps) (held_in i a s) (unleft i a steps s) (λ j h. small_from i steps j small) (λ label h none. sym (unleft_other i a steps s label none)) in
+    let few : total (length steps) (fresh (from_location i steps) (held_in i a s)) ≤ length steps * 1 = total_bound (length steps) 1 (fresh (from_location i steps) (held_in i a s)) (λ j h. fresh_few (from_location i steps) (held_in i a s) j (held_few i a s)) in
+    let rest = total_le (2 ^ 32) (unleft i a steps s) (held_in i (applied a steps) s) (λ label h. unleft_stays i a steps s label move) in
+    omega (arith, change, few, rest, locations_are i a s, locations_are i (applied a steps) s)

@@ -32,7 +32,7 @@ impl<'a, 'b> Trial<'a, 'b> {
 
     /// Whether each machine that is entered has the capacity, after the move and in between.
     #[tactic(auto, using(crate::proofs::StepLemmas::known))]
-    fn keeps_rows(&self) -> bool
+    pub(crate) fn keeps_rows(&self) -> bool
         ensures { (result ≡ true) ↔
             FitsAll (tables_of self.now) (initial_of self.now) (after_of self.now) }
     {
@@ -45,7 +45,7 @@ impl<'a, 'b> Trial<'a, 'b> {
     }
 
     /// Whether no process enters a machine that has another one of its service.
-    fn keeps_apart(&self) -> bool
+    pub(crate) fn keeps_apart(&self) -> bool
         ensures { (result ≡ true) ↔
             (broken_conflict (tables_of self.now) (after_of self.now) ≡ None) }
     {
@@ -65,7 +65,7 @@ impl<'a, 'b> Trial<'a, 'b> {
     {
         for j in 0..self.mv.steps() {
             let s = self.inst.service_of(self.mv.step(j).process);
-            if !self.spread_fits(s) {
+            if let Some(_cause) = self.spread_test(s) {
                 return false;
             }
         }
@@ -73,7 +73,7 @@ impl<'a, 'b> Trial<'a, 'b> {
     }
 
     /// Whether each process is near what its service needs.
-    fn keeps_near(&self) -> bool
+    pub(crate) fn keeps_near(&self) -> bool
         ensures { (result ≡ true) ↔
             (broken_dependency (tables_of self.now) (after_of self.now) ≡ None) }
     {

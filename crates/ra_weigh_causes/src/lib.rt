@@ -13,4 +13,4 @@ mod services;
 mod trial;
 mod values;
 
-pub use broken::{broken_of, is_unbroken};
+pub use broken::{first_broken, is_unbroken};

@@ -10,6 +10,13 @@ use crate::marks::Mark;
 use crate::trial::Trial;
 use ra_base::Service;
 
+/// 1 for a location that holds a service after a move, and 1 for one that holds it before.
+#[derive(Clone, Copy)]
+struct Held {
+    came: u32,
+    went: u32,
+}
+
 impl<'a, 'b> Trial<'a, 'b> {
     /// In how many locations the processes of a service are after the move.
     pub(crate) fn locations_after(&self, s: Service) -> u32
@@ -20,42 +27,35 @@ impl<'a, 'b> Trial<'a, 'b> {
         let mut came: u32 = 0;
         let mut went: u32 = 0;
         for j in 0..2 * self.mv.steps() {
-            came += self.gained(s, j);
-            went += self.lost(s, j);
+            let end = self.held_at(s, j);
+            came += end.came;
+            went += end.went;
         }
         kept + came - went
     }
 
-    /// 1 for an end whose location, which no end before it has, holds the service after the move.
+    /// Whether the location of an end, which no end before it has, holds the service after the move and before it.
     #[inline(always)]
-    fn gained(&self, s: Service, j: u32) -> u32
+    fn held_at(&self, s: Service, j: u32) -> Held
         requires service { s.0 < service_count (tables_of self.now) }
         requires end { j < end_count (steps_of self.now) }
-        ensures value { result ≡ fresh (end_location (tables_of self.now) (steps_of self.now))
+        ensures came { result.came ≡ fresh (end_location (tables_of self.now) (steps_of self.now))
             (held_in (tables_of self.now) (after_of self.now) s.0) j }
-        ensures few { result ≤ 1 }
-    {
-        let label = self.end_label(j);
-        if self.is_label_before(j, label) {
-            return 0;
-        }
-        one_if_some(self.count_after(s, Mark::InLocation, label))
-    }
-
-    /// 1 for an end whose location, which no end before it has, holds the service before the move.
-    #[inline(always)]
-    fn lost(&self, s: Service, j: u32) -> u32
-        requires service { s.0 < service_count (tables_of self.now) }
-        requires end { j < end_count (steps_of self.now) }
-        ensures value { result ≡ fresh (end_location (tables_of self.now) (steps_of self.now))
+        ensures went { result.went ≡ fresh (end_location (tables_of self.now) (steps_of self.now))
             (held_in (tables_of self.now) (before_of self.now) s.0) j }
-        ensures few { result ≤ 1 }
+        ensures came_few { result.came ≤ 1 }
+        ensures went_few { result.went ≤ 1 }
     {
         let label = self.end_label(j);
         if self.is_label_before(j, label) {
-            return 0;
+            return Held { came: 0, went: 0 };
         }
-        one_if_some(self.count_before(s, Mark::InLocation, label))
+        let before = self.count_before(s, Mark::InLocation, label);
+        let after = self.count_from(before, s, Mark::InLocation, label);
+        Held {
+            came: one_if_some(after),
+            went: one_if_some(before),
+        }
     }
 
     /// Whether an end before this one is in a location.

@@ -1,4 +1,4 @@
-ghost use Rattle.std.specs.Prelude.{◌≡◌, ◌↔◌, ◌<◌, true, None};
+ghost use Rattle.std.specs.Prelude.{◌≡◌, ◌<◌};
 ghost use Rattle.ra_model.specs.Numbers.{machine_count, service_count};
 ghost use Rattle.ra_model.specs.Broken.{conflict_test, service_conflict, broken_conflict, spread_test, broken_spread};
 ghost use Rattle.ra_weigh_causes.specs.Trials.{tables_of, after_of};
@@ -67,15 +67,18 @@ impl<'a, 'b> Trial<'a, 'b> {
         None
     }
 
-    /// A service in fewer locations than it wants after the move.
-    #[inline(always)]
+    /// A service in fewer locations than it wants after the move, which leaves no more of them than it has steps.
     #[tactic(auto, using(crate::proofs::TestLemmas::spreads))]
     pub(crate) fn spread_test(&self, s: Service) -> Option<Cause>
         requires { s.0 < service_count (tables_of self.now) }
         ensures { result ≡ spread_test (tables_of self.now) (after_of self.now) s.0 }
     {
-        let has = self.locations_after(s);
         let wants = self.inst.spread_min(s);
+        let before = self.cells.locations(s);
+        if wants <= before.saturating_sub(self.mv.steps()) {
+            return None;
+        }
+        let has = self.locations_after(s);
         if has < wants {
             Some(Cause::Spread {
                 service: s,
@@ -85,21 +88,5 @@ impl<'a, 'b> Trial<'a, 'b> {
         } else {
             None
         }
-    }
-
-    /// Whether a service is in enough locations after the move, which leaves no more of them than it has ends.
-    pub(crate) fn spread_fits(&self, s: Service) -> bool
-        requires { s.0 < service_count (tables_of self.now) }
-        ensures { (result ≡ true) ↔
-            (spread_test (tables_of self.now) (after_of self.now) s.0 ≡ None) }
-    {
-        let wants = self.inst.spread_min(s);
-        let before = self.cells.locations(s);
-        let spare = before.saturating_sub(2 * self.mv.steps());
-        if wants <= spare {
-            return true;
-        }
-        let has = self.locations_after(s);
-        wants <= has
     }
 }

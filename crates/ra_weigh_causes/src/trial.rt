@@ -1,4 +1,4 @@
-ghost use Rattle.std.specs.Prelude.{◌≡◌, ◌+◌, ◌*◌, ◌<◌, ◌≤◌, length};
+ghost use Rattle.std.specs.Prelude.{◌≡◌, ◌<◌, length};
 ghost use Rattle.ra_model.specs.Numbers.{resource_count, requirement_of};
 ghost use Rattle.ra_model.specs.Assignments.{IsAssignment};
 ghost use Rattle.ra_model.proofs.BrokenLemmas.{Fine};
@@ -11,14 +11,13 @@ ghost use Rattle.ra_rows.specs.Rows as row_words;
 ghost use Rattle.ra_cells.specs.Stands as cell_words;
 ghost use Rattle.ra_world.specs.Required.{AreRequired};
 
-use ra_base::{Assignment, Resource, Steps};
+use ra_base::{Assignment, Resource};
 use ra_cells::Cells;
 use ra_model::Instance;
 use ra_moves::Move;
 use ra_rows::Rows;
 use ra_topology::Topology;
-use ra_world::{World, requirements};
-use std::sync::ledger::Ledger;
+use ra_world::World;
 
 /// A move on trial: what is kept of the assignment that it would change, and what its processes require, by step, then
 /// resource, 20 for each step.
@@ -31,7 +30,7 @@ pub(crate) struct Trial<'a, 'b> {
     pub(crate) rows: &'a Rows<'b>,
     pub(crate) cells: &'a Cells<'b>,
     pub(crate) mv: &'a Move,
-    pub(crate) required: [u32; 60],
+    pub(crate) required: &'a [u32; 60],
     pub ghost moves: { IsMove inst.now.tables at.now.items mv.now.steps },
     pub ghost begins: { IsAssignment inst.now.tables start.now.items },
     pub ghost fine: { Fine inst.now.tables start.now.items at.now.items },
@@ -44,31 +43,24 @@ pub(crate) struct Trial<'a, 'b> {
     pub ghost cells_tables: { cells.now.inst.now.tables ≡ inst.now.tables },
     pub ghost cells_stand: { cell_words.StandFor cells.now inst.now.tables start.now.items
         at.now.items },
-    pub ghost known: { AreRequired inst.now.tables mv.now.steps (length mv.now.steps) required },
+    pub ghost known: { AreRequired inst.now.tables mv.now.steps (length mv.now.steps)
+        required.now },
 }
 
 impl<'a, 'b> Trial<'a, 'b> {
-    /// Puts a move of a world on trial. Each number that its processes require is read once.
-    pub(crate) fn of<L: Ledger>(
-        world: &'a World<'b>,
-        mv: &'a Move,
-        steps: &mut Steps<L>,
-    ) -> Trial<'a, 'b>
+    /// Puts a move of a world on trial.
+    pub(crate) fn of(world: &'a World<'b>, mv: &'a Move, required: &'a [u32; 60]) -> Trial<'a, 'b>
         requires moves { IsMove world.now.inst.now.tables world.now.kept.assignment.items
             mv.now.steps }
+        requires required { AreRequired world.now.inst.now.tables mv.now.steps
+            (length mv.now.steps) required.now }
         ensures instance { result.inst.now.tables ≡ world.now.inst.now.tables }
         ensures initial { result.start.now.items ≡ world.now.start.now.items }
         ensures assignment { result.at.now.items ≡ world.now.kept.assignment.items }
         ensures steps { result.mv.now.steps ≡ mv.now.steps }
-        ensures counted { steps.new ≤ steps.old + 3 * resource_count world.now.inst.now.tables }
-        ensures by_steps { steps.new ≤
-            steps.old + length mv.now.steps * resource_count world.now.inst.now.tables }
-        ensures onwards { steps.old ≤ steps.new }
     {
-        let inst = world.instance();
-        let required = requirements(inst, mv, steps);
         Trial {
-            inst,
+            inst: world.instance(),
             topo: world.topology(),
             start: world.initial(),
             at: world.assignment(),

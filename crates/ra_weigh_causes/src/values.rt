@@ -128,12 +128,23 @@ impl<'a, 'b> Trial<'a, 'b> {
 
     /// How many processes of a service are on machines with a mark, after the move.
     #[inline(always)]
-    #[tactic(auto, using(crate::proofs::StepLemmas::known, crate::proofs::FlowLemmas::flowing))]
     pub(crate) fn count_after(&self, s: Service, mark: Mark, x: u32) -> u32
         requires { s.0 < service_count (tables_of self.now) }
         ensures { result ≡ marked (tables_of self.now) mark (after_of self.now) s.0 x }
     {
         let kept = self.count_before(s, mark, x);
+        self.count_from(kept, s, mark, x)
+    }
+
+    /// The same, from the count before the move.
+    #[inline(always)]
+    #[tactic(auto, using(crate::proofs::StepLemmas::known, crate::proofs::FlowLemmas::flowing))]
+    pub(crate) fn count_from(&self, kept: u32, s: Service, mark: Mark, x: u32) -> u32
+        requires service { s.0 < service_count (tables_of self.now) }
+        requires kept { kept ≡ marked (tables_of self.now) mark (before_of self.now) s.0 x }
+        requires few { kept ≤ 50000 }
+        ensures { result ≡ marked (tables_of self.now) mark (after_of self.now) s.0 x }
+    {
         let mut came: u32 = 0;
         let mut went: u32 = 0;
         for j in 0..self.mv.steps() {

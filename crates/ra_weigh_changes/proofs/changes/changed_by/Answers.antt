@@ -4,8 +4,8 @@ use Rattle.std.proofs.lemmas.Int.{to_z-of_z}
 use Rattle.ra_weigh_changes.proofs.ChangeLaws.{local_is, weighing_is}
 use Rattle.ra_weigh_changes.proofs.changes.changed_by.Goals as goal
 
-pub returns-clause-value : goal.returns-clause-value
-returns-clause-value g c =
+pub returns : goal.returns
+returns c =
     let i = c.args.world.now.inst.now in
     let ends = c.change_at_ends-ends in
     let ways = c.change_of_ways-ways in

@@ -5,7 +5,7 @@ use Rattle.ra_weigh_causes.specs.Marks.{has_mark, marked}
 use Rattle.ra_weigh_causes.proofs.StepLemmas.{come_read, gone_read, step_process, step_to, step_from}
 use Rattle.ra_weigh_causes.specs.Trials.{tables_of, steps_of, before_of}
 use Rattle.ra_weigh_causes.proofs.FlowLemmas.{flows_none, flows_more, flowed_enough, flowed}
-use Rattle.ra_weigh_causes.proofs.trial.Trial.count_after.Goals as goal
+use Rattle.ra_weigh_causes.proofs.trial.Trial.count_from.Goals as goal
 
 pub one_at-came-requires-clause-process : goal.one_at-came-requires-clause-process
 one_at-came-requires-clause-process c = step_process (tables_of c.args.self.now) (before_of c.args.self.now) (steps_of c.args.self.now) c.loop-j.j c.step-step.result c.args.self.now.moves c.step-step.ensures (omega (arith, c.loop-j-test.true, c.steps-j-end.ensures.value))
@@ -32,10 +32,10 @@ pub overflow_sub-result : goal.overflow_sub-result
 unfolding marked members_at
 overflow_sub-result c =
     let all : c.loop-j.j ≡ length (steps_of c.args.self.now) = omega (arith, c.loop-j-test.false, c.steps-j-end.ensures.value) in
-    flowed_enough (tables_of c.args.self.now) (before_of c.args.self.now) (steps_of c.args.self.now) (of_service (tables_of c.args.self.now) c.args.s.0 (has_mark (tables_of c.args.self.now) c.args.mark c.args.x)) c.loop-j.j 1 c.count_before-kept.result c.loop-j.came c.loop-j.went c.args.self.now.moves all c.loop-j.invariant c.count_before-kept.ensures.count
+    flowed_enough (tables_of c.args.self.now) (before_of c.args.self.now) (steps_of c.args.self.now) (of_service (tables_of c.args.self.now) c.args.s.0 (has_mark (tables_of c.args.self.now) c.args.mark c.args.x)) c.loop-j.j 1 c.args.kept c.loop-j.came c.loop-j.went c.args.self.now.moves all c.loop-j.invariant c.requires.kept
 
 pub returns : goal.returns
 unfolding marked members_at
 returns c =
     let all : c.loop-j.j ≡ length (steps_of c.args.self.now) = omega (arith, c.loop-j-test.false, c.steps-j-end.ensures.value) in
-    flowed (tables_of c.args.self.now) (before_of c.args.self.now) (steps_of c.args.self.now) (of_service (tables_of c.args.self.now) c.args.s.0 (has_mark (tables_of c.args.self.now) c.args.mark c.args.x)) c.loop-j.j 1 c.count_before-kept.result c.loop-j.came c.loop-j.went c.args.self.now.moves all c.loop-j.invariant c.count_before-kept.ensures.count
+    flowed (tables_of c.args.self.now) (before_of c.args.self.now) (steps_of c.args.self.now) (of_service (tables_of c.args.self.now) c.args.s.0 (has_mark (tables_of c.args.self.now) c.args.mark c.args.x)) c.loop-j.j 1 c.args.kept c.loop-j.came c.loop-j.went c.args.self.now.moves all c.loop-j.invariant c.requires.kept

@@ -3,7 +3,7 @@ use Rattle.ra_model.specs.Services.{of_service}
 use Rattle.ra_weigh_causes.specs.Marks.{has_mark}
 use Rattle.ra_weigh_causes.specs.Trials.{tables_of, steps_of}
 use Rattle.ra_weigh_causes.proofs.FlowLemmas.{Flows}
-use Rattle.ra_weigh_causes.proofs.trial.Trial.count_after.Given as goal
+use Rattle.ra_weigh_causes.proofs.trial.Trial.count_from.Given as goal
 
 abbrev pub invariant-loop-j : goal.invariant-loop-j
 invariant-loop-j l = Flows (of_service (tables_of l.self) l.s.0 (has_mark (tables_of l.self) l.mark l.x)) (steps_of l.self) l.j 1 l.came l.went

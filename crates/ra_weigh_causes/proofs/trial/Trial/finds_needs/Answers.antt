@@ -1,8 +1,8 @@
 -- One service needed after another.
-use Rattle.std.proofs.Common.{get_or, List, refl, arith}
+use Rattle.std.proofs.Common.{get_or, refl, arith}
 use Rattle.ra_base.specs.declared.ids.Service.{Service}
 use Rattle.ra_model.specs.Numbers.{neighbourhood_of}
-use Rattle.ra_topology.specs.Lists.{service_at, AreDistinctNeedsOf}
+use Rattle.ra_topology.specs.Lists.{service_at}
 use Rattle.ra_weigh_causes.specs.Trials.{tables_of, after_of}
 use Rattle.ra_weigh_causes.specs.Nearness.{FindsNeeds}
 use Rattle.ra_weigh_causes.proofs.HoldLemmas.{told_true, told_false}

@@ -1,5 +1,4 @@
 -- The count says whether one is there.
-use Rattle.std.proofs.Common.{◌≡◌, ℕ, ◌<◌, subst, ap, arith}
 use Rattle.ra_model.specs.Numbers.{neighbourhood_of}
 use Rattle.ra_weigh_causes.specs.Trials.{tables_of, after_of}
 use Rattle.ra_weigh_causes.specs.Nearness.{FindsOne}

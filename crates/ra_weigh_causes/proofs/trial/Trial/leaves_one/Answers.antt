@@ -1,5 +1,4 @@
 -- The counts say whether one is left, and whether one that needs it is there.
-use Rattle.std.proofs.Common.{◌≡◌, ℕ, ◌<◌, arith}
 use Rattle.ra_model.specs.Numbers.{neighbourhood_of}
 use Rattle.ra_weigh_causes.specs.Trials.{tables_of, after_of}
 use Rattle.ra_weigh_causes.specs.Nearness.{LeavesOne}

@@ -9,16 +9,12 @@ use Rattle.ra_weigh_causes.proofs.trial.Trial.locations_after.Goals as goal
 pub loop-j-init : goal.loop-j-init
 loop-j-init c = held_none (end_location (tables_of c.args.self.now) (steps_of c.args.self.now)) (held_in (tables_of c.args.self.now) (before_of c.args.self.now) c.args.s.0) (held_in (tables_of c.args.self.now) (after_of c.args.self.now) c.args.s.0)
 
-pub gained-came-requires-clause-end : goal.gained-came-requires-clause-end
+pub held_at-end-requires-clause-end : goal.held_at-end-requires-clause-end
 unfolding end_count
-gained-came-requires-clause-end c = omega (arith, c.loop-j-test.true, c.steps-j-end.ensures.value)
-
-pub lost-went-requires-clause-end : goal.lost-went-requires-clause-end
-unfolding end_count
-lost-went-requires-clause-end c = omega (arith, c.loop-j-test.true, c.steps-j-end.ensures.value)
+held_at-end-requires-clause-end c = omega (arith, c.loop-j-test.true, c.steps-j-end.ensures.value)
 
 pub loop-j-preserved : goal.loop-j-preserved
-loop-j-preserved c = held_more (end_location (tables_of c.args.self.now) (steps_of c.args.self.now)) (held_in (tables_of c.args.self.now) (before_of c.args.self.now) c.args.s.0) (held_in (tables_of c.args.self.now) (after_of c.args.self.now) c.args.s.0) c.loop-j.j c.loop-j.came c.loop-j.went c.gained-came.result c.lost-went.result c.loop-j.invariant c.gained-came.ensures.value c.lost-went.ensures.value c.gained-came.ensures.few c.lost-went.ensures.few
+loop-j-preserved c = held_more (end_location (tables_of c.args.self.now) (steps_of c.args.self.now)) (held_in (tables_of c.args.self.now) (before_of c.args.self.now) c.args.s.0) (held_in (tables_of c.args.self.now) (after_of c.args.self.now) c.args.s.0) c.loop-j.j c.loop-j.came c.loop-j.went c.held_at-end.result.came c.held_at-end.result.went c.loop-j.invariant c.held_at-end.ensures.came c.held_at-end.ensures.went c.held_at-end.ensures.came_few c.held_at-end.ensures.went_few
 
 pub overflow_sub-result : goal.overflow_sub-result
 unfolding end_count

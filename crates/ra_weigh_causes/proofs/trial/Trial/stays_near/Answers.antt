@@ -4,7 +4,7 @@ use Rattle.std.proofs.lemmas.Bool.{both_ways}
 use Rattle.ra_model.specs.Numbers.{neighbourhood_of}
 use Rattle.ra_weigh_causes.specs.Trials.{tables_of, steps_of, before_of, after_of}
 use Rattle.ra_weigh_causes.specs.Nearness.{StaysNear}
-use Rattle.ra_weigh_causes.proofs.StepLemmas.{step_process, service_there, service_read, to_read, from_read, step_to, step_from}
+use Rattle.ra_weigh_causes.proofs.StepLemmas.{step_process, service_read, to_read, from_read, step_to, step_from}
 use Rattle.ra_weigh_causes.proofs.HoldLemmas.{told_true, told_false}
 use Rattle.ra_weigh_causes.proofs.NearLemmas.{stays_start, stays_next, stays_found, stays_left}
 use Rattle.ra_weigh_causes.proofs.trial.Trial.stays_near.Goals as goal
