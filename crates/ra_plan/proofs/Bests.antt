@@ -7,7 +7,6 @@ use Rattle.ra_base.specs.declared.causes.Drawing.{Drawing}
 use Rattle.ra_base.specs.declared.causes.Drawing.TheVariants.{Two}
 use Rattle.ra_base.specs.declared.ids.Machine.{Machine}
 use Rattle.ra_base.proofs.Least.{least_none, least_place_none, least_more, least_place_more, least_better, least_kept, least_means, is_better_none, is_better_some}
-use Rattle.ra_base.proofs.Searches.{left_none}
 use Rattle.ra_model.specs.declared.raw.Tables.{Tables}
 use Rattle.ra_model.specs.Numbers.{machine_count}
 use Rattle.ra_model.specs.Limits.{WellFormed}
@@ -19,12 +18,12 @@ use Rattle.ra_model.specs.Broken.{cause_if}
 use Rattle.ra_model.specs.Costs.{objective}
 use Rattle.ra_model.proofs.BoundLemmas.{objective_under}
 use Rattle.ra_model.proofs.BrokenLemmas.{cause_free}
-use Rattle.ra_moves.specs.Judging.{judge, broken_by, repeat_of, rise_test, verdict_of}
+use Rattle.ra_moves.specs.Judging.{judge, broken_by, rise_test, verdict_of}
 use Rattle.ra_moves.specs.Replacing.{applied}
 use Rattle.ra_weigh_shift.specs.Arriving.{cost_after, cost_now, IsCostBelow}
 use Rattle.ra_moves.proofs.Repeats.{distinct_from_none}
 use Rattle.ra_moves.proofs.OptionLemmas.{option_stands, option_reaches}
-use Rattle.ra_moves.specs.Moving.{IsMove, IsOffered}
+use Rattle.ra_moves.specs.Moving.{IsOffered}
 use Rattle.ra_moves.specs.MoveSteps.{MoveSteps}
 use Rattle.ra_moves.specs.declared.steps.MoveKind.TheVariants.{Shift}
 use Rattle.ra_moves.specs.Options.{kind_of, option_count, drawn, target, leaving, option_at, option_cost, done_cost, plan_place, plan_of}
@@ -97,15 +96,6 @@ broken_cost w x d allowed n broken = refused_cost _ _ _ broken
 -- the same, of an option that a test has found broken
 pub best_broken : (w : World) (x : List ℕ) (d : Drawing) (allowed n : ℕ) (best : Best) (steps : List Step) (unbroken : Bool) → (unbroken ≡ true) ↔ (broken_by w.inst.now.tables w.start.now.items w.kept.assignment.items steps ≡ None) → unbroken ≡ false → IsBest w x d allowed n best → steps_in w x d n ≡ steps → IsBest w x d allowed (n + 1) best
 best_broken w x d allowed n best steps unbroken (gives, back) unfit is same = best_skipped w x d allowed n best is (broken_cost w x d allowed n (λ none. absurd (true_is_not (sym (back (rw same at none)) ∙ unfit))))
-
--- an option that breaks nothing names no process twice
-pub unbroken_repeats : (i : Tables) (a0 a : List Machine) (steps : List Step) → broken_by i a0 a steps ≡ None → repeat_of steps ≡ None
-unfolding broken_by
-unbroken_repeats i a0 a steps none = left_none _ _ none
-
--- so it is a move, where it was offered
-pub unbroken_moves : (i : Tables) (a0 a : List Machine) (steps : List Step) (unbroken : Bool) → (unbroken ≡ true) ↔ (broken_by i a0 a steps ≡ None) → unbroken ≡ true → IsOffered i a steps → IsMove i a steps
-unbroken_moves i a0 a steps unbroken (gives, back) is offered = offered (unbroken_repeats i a0 a steps (gives is))
 
 -- every option of an assignment can be weighed
 pub option_offered : (i : Tables) (a : List Machine) (x : List ℕ) (d : Drawing) (k : ℕ) → WellFormed i → IsAssignment i a → IsOffered i a (option_at a x (machine_count i) d k).steps

@@ -1,5 +1,5 @@
 -- The bits from a place on.
-use Rattle.std.proofs.Common.{◌≡◌, ◌<◌, ◌≤◌, arith}
+use Rattle.std.proofs.Common.{arith}
 use Rattle.ra_plan.proofs.RingPlaces.{rest_none, rest_before, rest_first}
 use Rattle.ra_plan.proofs.marks.next_mark.Goals as goal
 

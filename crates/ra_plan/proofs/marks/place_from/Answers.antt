@@ -1,5 +1,4 @@
 use Rattle.ra_plan.proofs.RingPlaces.{place_on, place_round}
-use Rattle.std.proofs.Common.{arith}
 use Rattle.ra_plan.proofs.marks.place_from.Goals as goal
 
 pub returns-then-at-first : goal.returns-then-at-first

@@ -1,5 +1,5 @@
 -- The place of the machine in the window, if it is there.
-use Rattle.std.proofs.Common.{◌≡◌, refl, arith}
+use Rattle.std.proofs.Common.{arith}
 use Rattle.ra_plan.proofs.RingPlaces.{marked_here, marked_others}
 use Rattle.ra_plan.proofs.marks.with_mark.Goals as goal
 

@@ -1,7 +1,6 @@
 use Rattle.std.proofs.Common.{◌≡◌, ◌+◌, arith, refl, ap, ◌∙◌}
-use Rattle.ra_base.specs.declared.ids.Process.{Process}
 use Rattle.ra_model.specs.Numbers.{machine_count}
-use Rattle.ra_moves.specs.Options.{option_count, drawn}
+use Rattle.ra_moves.specs.Options.{option_count}
 use Rattle.ra_moves.proofs.OptionLemmas.{shift_named}
 use Rattle.ra_base.specs.declared.costs.Parts.{Parts}
 use Rattle.ra_model.specs.Costs.{parts_of}

@@ -1,6 +1,5 @@
-use Rattle.std.proofs.Common.{◌≡◌, ◌∙◌, ap}
+use Rattle.std.proofs.Common.{◌∙◌, ap}
 use Rattle.ra_base.specs.declared.ids.Process.{Process}
-use Rattle.ra_moves.specs.Options.{drawn}
 use Rattle.ra_plan.proofs.shifts.best_shift.Goals as goal
 
 pub best_in_order-requires-clause-named : goal.best_in_order-requires-clause-named

@@ -1,5 +1,5 @@
 -- The cost below the bound of the best so far.
-use Rattle.std.proofs.Common.{◌≡◌, ◌∙◌, ap, subst, arith}
+use Rattle.std.proofs.Common.{◌∙◌, ap, subst, arith}
 use Rattle.ra_base.specs.declared.causes.Drawing.TheVariants.{Two}
 use Rattle.ra_weigh_shift.specs.Arriving.{IsCostBelow}
 use Rattle.ra_plan.specs.Choosing.{bound_of}

@@ -1,4 +1,4 @@
-use Rattle.std.proofs.Common.{refl, sym, ◌∙◌}
+use Rattle.std.proofs.Common.{sym, ◌∙◌}
 use Rattle.ra_plan.proofs.Bests.{best_done, best_refused}
 use Rattle.ra_plan.proofs.best.Best.consider.Goals as goal
 

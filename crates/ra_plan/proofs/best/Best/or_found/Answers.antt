@@ -1,6 +1,4 @@
 -- A cost that was found is the best.
-use Rattle.std.proofs.Common.{arith}
-use Rattle.ra_plan.specs.Choosing.{bound_of}
 use Rattle.ra_plan.proofs.Bests.{best_found, best_stays, bound_falls}
 use Rattle.ra_plan.proofs.best.Best.or_found.Goals as goal
 
