@@ -27,7 +27,9 @@ use Rattle.ra_trial.specs.ModelTexts.{group_text, resource_text, machine_text, s
 use Rattle.ra_io.specs.Outside.{Reading, Took}
 use Rattle.ra_jobs.specs.declared.refusals.File.TheVariants as file
 use Rattle.ra_jobs.specs.declared.refusals.Refusal.{Refusal}
-use Rattle.ra_jobs.specs.declared.refusals.Refusal.TheVariants.{Read, Model, Closed, Initial, Changed, Edits, InitialBroken, ChangedBroken, Write, Memory}
+use Rattle.ra_jobs.specs.declared.refusals.Refusal.TheVariants.{Read, Model, Closed, Assign, Edits, Broken, Write, Memory}
+use Rattle.ra_jobs.specs.declared.refusals.Role.{Role}
+use Rattle.ra_jobs.specs.declared.refusals.Role.TheVariants as role
 use Rattle.ra_jobs.specs.declared.status.Status.{Status}
 use Rattle.ra_jobs.specs.declared.status.Status.TheVariants.{Done, Infeasible, BadEdits, NoMemory}
 use Rattle.ra_jobs.specs.Comes.{KnownTo}
@@ -37,11 +39,11 @@ use Rattle.ra_jobs.specs.Ends.{Does, Tries, Finishes, Leaves}
 use Rattle.ra_jobs.specs.Files.{Held, Faults, Names, name_of, Accepts, InstanceIs, edit_names}
 use Rattle.ra_jobs.specs.Lines.{refusal_line}
 use Rattle.ra_jobs.specs.Output.{Output, BrokeOff, Put}
-use Rattle.ra_jobs.specs.Refusals.{Says, CanTell, InitialBreaks, ChangedBreaks}
+use Rattle.ra_jobs.specs.Refusals.{Says, CanTell, RoleBreaks}
 use Rattle.ra_jobs.specs.Stages.{JudgeSays, ListsSay, ReadsLists}
 use Rattle.ra_jobs.specs.Statuses.{status_of}
 use Rattle.ra_jobs.proofs.BareLemmas.{bare}
-use Rattle.ra_jobs.proofs.ComesLemmas.{Listed, told_of}
+use Rattle.ra_jobs.proofs.ComesLemmas.{Listed, breaks_listed, told_of}
 use Rattle.ra_jobs.proofs.CompleteLemmas.{is_done, complete, contradiction}
 use Rattle.ra_jobs.proofs.DoesLemmas.{does_so, memory_refused}
 use Rattle.ra_jobs.proofs.EndLemmas.{Ends, EndsOver, finished, left_so}
@@ -103,8 +105,8 @@ pub says_listed : (held later : Held) (model : List ℕ) (closed : Option (List 
 unfolding name_of
 says_listed held later model closed initial current edits i first before now own same never_fell instance (Read file.Initial) says = record { earlier = (i, instance); named = refl; rose = rose_later (first initial) (before initial) (now initial) (never_fell initial) says }
 says_listed held later model closed initial current edits i first before now own same never_fell instance (Read file.Changed) says = record { earlier = (i, says.0, instance, rw (sym (same initial)) says.1); named = refl; rose = rose_later (first current) (before current) (now current) (never_fell current) says.2 }
-says_listed held later model closed initial current edits i first before now own same never_fell instance (Initial fault) says = record { tables = i; instance = instance; name = initial; named = refl; refused = record { in_file = says.in_file; refused = rw (sym (same initial)) says.refused } }
-says_listed held later model closed initial current edits i first before now own same never_fell instance (Changed fault) says = record { tables = i; a0 = says.0; instance = instance; initial = rw (sym (same initial)) says.1; name = current; named = refl; refused = record { in_file = says.2.in_file; refused = rw (sym (same current)) says.2.refused } }
+says_listed held later model closed initial current edits i first before now own same never_fell instance (Assign role.Initial fault) says = record { tables = i; instance = instance; name = initial; named = refl; refused = record { in_file = says.in_file; refused = rw (sym (same initial)) says.refused } }
+says_listed held later model closed initial current edits i first before now own same never_fell instance (Assign role.Changed fault) says = record { tables = i; a0 = says.0; instance = instance; initial = rw (sym (same initial)) says.1; name = current; named = refl; refused = record { in_file = says.2.in_file; refused = rw (sym (same current)) says.2.refused } }
 says_listed held later model closed initial current edits i first before now own same never_fell instance Memory says = tt
 says_listed held later model closed initial current edits i first before now own same never_fell instance refusal says = absurd says
 
@@ -138,8 +140,8 @@ accepted_of held names i a0 a e taken = record { tables = i; a0 = a0; a = a; acc
 
 -- a refusal of the run
 pub says_run : (held : Held) (names : Names) (i : Tables) (a0 a : List Machine) (e : EditLists) (before now : Faults) (way : List ℕ → Type 0) → IsSome names.initial → IsSome names.changed → IsTaken held names i a0 a e → (refusal : Refusal) → EditSays i a0 a (IsEdited i a0 a e way) refusal → Says held names before now (EditOwn held names (Edited held names way)) refusal
-says_run held names i a0 a e before now way has_initial has_changed taken (InitialBroken cause) says = (accepted_of held names i a0 a e taken, record { tables = i; a0 = a0; a = a; named = has_initial; accepts = taken.accepts; broken = says })
-says_run held names i a0 a e before now way has_initial has_changed taken (ChangedBroken cause) says = (accepted_of held names i a0 a e taken, record { tables = i; a0 = a0; a = a; start_named = has_initial; named = has_changed; accepts = taken.accepts; initial = says.0; broken = says.1 })
+says_run held names i a0 a e before now way has_initial has_changed taken (Broken role.Initial cause) says = (accepted_of held names i a0 a e taken, record { tables = i; a0 = a0; a = a; named = has_initial; accepts = taken.accepts; broken = says })
+says_run held names i a0 a e before now way has_initial has_changed taken (Broken role.Changed cause) says = (accepted_of held names i a0 a e taken, record { tables = i; a0 = a0; a = a; start_named = has_initial; named = has_changed; accepts = taken.accepts; initial = says.0; broken = says.1 })
 says_run held names i a0 a e before now way has_initial has_changed taken Write says = record { tables = i; a0 = a0; a = a; edits = e; taken = taken; run = says }
 says_run held names i a0 a e before now way has_initial has_changed taken Memory says = tt
 says_run held names i a0 a e before now way has_initial has_changed taken refusal says = absurd says
@@ -148,8 +150,8 @@ pub edited_all : (held : Held) (names : Names) (i : Tables) (a0 a : List Machine
 edited_all held names i a0 a e way taken run = record { tables = i; a0 = a0; a = a; edits = e; taken = taken; run = run }
 
 pub judge_says : (i : Tables) (a0 a : List Machine) (written : Type 0) (refusal : Refusal) → JudgeSays i a0 a refusal → EditSays i a0 a written refusal
-judge_says i a0 a written (InitialBroken cause) says = says
-judge_says i a0 a written (ChangedBroken cause) says = says
+judge_says i a0 a written (Broken role.Initial cause) says = says
+judge_says i a0 a written (Broken role.Changed cause) says = says
 judge_says i a0 a written Memory says = tt
 judge_says i a0 a written refusal says = absurd says
 
@@ -160,8 +162,7 @@ over_says i a0 a written refusal says = absurd says
 
 own_more : (held : Held) (names : Names) (written more : Type 0) → (written → more) → (r : Refusal) → EditOwn held names written r → EditOwn held names more r
 own_more held names written more step (Edits fault) says = says
-own_more held names written more step (InitialBroken cause) says = says
-own_more held names written more step (ChangedBroken cause) says = says
+own_more held names written more step (Broken which cause) says = says
 own_more held names written more step Write says = step says
 own_more held names written more step refusal says = absurd says
 
@@ -170,8 +171,8 @@ says_untaken held names before now written refusal says = says_more held names b
 
 own_tells : (held : Held) (names : Names) (written : Type 0) (r : Refusal) → EditOwn held names written r → CanTell names r
 own_tells held names written (Edits fault) says = (says.named, says.in_file)
-own_tells held names written (InitialBroken cause) says = says.1.named
-own_tells held names written (ChangedBroken cause) says = says.1.named
+own_tells held names written (Broken role.Initial cause) says = says.1.named
+own_tells held names written (Broken role.Changed cause) says = says.1.named
 own_tells held names written Write says = tt
 own_tells held names written refusal says = absurd says
 
@@ -185,8 +186,7 @@ edited_listed held names way is = record { tables = is.tables; a0 = is.a0; a = i
 
 pub own_listed : (held : Held) (names : Names) (way : List ℕ → Type 0) (r : Refusal) → EditOwn held names (Edited held names way) r → Listed held names
 own_listed held names way (Edits fault) says = record { tables = says.tables; a0 = says.a0; a = says.a; accepts = says.accepts }
-own_listed held names way (InitialBroken cause) says = record { tables = says.1.tables; a0 = says.1.a0; a = says.1.a; accepts = says.1.accepts }
-own_listed held names way (ChangedBroken cause) says = record { tables = says.1.tables; a0 = says.1.a0; a = says.1.a; accepts = says.1.accepts }
+own_listed held names way (Broken which cause) says = breaks_listed held names which cause says.1
 own_listed held names way Write says = edited_listed held names way says
 own_listed held names way refusal says = absurd says
 
@@ -203,12 +203,12 @@ valid_none : (held : Held) (names : Names) (way : List ℕ → Type 0) → AreEd
 valid_none held names way editable whole (Edits fault) says =
     let are = editable.edits says.tables says.a0 says.a says.accepts in
     contradiction (held (name_of names file.Edits)) are.0 (λ bytes. edits_refusal bytes says.tables) fault are.1 are.2 says.refused
-valid_none held names way editable whole (InitialBroken cause) says =
+valid_none held names way editable whole (Broken role.Initial cause) says =
     let b = says.1 in
     let none = unbroken_from_feasible b.tables b.a0 b.a0 (editable.valid.initial b.named b.tables b.a0 b.a b.accepts) in
     let both : None ≡ Some cause = sym none ∙ b.broken in
     cc
-valid_none held names way editable whole (ChangedBroken cause) says =
+valid_none held names way editable whole (Broken role.Changed cause) says =
     let b = says.1 in
     let none = unbroken_from_feasible b.tables b.a0 b.a (editable.valid.changed b.named b.tables b.a0 b.a b.accepts) in
     let both : None ≡ Some cause = sym none ∙ b.broken in
@@ -230,8 +230,8 @@ own_known held model closed initial current edits before now own known i a0 a ac
 own_known held model closed initial current edits before now own known i a0 a accepts (Read file.Edits) says = absurd ((known.4 says.named).1 says.rose)
 own_known held model closed initial current edits before now own known i a0 a accepts (Model fault) says = absurd (no_model held model (known.0 tt).0 fault says accepts.instance.model accepts.instance.read)
 own_known held model closed initial current edits before now own known i a0 a accepts (Closed fault) says = absurd (no_closed held model closed (known.0 tt).0 (told_of held closed _ known.1) fault says i accepts.instance)
-own_known held model closed initial current edits before now own known i a0 a accepts (Initial fault) says = absurd (no_initial held (edit_names model closed initial current edits) (known.0 tt).0 (told_of held closed _ known.1) (told_of held (Some initial) _ known.2) fault says i a0 accepts.instance accepts.initial)
-own_known held model closed initial current edits before now own known i a0 a accepts (Changed fault) says = absurd (no_changed held (edit_names model closed initial current edits) (known.0 tt).0 (told_of held closed _ known.1) (told_of held (Some current) _ known.3) fault says i a accepts.instance accepts.changed)
+own_known held model closed initial current edits before now own known i a0 a accepts (Assign role.Initial fault) says = absurd (no_initial held (edit_names model closed initial current edits) (known.0 tt).0 (told_of held closed _ known.1) (told_of held (Some initial) _ known.2) fault says i a0 accepts.instance accepts.initial)
+own_known held model closed initial current edits before now own known i a0 a accepts (Assign role.Changed fault) says = absurd (no_changed held (edit_names model closed initial current edits) (known.0 tt).0 (told_of held closed _ known.1) (told_of held (Some current) _ known.3) fault says i a accepts.instance accepts.changed)
 own_known held model closed initial current edits before now own known i a0 a accepts Memory says = inr refl
 own_known held model closed initial current edits before now own known i a0 a accepts refusal says = inl says
 
@@ -251,26 +251,22 @@ not_both held model closed initial current edits before now known fault refused 
 bad_own : (held : Held) (model : List ℕ) (closed : Option (List ℕ)) (initial current edits : List ℕ) (before now : Faults) (way : List ℕ → Type 0) → KnownTo held (edit_names model closed initial current edits) before now file.Edits → (fault : EditsFault) → EditsRefused held (edit_names model closed initial current edits) fault → (refusal : Refusal) → EditOwn held (edit_names model closed initial current edits) (Edited held (edit_names model closed initial current edits) way) refusal → status_of refusal ≡ BadEdits
 unfolding status_of
 bad_own held model closed initial current edits before now way known fault refused (Edits other) says = refl
-bad_own held model closed initial current edits before now way known fault refused (InitialBroken cause) says = absurd (not_both held model closed initial current edits before now known fault refused says.0)
-bad_own held model closed initial current edits before now way known fault refused (ChangedBroken cause) says = absurd (not_both held model closed initial current edits before now known fault refused says.0)
+bad_own held model closed initial current edits before now way known fault refused (Broken which cause) says = absurd (not_both held model closed initial current edits before now known fault refused says.0)
 bad_own held model closed initial current edits before now way known fault refused Write says = absurd (not_both held model closed initial current edits before now known fault refused (accepted_of held (edit_names model closed initial current edits) says.tables says.a0 says.a says.edits says.taken))
 bad_own held model closed initial current edits before now way known fault refused refusal says = absurd says
 
 -- no run is written of lists that break a constraint
-broken_not : (held : Held) (model : List ℕ) (closed : Option (List ℕ)) (initial current edits : List ℕ) (before now : Faults) (way : List ℕ → Type 0) → KnownTo held (edit_names model closed initial current edits) before now file.Edits → (cause : Cause) → (InitialBreaks held (edit_names model closed initial current edits) cause ⊎ ChangedBreaks held (edit_names model closed initial current edits) cause) → Edited held (edit_names model closed initial current edits) way → ⊥
+broken_not : (held : Held) (model : List ℕ) (closed : Option (List ℕ)) (initial current edits : List ℕ) (before now : Faults) (way : List ℕ → Type 0) → KnownTo held (edit_names model closed initial current edits) before now file.Edits → (which : Role) (cause : Cause) → RoleBreaks held (edit_names model closed initial current edits) which cause → Edited held (edit_names model closed initial current edits) way → ⊥
 unfolding name_of
-broken_not held model closed initial current edits before now way known cause breaks is = ⊎_elim
-    (λ (b : InitialBreaks held (edit_names model closed initial current edits) cause). no_initial_break held (edit_names model closed initial current edits) (known.0 tt).0 (told_of held closed _ known.1) (told_of held (Some initial) _ known.2) cause b is.tables is.a0 is.a is.taken.accepts is.run.start)
-    (λ (b : ChangedBreaks held (edit_names model closed initial current edits) cause). no_changed_break held (edit_names model closed initial current edits) (known.0 tt).0 (told_of held closed _ known.1) (told_of held (Some initial) _ known.2) (told_of held (Some current) _ known.3) cause b is.tables is.a0 is.a is.taken.accepts is.run.current)
-    breaks
+broken_not held model closed initial current edits before now way known role.Initial cause breaks is = no_initial_break held (edit_names model closed initial current edits) (known.0 tt).0 (told_of held closed _ known.1) (told_of held (Some initial) _ known.2) cause breaks is.tables is.a0 is.a is.taken.accepts is.run.start
+broken_not held model closed initial current edits before now way known role.Changed cause breaks is = no_changed_break held (edit_names model closed initial current edits) (known.0 tt).0 (told_of held closed _ known.1) (told_of held (Some initial) _ known.2) (told_of held (Some current) _ known.3) cause breaks is.tables is.a0 is.a is.taken.accepts is.run.current
 
-broken_own : (held : Held) (model : List ℕ) (closed : Option (List ℕ)) (initial current edits : List ℕ) (before now : Faults) (way : List ℕ → Type 0) → KnownTo held (edit_names model closed initial current edits) before now file.Edits → EditsAccepted held (edit_names model closed initial current edits) → (cause : Cause) → (InitialBreaks held (edit_names model closed initial current edits) cause ⊎ ChangedBreaks held (edit_names model closed initial current edits) cause) → (refusal : Refusal) → EditOwn held (edit_names model closed initial current edits) (Edited held (edit_names model closed initial current edits) way) refusal → status_of refusal ≡ Infeasible
+broken_own : (held : Held) (model : List ℕ) (closed : Option (List ℕ)) (initial current edits : List ℕ) (before now : Faults) (way : List ℕ → Type 0) → KnownTo held (edit_names model closed initial current edits) before now file.Edits → EditsAccepted held (edit_names model closed initial current edits) → (which : Role) (cause : Cause) → RoleBreaks held (edit_names model closed initial current edits) which cause → (refusal : Refusal) → EditOwn held (edit_names model closed initial current edits) (Edited held (edit_names model closed initial current edits) way) refusal → status_of refusal ≡ Infeasible
 unfolding status_of
-broken_own held model closed initial current edits before now way known accepted cause breaks (Edits fault) says = absurd (not_both held model closed initial current edits before now known fault says accepted)
-broken_own held model closed initial current edits before now way known accepted cause breaks (InitialBroken other) says = refl
-broken_own held model closed initial current edits before now way known accepted cause breaks (ChangedBroken other) says = refl
-broken_own held model closed initial current edits before now way known accepted cause breaks Write says = absurd (broken_not held model closed initial current edits before now way known cause breaks says)
-broken_own held model closed initial current edits before now way known accepted cause breaks refusal says = absurd says
+broken_own held model closed initial current edits before now way known accepted which cause breaks (Edits fault) says = absurd (not_both held model closed initial current edits before now known fault says accepted)
+broken_own held model closed initial current edits before now way known accepted which cause breaks (Broken one other) says = refl
+broken_own held model closed initial current edits before now way known accepted which cause breaks Write says = absurd (broken_not held model closed initial current edits before now way known which cause breaks says)
+broken_own held model closed initial current edits before now way known accepted which cause breaks refusal says = absurd says
 
 -- what each of its own statuses says
 says_bad : (held : Held) (names : Names) (written : Type 0) (before now : Faults) (refusal : Refusal) → Says held names before now (EditOwn held names written) refusal → status_of refusal ≡ BadEdits → (fault : EditsFault) × EditsRefused held names fault
@@ -278,10 +274,9 @@ unfolding status_of
 says_bad held names written before now (Edits fault) says e = (fault, says)
 says_bad held names written before now refusal says e = absurd (let both : status_of refusal ≡ BadEdits = e in cc)
 
-says_broken : (held : Held) (names : Names) (written : Type 0) (before now : Faults) (refusal : Refusal) → Says held names before now (EditOwn held names written) refusal → status_of refusal ≡ Infeasible → EditsAccepted held names × ((cause : Cause) × (InitialBreaks held names cause ⊎ ChangedBreaks held names cause))
+says_broken : (held : Held) (names : Names) (written : Type 0) (before now : Faults) (refusal : Refusal) → Says held names before now (EditOwn held names written) refusal → status_of refusal ≡ Infeasible → EditsAccepted held names × ((which : Role) × (cause : Cause) × RoleBreaks held names which cause)
 unfolding status_of
-says_broken held names written before now (InitialBroken cause) says e = (says.0, (cause, inl says.1))
-says_broken held names written before now (ChangedBroken cause) says e = (says.0, (cause, inr says.1))
+says_broken held names written before now (Broken which cause) says e = (says.0, (which, cause, says.1))
 says_broken held names written before now refusal says e = absurd (let both : status_of refusal ≡ Infeasible = e in cc)
 
 -- a job that isn't done has a status that its own refusals give it, or that of memory
@@ -321,8 +316,8 @@ edit_comes {held} {before} {now} {tells} {out_same} {err_same} {status} model cl
         always = λ known cause.
             let r = cause.0 in
             stops held model closed initial current edits before now output own tells out_same err_same status Infeasible ends known (record { tables = r.tables; a0 = r.a0; a = r.a; accepts = r.accepts })
-            (broken_not held model closed initial current edits before now prints known cause.1.0 cause.1.1)
-            (broken_own held model closed initial current edits before now breaks known r cause.1.0 cause.1.1);
+            (broken_not held model closed initial current edits before now prints known cause.1.0 cause.1.1 cause.1.2)
+            (broken_own held model closed initial current edits before now breaks known r cause.1.0 cause.1.1 cause.1.2);
       };
     }
 

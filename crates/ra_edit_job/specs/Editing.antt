@@ -16,14 +16,16 @@ use Rattle.ra_model.specs.Feasible.{Feasible}
 use Rattle.ra_report.specs.FaultTexts.{IsInEdits}
 use Rattle.ra_jobs.specs.declared.refusals.File.TheVariants as file
 use Rattle.ra_jobs.specs.declared.refusals.Refusal.{Refusal}
-use Rattle.ra_jobs.specs.declared.refusals.Refusal.TheVariants.{Read, Edits, InitialBroken, ChangedBroken, Write, Memory}
+use Rattle.ra_jobs.specs.declared.refusals.Refusal.TheVariants.{Read, Edits, Broken, Write, Memory}
+use Rattle.ra_jobs.specs.declared.refusals.Role.{Role}
+use Rattle.ra_jobs.specs.declared.refusals.Role.TheVariants as role
 use Rattle.ra_jobs.specs.declared.status.Status.{Status}
 use Rattle.ra_jobs.specs.declared.status.Status.TheVariants.{Done, BadEdits, Infeasible, NoMemory}
 use Rattle.ra_jobs.specs.Comes.{Exactly, KnownTo}
 use Rattle.ra_jobs.specs.Commands.{Command, OverFiles, over}
 use Rattle.ra_jobs.specs.Complete.{AreValid}
 use Rattle.ra_jobs.specs.Files.{Held, Faults, Names, name_of, Accepts, edit_names}
-use Rattle.ra_jobs.specs.Refusals.{InitialBreaks, ChangedBreaks}
+use Rattle.ra_jobs.specs.Refusals.{RoleBreaks}
 use Rattle.ra_edit_job.specs.EditedTexts.{edited_text}
 
 -- what is left of an instance and two lists after all edits
@@ -93,10 +95,8 @@ pub record EditsAccepted (held : Held) (names : Names) : Type 0 where
 -- its own refusals
 abbrev pub EditOwn : Held → Names → Type 0 → Refusal → Type 0
 EditOwn held names written (Edits fault) = EditsRefused held names fault
-EditOwn held names written (InitialBroken cause) =
-    EditsAccepted held names × InitialBreaks held names cause
-EditOwn held names written (ChangedBroken cause) =
-    EditsAccepted held names × ChangedBreaks held names cause
+EditOwn held names written (Broken which cause) =
+    EditsAccepted held names × RoleBreaks held names which cause
 EditOwn held names written Write = written
 EditOwn held names written refusal = ⊥
 
@@ -109,7 +109,7 @@ pub record EditComes (held : Held) (names : Names) (before now : Faults) (status
         ((fault : EditsFault) × EditsRefused held names fault)
     pub infeasible : Exactly status Infeasible (KnownTo held names before now file.Edits)
         (EditsAccepted held names
-        × ((cause : Cause) × (InitialBreaks held names cause ⊎ ChangedBreaks held names cause)))
+        × ((which : Role) × (cause : Cause) × RoleBreaks held names which cause))
 
 -- its files are valid: besides the lists, nothing is wrong with the told edits file
 pub record AreEditable (held : Held) (names : Names) : Type 0 where
@@ -154,8 +154,8 @@ pub record HasEdits (held : Held) (name : List ℕ) (i : Tables) (e : EditLists)
 
 -- what a refusal of the run says
 abbrev pub EditSays : Tables → List Machine → List Machine → Type 0 → Refusal → Type 0
-EditSays i a0 a written (InitialBroken cause) = first_broken i a0 a0 ≡ Some cause
-EditSays i a0 a written (ChangedBroken cause) =
+EditSays i a0 a written (Broken role.Initial cause) = first_broken i a0 a0 ≡ Some cause
+EditSays i a0 a written (Broken role.Changed cause) =
     Feasible i a0 a0 × (first_broken i a0 a ≡ Some cause)
 EditSays i a0 a written Write = written
 EditSays i a0 a written Memory = Unit {0}

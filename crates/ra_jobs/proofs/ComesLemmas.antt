@@ -12,18 +12,20 @@ use Rattle.ra_assign.specs.declared.faults.ClosedFault.{ClosedFault}
 use Rattle.ra_jobs.specs.declared.refusals.File.{File}
 use Rattle.ra_jobs.specs.declared.refusals.File.TheVariants as file
 use Rattle.ra_jobs.specs.declared.refusals.Refusal.{Refusal}
-use Rattle.ra_jobs.specs.declared.refusals.Refusal.TheVariants.{Read, Model, Closed, Initial, Changed, InitialBroken, ChangedBroken, Unrepaired as Repaired, Write, Memory}
+use Rattle.ra_jobs.specs.declared.refusals.Refusal.TheVariants.{Read, Model, Closed, Assign, Broken, Unrepaired as Repaired, Write, Memory}
+use Rattle.ra_jobs.specs.declared.refusals.Role.{Role}
+use Rattle.ra_jobs.specs.declared.refusals.Role.TheVariants as role
 use Rattle.ra_jobs.specs.declared.status.Status.{Status}
 use Rattle.ra_jobs.specs.declared.status.Status.TheVariants.{Done, ReadFault, BadModel, BadAssignment, Infeasible, WriteFault, NoMemory, BadClosed, Unrepaired}
 use Rattle.ra_jobs.specs.Comes.{IsKnown, KnownTo, Comes, InfeasibleComes}
 use Rattle.ra_jobs.specs.Ends.{puts_first}
-use Rattle.ra_jobs.specs.Files.{Held, Faults, Names, name_of, ModelIs, InstanceIs, NamedListIs, Accepts, Passes, bound_names}
+use Rattle.ra_jobs.specs.Files.{Held, Faults, Names, name_of, file_of, ModelIs, InstanceIs, NamedListIs, Accepts, Passes, bound_names}
 use Rattle.ra_jobs.specs.Outputs.{Printed, BoundPrinted}
-use Rattle.ra_jobs.specs.Refusals.{Says, Judges, OnlyWrites, ReadFailed, ModelRefused, ClosedRefused, InitialRefused, ChangedRefused, InitialBreaks, ChangedBreaks}
+use Rattle.ra_jobs.specs.Refusals.{Says, Judges, OnlyWrites, ReadFailed, ModelRefused, ClosedRefused, InitialRefused, ChangedRefused, RoleRefused, InitialBreaks, ChangedBreaks, RoleBreaks}
 use Rattle.ra_jobs.specs.Statuses.{status_of}
 use Rattle.ra_jobs.proofs.CompleteLemmas.{is_done}
 use Rattle.ra_jobs.proofs.EndLemmas.{Ends}
-use Rattle.ra_jobs.proofs.MeaningLemmas.{Told, no_model, no_closed, no_initial, no_changed, no_initial_break, no_changed_break}
+use Rattle.ra_jobs.proofs.MeaningLemmas.{Told, no_model, no_closed, no_role, no_initial, no_changed, no_initial_break, no_changed_break}
 
 -- all files of a job before the edits and the report were accepted
 pub record Listed (held : Held) (names : Names) : Type 0 where
@@ -50,7 +52,7 @@ abbrev CauseOf : Held → Names → Faults → Faults → (Refusal → Type 0) �
 CauseOf held names before now own ReadFault = (f : File) × ReadFailed held names before now f
 CauseOf held names before now own BadModel = (fault : ModelFault) × ModelRefused held names.model fault
 CauseOf held names before now own BadClosed = (fault : ClosedFault) × ClosedRefused held names.model names.closed fault
-CauseOf held names before now own BadAssignment = (fault : AssignFault) × (InitialRefused held names fault ⊎ ChangedRefused held names fault)
+CauseOf held names before now own BadAssignment = (which : Role) × (fault : AssignFault) × RoleRefused held names which fault
 CauseOf held names before now own WriteFault = own Write
 CauseOf held names before now own status = Unit {0}
 
@@ -59,8 +61,7 @@ unfolding status_of
 cause_of held names before now own (Read f) says = (f, says)
 cause_of held names before now own (Model fault) says = (fault, says)
 cause_of held names before now own (Closed fault) says = (fault, says)
-cause_of held names before now own (Initial fault) says = (fault, inl says)
-cause_of held names before now own (Changed fault) says = (fault, inr says)
+cause_of held names before now own (Assign which fault) says = (which, fault, says)
 cause_of held names before now own Write says = says
 cause_of held names before now own refusal says = tt
 
@@ -78,8 +79,8 @@ not_model held names before now own listed sound never (Read file.Report) says =
 not_model held names before now own listed sound never (Read file.Edits) says = absurd (never says.earlier.3.instance.model says.earlier.3.instance.read)
 not_model held names before now own listed sound never (Model fault) says = inl refl
 not_model held names before now own listed sound never (Closed fault) says = absurd (never says.model says.read)
-not_model held names before now own listed sound never (Initial fault) says = absurd (never says.instance.model says.instance.read)
-not_model held names before now own listed sound never (Changed fault) says = absurd (never says.instance.model says.instance.read)
+not_model held names before now own listed sound never (Assign role.Initial fault) says = absurd (never says.instance.model says.instance.read)
+not_model held names before now own listed sound never (Assign role.Changed fault) says = absurd (never says.instance.model says.instance.read)
 not_model held names before now own listed sound never Memory says = inr refl
 not_model held names before now own listed sound never refusal says = let done = listed refusal says in absurd (never done.accepts.instance.model done.accepts.instance.read)
 
@@ -94,8 +95,8 @@ not_closed held names before now own listed sound sound_closed no_m never (Read 
 not_closed held names before now own listed sound sound_closed no_m never (Read file.Edits) says = absurd (never says.earlier.0 says.earlier.3.instance)
 not_closed held names before now own listed sound sound_closed no_m never (Model fault) says = absurd (no_m fault says)
 not_closed held names before now own listed sound sound_closed no_m never (Closed fault) says = inl refl
-not_closed held names before now own listed sound sound_closed no_m never (Initial fault) says = absurd (never says.tables says.instance)
-not_closed held names before now own listed sound sound_closed no_m never (Changed fault) says = absurd (never says.tables says.instance)
+not_closed held names before now own listed sound sound_closed no_m never (Assign role.Initial fault) says = absurd (never says.tables says.instance)
+not_closed held names before now own listed sound sound_closed no_m never (Assign role.Changed fault) says = absurd (never says.tables says.instance)
 not_closed held names before now own listed sound sound_closed no_m never Memory says = inr refl
 not_closed held names before now own listed sound sound_closed no_m never refusal says = let done = listed refusal says in absurd (never done.tables done.accepts.instance)
 
@@ -110,8 +111,7 @@ not_initial held names before now own listed sound sound_closed sound_initial no
 not_initial held names before now own listed sound sound_closed sound_initial no_m no_c never (Read file.Edits) says = absurd (never says.earlier.0 says.earlier.1 says.earlier.3.instance says.earlier.3.initial)
 not_initial held names before now own listed sound sound_closed sound_initial no_m no_c never (Model fault) says = absurd (no_m fault says)
 not_initial held names before now own listed sound sound_closed sound_initial no_m no_c never (Closed fault) says = absurd (no_c fault says)
-not_initial held names before now own listed sound sound_closed sound_initial no_m no_c never (Initial fault) says = inl refl
-not_initial held names before now own listed sound sound_closed sound_initial no_m no_c never (Changed fault) says = inl refl
+not_initial held names before now own listed sound sound_closed sound_initial no_m no_c never (Assign which fault) says = inl refl
 not_initial held names before now own listed sound sound_closed sound_initial no_m no_c never Memory says = inr refl
 not_initial held names before now own listed sound sound_closed sound_initial no_m no_c never refusal says = let done = listed refusal says in absurd (never done.tables done.a0 done.accepts.instance done.accepts.initial)
 
@@ -126,26 +126,24 @@ not_listed held names before now own listed sound sound_closed sound_initial sou
 not_listed held names before now own listed sound sound_closed sound_initial sound_changed no_m no_c never (Read file.Edits) says = absurd (never says.earlier.0 says.earlier.1 says.earlier.2 says.earlier.3)
 not_listed held names before now own listed sound sound_closed sound_initial sound_changed no_m no_c never (Model fault) says = absurd (no_m fault says)
 not_listed held names before now own listed sound sound_closed sound_initial sound_changed no_m no_c never (Closed fault) says = absurd (no_c fault says)
-not_listed held names before now own listed sound sound_closed sound_initial sound_changed no_m no_c never (Initial fault) says = inl refl
-not_listed held names before now own listed sound sound_closed sound_initial sound_changed no_m no_c never (Changed fault) says = inl refl
+not_listed held names before now own listed sound sound_closed sound_initial sound_changed no_m no_c never (Assign which fault) says = inl refl
 not_listed held names before now own listed sound sound_closed sound_initial sound_changed no_m no_c never Memory says = inr refl
 not_listed held names before now own listed sound sound_closed sound_initial sound_changed no_m no_c never refusal says = let done = listed refusal says in absurd (never done.tables done.a0 done.a done.accepts)
 
 -- a list is not feasible; `stops` says so of the job's own refusals
-not_feasible : (held : Held) (names : Names) (before now : Faults) (own : Refusal → Type 0) → ((r : Refusal) → own r → status_of r ≡ Infeasible) → (Rose (before names.model) (now names.model) → ⊥) → (IsSome names.closed → Rose (before (unwrap_or names.closed [])) (now (unwrap_or names.closed [])) → ⊥) → (IsSome names.initial → Rose (before (unwrap_or names.initial [])) (now (unwrap_or names.initial [])) → ⊥) → (IsSome names.changed → Rose (before (unwrap_or names.changed [])) (now (unwrap_or names.changed [])) → ⊥) → (IsSome names.edits → Rose (before (unwrap_or names.edits [])) (now (unwrap_or names.edits [])) → ⊥) → ((fault : ModelFault) → ModelRefused held names.model fault → ⊥) → ((fault : ClosedFault) → ClosedRefused held names.model names.closed fault → ⊥) → ((fault : AssignFault) → InitialRefused held names fault → ⊥) → ((fault : AssignFault) → ChangedRefused held names fault → ⊥) → (Went held names → ⊥) → (refusal : Refusal) → Says held names before now own refusal → (status_of refusal ≡ Infeasible) ⊎ (status_of refusal ≡ NoMemory)
+not_feasible : (held : Held) (names : Names) (before now : Faults) (own : Refusal → Type 0) → ((r : Refusal) → own r → status_of r ≡ Infeasible) → (Rose (before names.model) (now names.model) → ⊥) → (IsSome names.closed → Rose (before (unwrap_or names.closed [])) (now (unwrap_or names.closed [])) → ⊥) → (IsSome names.initial → Rose (before (unwrap_or names.initial [])) (now (unwrap_or names.initial [])) → ⊥) → (IsSome names.changed → Rose (before (unwrap_or names.changed [])) (now (unwrap_or names.changed [])) → ⊥) → (IsSome names.edits → Rose (before (unwrap_or names.edits [])) (now (unwrap_or names.edits [])) → ⊥) → ((fault : ModelFault) → ModelRefused held names.model fault → ⊥) → ((fault : ClosedFault) → ClosedRefused held names.model names.closed fault → ⊥) → ((which : Role) (fault : AssignFault) → RoleRefused held names which fault → ⊥) → (Went held names → ⊥) → (refusal : Refusal) → Says held names before now own refusal → (status_of refusal ≡ Infeasible) ⊎ (status_of refusal ≡ NoMemory)
 unfolding status_of name_of
-not_feasible held names before now own stops sound sound_closed sound_initial sound_changed sound_edits no_m no_c no_i no_n never (Read file.Model) says = absurd (sound says.rose)
-not_feasible held names before now own stops sound sound_closed sound_initial sound_changed sound_edits no_m no_c no_i no_n never (Read file.Closed) says = absurd (sound_closed says.named says.rose)
-not_feasible held names before now own stops sound sound_closed sound_initial sound_changed sound_edits no_m no_c no_i no_n never (Read file.Initial) says = absurd (sound_initial says.named says.rose)
-not_feasible held names before now own stops sound sound_closed sound_initial sound_changed sound_edits no_m no_c no_i no_n never (Read file.Changed) says = absurd (sound_changed says.named says.rose)
-not_feasible held names before now own stops sound sound_closed sound_initial sound_changed sound_edits no_m no_c no_i no_n never (Read file.Edits) says = absurd (sound_edits says.named says.rose)
-not_feasible held names before now own stops sound sound_closed sound_initial sound_changed sound_edits no_m no_c no_i no_n never (Read file.Report) says = absurd (never (passed_went held names says.earlier.0 says.earlier.1 says.earlier.1 says.earlier.2))
-not_feasible held names before now own stops sound sound_closed sound_initial sound_changed sound_edits no_m no_c no_i no_n never (Model fault) says = absurd (no_m fault says)
-not_feasible held names before now own stops sound sound_closed sound_initial sound_changed sound_edits no_m no_c no_i no_n never (Closed fault) says = absurd (no_c fault says)
-not_feasible held names before now own stops sound sound_closed sound_initial sound_changed sound_edits no_m no_c no_i no_n never (Initial fault) says = absurd (no_i fault says)
-not_feasible held names before now own stops sound sound_closed sound_initial sound_changed sound_edits no_m no_c no_i no_n never (Changed fault) says = absurd (no_n fault says)
-not_feasible held names before now own stops sound sound_closed sound_initial sound_changed sound_edits no_m no_c no_i no_n never Memory says = inr refl
-not_feasible held names before now own stops sound sound_closed sound_initial sound_changed sound_edits no_m no_c no_i no_n never refusal says = inl (stops refusal says)
+not_feasible held names before now own stops sound sound_closed sound_initial sound_changed sound_edits no_m no_c no_l never (Read file.Model) says = absurd (sound says.rose)
+not_feasible held names before now own stops sound sound_closed sound_initial sound_changed sound_edits no_m no_c no_l never (Read file.Closed) says = absurd (sound_closed says.named says.rose)
+not_feasible held names before now own stops sound sound_closed sound_initial sound_changed sound_edits no_m no_c no_l never (Read file.Initial) says = absurd (sound_initial says.named says.rose)
+not_feasible held names before now own stops sound sound_closed sound_initial sound_changed sound_edits no_m no_c no_l never (Read file.Changed) says = absurd (sound_changed says.named says.rose)
+not_feasible held names before now own stops sound sound_closed sound_initial sound_changed sound_edits no_m no_c no_l never (Read file.Edits) says = absurd (sound_edits says.named says.rose)
+not_feasible held names before now own stops sound sound_closed sound_initial sound_changed sound_edits no_m no_c no_l never (Read file.Report) says = absurd (never (passed_went held names says.earlier.0 says.earlier.1 says.earlier.1 says.earlier.2))
+not_feasible held names before now own stops sound sound_closed sound_initial sound_changed sound_edits no_m no_c no_l never (Model fault) says = absurd (no_m fault says)
+not_feasible held names before now own stops sound sound_closed sound_initial sound_changed sound_edits no_m no_c no_l never (Closed fault) says = absurd (no_c fault says)
+not_feasible held names before now own stops sound sound_closed sound_initial sound_changed sound_edits no_m no_c no_l never (Assign which fault) says = absurd (no_l which fault says)
+not_feasible held names before now own stops sound sound_closed sound_initial sound_changed sound_edits no_m no_c no_l never Memory says = inr refl
+not_feasible held names before now own stops sound sound_closed sound_initial sound_changed sound_edits no_m no_c no_l never refusal says = inl (stops refusal says)
 
 -- a job that went so far has this status, or that of refused memory
 abbrev Stops : Held → Names → Faults → Faults → (Refusal → Type 0) → Status → Type 0
@@ -206,6 +204,10 @@ changed_stops held names before now own listed known fault refused =
           (λ f r. no_closed held names.model names.closed k.0 closed f r refused.tables refused.instance) never,
     )
 
+role_stops : (held : Held) (names : Names) (before now : Faults) (own : Refusal → Type 0) → ((r : Refusal) → own r → Listed held names) → (which : Role) → KnownTo held names before now (file_of which) → (fault : AssignFault) → RoleRefused held names which fault → Stops held names before now own BadAssignment
+role_stops held names before now own listed role.Initial known fault refused = initial_stops held names before now own listed known fault refused
+role_stops held names before now own listed role.Changed known fault refused = changed_stops held names before now own listed known fault refused
+
 -- where all files were accepted, and no list is feasible that would have to be
 accepted_stops : (held : Held) (names : Names) (before now : Faults) (own : Refusal → Type 0) → ((r : Refusal) → own r → status_of r ≡ Infeasible) → KnownTo held names before now file.Edits → (i : Tables) (a0 a : List Machine) → Accepts held names i a0 a → (Went held names → ⊥) → (refusal : Refusal) → Says held names before now own refusal → (status_of refusal ≡ Infeasible) ⊎ (status_of refusal ≡ NoMemory)
 unfolding name_of
@@ -217,21 +219,28 @@ accepted_stops held names before now own stops known i a0 a accepts never =
     not_feasible held names before now own stops k.1 (λ named. (known.1 named).1) (λ named. (known.2 named).1) (λ named. (known.3 named).1) (λ named. (known.4 named).1)
     (λ f r. no_model held names.model k.0 f r accepts.instance.model accepts.instance.read)
     (λ f r. no_closed held names.model names.closed k.0 closed f r i accepts.instance)
-    (λ f r. no_initial held names k.0 closed initial f r i a0 accepts.instance accepts.initial)
-    (λ f r. no_changed held names k.0 closed changed f r i a accepts.instance accepts.changed) never
+    (λ which f r. no_role held names k.0 closed initial changed which f r i a0 a accepts) never
 
 -- where a list breaks a constraint, no job went so far that its lists were feasible
-pub initial_never : (held : Held) (names : Names) (before now : Faults) → KnownTo held names before now file.Edits → (cause : Cause) → InitialBreaks held names cause → Went held names → ⊥
+initial_never : (held : Held) (names : Names) (before now : Faults) → KnownTo held names before now file.Edits → (cause : Cause) → InitialBreaks held names cause → Went held names → ⊥
 unfolding name_of
 initial_never held names before now known cause breaks done =
     let k = known_model held names before now known.0 in
     no_initial_break held names k.0 (told_of held names.closed _ known.1) (told_of held names.initial _ known.2) cause breaks done.listed.tables done.listed.a0 done.listed.a done.listed.accepts (done.initial breaks.named)
 
-pub changed_never : (held : Held) (names : Names) (before now : Faults) → KnownTo held names before now file.Edits → (cause : Cause) → ChangedBreaks held names cause → Went held names → ⊥
+changed_never : (held : Held) (names : Names) (before now : Faults) → KnownTo held names before now file.Edits → (cause : Cause) → ChangedBreaks held names cause → Went held names → ⊥
 unfolding name_of
 changed_never held names before now known cause breaks done =
     let k = known_model held names before now known.0 in
     no_changed_break held names k.0 (told_of held names.closed _ known.1) (told_of held names.initial _ known.2) (told_of held names.changed _ known.3) cause breaks done.listed.tables done.listed.a0 done.listed.a done.listed.accepts (done.changed breaks.named)
+
+breaks_never : (held : Held) (names : Names) (before now : Faults) → KnownTo held names before now file.Edits → (which : Role) (cause : Cause) → RoleBreaks held names which cause → Went held names → ⊥
+breaks_never held names before now known role.Initial cause breaks done = initial_never held names before now known cause breaks done
+breaks_never held names before now known role.Changed cause breaks done = changed_never held names before now known cause breaks done
+
+pub breaks_listed : (held : Held) (names : Names) (which : Role) (cause : Cause) → RoleBreaks held names which cause → Listed held names
+breaks_listed held names role.Initial cause breaks = record { tables = breaks.tables; a0 = breaks.a0; a = breaks.a; accepts = breaks.accepts }
+breaks_listed held names role.Changed cause breaks = record { tables = breaks.tables; a0 = breaks.a0; a = breaks.a; accepts = breaks.accepts }
 
 -- from how a job ends
 
@@ -274,48 +283,40 @@ comes {held} {names} {before} {now} {output} {own} {tells} {out_same} {err_same}
   };
   bad_assignment = record {
     only = only ends BadAssignment (λ e. cc);
-    initial = λ known cause. let stops = initial_stops held names before now own listed known cause.0 cause.1 in always ends BadAssignment (λ o. stops.0 (printed o)) stops.1;
-    changed = λ known cause. let stops = changed_stops held names before now own listed known cause.0 cause.1 in always ends BadAssignment (λ o. stops.0 (printed o)) stops.1;
+    always = λ which known cause. let stops = role_stops held names before now own listed which known cause.0 cause.1 in always ends BadAssignment (λ o. stops.0 (printed o)) stops.1;
   };
   write_fault = only ends WriteFault (λ e. cc);
   untouched = not_written ends;
 }
 
 -- the refusals of a job whose lists have to be feasible: the causes of one status
-broke_of : (held : Held) (names : Names) (written : Type 0) (before now : Faults) (refusal : Refusal) → Says held names before now (Judges held names written) refusal → status_of refusal ≡ Infeasible → (cause : Cause) × (InitialBreaks held names cause ⊎ ChangedBreaks held names cause)
+broke_of : (held : Held) (names : Names) (written : Type 0) (before now : Faults) (refusal : Refusal) → Says held names before now (Judges held names written) refusal → status_of refusal ≡ Infeasible → (which : Role) × (cause : Cause) × RoleBreaks held names which cause
 unfolding status_of
-broke_of held names written before now (InitialBroken cause) says e = (cause, inl says)
-broke_of held names written before now (ChangedBroken cause) says e = (cause, inr says)
+broke_of held names written before now (Broken which cause) says e = (which, cause, says)
 broke_of held names written before now refusal says e = absurd (let both : status_of refusal ≡ Infeasible = e in cc)
 
 judges_stop : (held : Held) (names : Names) (written : Type 0) → (written → Went held names) → (Went held names → ⊥) → (r : Refusal) → Judges held names written r → status_of r ≡ Infeasible
 unfolding status_of
-judges_stop held names written went never (InitialBroken cause) says = refl
-judges_stop held names written went never (ChangedBroken cause) says = refl
+judges_stop held names written went never (Broken which cause) says = refl
 judges_stop held names written went never Write says = absurd (never (went says))
 judges_stop held names written went never refusal says = absurd says
 
 pub judges_listed : (held : Held) (names : Names) (written : Type 0) → (written → Went held names) → (r : Refusal) → Judges held names written r → Listed held names
-judges_listed held names written went (InitialBroken cause) says = record { tables = says.tables; a0 = says.a0; a = says.a; accepts = says.accepts }
-judges_listed held names written went (ChangedBroken cause) says = record { tables = says.tables; a0 = says.a0; a = says.a; accepts = says.accepts }
+judges_listed held names written went (Broken which cause) says = breaks_listed held names which cause says
 judges_listed held names written went Write says = (went says).listed
 judges_listed held names written went refusal says = absurd says
 
 -- where a list is not feasible, by what is said of the job's own refusals
 pub infeasible_of : {held : Held} {names : Names} {before now : Faults} {output : Type 0} {own : Refusal → Type 0} {tells : List ℕ → Type 0} {out_same err_same : Type 0} {status : Status} → Ends held names before now output own tells out_same err_same status → (output → Went held names)
-    → ((refusal : Refusal) → Says held names before now own refusal → status_of refusal ≡ Infeasible → (cause : Cause) × (InitialBreaks held names cause ⊎ ChangedBreaks held names cause)) → ((Went held names → ⊥) → (r : Refusal) → own r → status_of r ≡ Infeasible) → InfeasibleComes held names before now status
+    → ((refusal : Refusal) → Says held names before now own refusal → status_of refusal ≡ Infeasible → (which : Role) × (cause : Cause) × RoleBreaks held names which cause) → ((Went held names → ⊥) → (r : Refusal) → own r → status_of r ≡ Infeasible) → InfeasibleComes held names before now status
 infeasible_of {held} {names} {before} {now} {output} {own} {tells} {out_same} {err_same} {status} ends printed broke stops = record {
   only = λ (is : status ≡ Infeasible).
       let refused = ends.refused (λ (done : status ≡ Done). let e : Done ≡ Infeasible = sym done ∙ is in cc) in
       broke refused.refusal refused.says (sym refused.is ∙ is);
-  always = λ known cause. ⊎_elim
-      (λ (breaks : InitialBreaks held names cause.0).
-      let never : Went held names → ⊥ = initial_never held names before now known cause.0 breaks in
-      always ends Infeasible (λ o. never (printed o)) (accepted_stops held names before now own (stops never) known breaks.tables breaks.a0 breaks.a breaks.accepts never))
-      (λ (breaks : ChangedBreaks held names cause.0).
-      let never : Went held names → ⊥ = changed_never held names before now known cause.0 breaks in
-      always ends Infeasible (λ o. never (printed o)) (accepted_stops held names before now own (stops never) known breaks.tables breaks.a0 breaks.a breaks.accepts never))
-      cause.1;
+  always = λ known cause.
+      let never : Went held names → ⊥ = breaks_never held names before now known cause.0 cause.1 cause.2 in
+      let listed = breaks_listed held names cause.0 cause.1 cause.2 in
+      always ends Infeasible (λ o. never (printed o)) (accepted_stops held names before now own (stops never) known listed.tables listed.a0 listed.a listed.accepts never);
 }
 
 pub infeasible_comes : {held : Held} {names : Names} {before now : Faults} {output written : Type 0} {tells : List ℕ → Type 0} {out_same err_same : Type 0} {status : Status} → Ends held names before now output (Judges held names written) tells out_same err_same status → (output → Went held names) → (written → Went held names) → InfeasibleComes held names before now status
@@ -328,8 +329,7 @@ writes_listed held names written went refusal says = absurd says
 
 writes_feasible : (held : Held) (names : Names) (before now : Faults) (written : Type 0) (refusal : Refusal) → Says held names before now (OnlyWrites written) refusal → status_of refusal ≢ Infeasible
 unfolding status_of
-writes_feasible held names before now written (InitialBroken cause) says e = says
-writes_feasible held names before now written (ChangedBroken cause) says e = says
+writes_feasible held names before now written (Broken which cause) says e = says
 writes_feasible held names before now written refusal says e = cc
 
 pub never_infeasible : {held : Held} {names : Names} {before now : Faults} {output written : Type 0} {tells : List ℕ → Type 0} {out_same err_same : Type 0} {status : Status} → Ends held names before now output (OnlyWrites written) tells out_same err_same status → status ≢ Infeasible

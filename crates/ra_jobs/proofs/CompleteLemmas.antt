@@ -7,7 +7,8 @@ use Rattle.ra_model_read.specs.ModelText.{model_refusal}
 use Rattle.ra_assign.specs.Lists.{assign_refusal}
 use Rattle.ra_assign.specs.ClosedLists.{closed_refusal}
 use Rattle.ra_jobs.specs.declared.refusals.Refusal.{Refusal}
-use Rattle.ra_jobs.specs.declared.refusals.Refusal.TheVariants.{Read, Model, Closed, Initial, Changed, InitialBroken, ChangedBroken, Write, Memory}
+use Rattle.ra_jobs.specs.declared.refusals.Refusal.TheVariants.{Read, Model, Closed, Assign, Broken, Write, Memory}
+use Rattle.ra_jobs.specs.declared.refusals.Role.TheVariants as role
 use Rattle.ra_jobs.specs.declared.status.Status.{Status}
 use Rattle.ra_jobs.specs.declared.status.Status.TheVariants.{Done, ReadFault, WriteFault, NoMemory}
 use Rattle.ra_jobs.specs.Files.{Held, Faults, Names}
@@ -29,10 +30,10 @@ own_left held names before now own valid sound (Model fault) says = absurd (cont
 own_left held names before now own valid sound (Closed fault) says =
     let accepted = valid.closed says.name says.named says.model says.read in
     absurd (contradiction (held says.name) accepted.0 (λ bytes. closed_refusal bytes says.model) fault accepted.1 accepted.2 says.refused)
-own_left held names before now own valid sound (Initial fault) says =
+own_left held names before now own valid sound (Assign role.Initial fault) says =
     let accepted = valid.initial says.name says.named says.tables says.instance in
     absurd (contradiction (held says.name) accepted.0 (λ bytes. assign_refusal bytes says.tables) fault accepted.1 accepted.2 says.refused.refused)
-own_left held names before now own valid sound (Changed fault) says =
+own_left held names before now own valid sound (Assign role.Changed fault) says =
     let accepted = valid.changed says.name says.named says.tables says.instance in
     absurd (contradiction (held says.name) accepted.0 (λ bytes. assign_refusal bytes says.tables) fault accepted.1 accepted.2 says.refused.refused)
 own_left held names before now own valid sound Memory says = inr refl
@@ -71,11 +72,11 @@ complete {held} {names} {before} {now} {printed} {own} {tells} {out_same} {err_s
 
 -- over feasible lists no list breaks a constraint
 pub judges_none : (held : Held) (names : Names) (written : Type 0) → AreValid held names → (written → ⊥) → (refusal : Refusal) → Judges held names written refusal → ⊥
-judges_none held names written valid whole (InitialBroken cause) says =
+judges_none held names written valid whole (Broken role.Initial cause) says =
     let none = unbroken_from_feasible says.tables says.a0 says.a0 (valid.initial says.named says.tables says.a0 says.a says.accepts) in
     let both : None ≡ Some cause = sym none ∙ says.broken in
     cc
-judges_none held names written valid whole (ChangedBroken cause) says =
+judges_none held names written valid whole (Broken role.Changed cause) says =
     let none = unbroken_from_feasible says.tables says.a0 says.a (valid.changed says.named says.tables says.a0 says.a says.accepts) in
     let both : None ≡ Some cause = sym none ∙ says.broken in
     cc

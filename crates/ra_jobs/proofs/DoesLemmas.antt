@@ -87,7 +87,7 @@ comes_not held names before now own out_same status is same = record {
   read_fault = λ e. absurd (let both : NoMemory ≡ ReadFault = sym is ∙ e in cc);
   bad_model = record { only = λ e. absurd (let both : NoMemory ≡ BadModel = sym is ∙ e in cc); always = λ known cause. inr is };
   bad_closed = record { only = λ e. absurd (let both : NoMemory ≡ BadClosed = sym is ∙ e in cc); always = λ known cause. inr is };
-  bad_assignment = record { only = λ e. absurd (let both : NoMemory ≡ BadAssignment = sym is ∙ e in cc); initial = λ known cause. inr is; changed = λ known cause. inr is };
+  bad_assignment = record { only = λ e. absurd (let both : NoMemory ≡ BadAssignment = sym is ∙ e in cc); always = λ which known cause. inr is };
   write_fault = λ e. absurd (let both : NoMemory ≡ WriteFault = sym is ∙ e in cc);
   untouched = λ _ _ _. same;
 }

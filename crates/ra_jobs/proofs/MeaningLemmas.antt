@@ -19,7 +19,9 @@ use Rattle.ra_assign.specs.ClosedLists.{closed_refusal, IsClosedOf}
 use Rattle.ra_assign.proofs.AssignLemmas.{assign_accepts}
 use Rattle.ra_assign.proofs.ClosedLemmas.{closed_accepts}
 use Rattle.ra_jobs.specs.Files.{Held, Names, ModelIs, CloseIs, InstanceIs, NamedListIs, Accepts}
-use Rattle.ra_jobs.specs.Refusals.{ModelRefused, ListRefused, ClosedRefused, InitialRefused, ChangedRefused, InitialBreaks, ChangedBreaks}
+use Rattle.ra_jobs.specs.declared.refusals.Role.{Role}
+use Rattle.ra_jobs.specs.declared.refusals.Role.TheVariants as role
+use Rattle.ra_jobs.specs.Refusals.{ModelRefused, ListRefused, ClosedRefused, InitialRefused, ChangedRefused, RoleRefused, InitialBreaks, ChangedBreaks}
 use Rattle.ra_jobs.proofs.RowLemmas.{bare_raw, raw_same}
 use Rattle.ra_jobs.proofs.BareLemmas.{bare, bare_closed, machines_bare, closed_list_bare, assign_bare, broken_bare}
 
@@ -111,6 +113,10 @@ no_initial held names model closed initial fault refused i a0 instance list = no
 pub no_changed : (held : Held) (names : Names) → IsSome (held names.model) → Told held names.closed → Told held names.changed → (fault : AssignFault) → ChangedRefused held names fault → (i : Tables) (a : List Machine) → InstanceIs held names.model names.closed i → NamedListIs held names.changed i a → ⊥
 no_changed held names model closed changed fault refused i a instance list = no_list held names.changed changed refused.name refused.named refused.tables i
     (instances_same held names.model names.closed model closed refused.tables i refused.instance instance) fault refused.refused a list
+
+pub no_role : (held : Held) (names : Names) → IsSome (held names.model) → Told held names.closed → Told held names.initial → Told held names.changed → (which : Role) (fault : AssignFault) → RoleRefused held names which fault → (i : Tables) (a0 a : List Machine) → Accepts held names i a0 a → ⊥
+no_role held names model closed initial changed role.Initial fault refused i a0 a accepts = no_initial held names model closed initial fault refused i a0 accepts.instance accepts.initial
+no_role held names model closed initial changed role.Changed fault refused i a0 a accepts = no_changed held names model closed changed fault refused i a accepts.instance accepts.changed
 
 pub lists_same : (held : Held) (named : Option (List ℕ)) → Told held named → IsSome named → (i j : Tables) (a b : List Machine) → NamedListIs held named i a → NamedListIs held named j b → a ≡ b
 lists_same held None told some i j a b one two = absurd (cc)

@@ -21,7 +21,8 @@ use Rattle.ra_report.specs.RepairTexts.{text_of_repair}
 use Rattle.ra_io.specs.Outside.{Reading, Took}
 use Rattle.ra_jobs.specs.declared.refusals.File.TheVariants as file
 use Rattle.ra_jobs.specs.declared.refusals.Refusal.{Refusal}
-use Rattle.ra_jobs.specs.declared.refusals.Refusal.TheVariants.{Read, Model, Closed, Initial, Changed, InitialBroken, ChangedBroken, Unrepaired as Left, Write, Memory}
+use Rattle.ra_jobs.specs.declared.refusals.Refusal.TheVariants.{Read, Model, Closed, Assign, Broken, Unrepaired as Left, Write, Memory}
+use Rattle.ra_jobs.specs.declared.refusals.Role.TheVariants as role
 use Rattle.ra_jobs.specs.declared.status.Status.{Status}
 use Rattle.ra_jobs.specs.declared.status.Status.TheVariants.{Done, Infeasible, Unrepaired, WriteFault, NoMemory}
 use Rattle.ra_jobs.specs.Comes.{KnownTo}
@@ -128,8 +129,8 @@ own_known held model closed initial before now own known i a0 accepts (Read file
 own_known held model closed initial before now own known i a0 accepts (Read file.Edits) says = absurd (let none = says.named in cc)
 own_known held model closed initial before now own known i a0 accepts (Model fault) says = absurd (no_model held model (known.0 tt).0 fault says accepts.instance.model accepts.instance.read)
 own_known held model closed initial before now own known i a0 accepts (Closed fault) says = absurd (no_closed held model closed (known.0 tt).0 (told_of held closed _ known.1) fault says i accepts.instance)
-own_known held model closed initial before now own known i a0 accepts (Initial fault) says = absurd (no_initial held (solve_names model closed initial) (known.0 tt).0 (told_of held closed _ known.1) (told_of held (Some initial) _ known.2) fault says i a0 accepts.instance accepts.initial)
-own_known held model closed initial before now own known i a0 accepts (Changed fault) says = absurd (let none = says.named in cc)
+own_known held model closed initial before now own known i a0 accepts (Assign role.Initial fault) says = absurd (no_initial held (solve_names model closed initial) (known.0 tt).0 (told_of held closed _ known.1) (told_of held (Some initial) _ known.2) fault says i a0 accepts.instance accepts.initial)
+own_known held model closed initial before now own known i a0 accepts (Assign role.Changed fault) says = absurd (let none = says.named in cc)
 own_known held model closed initial before now own known i a0 accepts Memory says = inr refl
 own_known held model closed initial before now own known i a0 accepts refusal says = inl says
 
@@ -154,8 +155,7 @@ own_case held names l prints breaks status refusal is says = absurd says
 
 own_infeasible : (held : Held) (names : Names) (before now : Faults) (l : Lots) (prints breaks : List ℕ → Type 0) (refusal : Refusal) → Says held names before now (RepairOwn held names l prints breaks) refusal → status_of refusal ≢ Infeasible
 unfolding status_of
-own_infeasible held names before now l prints breaks (InitialBroken cause) says e = says
-own_infeasible held names before now l prints breaks (ChangedBroken cause) says e = says
+own_infeasible held names before now l prints breaks (Broken which cause) says e = says
 own_infeasible held names before now l prints breaks refusal says e = absurd (let both : status_of refusal ≡ Infeasible = e in cc)
 
 own_unrepaired : (held : Held) (names : Names) (before now : Faults) (l : Lots) (prints breaks : List ℕ → Type 0) (refusal : Refusal) → Says held names before now (RepairOwn held names l prints breaks) refusal → status_of refusal ≡ Unrepaired → (cause : Cause) × Tried held names l (Some cause) (λ text. Unit {0})

@@ -1,5 +1,5 @@
 -- What the stages of a job say where they refuse, from what the readers say.
-use Rattle.std.proofs.Common.{◌≡◌, ℕ, ◌<◌, ◌≤◌, ◌-◌, ◌^◌, List, Option, Some, None, IfSome, IsSome, refl, sym, inl, inr, ⊎_elim, arith}
+use Rattle.std.proofs.Common.{◌≡◌, ℕ, ◌<◌, ◌≤◌, ◌-◌, ◌^◌, List, Option, Some, None, IfSome, IsSome, refl, sym, subst, inl, inr, ⊎_elim, arith}
 use Rattle.std.specs.Prelude.{IsTrue}
 use Rattle.ra_base.specs.declared.costs.Parts.{Parts}
 use Rattle.ra_base.specs.declared.ids.Machine.{Machine}
@@ -16,15 +16,15 @@ use Rattle.ra_assign.specs.declared.faults.ClosedFault.{ClosedFault}
 use Rattle.ra_assign.specs.declared.faults.ClosedFault.TheVariants as closer
 use Rattle.ra_assign.specs.Answers.{IsAssignRefusal, IsClosedRefusal}
 use Rattle.ra_report.specs.Texts.{parts_text}
-use Rattle.ra_jobs.specs.declared.lists.Which.{Which}
-use Rattle.ra_jobs.specs.declared.lists.Which.TheVariants as which
 use Rattle.ra_jobs.specs.declared.refusals.File.TheVariants as file
 use Rattle.ra_jobs.specs.declared.refusals.Refusal.{Refusal}
-use Rattle.ra_jobs.specs.declared.refusals.Refusal.TheVariants.{Read, Model, Closed, Initial, Changed, InitialBroken, ChangedBroken, Write, Memory}
+use Rattle.ra_jobs.specs.declared.refusals.Refusal.TheVariants.{Read, Model, Closed, Assign, Broken, Write, Memory}
+use Rattle.ra_jobs.specs.declared.refusals.Role.{Role}
+use Rattle.ra_jobs.specs.declared.refusals.Role.TheVariants as role
 use Rattle.ra_jobs.specs.Files.{Held, Faults, Names, name_of, check_names, solve_names, bound_names, ModelIs, InstanceIs, Accepts}
 use Rattle.ra_jobs.specs.Outputs.{Printed, BoundIs, BoundRead}
-use Rattle.ra_jobs.specs.Refusals.{Says, Judges, OnlyWrites, Nothing, CanTell}
-use Rattle.ra_jobs.specs.Stages.{model_as, closed_as, list_as, ModelSays, ClosedSays, SourceSays, InitialSays, NamedSays, ListSays, ListsSay, JudgeSays, StartSays, IsClosing, IsList, IsStart, ReadsLists, Passed, Judged}
+use Rattle.ra_jobs.specs.Refusals.{Says, Judges, OnlyWrites, Nothing, CanTell, ReadFailed, RoleRefused}
+use Rattle.ra_jobs.specs.Stages.{model_as, closed_as, list_as, ModelSays, ClosedSays, SourceSays, NamedSays, ListSays, ListsSay, JudgeSays, StartSays, IsClosing, IsList, IsStart, ReadsLists, Passed, Judged}
 
 pub model_says : (held : Held) (name : List ℕ) (before now : Faults) (fault : ModelFault) → (fault ≡ reader.ReadFault → Rose (before name) (now name)) → (IsTrue (is_by_content fault) → IfSome (held name) (λ bytes. model_refusal bytes ≡ Some fault)) → ModelSays held name before now (model_as fault)
 unfolding is_by_content
@@ -46,23 +46,15 @@ closed_says held name i before now closer.TooLong rose told = ((λ e. cc, λ e. 
 closed_says held name i before now (closer.NoMachine at value) rose told = ((λ e. cc, λ e. cc), told)
 closed_says held name i before now closer.NoMemory rose told = tt
 
-pub list_says : (w : Which) (held : Held) (name : List ℕ) (i : Tables) (before now : Faults) (fault : AssignFault) → (fault ≡ assigner.ReadFault → Rose (before name) (now name)) → IfSome (held name) (λ bytes. IsAssignRefusal bytes i fault) → ListSays w held name i before now (list_as w fault)
-list_says which.Initial held name i before now assigner.ReadFault rose told = rose refl
-list_says which.Initial held name i before now (assigner.BadByte at byte) rose told = record { in_file = (λ e. cc, λ e. cc); refused = told }
-list_says which.Initial held name i before now (assigner.TooLarge at) rose told = record { in_file = (λ e. cc, λ e. cc); refused = told }
-list_says which.Initial held name i before now assigner.TooLong rose told = record { in_file = (λ e. cc, λ e. cc); refused = told }
-list_says which.Initial held name i before now (assigner.Missing process) rose told = record { in_file = (λ e. cc, λ e. cc); refused = told }
-list_says which.Initial held name i before now (assigner.NoMachine process value) rose told = record { in_file = (λ e. cc, λ e. cc); refused = told }
-list_says which.Initial held name i before now (assigner.Extra at) rose told = record { in_file = (λ e. cc, λ e. cc); refused = told }
-list_says which.Initial held name i before now assigner.NoMemory rose told = tt
-list_says which.Changed held name i before now assigner.ReadFault rose told = rose refl
-list_says which.Changed held name i before now (assigner.BadByte at byte) rose told = record { in_file = (λ e. cc, λ e. cc); refused = told }
-list_says which.Changed held name i before now (assigner.TooLarge at) rose told = record { in_file = (λ e. cc, λ e. cc); refused = told }
-list_says which.Changed held name i before now assigner.TooLong rose told = record { in_file = (λ e. cc, λ e. cc); refused = told }
-list_says which.Changed held name i before now (assigner.Missing process) rose told = record { in_file = (λ e. cc, λ e. cc); refused = told }
-list_says which.Changed held name i before now (assigner.NoMachine process value) rose told = record { in_file = (λ e. cc, λ e. cc); refused = told }
-list_says which.Changed held name i before now (assigner.Extra at) rose told = record { in_file = (λ e. cc, λ e. cc); refused = told }
-list_says which.Changed held name i before now assigner.NoMemory rose told = tt
+pub list_says : (which : Role) (held : Held) (name : List ℕ) (i : Tables) (before now : Faults) (fault : AssignFault) → (fault ≡ assigner.ReadFault → Rose (before name) (now name)) → IfSome (held name) (λ bytes. IsAssignRefusal bytes i fault) → ListSays which held name i before now (list_as which fault)
+list_says which held name i before now assigner.ReadFault rose told = (refl, rose refl)
+list_says which held name i before now (assigner.BadByte at byte) rose told = (refl, record { in_file = (λ e. cc, λ e. cc); refused = told })
+list_says which held name i before now (assigner.TooLarge at) rose told = (refl, record { in_file = (λ e. cc, λ e. cc); refused = told })
+list_says which held name i before now assigner.TooLong rose told = (refl, record { in_file = (λ e. cc, λ e. cc); refused = told })
+list_says which held name i before now (assigner.Missing process) rose told = (refl, record { in_file = (λ e. cc, λ e. cc); refused = told })
+list_says which held name i before now (assigner.NoMachine process value) rose told = (refl, record { in_file = (λ e. cc, λ e. cc); refused = told })
+list_says which held name i before now (assigner.Extra at) rose told = (refl, record { in_file = (λ e. cc, λ e. cc); refused = told })
+list_says which held name i before now assigner.NoMemory rose told = tt
 
 -- a count that rose later rose
 pub rose_later : (a b c : ℕ) → a ≤ b → Rose b c → Rose a c
@@ -101,15 +93,20 @@ says_source held names before now own (Closed fault) says = says
 says_source held names before now own Memory says = tt
 says_source held names before now own refusal says = absurd says
 
+-- the initial list
+
+pub says_initial : (held later : Held) (model : List ℕ) (closed : Option (List ℕ)) (initial : List ℕ) (i : Tables) (first before now : Faults) (own : Refusal → Type 0) → ((other : List ℕ) → later other ≡ held other) → ((other : List ℕ) → first other ≤ before other) → InstanceIs held model closed i → (refusal : Refusal) → ListSays role.Initial later initial i before now refusal → Says held (solve_names model closed initial) first now own refusal
+unfolding name_of
+says_initial held later model closed initial i first before now own same never_fell instance (Read f) says = subst (ReadFailed held (solve_names model closed initial) first now) (sym says.0) (record { earlier = (i, instance); named = refl; rose = rose_later (first initial) (before initial) (now initial) (never_fell initial) says.1 })
+says_initial held later model closed initial i first before now own same never_fell instance (Assign which fault) says = subst (λ (w : Role). RoleRefused held (solve_names model closed initial) w fault) (sym says.0) (record { tables = i; instance = instance; name = initial; named = refl; refused = record { in_file = says.1.in_file; refused = rw (sym (same initial)) says.1.refused } })
+says_initial held later model closed initial i first before now own same never_fell instance Memory says = tt
+says_initial held later model closed initial i first before now own same never_fell instance refusal says = absurd says
+
 -- the bound of the files
 
 pub says_named : (held later : Held) (model : List ℕ) (closed initial : Option (List ℕ)) (i : Tables) (first before now : Faults) (own : Refusal → Type 0) → ((other : List ℕ) → later other ≡ held other) → ((other : List ℕ) → first other ≤ before other) → InstanceIs held model closed i → (refusal : Refusal) → NamedSays later initial i before now refusal → Says held (bound_names model closed initial) first now own refusal
-unfolding name_of
 says_named held later model closed None i first before now own same never_fell instance refusal says = absurd says
-says_named held later model closed (Some initial) i first before now own same never_fell instance (Read file.Initial) says = record { earlier = (i, instance); named = refl; rose = rose_later (first initial) (before initial) (now initial) (never_fell initial) says }
-says_named held later model closed (Some initial) i first before now own same never_fell instance (Initial fault) says = record { tables = i; instance = instance; name = initial; named = refl; refused = record { in_file = says.in_file; refused = rw (sym (same initial)) says.refused } }
-says_named held later model closed (Some initial) i first before now own same never_fell instance Memory says = tt
-says_named held later model closed (Some initial) i first before now own same never_fell instance refusal says = absurd says
+says_named held later model closed (Some initial) i first before now own same never_fell instance refusal says = says_initial held later model closed initial i first before now own same never_fell instance refusal says
 
 pub bound_read : (held later : Held) (model : List ℕ) (closed initial : Option (List ℕ)) (i : Tables) (bound : Bound) → ((other : List ℕ) → later other ≡ held other) → InstanceIs held model closed i → BoundIs later initial i bound → BoundRead held (bound_names model closed initial) bound
 bound_read held later model closed None i bound same instance is = record { tables = i; instance = instance; is = is }
@@ -121,14 +118,14 @@ pub says_lists : (held later : Held) (model : List ℕ) (closed : Option (List �
 unfolding name_of
 says_lists held later model closed initial changed i first before now own same never_fell instance (Read file.Initial) says = record { earlier = (i, instance); named = refl; rose = rose_later (first initial) (before initial) (now initial) (never_fell initial) says }
 says_lists held later model closed initial changed i first before now own same never_fell instance (Read file.Changed) says = record { earlier = (i, says.0, instance, rw (sym (same initial)) says.1); named = refl; rose = rose_later (first changed) (before changed) (now changed) (never_fell changed) says.2 }
-says_lists held later model closed initial changed i first before now own same never_fell instance (Initial fault) says = record { tables = i; instance = instance; name = initial; named = refl; refused = record { in_file = says.in_file; refused = rw (sym (same initial)) says.refused } }
-says_lists held later model closed initial changed i first before now own same never_fell instance (Changed fault) says = record { tables = i; a0 = says.0; instance = instance; initial = rw (sym (same initial)) says.1; name = changed; named = refl; refused = record { in_file = says.2.in_file; refused = rw (sym (same changed)) says.2.refused } }
+says_lists held later model closed initial changed i first before now own same never_fell instance (Assign role.Initial fault) says = record { tables = i; instance = instance; name = initial; named = refl; refused = record { in_file = says.in_file; refused = rw (sym (same initial)) says.refused } }
+says_lists held later model closed initial changed i first before now own same never_fell instance (Assign role.Changed fault) says = record { tables = i; a0 = says.0; instance = instance; initial = rw (sym (same initial)) says.1; name = changed; named = refl; refused = record { in_file = says.2.in_file; refused = rw (sym (same changed)) says.2.refused } }
 says_lists held later model closed initial changed i first before now own same never_fell instance Memory says = tt
 says_lists held later model closed initial changed i first before now own same never_fell instance refusal says = absurd says
 
 pub says_judge : (held : Held) (names : Names) (i : Tables) (a0 a : List Machine) (first now : Faults) (written : Type 0) → IsSome names.initial → IsSome names.changed → Accepts held names i a0 a → (refusal : Refusal) → JudgeSays i a0 a refusal → Says held names first now (Judges held names written) refusal
-says_judge held names i a0 a first now written has_initial has_changed accepts (InitialBroken cause) says = record { tables = i; a0 = a0; a = a; named = has_initial; accepts = accepts; broken = says }
-says_judge held names i a0 a first now written has_initial has_changed accepts (ChangedBroken cause) says = record { tables = i; a0 = a0; a = a; start_named = has_initial; named = has_changed; accepts = accepts; initial = says.0; broken = says.1 }
+says_judge held names i a0 a first now written has_initial has_changed accepts (Broken role.Initial cause) says = record { tables = i; a0 = a0; a = a; named = has_initial; accepts = accepts; broken = says }
+says_judge held names i a0 a first now written has_initial has_changed accepts (Broken role.Changed cause) says = record { tables = i; a0 = a0; a = a; start_named = has_initial; named = has_changed; accepts = accepts; initial = says.0; broken = says.1 }
 says_judge held names i a0 a first now written has_initial has_changed accepts Memory says = tt
 says_judge held names i a0 a first now written has_initial has_changed accepts refusal says = absurd says
 
@@ -149,13 +146,6 @@ printed held names parts way passed text = record { tables = passed.tables; a0 =
 
 -- the initial list of a run
 
-pub says_initial : (held later : Held) (model : List ℕ) (closed : Option (List ℕ)) (initial : List ℕ) (i : Tables) (first before now : Faults) (own : Refusal → Type 0) → ((other : List ℕ) → later other ≡ held other) → ((other : List ℕ) → first other ≤ before other) → InstanceIs held model closed i → (refusal : Refusal) → InitialSays later initial i before now refusal → Says held (solve_names model closed initial) first now own refusal
-unfolding name_of
-says_initial held later model closed initial i first before now own same never_fell instance (Read file.Initial) says = record { earlier = (i, instance); named = refl; rose = rose_later (first initial) (before initial) (now initial) (never_fell initial) says }
-says_initial held later model closed initial i first before now own same never_fell instance (Initial fault) says = record { tables = i; instance = instance; name = initial; named = refl; refused = record { in_file = says.in_file; refused = rw (sym (same initial)) says.refused } }
-says_initial held later model closed initial i first before now own same never_fell instance Memory says = tt
-says_initial held later model closed initial i first before now own same never_fell instance refusal says = absurd says
-
 -- the instance and the initial list were read
 pub starts : (held later : Held) (model : List ℕ) (closed : Option (List ℕ)) (initial : List ℕ) (i : Tables) (a0 : List Machine) → ((other : List ℕ) → later other ≡ held other) → InstanceIs held model closed i → IsList later initial i a0 → IsStart held (solve_names model closed initial) i a0
 starts held later model closed initial i a0 same instance list = record {
@@ -165,7 +155,7 @@ starts held later model closed initial i a0 same instance list = record {
 
 -- what is said of the initial list is said of both
 pub judge_start_says : (i : Tables) (a0 a : List Machine) (refusal : Refusal) → StartSays i a0 refusal → JudgeSays i a0 a refusal
-judge_start_says i a0 a (InitialBroken cause) says = says
+judge_start_says i a0 a (Broken role.Initial cause) says = says
 judge_start_says i a0 a Memory says = tt
 judge_start_says i a0 a refusal says = absurd says
 
@@ -175,14 +165,12 @@ pub says_more : (held : Held) (names : Names) (before now : Faults) (own more : 
 says_more held names before now own more step (Read f) says = says
 says_more held names before now own more step (Model fault) says = says
 says_more held names before now own more step (Closed fault) says = says
-says_more held names before now own more step (Initial fault) says = says
-says_more held names before now own more step (Changed fault) says = says
+says_more held names before now own more step (Assign which fault) says = says
 says_more held names before now own more step Memory says = says
 says_more held names before now own more step refusal says = step refusal says
 
 pub judges_more : (held : Held) (names : Names) (written more : Type 0) → (written → more) → (refusal : Refusal) → Judges held names written refusal → Judges held names more refusal
-judges_more held names written more step (InitialBroken cause) says = says
-judges_more held names written more step (ChangedBroken cause) says = says
+judges_more held names written more step (Broken which cause) says = says
 judges_more held names written more step Write says = step says
 judges_more held names written more step refusal says = says
 
@@ -204,14 +192,14 @@ pub can_tell : (held : Held) (names : Names) (before now : Faults) (own : Refusa
 can_tell held names before now own tells (Read f) says = says.named
 can_tell held names before now own tells (Model fault) says = says.in_file
 can_tell held names before now own tells (Closed fault) says = (some_of names.closed says.name says.named, says.in_file)
-can_tell held names before now own tells (Initial fault) says = (some_of names.initial says.name says.named, says.refused.in_file)
-can_tell held names before now own tells (Changed fault) says = (some_of names.changed says.name says.named, says.refused.in_file)
+can_tell held names before now own tells (Assign role.Initial fault) says = (some_of names.initial says.name says.named, says.refused.in_file)
+can_tell held names before now own tells (Assign role.Changed fault) says = (some_of names.changed says.name says.named, says.refused.in_file)
 can_tell held names before now own tells Memory says = tt
 can_tell held names before now own tells refusal says = tells refusal says
 
 judges_tell : (held : Held) (names : Names) (written : Type 0) (refusal : Refusal) → Judges held names written refusal → CanTell names refusal
-judges_tell held names written (InitialBroken cause) says = says.named
-judges_tell held names written (ChangedBroken cause) says = says.named
+judges_tell held names written (Broken role.Initial cause) says = says.named
+judges_tell held names written (Broken role.Changed cause) says = says.named
 judges_tell held names written Write says = tt
 judges_tell held names written refusal says = absurd says
 

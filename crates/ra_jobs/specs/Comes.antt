@@ -9,10 +9,11 @@ use Rattle.ra_jobs.specs.declared.refusals.File.{File}
 use Rattle.ra_jobs.specs.declared.refusals.File.TheVariants as file
 use Rattle.ra_jobs.specs.declared.refusals.Refusal.{Refusal}
 use Rattle.ra_jobs.specs.declared.refusals.Refusal.TheVariants.{Write}
+use Rattle.ra_jobs.specs.declared.refusals.Role.{Role}
 use Rattle.ra_jobs.specs.declared.status.Status.{Status}
 use Rattle.ra_jobs.specs.declared.status.Status.TheVariants.{Done, ReadFault, BadModel, BadAssignment, Infeasible, WriteFault, NoMemory, BadClosed, Unrepaired}
-use Rattle.ra_jobs.specs.Files.{Held, Faults, Names, name_of, IsNamed}
-use Rattle.ra_jobs.specs.Refusals.{ReadFailed, ModelRefused, ClosedRefused, InitialRefused, ChangedRefused, InitialBreaks, ChangedBreaks}
+use Rattle.ra_jobs.specs.Files.{Held, Faults, Names, name_of, file_of, IsNamed}
+use Rattle.ra_jobs.specs.Refusals.{ReadFailed, ModelRefused, ClosedRefused, RoleRefused, RoleBreaks}
 
 -- where a job has this file, its bytes are told, and no fault of it was counted
 abbrev pub IsKnown : Held → Names → Faults → Faults → File → Type 0
@@ -62,12 +63,9 @@ BadClosedComes held names before now status =
 pub record BadAssignmentComes (held : Held) (names : Names) (before now : Faults) (status : Status)
     : Type 0 where
   pub only : status ≡ BadAssignment
-      → (fault : AssignFault) × (InitialRefused held names fault ⊎ ChangedRefused held names fault)
-  pub initial : KnownTo held names before now file.Initial
-      → ((fault : AssignFault) × InitialRefused held names fault)
-      → (status ≡ BadAssignment) ⊎ (status ≡ NoMemory)
-  pub changed : KnownTo held names before now file.Changed
-      → ((fault : AssignFault) × ChangedRefused held names fault)
+      → (which : Role) × (fault : AssignFault) × RoleRefused held names which fault
+  pub always : (which : Role) → KnownTo held names before now (file_of which)
+      → ((fault : AssignFault) × RoleRefused held names which fault)
       → (status ≡ BadAssignment) ⊎ (status ≡ NoMemory)
 
 -- each status of a refused job that any job may have, and where it comes. The status of refused memory is free, but nothing
@@ -86,4 +84,4 @@ pub record Comes (held : Held) (names : Names) (before now : Faults) (own : Refu
 abbrev pub InfeasibleComes : Held → Names → Faults → Faults → Status → Type 0
 InfeasibleComes held names before now status =
     Exactly status Infeasible (KnownTo held names before now file.Edits)
-    ((cause : Cause) × (InitialBreaks held names cause ⊎ ChangedBreaks held names cause))
+    ((which : Role) × (cause : Cause) × RoleBreaks held names which cause)

@@ -12,6 +12,8 @@ use Rattle.ra_assign.specs.ClosedLists.{IsClosedOf}
 use Rattle.ra_jobs.specs.declared.refusals.JobFiles.{JobFiles}
 use Rattle.ra_jobs.specs.declared.refusals.File.{File}
 use Rattle.ra_jobs.specs.declared.refusals.File.TheVariants as file
+use Rattle.ra_jobs.specs.declared.refusals.Role.{Role}
+use Rattle.ra_jobs.specs.declared.refusals.Role.TheVariants as role
 
 -- the files of a job by their names; those that a job doesn't have are not there. The list `changed` is the new one of a
 -- check, and the current one of edits
@@ -98,6 +100,11 @@ name_of names file.Initial = unwrap_or names.initial []
 name_of names file.Changed = unwrap_or names.changed []
 name_of names file.Report = unwrap_or names.report []
 name_of names file.Edits = unwrap_or names.edits []
+
+-- the file of each of the two lists
+abbrev pub file_of : Role → File
+file_of role.Initial = file.Initial
+file_of role.Changed = file.Changed
 
 -- a file is one of a job's
 abbrev pub IsNamed : Names → File → Type 0

@@ -6,8 +6,8 @@ use Rattle.ra_report.specs.declared.faults.Fault.TheVariants as fault
 use Rattle.ra_report.specs.FaultTexts.{fault_text}
 use Rattle.ra_jobs.specs.declared.refusals.File.TheVariants as file
 use Rattle.ra_jobs.specs.declared.refusals.Refusal.{Refusal}
-use Rattle.ra_jobs.specs.declared.refusals.Refusal.TheVariants.{Read, Model, Closed, Initial, Changed, Edits, InitialBroken, ChangedBroken, Unrepaired, Wrong, Write, Memory}
-use Rattle.ra_jobs.specs.Files.{Names, name_of}
+use Rattle.ra_jobs.specs.declared.refusals.Refusal.TheVariants.{Read, Model, Closed, Assign, Edits, Broken, Unrepaired, Wrong, Write, Memory}
+use Rattle.ra_jobs.specs.Files.{Names, name_of, file_of}
 
 -- a name that is lent: from where is no matter of its line
 abbrev pub lent : List ℕ → Bor (List ℕ)
@@ -18,11 +18,9 @@ unfoldable pub fault_of : Names → Refusal → Fault
 fault_of names (Read f) = fault.Read (lent (name_of names f))
 fault_of names (Model why) = fault.Model why
 fault_of names (Closed why) = fault.Closed (lent (name_of names file.Closed)) why
-fault_of names (Initial why) = fault.Assign (lent (name_of names file.Initial)) why
-fault_of names (Changed why) = fault.Assign (lent (name_of names file.Changed)) why
+fault_of names (Assign which why) = fault.Assign (lent (name_of names (file_of which))) why
 fault_of names (Edits why) = fault.Edits (lent (name_of names file.Edits)) why
-fault_of names (InitialBroken cause) = fault.Infeasible (lent (name_of names file.Initial)) cause
-fault_of names (ChangedBroken cause) = fault.Infeasible (lent (name_of names file.Changed)) cause
+fault_of names (Broken which cause) = fault.Infeasible (lent (name_of names (file_of which))) cause
 fault_of names (Wrong line) = fault.Wrong line
 fault_of names (Unrepaired cause) = fault.Unrepaired (lent (name_of names file.Initial)) cause
 fault_of names Write = fault.Write

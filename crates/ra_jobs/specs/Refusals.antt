@@ -16,8 +16,10 @@ use Rattle.ra_report.specs.FaultTexts.{IsInModel, IsInClosed, IsInList, IsInEdit
 use Rattle.ra_jobs.specs.declared.refusals.File.{File}
 use Rattle.ra_jobs.specs.declared.refusals.File.TheVariants as file
 use Rattle.ra_jobs.specs.declared.refusals.Refusal.{Refusal}
-use Rattle.ra_jobs.specs.declared.refusals.Refusal.TheVariants.{Read, Model, Closed, Initial, Changed, Edits, InitialBroken, ChangedBroken, Unrepaired, Write, Memory}
-use Rattle.ra_jobs.specs.Files.{Held, Faults, Names, name_of, IsNamed, ModelIs, InstanceIs, NamedListIs, Accepts, Passes}
+use Rattle.ra_jobs.specs.declared.refusals.Refusal.TheVariants.{Read, Model, Closed, Assign, Edits, Broken, Unrepaired, Write, Memory}
+use Rattle.ra_jobs.specs.declared.refusals.Role.{Role}
+use Rattle.ra_jobs.specs.declared.refusals.Role.TheVariants as role
+use Rattle.ra_jobs.specs.Files.{Held, Faults, Names, name_of, file_of, IsNamed, ModelIs, InstanceIs, NamedListIs, Accepts, Passes}
 
 -- what was done before a file of the job is read: the model, then the closed list, then the initial list, then the new or
 -- current one, then the edits; a report is read once the initial list is known to be feasible
@@ -77,6 +79,11 @@ pub record ChangedRefused (held : Held) (names : Names) (fault : AssignFault) : 
   pub named : names.changed ≡ Some name
   pub refused : ListRefused held name tables fault
 
+-- so is the list of this role
+abbrev pub RoleRefused : Held → Names → Role → AssignFault → Type 0
+RoleRefused held names role.Initial fault = InitialRefused held names fault
+RoleRefused held names role.Changed fault = ChangedRefused held names fault
+
 -- the initial list breaks a constraint first, where all files were accepted
 pub record InitialBreaks (held : Held) (names : Names) (cause : Cause) : Type 0 where
   pub tables : Tables
@@ -97,21 +104,24 @@ pub record ChangedBreaks (held : Held) (names : Names) (cause : Cause) : Type 0 
   pub initial : Feasible tables a0 a0
   pub broken : first_broken tables a0 a ≡ Some cause
 
+-- so does the list of this role
+abbrev pub RoleBreaks : Held → Names → Role → Cause → Type 0
+RoleBreaks held names role.Initial cause = InitialBreaks held names cause
+RoleBreaks held names role.Changed cause = ChangedBreaks held names cause
+
 -- what each refusal says of the files of a job, whose counts of faults went from before to now. What is the job's own stands
 -- in `own`: what it says of its refusals beyond those of the model, of the closed list, of the lists and of memory
 abbrev pub Says : Held → Names → Faults → Faults → (Refusal → Type 0) → Refusal → Type 0
 Says held names before now own (Read f) = ReadFailed held names before now f
 Says held names before now own (Model fault) = ModelRefused held names.model fault
 Says held names before now own (Closed fault) = ClosedRefused held names.model names.closed fault
-Says held names before now own (Initial fault) = InitialRefused held names fault
-Says held names before now own (Changed fault) = ChangedRefused held names fault
+Says held names before now own (Assign which fault) = RoleRefused held names which fault
 Says held names before now own Memory = Unit {0}
 Says held names before now own refusal = own refusal
 
 -- the own refusals of a job whose lists have to be feasible, and which says `written` where writing its output failed
 abbrev pub Judges : Held → Names → Type 0 → Refusal → Type 0
-Judges held names written (InitialBroken cause) = InitialBreaks held names cause
-Judges held names written (ChangedBroken cause) = ChangedBreaks held names cause
+Judges held names written (Broken which cause) = RoleBreaks held names which cause
 Judges held names written Write = written
 Judges held names written refusal = ⊥
 
@@ -129,10 +139,8 @@ abbrev pub CanTell : Names → Refusal → Type 0
 CanTell names (Read f) = IsNamed names f
 CanTell names (Model fault) = IsInModel fault
 CanTell names (Closed fault) = IsSome names.closed × IsInClosed fault
-CanTell names (Initial fault) = IsSome names.initial × IsInList fault
-CanTell names (Changed fault) = IsSome names.changed × IsInList fault
+CanTell names (Assign which fault) = IsNamed names (file_of which) × IsInList fault
 CanTell names (Edits fault) = IsSome names.edits × IsInEdits fault
-CanTell names (InitialBroken cause) = IsSome names.initial
-CanTell names (ChangedBroken cause) = IsSome names.changed
+CanTell names (Broken which cause) = IsNamed names (file_of which)
 CanTell names (Unrepaired cause) = IsSome names.initial
 CanTell names refusal = Unit {0}

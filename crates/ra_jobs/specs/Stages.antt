@@ -16,13 +16,12 @@ use Rattle.ra_assign.specs.declared.faults.ClosedFault.{ClosedFault}
 use Rattle.ra_assign.specs.declared.faults.ClosedFault.TheVariants as closer
 use Rattle.ra_assign.specs.ClosedLists.{closed_refusal}
 use Rattle.ra_report.specs.FaultTexts.{IsInClosed}
-use Rattle.ra_jobs.specs.declared.lists.Which.{Which}
-use Rattle.ra_jobs.specs.declared.lists.Which.TheVariants as which
-use Rattle.ra_jobs.specs.declared.refusals.File.{File}
 use Rattle.ra_jobs.specs.declared.refusals.File.TheVariants as file
 use Rattle.ra_jobs.specs.declared.refusals.Refusal.{Refusal}
-use Rattle.ra_jobs.specs.declared.refusals.Refusal.TheVariants.{Read, Model, Closed, Initial, Changed, InitialBroken, ChangedBroken, Memory}
-use Rattle.ra_jobs.specs.Files.{Held, Faults, Names, ModelIs, CloseIs, ListIs, Accepts, Passes}
+use Rattle.ra_jobs.specs.declared.refusals.Refusal.TheVariants.{Read, Model, Closed, Assign, Broken, Memory}
+use Rattle.ra_jobs.specs.declared.refusals.Role.{Role}
+use Rattle.ra_jobs.specs.declared.refusals.Role.TheVariants as role
+use Rattle.ra_jobs.specs.Files.{Held, Faults, Names, file_of, ModelIs, CloseIs, ListIs, Accepts, Passes}
 use Rattle.ra_jobs.specs.Refusals.{ModelRefused, ListRefused, ClosedRefused}
 
 -- the instance with the machines of a told closed list closed
@@ -77,47 +76,34 @@ SourceSays held model closed before now (Closed fault) = ClosedRefused held mode
 SourceSays held model closed before now Memory = Unit {0}
 SourceSays held model closed before now refusal = ⊥
 
-abbrev pub InitialSays : Held → List ℕ → Tables → Faults → Faults → Refusal → Type 0
-InitialSays held name i before now (Read file.Initial) = Rose (before name) (now name)
-InitialSays held name i before now (Initial fault) = ListRefused held name i fault
-InitialSays held name i before now Memory = Unit {0}
-InitialSays held name i before now refusal = ⊥
+-- a refusal of the reader of lists, as one of a job
+abbrev pub list_as : Role → AssignFault → Refusal
+list_as which assigner.ReadFault = Read (file_of which)
+list_as which assigner.NoMemory = Memory
+list_as which fault = Assign which fault
 
--- where there is one
+-- one of the two lists
+abbrev pub ListSays : Role → Held → List ℕ → Tables → Faults → Faults → Refusal → Type 0
+ListSays which held name i before now (Read f) = (f ≡ file_of which) × Rose (before name) (now name)
+ListSays which held name i before now (Assign one fault) =
+    (one ≡ which) × ListRefused held name i fault
+ListSays which held name i before now Memory = Unit {0}
+ListSays which held name i before now refusal = ⊥
+
+-- the initial list, if one is named
 abbrev pub NamedSays : Held → Option (List ℕ) → Tables → Faults → Faults → Refusal → Type 0
 NamedSays held None i before now refusal = ⊥
-NamedSays held (Some name) i before now refusal = InitialSays held name i before now refusal
-
-abbrev pub ChangedSays : Held → List ℕ → Tables → Faults → Faults → Refusal → Type 0
-ChangedSays held name i before now (Read file.Changed) = Rose (before name) (now name)
-ChangedSays held name i before now (Changed fault) = ListRefused held name i fault
-ChangedSays held name i before now Memory = Unit {0}
-ChangedSays held name i before now refusal = ⊥
-
--- the file of a list, and a refusal of the reader of lists, as one of a job
-abbrev pub file_as : Which → File
-file_as which.Initial = file.Initial
-file_as which.Changed = file.Changed
-
-abbrev pub list_as : Which → AssignFault → Refusal
-list_as w assigner.ReadFault = Read (file_as w)
-list_as w assigner.NoMemory = Memory
-list_as which.Initial fault = Initial fault
-list_as which.Changed fault = Changed fault
-
-abbrev pub ListSays : Which → Held → List ℕ → Tables → Faults → Faults → Refusal → Type 0
-ListSays which.Initial held name i before now refusal = InitialSays held name i before now refusal
-ListSays which.Changed held name i before now refusal = ChangedSays held name i before now refusal
+NamedSays held (Some name) i before now refusal = ListSays role.Initial held name i before now refusal
 
 abbrev pub JudgeSays : Tables → List Machine → List Machine → Refusal → Type 0
-JudgeSays i a0 a (InitialBroken cause) = first_broken i a0 a0 ≡ Some cause
-JudgeSays i a0 a (ChangedBroken cause) = Feasible i a0 a0 × (first_broken i a0 a ≡ Some cause)
+JudgeSays i a0 a (Broken role.Initial cause) = first_broken i a0 a0 ≡ Some cause
+JudgeSays i a0 a (Broken role.Changed cause) = Feasible i a0 a0 × (first_broken i a0 a ≡ Some cause)
 JudgeSays i a0 a Memory = Unit {0}
 JudgeSays i a0 a refusal = ⊥
 
 -- the initial list alone
 abbrev pub StartSays : Tables → List Machine → Refusal → Type 0
-StartSays i a0 (InitialBroken cause) = first_broken i a0 a0 ≡ Some cause
+StartSays i a0 (Broken role.Initial cause) = first_broken i a0 a0 ≡ Some cause
 StartSays i a0 Memory = Unit {0}
 StartSays i a0 refusal = ⊥
 
@@ -138,8 +124,8 @@ abbrev pub ListsSay : Held → List ℕ → List ℕ → Tables → Faults → F
 ListsSay held first second i before now (Read file.Initial) = Rose (before first) (now first)
 ListsSay held first second i before now (Read file.Changed) =
     (a0 : List Machine) × ListIs held first i a0 × Rose (before second) (now second)
-ListsSay held first second i before now (Initial fault) = ListRefused held first i fault
-ListsSay held first second i before now (Changed fault) =
+ListsSay held first second i before now (Assign role.Initial fault) = ListRefused held first i fault
+ListsSay held first second i before now (Assign role.Changed fault) =
     (a0 : List Machine) × ListIs held first i a0 × ListRefused held second i fault
 ListsSay held first second i before now Memory = Unit {0}
 ListsSay held first second i before now refusal = ⊥

@@ -9,11 +9,9 @@ unfoldable pub status_of : Refusal → Status
 status_of (refusal.Read f) = ReadFault
 status_of (refusal.Model fault) = BadModel
 status_of (refusal.Closed fault) = BadClosed
-status_of (refusal.Initial fault) = BadAssignment
-status_of (refusal.Changed fault) = BadAssignment
+status_of (refusal.Assign which fault) = BadAssignment
 status_of (refusal.Edits fault) = BadEdits
-status_of (refusal.InitialBroken cause) = Infeasible
-status_of (refusal.ChangedBroken cause) = Infeasible
+status_of (refusal.Broken which cause) = Infeasible
 status_of (refusal.Wrong line) = Wrong
 status_of (refusal.Unrepaired cause) = Unrepaired
 status_of refusal.Write = WriteFault

@@ -8,11 +8,11 @@ ghost use Rattle.ra_jobs.specs.Files.{bound_names};
 ghost use Rattle.ra_jobs.specs.Output.{output};
 ghost use Rattle.ra_jobs.specs.Outputs.{BoundIs, BoundRead, bound_command};
 ghost use Rattle.ra_jobs.specs.Refusals.{Says, Nothing};
-ghost use Rattle.ra_jobs.specs.Stages.{InitialSays, NamedSays};
+ghost use Rattle.ra_jobs.specs.Stages.{ListSays, NamedSays};
 
-use crate::lists::{Which, read_list};
+use crate::lists::read_list;
 use crate::reading::read_instance;
-use crate::refusals::{JobFiles, Refusal};
+use crate::refusals::{JobFiles, Refusal, Role};
 use crate::refusing::finish;
 use crate::status::Status;
 use ra_base::{Assignment, Name, NoMemory};
@@ -122,12 +122,12 @@ fn bound_with<F: Files>(
     inst: &Instance,
 ) -> Result<Bound, Refusal>
     ensures read { IfOk result (BoundIs (F.held files.old) (Some initial.now) inst.now.tables) }
-    ensures refused { IfErr result (InitialSays (F.held files.old) initial.now inst.now.tables
+    ensures refused { IfErr result (ListSays Role.Initial (F.held files.old) initial.now inst.now.tables
         (F.faults files.old) (F.faults files.new)) }
     ensures kept { (other : List ℕ) → F.held files.new other ≡ F.held files.old other }
     ensures never_fall { (other : List ℕ) → F.faults files.old other ≤ F.faults files.new other }
 {
-    let a0 = read_list(alloc, files, Which::Initial, initial, inst)?;
+    let a0 = read_list(alloc, files, Role::Initial, initial, inst)?;
     match bound_from(alloc, inst, &a0) {
         Ok(bound) => Ok(bound),
         Err(NoMemory) => Err(Refusal::Memory),

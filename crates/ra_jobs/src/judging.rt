@@ -5,7 +5,7 @@ ghost use Rattle.ra_model.specs.Broken.{first_broken};
 ghost use Rattle.ra_model.specs.Feasible.{Feasible};
 ghost use Rattle.ra_jobs.specs.Stages.{Judged, JudgeSays, StartSays};
 
-use crate::refusals::Refusal;
+use crate::refusals::{Refusal, Role};
 use ra_base::{Assignment, Parts};
 use ra_check::{Scratch, first_broken, parts};
 use ra_model::Instance;
@@ -26,7 +26,7 @@ pub fn judge(
 {
     let mut scratch = judge_start(alloc, inst, initial)?;
     match first_broken(inst, initial, changed, &mut scratch) {
-        Some(cause) => Err(Refusal::ChangedBroken(cause)),
+        Some(cause) => Err(Refusal::Broken(Role::Changed, cause)),
         None => Ok(parts(inst, initial, changed, &mut scratch)),
     }
 }
@@ -45,7 +45,7 @@ pub fn judge_start(alloc: Global, inst: &Instance, initial: &Assignment) -> Resu
         return Err(Refusal::Memory);
     };
     match first_broken(inst, initial, initial, &mut scratch) {
-        Some(cause) => Err(Refusal::InitialBroken(cause)),
+        Some(cause) => Err(Refusal::Broken(Role::Initial, cause)),
         None => Ok(scratch),
     }
 }

@@ -20,7 +20,7 @@ pub use check::check_run;
 pub use judging::{judge, judge_start};
 pub use lists::{Lists, read_lists};
 pub use reading::read_instance;
-pub use refusals::{File, JobFiles, Refusal};
+pub use refusals::{File, JobFiles, Refusal, Role};
 pub use refusing::{finish, put_line, refuse_memory, refuse_unread, refuse_words};
 pub use repair::repair_run;
 pub use start::{Start, read_start};

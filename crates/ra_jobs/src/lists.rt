@@ -1,61 +1,41 @@
 ghost use Rattle.std.specs.Prelude.{◌≡◌, ℕ, ◌≤◌, List, IfOk, IfErr};
-ghost use Rattle.ra_jobs.specs.Stages.{file_as, list_as, ListSays, IsList, ReadsLists, ListsSay};
+ghost use Rattle.ra_jobs.specs.Stages.{list_as, ListSays, IsList, ReadsLists, ListsSay};
 
-use crate::refusals::{File, Refusal};
+use crate::refusals::{Refusal, Role};
 use ra_assign::{AssignFault, read_assignment};
 use ra_base::{Assignment, Name};
 use ra_io::Files;
 use ra_model::Instance;
 use std::alloc::Global;
 
-/// One of the two lists of a job.
-#[derive(Clone, Copy)]
-pub(crate) enum Which {
-    Initial,
-    Changed,
-}
-
 /// A list of a job.
 pub(crate) fn read_list<F: Files>(
     alloc: Global,
     files: &mut F,
-    which: Which,
+    role: Role,
     name: &Name,
     inst: &Instance,
 ) -> Result<Assignment, Refusal>
     ensures read { IfOk result (λ a. IsList (F.held files.old) name.now inst.now.tables a.items) }
-    ensures refused { IfErr result (ListSays which (F.held files.old) name.now inst.now.tables
+    ensures refused { IfErr result (ListSays role (F.held files.old) name.now inst.now.tables
         (F.faults files.old) (F.faults files.new)) }
     ensures kept { (other : List ℕ) → F.held files.new other ≡ F.held files.old other }
     ensures never_fall { (other : List ℕ) → F.faults files.old other ≤ F.faults files.new other }
 {
     match read_assignment(alloc, files, name.as_str(), inst) {
         Ok(list) => Ok(list),
-        Err(fault) => Err(list_refused(which, fault)),
+        Err(fault) => Err(list_refused(role, fault)),
     }
 }
 
 /// A refusal of the reader of lists, as one of a job.
-fn list_refused(which: Which, fault: AssignFault) -> Refusal
-    ensures { result ≡ list_as which fault }
+fn list_refused(role: Role, fault: AssignFault) -> Refusal
+    ensures { result ≡ list_as role fault }
 {
     match fault {
-        AssignFault::ReadFault => Refusal::Read(file_of(which)),
+        AssignFault::ReadFault => Refusal::Read(role.file()),
         AssignFault::NoMemory => Refusal::Memory,
-        fault => match which {
-            Which::Initial => Refusal::Initial(fault),
-            Which::Changed => Refusal::Changed(fault),
-        },
-    }
-}
-
-/// The file of a list.
-fn file_of(which: Which) -> File
-    ensures { result ≡ file_as which }
-{
-    match which {
-        Which::Initial => File::Initial,
-        Which::Changed => File::Changed,
+        fault => Refusal::Assign(role, fault),
     }
 }
 
@@ -83,7 +63,7 @@ pub fn read_lists<F: Files>(
     ensures kept { (other : List ℕ) → F.held files.new other ≡ F.held files.old other }
     ensures never_fall { (other : List ℕ) → F.faults files.old other ≤ F.faults files.new other }
 {
-    let initial = read_list(alloc, files, Which::Initial, initial, inst)?;
-    let changed = read_list(alloc, files, Which::Changed, changed, inst)?;
+    let initial = read_list(alloc, files, Role::Initial, initial, inst)?;
+    let changed = read_list(alloc, files, Role::Changed, changed, inst)?;
     Ok(Lists { initial, changed })
 }

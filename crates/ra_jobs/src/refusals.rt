@@ -1,5 +1,5 @@
 ghost use Rattle.std.specs.Prelude.{◌≡◌};
-ghost use Rattle.ra_jobs.specs.Files.{name_of, names_of, IsNamed};
+ghost use Rattle.ra_jobs.specs.Files.{file_of, name_of, names_of, IsNamed};
 
 use ra_assign::{AssignFault, ClosedFault};
 use ra_base::{Cause, Name};
@@ -17,6 +17,26 @@ pub enum File {
     Edits,
 }
 
+/// One of the two lists of a job: the initial one, from which processes move, or the one that is judged, which is the new one
+/// of a check and the current one of edits.
+#[derive(Clone, Copy)]
+pub enum Role {
+    Initial,
+    Changed,
+}
+
+impl Role {
+    /// The file of the list.
+    pub(crate) fn file(self) -> File
+        ensures { result ≡ file_of self }
+    {
+        match self {
+            Role::Initial => File::Initial,
+            Role::Changed => File::Changed,
+        }
+    }
+}
+
 /// Why a job was not done, in the order in which it is found.
 #[derive(Clone, Copy)]
 pub enum Refusal {
@@ -26,16 +46,12 @@ pub enum Refusal {
     Model(ModelFault),
     /// The closed list is none for the model.
     Closed(ClosedFault),
-    /// The initial list is no assignment for the model.
-    Initial(AssignFault),
-    /// The new list is no assignment for the model.
-    Changed(AssignFault),
+    /// This list is no assignment for the model.
+    Assign(Role, AssignFault),
     /// The edits file has none for the model.
     Edits(EditsFault),
-    /// The initial list breaks a constraint.
-    InitialBroken(Cause),
-    /// The new list breaks a constraint.
-    ChangedBroken(Cause),
+    /// This list breaks a constraint.
+    Broken(Role, Cause),
     /// This line of the report is wrong first.
     Wrong(u64),
     /// The last list of a repair breaks a constraint.

@@ -43,11 +43,9 @@ fn status(refusal: Refusal) -> Status
         Refusal::Read(_) => Status::ReadFault,
         Refusal::Model(_) => Status::BadModel,
         Refusal::Closed(_) => Status::BadClosed,
-        Refusal::Initial(_) => Status::BadAssignment,
-        Refusal::Changed(_) => Status::BadAssignment,
+        Refusal::Assign(_, _) => Status::BadAssignment,
         Refusal::Edits(_) => Status::BadEdits,
-        Refusal::InitialBroken(_) => Status::Infeasible,
-        Refusal::ChangedBroken(_) => Status::Infeasible,
+        Refusal::Broken(_, _) => Status::Infeasible,
         Refusal::Wrong(_) => Status::Wrong,
         Refusal::Unrepaired(_) => Status::Unrepaired,
         Refusal::Write => Status::WriteFault,
@@ -81,24 +79,16 @@ fn fault<'n>(names: &JobFiles<'n>, refusal: Refusal) -> Fault<'n>
             name: names.name(File::Closed),
             fault,
         },
-        Refusal::Initial(fault) => Fault::Assign {
-            name: names.name(File::Initial),
-            fault,
-        },
-        Refusal::Changed(fault) => Fault::Assign {
-            name: names.name(File::Changed),
+        Refusal::Assign(role, fault) => Fault::Assign {
+            name: names.name(role.file()),
             fault,
         },
         Refusal::Edits(fault) => Fault::Edits {
             name: names.name(File::Edits),
             fault,
         },
-        Refusal::InitialBroken(cause) => Fault::Infeasible {
-            name: names.name(File::Initial),
-            cause,
-        },
-        Refusal::ChangedBroken(cause) => Fault::Infeasible {
-            name: names.name(File::Changed),
+        Refusal::Broken(role, cause) => Fault::Infeasible {
+            name: names.name(role.file()),
             cause,
         },
         Refusal::Wrong(line) => Fault::Wrong { line },

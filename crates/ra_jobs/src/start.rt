@@ -4,9 +4,9 @@ ghost use Rattle.ra_jobs.specs.Files.{solve_names};
 ghost use Rattle.ra_jobs.specs.Refusals.{Says, Nothing};
 ghost use Rattle.ra_jobs.specs.Stages.{IsStart};
 
-use crate::lists::{Which, read_list};
+use crate::lists::read_list;
 use crate::reading::read_instance;
-use crate::refusals::Refusal;
+use crate::refusals::{Refusal, Role};
 use ra_base::{Assignment, Name};
 use ra_io::Files;
 use ra_model::Instance;
@@ -37,6 +37,6 @@ pub fn read_start<F: Files>(
     ensures never_fall { (other : List ℕ) → F.faults files.old other ≤ F.faults files.new other }
 {
     let inst = read_instance(alloc, files, model, closed)?;
-    let initial = read_list(alloc, files, Which::Initial, initial, &inst)?;
+    let initial = read_list(alloc, files, Role::Initial, initial, &inst)?;
     Ok(Start { inst, initial })
 }

@@ -22,7 +22,8 @@ use Rattle.ra_worker_crew.specs.declared.solved.Solved.{Solved as Run}
 use Rattle.ra_worker_crew.specs.Runs.{IsRun}
 use Rattle.ra_io.specs.Outside.{Reading, Took}
 use Rattle.ra_jobs.specs.declared.refusals.Refusal.{Refusal}
-use Rattle.ra_jobs.specs.declared.refusals.Refusal.TheVariants.{InitialBroken, Write, Memory}
+use Rattle.ra_jobs.specs.declared.refusals.Refusal.TheVariants.{Broken, Write, Memory}
+use Rattle.ra_jobs.specs.declared.refusals.Role.TheVariants as role
 use Rattle.ra_jobs.specs.declared.status.Status.{Status}
 use Rattle.ra_jobs.specs.declared.status.Status.TheVariants.{NoMemory}
 use Rattle.ra_jobs.specs.Commands.{These, over}
@@ -100,7 +101,7 @@ solved held names i a0 l way limits start told =
 
 -- what a refusal of a run says of the files
 pub says_run : (held : Held) (names : Names) (i : Tables) (a0 : List Machine) (l : Lots) (first now : Faults) (way : List ℕ → Type 0) → IsSome names.initial → WellFormed i → IsStart held names i a0 → (refusal : Refusal) → RunSays i a0 (IsReported i a0 l way) refusal → Says held names first now (Judges held names (Solved held names l way)) refusal
-says_run held names i a0 l first now way has_initial limits start (InitialBroken cause) says = record { tables = i; a0 = a0; a = a0; named = has_initial; accepts = start.accepts; broken = says }
+says_run held names i a0 l first now way has_initial limits start (Broken role.Initial cause) says = record { tables = i; a0 = a0; a = a0; named = has_initial; accepts = start.accepts; broken = says }
 says_run held names i a0 l first now way has_initial limits start Write says = solved held names i a0 l way limits start says
 says_run held names i a0 l first now way has_initial limits start Memory says = tt
 says_run held names i a0 l first now way has_initial limits start refusal says = absurd says

@@ -17,7 +17,9 @@ use Rattle.ra_verify.proofs.LimitLemmas.{report_has_none_wrong}
 use Rattle.ra_io.specs.Outside.{Reading, Took}
 use Rattle.ra_jobs.specs.declared.refusals.File.TheVariants as file
 use Rattle.ra_jobs.specs.declared.refusals.Refusal.{Refusal}
-use Rattle.ra_jobs.specs.declared.refusals.Refusal.TheVariants.{Read, Model, Closed, Initial, Changed, InitialBroken, ChangedBroken, Wrong as WrongLine, Write, Memory}
+use Rattle.ra_jobs.specs.declared.refusals.Refusal.TheVariants.{Read, Model, Closed, Assign, Broken, Wrong as WrongLine, Write, Memory}
+use Rattle.ra_jobs.specs.declared.refusals.Role.{Role}
+use Rattle.ra_jobs.specs.declared.refusals.Role.TheVariants as role
 use Rattle.ra_jobs.specs.declared.status.Status.{Status}
 use Rattle.ra_jobs.specs.declared.status.Status.TheVariants.{Done, Infeasible, Wrong, WriteFault, NoMemory}
 use Rattle.ra_jobs.specs.Comes.{KnownTo, InfeasibleComes}
@@ -27,7 +29,7 @@ use Rattle.ra_jobs.specs.Ends.{Does, Tries, Finishes, Leaves}
 use Rattle.ra_jobs.specs.Files.{Held, Faults, Names, name_of, Passes, solve_names, verify_names}
 use Rattle.ra_jobs.specs.Lines.{refusal_line}
 use Rattle.ra_jobs.specs.Output.{Output, BrokeOff, Put}
-use Rattle.ra_jobs.specs.Refusals.{Says, Nothing, InitialBreaks, ChangedBreaks, CanTell}
+use Rattle.ra_jobs.specs.Refusals.{Says, Nothing, RoleBreaks, CanTell}
 use Rattle.ra_jobs.specs.Stages.{IsStart}
 use Rattle.ra_jobs.specs.Statuses.{status_of}
 use Rattle.ra_jobs.proofs.ComesLemmas.{Listed, Went, infeasible_of, passed_went, told_of}
@@ -58,8 +60,8 @@ says_before held model closed initial report before now own (Read file.Report) s
 says_before held model closed initial report before now own (Read file.Edits) says = absurd (let none = says.named in cc)
 says_before held model closed initial report before now own (Model fault) says = says
 says_before held model closed initial report before now own (Closed fault) says = says
-says_before held model closed initial report before now own (Initial fault) says = record { tables = says.tables; instance = says.instance; name = says.name; named = says.named; refused = says.refused }
-says_before held model closed initial report before now own (Changed fault) says = absurd (let none = says.named in cc)
+says_before held model closed initial report before now own (Assign role.Initial fault) says = record { tables = says.tables; instance = says.instance; name = says.name; named = says.named; refused = says.refused }
+says_before held model closed initial report before now own (Assign role.Changed fault) says = absurd (let none = says.named in cc)
 says_before held model closed initial report before now own Memory says = tt
 says_before held model closed initial report before now own refusal says = absurd says
 
@@ -94,7 +96,7 @@ read_so held later model closed initial report i a0 l n same limits read counted
 pub says_count : (held later : Held) (model : List ℕ) (closed : Option (List ℕ)) (initial report : List ℕ) (i : Tables) (a0 : List Machine) (l : Lots) (first before now : Faults) (written : Type 0) → ((other : List ℕ) → later other ≡ held other) → ((other : List ℕ) → first other ≤ before other) → IsStart held (solve_names model closed initial) i a0 → (refusal : Refusal) → CountSays later report i a0 l before now refusal
     → Says held (verify_names model closed initial report) first now (VerifyOwn held (verify_names model closed initial report) l written) refusal
 unfolding name_of
-says_count held later model closed initial report i a0 l first before now written same never_fell read (InitialBroken cause) says =
+says_count held later model closed initial report i a0 l first before now written same never_fell read (Broken role.Initial cause) says =
     let start = start_for held model closed initial report i a0 read in
     record { tables = i; a0 = a0; a = a0; named = refl; accepts = start.accepts; broken = says }
 says_count held later model closed initial report i a0 l first before now written same never_fell read (Read file.Report) says =
@@ -123,13 +125,13 @@ fault_so held name i a0 l before now told fault.NoMemory limits small fits start
 -- ---- its own refusals
 
 pub own_more : (held : Held) (names : Names) (l : Lots) (written more : Type 0) → (written → more) → (refusal : Refusal) → VerifyOwn held names l written refusal → VerifyOwn held names l more refusal
-own_more held names l written more step (InitialBroken cause) says = says
+own_more held names l written more step (Broken role.Initial cause) says = says
 own_more held names l written more step (WrongLine line) says = says
 own_more held names l written more step Write says = step says
 own_more held names l written more step refusal says = says
 
 pub own_tells : (held : Held) (names : Names) (l : Lots) (written : Type 0) (refusal : Refusal) → VerifyOwn held names l written refusal → CanTell names refusal
-own_tells held names l written (InitialBroken cause) says = says.named
+own_tells held names l written (Broken role.Initial cause) says = says.named
 own_tells held names l written (WrongLine line) says = tt
 own_tells held names l written Write says = tt
 own_tells held names l written refusal says = absurd says
@@ -138,22 +140,22 @@ pub verified_went : (held : Held) (names : Names) (l : Lots) (way : List ℕ →
 verified_went held names l way v = passed_went held names v.read.tables v.read.a0 v.read.a0 v.read.passes
 
 pub own_listed : (held : Held) (names : Names) (l : Lots) (written : Type 0) → (written → Went held names) → (refusal : Refusal) → VerifyOwn held names l written refusal → Listed held names
-own_listed held names l written went (InitialBroken cause) says = record { tables = says.tables; a0 = says.a0; a = says.a; accepts = says.accepts }
+own_listed held names l written went (Broken role.Initial cause) says = record { tables = says.tables; a0 = says.a0; a = says.a; accepts = says.accepts }
 own_listed held names l written went (WrongLine line) says = record { tables = says.tables; a0 = says.a0; a = says.a0; accepts = says.passes.accepts }
 own_listed held names l written went Write says = (went says).listed
 own_listed held names l written went refusal says = absurd says
 
 own_stops : (held : Held) (names : Names) (l : Lots) (written : Type 0) → (written → Went held names) → (Went held names → ⊥) → (refusal : Refusal) → VerifyOwn held names l written refusal → status_of refusal ≡ Infeasible
 unfolding status_of
-own_stops held names l written went never (InitialBroken cause) says = refl
+own_stops held names l written went never (Broken role.Initial cause) says = refl
 own_stops held names l written went never (WrongLine line) says = absurd (never (passed_went held names says.tables says.a0 says.a0 says.passes))
 own_stops held names l written went never Write says = absurd (never (went says))
 own_stops held names l written went never refusal says = absurd says
 
-own_broke : (held : Held) (names : Names) (l : Lots) (written : Type 0) (before now : Faults) (refusal : Refusal) → Says held names before now (VerifyOwn held names l written) refusal → status_of refusal ≡ Infeasible → (cause : Cause) × (InitialBreaks held names cause ⊎ ChangedBreaks held names cause)
+own_broke : (held : Held) (names : Names) (l : Lots) (written : Type 0) (before now : Faults) (refusal : Refusal) → Says held names before now (VerifyOwn held names l written) refusal → status_of refusal ≡ Infeasible → (which : Role) × (cause : Cause) × RoleBreaks held names which cause
 unfolding status_of
-own_broke held names l written before now (InitialBroken cause) says e = (cause, inl says)
-own_broke held names l written before now (ChangedBroken cause) says e = absurd says
+own_broke held names l written before now (Broken role.Initial cause) says e = (role.Initial, cause, says)
+own_broke held names l written before now (Broken role.Changed cause) says e = absurd says
 own_broke held names l written before now refusal says e = absurd (cc)
 
 pub verify_infeasible : {held : Held} {names : Names} {before now : Faults} {output : Type 0} {l : Lots} {written : Type 0} {tells : List ℕ → Type 0} {out_same err_same : Type 0} {status : Status} → Ends held names before now output (VerifyOwn held names l written) tells out_same err_same status → (output → Went held names) → (written → Went held names) → InfeasibleComes held names before now status
@@ -175,9 +177,9 @@ own_left held model closed initial report before now own i a0 passes known (Read
 own_left held model closed initial report before now own i a0 passes known (Read file.Edits) says = absurd (let none = says.named in cc)
 own_left held model closed initial report before now own i a0 passes known (Model fault) says = absurd (no_model held model (known.0 tt).0 fault says passes.accepts.instance.model passes.accepts.instance.read)
 own_left held model closed initial report before now own i a0 passes known (Closed fault) says = absurd (no_closed held model closed (known.0 tt).0 (told_of held closed _ known.1) fault says i passes.accepts.instance)
-own_left held model closed initial report before now own i a0 passes known (Initial fault) says =
+own_left held model closed initial report before now own i a0 passes known (Assign role.Initial fault) says =
     absurd (no_initial held (verify_names model closed initial report) (known.0 tt).0 (told_of held closed _ known.1) (told_of held (Some initial) _ known.2) fault says i a0 passes.accepts.instance passes.accepts.initial)
-own_left held model closed initial report before now own i a0 passes known (Changed fault) says = absurd (let none = says.named in cc)
+own_left held model closed initial report before now own i a0 passes known (Assign role.Changed fault) says = absurd (let none = says.named in cc)
 own_left held model closed initial report before now own i a0 passes known Memory says = inr refl
 own_left held model closed initial report before now own i a0 passes known refusal says = inl says
 
@@ -235,7 +237,7 @@ wrong_not held names l line told right wrong = told_not (held (name_of names fil
 wrong_own : (held : Held) (model : List ℕ) (closed : Option (List ℕ)) (initial report : List ℕ) (before now : Faults) (l : Lots) (way : List ℕ → Type 0) (i : Tables) (a0 : List Machine) → Passes held (verify_names model closed initial report) i a0 a0 → KnownTo held (verify_names model closed initial report) before now file.Report → (line : ℕ) → AllWrong held (verify_names model closed initial report) l line
     → (refusal : Refusal) → VerifyOwn held (verify_names model closed initial report) l (Verified held (verify_names model closed initial report) l way) refusal → status_of refusal ≡ Wrong
 unfolding name_of status_of
-wrong_own held model closed initial report before now l way i a0 passes known line wrong (InitialBroken cause) says =
+wrong_own held model closed initial report before now l way i a0 passes known line wrong (Broken role.Initial cause) says =
     absurd (no_initial_break held (verify_names model closed initial report) (known.0 tt).0 (told_of held closed _ known.1) (told_of held (Some initial) _ known.2) cause says i a0 a0 passes.accepts passes.initial)
 wrong_own held model closed initial report before now l way i a0 passes known line wrong (WrongLine other) says = refl
 wrong_own held model closed initial report before now l way i a0 passes known line wrong Write says = absurd (read_not held (verify_names model closed initial report) l line says.entries (known.3 refl).0 wrong says.read)
@@ -244,7 +246,7 @@ wrong_own held model closed initial report before now l way i a0 passes known li
 right_own : (held : Held) (model : List ℕ) (closed : Option (List ℕ)) (initial report : List ℕ) (before now : Faults) (l : Lots) (way : List ℕ → Type 0) (i : Tables) (a0 : List Machine) → Passes held (verify_names model closed initial report) i a0 a0 → KnownTo held (verify_names model closed initial report) before now file.Report → AllRight held (verify_names model closed initial report) l
     → (refusal : Refusal) → VerifyOwn held (verify_names model closed initial report) l (Verified held (verify_names model closed initial report) l way) refusal → status_of refusal ≡ WriteFault
 unfolding name_of status_of
-right_own held model closed initial report before now l way i a0 passes known right (InitialBroken cause) says =
+right_own held model closed initial report before now l way i a0 passes known right (Broken role.Initial cause) says =
     absurd (no_initial_break held (verify_names model closed initial report) (known.0 tt).0 (told_of held closed _ known.1) (told_of held (Some initial) _ known.2) cause says i a0 a0 passes.accepts passes.initial)
 right_own held model closed initial report before now l way i a0 passes known right (WrongLine line) says = absurd (wrong_not held (verify_names model closed initial report) l line (known.3 refl).0 right says)
 right_own held model closed initial report before now l way i a0 passes known right Write says = refl
@@ -284,7 +286,7 @@ verify_verdict {held} {before} {now} {tells} {out_same} {err_same} {status} mode
 -- over valid files a verdict is told
 valid_own : (held : Held) (names : Names) (l : Lots) (written : Type 0) → AreValid held names → (written → ⊥) → (refusal : Refusal) → VerifyOwn held names l written refusal → status_of refusal ≡ Wrong
 unfolding status_of
-valid_own held names l written valid whole (InitialBroken cause) says =
+valid_own held names l written valid whole (Broken role.Initial cause) says =
     let none = unbroken_from_feasible says.tables says.a0 says.a0 (valid.initial says.named says.tables says.a0 says.a says.accepts) in
     absurd (let both : None ≡ Some cause = sym none ∙ says.broken in cc)
 valid_own held names l written valid whole (WrongLine line) says = refl

@@ -9,7 +9,8 @@ use Rattle.ra_journal.specs.declared.entries.Entry.{Entry}
 use Rattle.ra_journal.specs.Legal.{Legal, Whole}
 use Rattle.ra_report.specs.JournalTexts.{report_text}
 use Rattle.ra_jobs.specs.declared.refusals.Refusal.{Refusal}
-use Rattle.ra_jobs.specs.declared.refusals.Refusal.TheVariants.{InitialBroken, Write, Memory}
+use Rattle.ra_jobs.specs.declared.refusals.Refusal.TheVariants.{Broken, Write, Memory}
+use Rattle.ra_jobs.specs.declared.refusals.Role.TheVariants as role
 
 -- the initial list is feasible, and the report of a legal whole journal from it went this way
 pub record IsReported (i : Tables) (a0 : List Machine) (l : Lots) (way : List ℕ → Type 0) : Type 0
@@ -22,7 +23,7 @@ pub record IsReported (i : Tables) (a0 : List Machine) (l : Lots) (way : List �
 
 -- what a refusal of a run says, where a part of its report was written
 abbrev pub RunSays : Tables → List Machine → Type 0 → Refusal → Type 0
-RunSays i a0 written (InitialBroken cause) = first_broken i a0 a0 ≡ Some cause
+RunSays i a0 written (Broken role.Initial cause) = first_broken i a0 a0 ≡ Some cause
 RunSays i a0 written Write = written
 RunSays i a0 written Memory = Unit {0}
 RunSays i a0 written refusal = ⊥

@@ -12,7 +12,8 @@ use Rattle.ra_verify.specs.declared.faults.VerifyFault.{VerifyFault}
 use Rattle.ra_verify.specs.declared.faults.VerifyFault.TheVariants as fault
 use Rattle.ra_jobs.specs.declared.refusals.File.TheVariants as file
 use Rattle.ra_jobs.specs.declared.refusals.Refusal.{Refusal}
-use Rattle.ra_jobs.specs.declared.refusals.Refusal.TheVariants.{Read, InitialBroken, Wrong as WrongLine, Write, Memory}
+use Rattle.ra_jobs.specs.declared.refusals.Refusal.TheVariants.{Read, Broken, Wrong as WrongLine, Write, Memory}
+use Rattle.ra_jobs.specs.declared.refusals.Role.TheVariants as role
 use Rattle.ra_jobs.specs.declared.status.Status.{Status}
 use Rattle.ra_jobs.specs.declared.status.Status.TheVariants.{Done, Wrong, WriteFault, NoMemory}
 use Rattle.ra_jobs.specs.Comes.{KnownTo, InfeasibleComes}
@@ -57,7 +58,7 @@ pub record ReportWrong (held : Held) (names : Names) (l : Lots) (line : ℕ) : T
 
 -- its own refusals
 abbrev pub VerifyOwn : Held → Names → Lots → Type 0 → Refusal → Type 0
-VerifyOwn held names l written (InitialBroken cause) = InitialBreaks held names cause
+VerifyOwn held names l written (Broken role.Initial cause) = InitialBreaks held names cause
 VerifyOwn held names l written (WrongLine line) = ReportWrong held names l line
 VerifyOwn held names l written Write = written
 VerifyOwn held names l written refusal = ⊥
@@ -122,7 +123,7 @@ pub record IsCounted (held : Held) (name : List ℕ) (i : Tables) (a0 : List Mac
 -- what a refusal of the report says
 abbrev pub CountSays : Held → List ℕ → Tables → List Machine → Lots → Faults → Faults → Refusal
     → Type 0
-CountSays held name i a0 l before now (InitialBroken cause) = first_broken i a0 a0 ≡ Some cause
+CountSays held name i a0 l before now (Broken role.Initial cause) = first_broken i a0 a0 ≡ Some cause
 CountSays held name i a0 l before now (Read file.Report) =
     Feasible i a0 a0 × Rose (before name) (now name)
 CountSays held name i a0 l before now (WrongLine line) =
