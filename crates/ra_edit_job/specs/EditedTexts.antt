@@ -5,7 +5,7 @@ use Rattle.ra_base.specs.declared.costs.Parts.{Parts}
 use Rattle.ra_base.specs.declared.ids.Machine.{Machine}
 use Rattle.ra_model.specs.declared.raw.Tables.{Tables}
 use Rattle.ra_model.specs.Costs.{parts_of}
-use Rattle.ra_trial.specs.ModelTexts.{model_text}
+use Rattle.ra_model_text.specs.ModelTexts.{model_text}
 use Rattle.ra_edit.specs.declared.replies.EditReply.{EditReply}
 use Rattle.ra_edit.specs.declared.replies.EditReply.TheVariants.{Done, NoProcess, Full, Last, Broken}
 use Rattle.ra_report_text.specs.Pieces.{joined}

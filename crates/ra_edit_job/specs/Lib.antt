@@ -1,3 +1,2 @@
 pub mod EditedTexts
-pub mod ModelLines
 pub mod Editing

@@ -6,11 +6,11 @@ ghost use Rattle.ra_report_text.specs.Notes.{note_text};
 ghost use Rattle.ra_report_text.specs.Pieces.{Breaks};
 ghost use Rattle.ra_edit_job.specs.EditedTexts.{initial_line, reply_text, edit_line, edits_text, model_part, edited_lines, edited_text};
 
-use crate::model::add_model;
 use ra_base::{Fixed, Machine, Parts};
 use ra_edit::{EditReply, Edited};
 use ra_io::Sink;
 use ra_model::Instance;
+use ra_model_text::add_model;
 use ra_report_text::{
     Gathered, Note, Piece, WriteFault, add_assignment, add_machines, add_note, add_parts,
     add_pieces,

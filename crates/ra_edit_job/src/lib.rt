@@ -1,12 +1,9 @@
 //! The job `edit`: `edit_run`, over files and sinks that are handed in, as those of `ra_jobs`; and what it prints, the output
-//! of edits and the lines of a model file that means an instance, gathered and put to a sink in large pieces.
+//! of edits, gathered and put to a sink in large pieces.
 #![tactic(auto)]
 
 mod edit;
 mod edited;
-mod model;
-mod model_lines;
 
 pub use edit::edit_run;
 pub use edited::write_edited;
-pub use model::write_model;

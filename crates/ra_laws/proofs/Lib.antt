@@ -8,8 +8,4 @@ pub mod ReportLemmas
 pub mod VerifyLemmas
 pub mod PinLemmas
 pub mod LineLemmas
-pub mod Telling
-pub mod SmallNumbers
-pub mod ModelTextCounts
-pub mod ModelTextMeaning
 pub mod LeastLemmas

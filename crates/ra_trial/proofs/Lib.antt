@@ -10,7 +10,6 @@ pub mod TrialLimits
 pub mod LineNumbers
 pub mod LineBounds
 pub mod TrialBounds
-pub mod LineTokens
 pub mod Made
 pub mod TextMeans
 pub mod StartText

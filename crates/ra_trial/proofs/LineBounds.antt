@@ -4,12 +4,10 @@ use Rattle.std.proofs.lemmas.Fmt.{length-decimal-le}
 use Rattle.std.proofs.lemmas.List.Elements.{All-nil, All-cons, All-append, All-push, All-head, All-tail}
 use Rattle.std.specs.Fmt.{decimal}
 use Rattle.std.specs.List.{All}
-use Rattle.ra_trial.specs.Lines.{listed, more_text, line_text, lines_text}
-use Rattle.ra_trial.proofs.LineLemmas.{length_listed, lines_append, lines_one}
-
--- a number that a token can have
-abbrev pub IsSmall : ℕ → Type 0
-IsSmall n = n < 2 ^ 32
+use Rattle.ra_model_text.specs.Lines.{more_text, line_text, lines_text}
+use Rattle.ra_trial.specs.Lines.{listed}
+use Rattle.ra_model_text.proofs.Lines.{IsSmall, line_short, lines_append, lines_one}
+use Rattle.ra_trial.proofs.LineLemmas.{length_listed}
 
 -- a line of at most c small numbers
 pub record IsShort (c : ℕ) (line : List ℕ) : Type 0 where
@@ -25,19 +23,6 @@ pub listed_all : {X : Type 0} (P : X → Type 0) (n : ℕ) (f : ℕ → X) → (
 unfolding listed
 listed_all P zero f each = All-nil P
 listed_all P (suc n) f each = All-push P (listed n f) (f n) (listed_all P n f (λ k within. each k (omega arith))) (each n (omega arith))
-
-decimal_short : (n : ℕ) → IsSmall n → length (decimal n) ≤ 10
-decimal_short n small = length-decimal-le 10 n (omega arith) (omega arith) (omega arith)
-
-more_short : (ns : List ℕ) → All IsSmall ns → length (more_text ns) ≤ 11 * length ns + 1
-unfolding more_text
-more_short [] small = omega arith
-more_short (n ∷ ns) small = omega (arith, length-append (decimal n) (more_text ns), decimal_short n (All-head IsSmall n ns small), more_short ns (All-tail IsSmall n ns small))
-
-line_short : (ns : List ℕ) → All IsSmall ns → length (line_text ns) ≤ 11 * length ns + 1
-unfolding line_text
-line_short [] small = omega arith
-line_short (n ∷ ns) small = omega (arith, length-append (decimal n) (more_text ns), decimal_short n (All-head IsSmall n ns small), more_short ns (All-tail IsSmall n ns small))
 
 -- one line, and lines behind lines
 pub one_short : (c : ℕ) (line : List ℕ) → IsShort c line → AreShort (11 * c + 1) (line ∷ [])

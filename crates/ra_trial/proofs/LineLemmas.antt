@@ -6,7 +6,9 @@ use Rattle.std.proofs.Math.Seq.{drop-cons, get_or-append_seam}
 use Rattle.std.specs.Prelude.{drop}
 use Rattle.std.specs.Fmt.{decimal}
 use Rattle.ra_base.specs.Listed.{Listed}
-use Rattle.ra_trial.specs.Lines.{listed, more_text, line_text, lines_text, number_text, Adds}
+use Rattle.ra_model_text.specs.Lines.{more_text, line_text, lines_text}
+use Rattle.ra_model_text.proofs.Lines.{lines_append, lines_one}
+use Rattle.ra_trial.specs.Lines.{listed, number_text, Adds}
 
 -- the text from number k of a line on
 unfoldable pub text_from : ℕ → List ℕ → List ℕ
@@ -103,16 +105,6 @@ listed_behind n f base items after v before same push = push ∙ (ap (λ (xs : L
 pub none_behind : (f : ℕ → ℕ) (base : List ℕ) → base ≡ base ++ listed 0 f
 unfolding listed
 none_behind f base = sym (append-nil base)
-
--- lines behind lines
-pub lines_append : (a b : List (List ℕ)) → lines_text (a ++ b) ≡ lines_text a ++ lines_text b
-unfolding lines_text
-lines_append [] b = refl
-lines_append (x ∷ a) b = ap (λ (t : List ℕ). line_text x ++ t) (lines_append a b) ∙ sym (append_assoc (line_text x) (lines_text a) (lines_text b))
-
-pub lines_one : (x : List ℕ) → lines_text (x ∷ []) ≡ line_text x
-unfolding lines_text
-lines_one x = append-nil (line_text x)
 
 -- a count and no line behind it, and one more line
 counted_none : (x : List ℕ) (f : ℕ → List ℕ) → lines_text (x ∷ listed 0 f) ≡ line_text x

@@ -1,7 +1,8 @@
 -- The numbers of one line of a group.
 use Rattle.std.proofs.Common.{◌≡◌, ℕ, ◌+◌, ◌/◌, ◌%◌, List, [], ◌∷◌, ◌++◌, eqb, ◌≢◌, ap, ◌∙◌, sym, refl, eq-eqb, ne_eqb}
 use Rattle.std.proofs.lemmas.Bool.{cond-true, cond-false}
-use Rattle.ra_trial.specs.Lines.{listed, line_text}
+use Rattle.ra_model_text.specs.Lines.{line_text}
+use Rattle.ra_trial.specs.Lines.{listed}
 use Rattle.ra_trial.specs.Numbers.{requirement_of, process_cost_of, spread_of, way_cost_of}
 use Rattle.ra_trial.specs.Trials.{machine_front, machine_line, service_line, process_line}
 

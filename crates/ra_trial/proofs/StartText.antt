@@ -13,13 +13,15 @@ use Rattle.ra_model.specs.declared.raw.Tables.{Tables}
 use Rattle.ra_model.specs.Numbers.{machine_count, process_count}
 use Rattle.ra_assign.specs.Lists.{assignment_bytes, machine_of, IsAssignmentFile, IsAssignmentOf}
 use Rattle.ra_assign.specs.Lists as assign
-use Rattle.ra_trial.specs.Lines.{listed, more_text, line_text, lines_text}
+use Rattle.ra_model_text.specs.Lines.{more_text, line_text, lines_text}
+use Rattle.ra_trial.specs.Lines.{listed}
 use Rattle.ra_trial.specs.Numbers.{start_of}
 use Rattle.ra_trial.specs.Trials.{start_machine, start_text}
 use Rattle.ra_trial.specs.Instances.{start_list, IsTrial}
-use Rattle.ra_trial.proofs.LineBounds.{IsSmall, IsShort, listed_all, one_short}
-use Rattle.ra_trial.proofs.LineLemmas.{lines_one}
-use Rattle.ra_trial.proofs.LineTokens.{lines_told}
+use Rattle.ra_model_text.proofs.Lines.{IsSmall}
+use Rattle.ra_trial.proofs.LineBounds.{IsShort, listed_all, one_short}
+use Rattle.ra_model_text.proofs.Lines.{lines_one}
+use Rattle.ra_model_text.proofs.LineTokens.{lines_told}
 use Rattle.ra_trial.proofs.StartFeasible.{start_many}
 use Rattle.ra_trial.proofs.TrialNumbers.{has_numbers}
 

@@ -2,7 +2,8 @@
 use Rattle.std.proofs.Common.{◌≡◌, ℕ, List, [], ◌∷◌, ◌++◌, sym, ap, ◌∙◌, arith}
 use Rattle.std.proofs.lemmas.List.{append-nil}
 use Rattle.ra_base.specs.Listed.{Listed}
-use Rattle.ra_trial.specs.Lines.{line_text, lines_text, Adds}
+use Rattle.ra_model_text.specs.Lines.{line_text, lines_text}
+use Rattle.ra_trial.specs.Lines.{Adds}
 use Rattle.ra_trial.specs.Numbers.{trial_word}
 use Rattle.ra_trial.specs.Trials.{resource_lines, machine_lines, service_lines, process_lines, last_lines, text_over, model_text}
 use Rattle.ra_trial.proofs.LineLemmas.{adds_as, adds_then}

@@ -3,4 +3,3 @@ pub mod Instances
 pub mod Lines
 pub mod Numbers
 pub mod Trials
-pub mod ModelTexts

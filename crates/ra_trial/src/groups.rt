@@ -1,5 +1,6 @@
 ghost use Rattle.std.specs.Prelude.{◌≡◌, ◌+◌, ◌<◌, ◌≤◌, length};
-ghost use Rattle.ra_trial.specs.Lines.{Adds, line_text, lines_text};
+ghost use Rattle.ra_model_text.specs.Lines.{line_text, lines_text};
+ghost use Rattle.ra_trial.specs.Lines.{Adds};
 ghost use Rattle.ra_trial.specs.Numbers.{trial_word, transient_of};
 ghost use Rattle.ra_trial.specs.Trials.{resource_line, resource_lines, service_line, service_lines, process_line, process_lines, last_lines};
 

@@ -1,5 +1,6 @@
 ghost use Rattle.std.specs.Prelude.{◌+◌, ◌*◌, ◌≤◌, length, decimal};
-ghost use Rattle.ra_trial.specs.Lines.{Adds, line_text, number_text};
+ghost use Rattle.ra_model_text.specs.Lines.{line_text};
+ghost use Rattle.ra_trial.specs.Lines.{Adds, number_text};
 
 use itoa::Buffer;
 use ra_base::Fixed;

@@ -1,5 +1,6 @@
 ghost use Rattle.std.specs.Prelude.{◌≡◌, ◌+◌, ◌<◌, ◌≤◌, ◌++◌, length, IfOk};
-ghost use Rattle.ra_trial.specs.Lines.{Adds, listed, line_text, lines_text};
+ghost use Rattle.ra_model_text.specs.Lines.{line_text, lines_text};
+ghost use Rattle.ra_trial.specs.Lines.{Adds, listed};
 ghost use Rattle.ra_trial.specs.Numbers.{trial_word, way_cost_of};
 ghost use Rattle.ra_trial.specs.Trials.{machine_front, machine_line, machine_lines};
 

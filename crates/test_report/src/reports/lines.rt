@@ -3,9 +3,9 @@ use super::super::texts::SAMPLE;
 use super::sinks::sound;
 use ra_base::{Cause, Machine, Process, Resource, Service};
 use ra_bounds::Bound;
-use ra_edit_job::write_model;
 use ra_io::MemorySink;
 use ra_journal::Entry;
+use ra_model_text::write_model;
 use ra_moves::{Move, Step, Verdict};
 use ra_report::{
     Fault, Front, WriteFault, is_entry_line, read_front, write_accepted, write_bound, write_entry,

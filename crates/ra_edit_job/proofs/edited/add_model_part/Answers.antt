@@ -1,5 +1,5 @@
 use Rattle.std.proofs.Common.{[], ◌∷◌, codes}
-use Rattle.ra_trial.specs.ModelTexts.{model_text}
+use Rattle.ra_model_text.specs.ModelTexts.{model_text}
 use Rattle.ra_report_text.specs.Pieces.{joined}
 use Rattle.ra_edit_job.specs.EditedTexts.{model_part}
 use Rattle.ra_report_text.proofs.GatheringLemmas.{adds_more}

@@ -1,5 +1,5 @@
 use Rattle.std.proofs.Common.{ℕ, [], ◌∷◌, ap, arith}
-use Rattle.ra_trial.specs.Lines.{line_text}
+use Rattle.ra_model_text.specs.Lines.{line_text}
 use Rattle.ra_trial.specs.Trials.{resource_line}
 use Rattle.ra_trial.proofs.LineLemmas.{adds_as}
 use Rattle.ra_trial.proofs.groups.push_resource.Goals as goal

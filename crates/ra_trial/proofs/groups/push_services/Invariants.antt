@@ -1,5 +1,6 @@
 use Rattle.std.proofs.Common.{◌+◌, ◌*◌, [], ◌∷◌}
-use Rattle.ra_trial.specs.Lines.{listed, lines_text, Adds}
+use Rattle.ra_model_text.specs.Lines.{lines_text}
+use Rattle.ra_trial.specs.Lines.{listed, Adds}
 use Rattle.ra_trial.specs.Numbers.{trial_word}
 use Rattle.ra_trial.specs.Trials.{service_line}
 use Rattle.ra_trial.proofs.groups.push_services.Given as goal

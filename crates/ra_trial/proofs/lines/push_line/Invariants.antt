@@ -1,6 +1,6 @@
 use Rattle.std.proofs.Common.{◌≡◌, ◌+◌, ◌*◌, ◌≤◌, ◌++◌, length}
 use Rattle.std.specs.Prelude.{drop}
-use Rattle.ra_trial.specs.Lines.{line_text}
+use Rattle.ra_model_text.specs.Lines.{line_text}
 use Rattle.ra_trial.proofs.LineLemmas.{text_from}
 use Rattle.ra_trial.proofs.lines.push_line.Given as goal
 

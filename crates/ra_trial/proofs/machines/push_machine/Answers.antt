@@ -1,5 +1,5 @@
 use Rattle.std.proofs.Common.{arith, ap, ◌∙◌, length}
-use Rattle.ra_trial.specs.Lines.{line_text}
+use Rattle.ra_model_text.specs.Lines.{line_text}
 use Rattle.ra_trial.proofs.LineLemmas.{adds_as}
 use Rattle.ra_trial.proofs.machines.push_machine.Goals as goal
 

@@ -1,8 +1,0 @@
-use Rattle.ra_model.specs.Numbers.{balance_count}
-use Rattle.ra_trial.specs.ModelTexts.{balance_text}
-use Rattle.ra_report_text.specs.Gathering.{Adds}
-use Rattle.ra_edit_job.specs.ModelLines.{group_to}
-use Rattle.ra_edit_job.proofs.model.add_balances.Given as goal
-
-abbrev pub invariant-loop-b : goal.invariant-loop-b
-invariant-loop-b g l = Adds g.O.Sink.taken g.O.Sink.faults l.fn.text l.text (group_to (balance_count l.inst.tables) l.b (balance_text l.inst.tables))

@@ -1,8 +1,0 @@
-use Rattle.ra_model.specs.Numbers.{service_count}
-use Rattle.ra_trial.specs.ModelTexts.{service_text}
-use Rattle.ra_report_text.specs.Gathering.{Adds}
-use Rattle.ra_edit_job.specs.ModelLines.{group_to}
-use Rattle.ra_edit_job.proofs.model.add_services.Given as goal
-
-abbrev pub invariant-loop-s : goal.invariant-loop-s
-invariant-loop-s g l = Adds g.O.Sink.taken g.O.Sink.faults l.fn.text l.text (group_to (service_count l.inst.tables) l.s (service_text l.inst.tables))

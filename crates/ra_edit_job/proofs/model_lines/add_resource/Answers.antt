@@ -1,7 +1,0 @@
-use Rattle.ra_model_read.specs.FieldOrder.{resource_numbers}
-use Rattle.ra_trial.specs.ModelTexts.{resource_text}
-use Rattle.ra_edit_job.proofs.model_lines.add_resource.Goals as goal
-
-pub returns : goal.returns
-unfolding resource_text resource_numbers
-returns g c = rw (c.transient_flag.ensures, c.load_weight.ensures) at c.add_two.ensures

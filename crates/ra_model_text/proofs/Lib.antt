@@ -1,0 +1,7 @@
+pub mod Lines
+pub mod LineTokens
+pub mod Telling
+pub mod SmallNumbers
+pub mod Counts
+pub mod Meaning
+pub mod ModelLines

@@ -1,0 +1,14 @@
+-- The text of a model on its way: what of a line and of a group is written so far.
+use Rattle.std.specs.Prelude.{ℕ, zero, suc, List, [], ◌∷◌, ◌++◌}
+use Rattle.std.specs.Fmt.{decimal}
+use Rattle.ra_model_read.specs.FieldOrder.{joined}
+use Rattle.ra_model_text.specs.Lines.{line_text}
+
+-- f 0 .. f (n - 1), with a space before each
+unfoldable pub spaced : ℕ → (ℕ → ℕ) → List ℕ
+spaced zero f = []
+spaced (suc n) f = spaced n f ++ (32 ∷ decimal (f n))
+
+-- the line of a count, and the texts of the first k
+unfoldable pub group_to : ℕ → ℕ → (ℕ → List ℕ) → List ℕ
+group_to count k each = line_text (count ∷ []) ++ joined k each
