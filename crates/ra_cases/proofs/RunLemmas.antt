@@ -1,4 +1,4 @@
--- The ending of a run is one that the top call promises, and so is the wanted one if they are the same.
+-- An ending that came is one that the top call promises, and so is the wanted one if they are the same.
 use Rattle.std.proofs.Common.{◌≡◌, ◌↔◌, ℕ, List, [], ◌++◌, Option, Some, None, IfSome, refl, sym, ◌∙◌, subst}
 use Rattle.std.specs.Io.KnownBytes.{Appends}
 use Rattle.ra_words.specs.Jobs.{JobSays, Checks, Bounds, Solves, Trials, Verifies, Repairs, Edits, job_of}
@@ -34,16 +34,16 @@ unfolding number_of
 done_of Done e = refl
 done_of status e = cc
 
--- an output that went one way went another, if each text did
+-- an output that was sent so far came further, if each text did
 
-printed_more : (held : Held) (names : Names) (way more : List ℕ → Type 0) → ((text : List ℕ) → way text → more text) → Printed held names way → Printed held names more
-printed_more held names way more step p = record { tables = p.tables; a0 = p.a0; a = p.a; passes = p.passes; text = step _ p.text }
+printed_more : (held : Held) (names : Names) (sent more : List ℕ → Type 0) → ((text : List ℕ) → sent text → more text) → Printed held names sent → Printed held names more
+printed_more held names sent more step p = record { tables = p.tables; a0 = p.a0; a = p.a; passes = p.passes; text = step _ p.text }
 
-bound_more : (held : Held) (names : Names) (way more : List ℕ → Type 0) → ((text : List ℕ) → way text → more text) → BoundPrinted held names way → BoundPrinted held names more
-bound_more held names way more step p = record { bound = p.bound; read = p.read; text = step _ p.text }
+bound_more : (held : Held) (names : Names) (sent more : List ℕ → Type 0) → ((text : List ℕ) → sent text → more text) → BoundPrinted held names sent → BoundPrinted held names more
+bound_more held names sent more step p = record { bound = p.bound; read = p.read; text = step _ p.text }
 
-solved_more : (held : Held) (names : Names) (l : Lots) (way more : List ℕ → Type 0) → ((text : List ℕ) → way text → more text) → Solved held names l way → Solved held names l more
-solved_more held names l way more step p = record {
+solved_more : (held : Held) (names : Names) (l : Lots) (sent more : List ℕ → Type 0) → ((text : List ℕ) → sent text → more text) → Solved held names l sent → Solved held names l more
+solved_more held names l sent more step p = record {
   tables = p.tables;
   a0 = p.a0;
   journal = p.journal;
@@ -64,20 +64,20 @@ solved_more held names l way more step p = record {
   least = p.least;
 }
 
-trial_more : (number : ℕ) (way more : List ℕ → Type 0) → ((text : List ℕ) → way text → more text) → TrialPrinted number way → TrialPrinted number more
-trial_more number way more step p = record { tables = p.tables; lots = p.lots; trial = p.trial; lots_are = p.lots_are; text = step _ p.text }
+trial_more : (number : ℕ) (sent more : List ℕ → Type 0) → ((text : List ℕ) → sent text → more text) → TrialPrinted number sent → TrialPrinted number more
+trial_more number sent more step p = record { tables = p.tables; lots = p.lots; trial = p.trial; lots_are = p.lots_are; text = step _ p.text }
 
-output_more : (held : Held) (says : JobSays) (way more : List ℕ → Type 0) → ((text : List ℕ) → way text → more text) → (command_of says).prints held way → (command_of says).prints held more
-output_more held (Checks model initial changed closed) way more step p = printed_more held _ way more step p
-output_more held (Bounds model initial closed) way more step p = bound_more held _ way more step p
-output_more held (Solves model initial closed slack drawing lots) way more step p = (p.0, p.1, solved_more held _ p.0 way more step p.2)
-output_more held (Repairs model initial closed slack drawing lots) way more step p =
+output_more : (held : Held) (says : JobSays) (sent more : List ℕ → Type 0) → ((text : List ℕ) → sent text → more text) → (command_of says).prints held sent → (command_of says).prints held more
+output_more held (Checks model initial changed closed) sent more step p = printed_more held _ sent more step p
+output_more held (Bounds model initial closed) sent more step p = bound_more held _ sent more step p
+output_more held (Solves model initial closed slack drawing lots) sent more step p = (p.0, p.1, solved_more held _ p.0 sent more step p.2)
+output_more held (Repairs model initial closed slack drawing lots) sent more step p =
     let t = p.2 in
     (p.0, p.1, record { tables = t.tables; a0 = t.a0; accepts = t.accepts; lot = t.lot; one = t.one; run = record { is = t.run.is; feasible = t.run.feasible; tried = t.run.tried; text = step _ t.run.text } })
-output_more held (Edits model initial current edits closed) way more step p =
+output_more held (Edits model initial current edits closed) sent more step p =
     record { tables = p.tables; a0 = p.a0; a = p.a; edits = p.edits; taken = p.taken; run = record { start = p.run.start; current = p.run.current; left = p.run.left; text = step _ p.run.text } }
-output_more held (Trials number) way more step p = trial_more number way more step p
-output_more held (Verifies model initial report closed slack drawing lots) way more step p = (p.0, p.1, record { entries = p.2.entries; read = p.2.read; text = step _ p.2.text })
+output_more held (Trials number) sent more step p = trial_more number sent more step p
+output_more held (Verifies model initial report closed slack drawing lots) sent more step p = (p.0, p.1, record { entries = p.2.entries; read = p.2.read; text = step _ p.2.text })
 
 -- a job that is done has put its output
 

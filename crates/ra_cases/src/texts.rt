@@ -70,8 +70,8 @@ fn push_piece(
     Ok(count)
 }
 
-/// How many pieces a text has that begins with this word: the word and those that it takes, if it makes a text, and
-/// else one, the name of a shared text.
+/// How many pieces a text is that begins with this word: with those that it takes if it makes a text, and else one, the
+/// name of a shared text.
 fn takes(word: &str) -> usize
     ensures { 0 < result }
 {

@@ -64,8 +64,8 @@ fn fill<'t>(
     Ok(all)
 }
 
-/// The pieces of a row for which a piece of a line stands, if it stands for some: 0 for all of them, else the place of
-/// one, counted from 1.
+/// The place of the pieces of a row for which a piece of a line stands, if it stands for some: 0 for all of them, else that
+/// of one, counted from 1.
 fn place(piece: &Token<'_>) -> Option<usize> {
     if piece.quoted {
         return None;

@@ -17,7 +17,7 @@ use std::marker::Sync;
 use std::sync::Wait;
 use std::thread::Threads;
 
-/// How many bytes files give at once if a case doesn't say it: the case is run with each.
+/// How many bytes files give at once if a case doesn't say it: it is run with each.
 const CUTS: [usize; 4] = [1, 7, 65_535, 65_536];
 
 /// What a run works on.
@@ -46,8 +46,8 @@ fn stage_of(alloc: Global, case: &Case<'_>, each: usize) -> Result<Stage, Troubl
     })
 }
 
-/// Runs a stage: whether the run ends as it has to, with the wanted output and error line. If it doesn't, the wanted
-/// ending is put beside the actual one.
+/// Runs a stage: whether the run ends as it has to, with the wanted output and error line. If it
+/// doesn't, what came is put beside what had to come.
 fn try_stage<R: Threads + Wait + Sync, O: Sink>(
     rt: &R,
     alloc: Global,
@@ -61,7 +61,7 @@ fn try_stage<R: Threads + Wait + Sync, O: Sink>(
         → Runs (texts stage.old.words.items) (files.held stage.old.files) wanted.now }
     ensures out { result ≡ Ok true → taken.bytes stage.new.out ≡ wanted.now.out.now }
     ensures err { result ≡ Ok true → taken.bytes stage.new.err ≡ wanted.now.err.now }
-    ensures quiet { result ≡ Ok true → sink.new ≡ sink.old }
+    ensures no_line { result ≡ Ok true → sink.new ≡ sink.old }
     ensures other { result ≡ Ok false → Grows (O.taken sink.old) (O.taken sink.new) }
 {
     let status = run(
@@ -95,7 +95,7 @@ fn try_cut<R: Threads + Wait + Sync, O: Sink>(
     sink: &mut O,
 ) -> Result<bool, Trouble>
     requires { 0 < each }
-    ensures quiet { result ≡ Ok true → sink.new ≡ sink.old }
+    ensures no_line { result ≡ Ok true → sink.new ≡ sink.old }
     ensures other { result ≡ Ok false → Grows (O.taken sink.old) (O.taken sink.new) }
 {
     let mut stage = stage_of(alloc, case, each)?;
@@ -112,7 +112,7 @@ fn try_cuts<R: Threads + Wait + Sync, O: Sink>(
     wanted: &Ending<'_>,
     sink: &mut O,
 ) -> Result<bool, Trouble>
-    ensures quiet { result ≡ Ok true → sink.new ≡ sink.old }
+    ensures no_line { result ≡ Ok true → sink.new ≡ sink.old }
     ensures other { result ≡ Ok false → Grows (O.taken sink.old) (O.taken sink.new) }
 {
     for each in CUTS {
@@ -131,7 +131,7 @@ fn ends_so<R: Threads + Wait + Sync, O: Sink>(
     wanted: &Ending<'_>,
     sink: &mut O,
 ) -> Result<bool, Trouble>
-    ensures quiet { result ≡ Ok true → sink.new ≡ sink.old }
+    ensures no_line { result ≡ Ok true → sink.new ≡ sink.old }
     ensures other { result ≡ Ok false → Grows (O.taken sink.old) (O.taken sink.new) }
 {
     match number(alloc, case, "fetch-gives")? {

@@ -39,8 +39,8 @@ use Rattle.ra_jobs.specs.Ends.{Does, Tries, Finishes, Leaves}
 use Rattle.ra_jobs.specs.Files.{Held, Faults, Names, name_of, Accepts, InstanceIs, edit_names}
 use Rattle.ra_jobs.specs.Lines.{refusal_line}
 use Rattle.ra_jobs.specs.Output.{Output, BrokeOff, Put}
-use Rattle.ra_jobs.specs.Refusals.{Says, CanTell, RoleBreaks}
-use Rattle.ra_jobs.specs.Stages.{JudgeSays, ListsSay, ReadsLists}
+use Rattle.ra_jobs.specs.Refusals.{Reason, CanTell, RoleBreaks}
+use Rattle.ra_jobs.specs.Stages.{JudgeReason, ListsReason, ReadsLists}
 use Rattle.ra_jobs.specs.Statuses.{status_of}
 use Rattle.ra_jobs.proofs.BareLemmas.{bare}
 use Rattle.ra_jobs.proofs.ComesLemmas.{Listed, breaks_listed, told_of}
@@ -49,9 +49,9 @@ use Rattle.ra_jobs.proofs.DoesLemmas.{does_so, memory_refused}
 use Rattle.ra_jobs.proofs.EndLemmas.{Ends, EndsOver, finished, left_so}
 use Rattle.ra_jobs.proofs.MeaningLemmas.{no_model, no_closed, no_initial, no_changed, no_initial_break, no_changed_break, instances_same}
 use Rattle.ra_jobs.proofs.RowLemmas.{raw_of, bare_raw, raw_same}
-use Rattle.ra_jobs.proofs.StageLemmas.{rose_later, can_tell, says_more}
+use Rattle.ra_jobs.proofs.StageLemmas.{rose_later, can_tell, reason_more}
 use Rattle.ra_edit_job.specs.EditedTexts.{model_part, edited_lines, edited_text}
-use Rattle.ra_edit_job.specs.Editing.{left_of, text_left, edits_output, IsEdited, IsTaken, Edited, EditsRefused, EditsAccepted, EditOwn, EditComes, AreEditable, edits_as, EditsSay, HasEdits, EditSays, OverSays, editing}
+use Rattle.ra_edit_job.specs.Editing.{left_of, text_left, edits_output, IsEdited, IsTaken, Edited, EditsRefused, EditsAccepted, EditOwn, EditComes, AreEditable, edits_as, EditsReason, HasEdits, EditReason, OverReason, editing}
 
 -- ---- the text of instances with the same lists
 
@@ -75,43 +75,43 @@ unfolding edited_text edited_lines model_part
 left_text d i a0 a replies same first second parts = rw (parts, text_same (instance_of d) i same.lists, first, second) refl
 
 -- the run of edits of an instance and two lists
-pub edited : (i : Tables) (a0 a : List Machine) (e : EditLists) (made d : Drafted) (instance : Tables) (first second : List Machine) (replies : List EditReply) (way : List ℕ → Type 0) → Feasible i a0 a0 → Feasible i a0 a → made ≡ draft_of i a0 a → d ≡ after_edits made e (length e.edits) → replies ≡ replies_to made e (length e.edits) → Feasible (instance_of d) d.initial d.current → AreSameLists (instance_of d) instance → first ≡ d.initial → second ≡ d.current → parts_of instance first second ≡ parts_of (instance_of d) d.initial d.current
-    → way (edited_text instance first second replies) → IsEdited i a0 a e way
+pub edited : (i : Tables) (a0 a : List Machine) (e : EditLists) (made d : Drafted) (instance : Tables) (first second : List Machine) (replies : List EditReply) (sent : List ℕ → Type 0) → Feasible i a0 a0 → Feasible i a0 a → made ≡ draft_of i a0 a → d ≡ after_edits made e (length e.edits) → replies ≡ replies_to made e (length e.edits) → Feasible (instance_of d) d.initial d.current → AreSameLists (instance_of d) instance → first ≡ d.initial → second ≡ d.current → parts_of instance first second ≡ parts_of (instance_of d) d.initial d.current
+    → sent (edited_text instance first second replies) → IsEdited i a0 a e sent
 unfolding left_of text_left edits_output
-edited i a0 a e made d instance first second replies way start current from run answers feasible same first_is second_is parts text =
+edited i a0 a e made d instance first second replies sent start current from run answers feasible same first_is second_is parts text =
     let left : d ≡ left_of i a0 a e = rw from at run in
     let told : replies ≡ replies_to (draft_of i a0 a) e (length e.edits) = rw from at answers in
     record {
       start = start;
       current = current;
       left = subst (λ (x : Drafted). Feasible (instance_of x) x.initial x.current) left feasible;
-      text = subst (λ (x : Drafted). way (text_left (draft_of i a0 a) x e)) left (rw (sym told) (rw (left_text d instance first second replies same first_is second_is parts) at text));
+      text = subst (λ (x : Drafted). sent (text_left (draft_of i a0 a) x e)) left (rw (sym told) (rw (left_text d instance first second replies same first_is second_is parts) at text));
     }
 
 -- ---- the stages
 
-pub edits_say : (held : Held) (name : List ℕ) (i : Tables) (before now : Faults) (fault : EditsFault) → (fault ≡ reader.ReadFault → Rose (before name) (now name)) → IfSome (held name) (λ bytes. IsEditsRefusal bytes i fault) → EditsSay held name i before now (edits_as fault)
-edits_say held name i before now reader.ReadFault rose told = rose refl
-edits_say held name i before now (reader.BadByte at byte) rose told = ((λ e. cc, λ e. cc), told)
-edits_say held name i before now (reader.TooLarge at) rose told = ((λ e. cc, λ e. cc), told)
-edits_say held name i before now reader.TooLong rose told = ((λ e. cc, λ e. cc), told)
-edits_say held name i before now (reader.Missing edit) rose told = ((λ e. cc, λ e. cc), told)
-edits_say held name i before now (reader.Range at value least most) rose told = ((λ e. cc, λ e. cc), told)
-edits_say held name i before now (reader.TooMany at) rose told = ((λ e. cc, λ e. cc), told)
-edits_say held name i before now reader.NoMemory rose told = tt
+pub edits_reason : (held : Held) (name : List ℕ) (i : Tables) (before now : Faults) (fault : EditsFault) → (fault ≡ reader.ReadFault → Rose (before name) (now name)) → IfSome (held name) (λ bytes. IsEditsRefusal bytes i fault) → EditsReason held name i before now (edits_as fault)
+edits_reason held name i before now reader.ReadFault rose told = rose refl
+edits_reason held name i before now (reader.BadByte at byte) rose told = ((λ e. cc, λ e. cc), told)
+edits_reason held name i before now (reader.TooLarge at) rose told = ((λ e. cc, λ e. cc), told)
+edits_reason held name i before now reader.TooLong rose told = ((λ e. cc, λ e. cc), told)
+edits_reason held name i before now (reader.Missing edit) rose told = ((λ e. cc, λ e. cc), told)
+edits_reason held name i before now (reader.Range at value least most) rose told = ((λ e. cc, λ e. cc), told)
+edits_reason held name i before now (reader.TooMany at) rose told = ((λ e. cc, λ e. cc), told)
+edits_reason held name i before now reader.NoMemory rose told = tt
 
 -- a refusal of the lists
-pub says_listed : (held later : Held) (model : List ℕ) (closed : Option (List ℕ)) (initial current edits : List ℕ) (i : Tables) (first before now : Faults) (own : Refusal → Type 0) → ((other : List ℕ) → later other ≡ held other) → ((other : List ℕ) → first other ≤ before other) → InstanceIs held model closed i → (refusal : Refusal) → ListsSay later initial current i before now refusal → Says held (edit_names model closed initial current edits) first now own refusal
+pub reason_listed : (held later : Held) (model : List ℕ) (closed : Option (List ℕ)) (initial current edits : List ℕ) (i : Tables) (first before now : Faults) (own : Refusal → Type 0) → ((other : List ℕ) → later other ≡ held other) → ((other : List ℕ) → first other ≤ before other) → InstanceIs held model closed i → (refusal : Refusal) → ListsReason later initial current i before now refusal → Reason held (edit_names model initial current edits closed) first now own refusal
 unfolding name_of
-says_listed held later model closed initial current edits i first before now own same never_fell instance (Read file.Initial) says = record { earlier = (i, instance); named = refl; rose = rose_later (first initial) (before initial) (now initial) (never_fell initial) says }
-says_listed held later model closed initial current edits i first before now own same never_fell instance (Read file.Changed) says = record { earlier = (i, says.0, instance, rw (sym (same initial)) says.1); named = refl; rose = rose_later (first current) (before current) (now current) (never_fell current) says.2 }
-says_listed held later model closed initial current edits i first before now own same never_fell instance (Assign role.Initial fault) says = record { tables = i; instance = instance; name = initial; named = refl; refused = record { in_file = says.in_file; refused = rw (sym (same initial)) says.refused } }
-says_listed held later model closed initial current edits i first before now own same never_fell instance (Assign role.Changed fault) says = record { tables = i; a0 = says.0; instance = instance; initial = rw (sym (same initial)) says.1; name = current; named = refl; refused = record { in_file = says.2.in_file; refused = rw (sym (same current)) says.2.refused } }
-says_listed held later model closed initial current edits i first before now own same never_fell instance Memory says = tt
-says_listed held later model closed initial current edits i first before now own same never_fell instance refusal says = absurd says
+reason_listed held later model closed initial current edits i first before now own same never_fell instance (Read file.Initial) reason = record { earlier = (i, instance); named = refl; rose = rose_later (first initial) (before initial) (now initial) (never_fell initial) reason }
+reason_listed held later model closed initial current edits i first before now own same never_fell instance (Read file.Changed) reason = record { earlier = (i, reason.0, instance, rw (sym (same initial)) reason.1); named = refl; rose = rose_later (first current) (before current) (now current) (never_fell current) reason.2 }
+reason_listed held later model closed initial current edits i first before now own same never_fell instance (Assign role.Initial fault) reason = record { tables = i; instance = instance; name = initial; named = refl; refused = record { in_file = reason.in_file; refused = rw (sym (same initial)) reason.refused } }
+reason_listed held later model closed initial current edits i first before now own same never_fell instance (Assign role.Changed fault) reason = record { tables = i; a0 = reason.0; instance = instance; initial = rw (sym (same initial)) reason.1; name = current; named = refl; refused = record { in_file = reason.2.in_file; refused = rw (sym (same current)) reason.2.refused } }
+reason_listed held later model closed initial current edits i first before now own same never_fell instance Memory reason = tt
+reason_listed held later model closed initial current edits i first before now own same never_fell instance refusal reason = absurd reason
 
 -- the lists were accepted
-pub accepts_lists : (held later : Held) (model : List ℕ) (closed : Option (List ℕ)) (initial current edits : List ℕ) (i : Tables) (a0 a : List Machine) → ((other : List ℕ) → later other ≡ held other) → InstanceIs held model closed i → ReadsLists later initial current i a0 a → Accepts held (edit_names model closed initial current edits) i a0 a
+pub accepts_lists : (held later : Held) (model : List ℕ) (closed : Option (List ℕ)) (initial current edits : List ℕ) (i : Tables) (a0 a : List Machine) → ((other : List ℕ) → later other ≡ held other) → InstanceIs held model closed i → ReadsLists later initial current i a0 a → Accepts held (edit_names model initial current edits closed) i a0 a
 accepts_lists held later model closed initial current edits i a0 a same instance lists = record {
   instance = instance;
   initial = rw (sym (same initial)) lists.initial;
@@ -119,15 +119,15 @@ accepts_lists held later model closed initial current edits i a0 a same instance
 }
 
 -- a refusal of the edits
-pub says_edits : (held later : Held) (model : List ℕ) (closed : Option (List ℕ)) (initial current edits : List ℕ) (i : Tables) (a0 a : List Machine) (first before now : Faults) (written : Type 0) → ((other : List ℕ) → later other ≡ held other) → ((other : List ℕ) → first other ≤ before other) → Accepts held (edit_names model closed initial current edits) i a0 a → (refusal : Refusal) → EditsSay later edits i before now refusal
-    → Says held (edit_names model closed initial current edits) first now (EditOwn held (edit_names model closed initial current edits) written) refusal
+pub reason_edits : (held later : Held) (model : List ℕ) (closed : Option (List ℕ)) (initial current edits : List ℕ) (i : Tables) (a0 a : List Machine) (first before now : Faults) (written : Type 0) → ((other : List ℕ) → later other ≡ held other) → ((other : List ℕ) → first other ≤ before other) → Accepts held (edit_names model initial current edits closed) i a0 a → (refusal : Refusal) → EditsReason later edits i before now refusal
+    → Reason held (edit_names model initial current edits closed) first now (EditOwn held (edit_names model initial current edits closed) written) refusal
 unfolding name_of
-says_edits held later model closed initial current edits i a0 a first before now written same never_fell accepts (Read file.Edits) says = record { earlier = (i, a0, a, accepts); named = refl; rose = rose_later (first edits) (before edits) (now edits) (never_fell edits) says }
-says_edits held later model closed initial current edits i a0 a first before now written same never_fell accepts (Edits fault) says = record { tables = i; a0 = a0; a = a; accepts = accepts; named = refl; in_file = says.0; refused = rw (sym (same edits)) says.1 }
-says_edits held later model closed initial current edits i a0 a first before now written same never_fell accepts Memory says = tt
-says_edits held later model closed initial current edits i a0 a first before now written same never_fell accepts refusal says = absurd says
+reason_edits held later model closed initial current edits i a0 a first before now written same never_fell accepts (Read file.Edits) reason = record { earlier = (i, a0, a, accepts); named = refl; rose = rose_later (first edits) (before edits) (now edits) (never_fell edits) reason }
+reason_edits held later model closed initial current edits i a0 a first before now written same never_fell accepts (Edits fault) reason = record { tables = i; a0 = a0; a = a; accepts = accepts; named = refl; in_file = reason.0; refused = rw (sym (same edits)) reason.1 }
+reason_edits held later model closed initial current edits i a0 a first before now written same never_fell accepts Memory reason = tt
+reason_edits held later model closed initial current edits i a0 a first before now written same never_fell accepts refusal reason = absurd reason
 
-pub taken_all : (held later : Held) (model : List ℕ) (closed : Option (List ℕ)) (initial current edits : List ℕ) (i : Tables) (a0 a : List Machine) (e : EditLists) → ((other : List ℕ) → later other ≡ held other) → Accepts held (edit_names model closed initial current edits) i a0 a → IsAssignment i a0 → IsAssignment i a → HasEdits later edits i e → IsTaken held (edit_names model closed initial current edits) i a0 a e
+pub taken_all : (held later : Held) (model : List ℕ) (closed : Option (List ℕ)) (initial current edits : List ℕ) (i : Tables) (a0 a : List Machine) (e : EditLists) → ((other : List ℕ) → later other ≡ held other) → Accepts held (edit_names model initial current edits closed) i a0 a → IsAssignment i a0 → IsAssignment i a → HasEdits later edits i e → IsTaken held (edit_names model initial current edits closed) i a0 a e
 unfolding name_of
 taken_all held later model closed initial current edits i a0 a e same accepts first second has = record { accepts = accepts; initial = first; current = second; edits = rw (sym (same edits)) has.edits; fits = has.fits }
 
@@ -136,59 +136,59 @@ some_then None P Q step is = tt
 some_then (Some bytes) P Q step is = step bytes is
 
 accepted_of : (held : Held) (names : Names) (i : Tables) (a0 a : List Machine) (e : EditLists) → IsTaken held names i a0 a e → EditsAccepted held names
-accepted_of held names i a0 a e taken = record { tables = i; a0 = a0; a = a; accepts = taken.accepts; none = some_then (held (name_of names file.Edits)) (λ bytes. AreEditsOf bytes i e) (λ bytes. edits_refusal bytes i ≡ None) (λ bytes are. (edits_accept bytes i).1 (are.count, are.file)) taken.edits }
+accepted_of held names i a0 a e taken = record { tables = i; a0 = a0; a = a; accepts = taken.accepts; none = some_then (held (name_of names file.Edits)) (λ bytes. AreEditsOf bytes i e) (λ bytes. edits_refusal bytes i ≡ None) (λ bytes is. (edits_accept bytes i).1 (is.count, is.file)) taken.edits }
 
 -- a refusal of the run
-pub says_run : (held : Held) (names : Names) (i : Tables) (a0 a : List Machine) (e : EditLists) (before now : Faults) (way : List ℕ → Type 0) → IsSome names.initial → IsSome names.changed → IsTaken held names i a0 a e → (refusal : Refusal) → EditSays i a0 a (IsEdited i a0 a e way) refusal → Says held names before now (EditOwn held names (Edited held names way)) refusal
-says_run held names i a0 a e before now way has_initial has_changed taken (Broken role.Initial cause) says = (accepted_of held names i a0 a e taken, record { tables = i; a0 = a0; a = a; named = has_initial; accepts = taken.accepts; broken = says })
-says_run held names i a0 a e before now way has_initial has_changed taken (Broken role.Changed cause) says = (accepted_of held names i a0 a e taken, record { tables = i; a0 = a0; a = a; start_named = has_initial; named = has_changed; accepts = taken.accepts; initial = says.0; broken = says.1 })
-says_run held names i a0 a e before now way has_initial has_changed taken Write says = record { tables = i; a0 = a0; a = a; edits = e; taken = taken; run = says }
-says_run held names i a0 a e before now way has_initial has_changed taken Memory says = tt
-says_run held names i a0 a e before now way has_initial has_changed taken refusal says = absurd says
+pub reason_run : (held : Held) (names : Names) (i : Tables) (a0 a : List Machine) (e : EditLists) (before now : Faults) (sent : List ℕ → Type 0) → IsSome names.initial → IsSome names.changed → IsTaken held names i a0 a e → (refusal : Refusal) → EditReason i a0 a (IsEdited i a0 a e sent) refusal → Reason held names before now (EditOwn held names (Edited held names sent)) refusal
+reason_run held names i a0 a e before now sent has_initial has_changed taken (Broken role.Initial cause) reason = (accepted_of held names i a0 a e taken, record { tables = i; a0 = a0; a = a; named = has_initial; accepts = taken.accepts; broken = reason })
+reason_run held names i a0 a e before now sent has_initial has_changed taken (Broken role.Changed cause) reason = (accepted_of held names i a0 a e taken, record { tables = i; a0 = a0; a = a; start_named = has_initial; named = has_changed; accepts = taken.accepts; initial = reason.0; broken = reason.1 })
+reason_run held names i a0 a e before now sent has_initial has_changed taken Write reason = record { tables = i; a0 = a0; a = a; edits = e; taken = taken; run = reason }
+reason_run held names i a0 a e before now sent has_initial has_changed taken Memory reason = tt
+reason_run held names i a0 a e before now sent has_initial has_changed taken refusal reason = absurd reason
 
-pub edited_all : (held : Held) (names : Names) (i : Tables) (a0 a : List Machine) (e : EditLists) (way : List ℕ → Type 0) → IsTaken held names i a0 a e → IsEdited i a0 a e way → Edited held names way
-edited_all held names i a0 a e way taken run = record { tables = i; a0 = a0; a = a; edits = e; taken = taken; run = run }
+pub edited_all : (held : Held) (names : Names) (i : Tables) (a0 a : List Machine) (e : EditLists) (sent : List ℕ → Type 0) → IsTaken held names i a0 a e → IsEdited i a0 a e sent → Edited held names sent
+edited_all held names i a0 a e sent taken run = record { tables = i; a0 = a0; a = a; edits = e; taken = taken; run = run }
 
-pub judge_says : (i : Tables) (a0 a : List Machine) (written : Type 0) (refusal : Refusal) → JudgeSays i a0 a refusal → EditSays i a0 a written refusal
-judge_says i a0 a written (Broken role.Initial cause) says = says
-judge_says i a0 a written (Broken role.Changed cause) says = says
-judge_says i a0 a written Memory says = tt
-judge_says i a0 a written refusal says = absurd says
+pub judge_reason : (i : Tables) (a0 a : List Machine) (written : Type 0) (refusal : Refusal) → JudgeReason i a0 a refusal → EditReason i a0 a written refusal
+judge_reason i a0 a written (Broken role.Initial cause) reason = reason
+judge_reason i a0 a written (Broken role.Changed cause) reason = reason
+judge_reason i a0 a written Memory reason = tt
+judge_reason i a0 a written refusal reason = absurd reason
 
-pub over_says : (i : Tables) (a0 a : List Machine) (written : Type 0) (refusal : Refusal) → OverSays written refusal → EditSays i a0 a written refusal
-over_says i a0 a written Write says = says
-over_says i a0 a written Memory says = tt
-over_says i a0 a written refusal says = absurd says
+pub over_reason : (i : Tables) (a0 a : List Machine) (written : Type 0) (refusal : Refusal) → OverReason written refusal → EditReason i a0 a written refusal
+over_reason i a0 a written Write reason = reason
+over_reason i a0 a written Memory reason = tt
+over_reason i a0 a written refusal reason = absurd reason
 
 own_more : (held : Held) (names : Names) (written more : Type 0) → (written → more) → (r : Refusal) → EditOwn held names written r → EditOwn held names more r
-own_more held names written more step (Edits fault) says = says
-own_more held names written more step (Broken which cause) says = says
-own_more held names written more step Write says = step says
-own_more held names written more step refusal says = absurd says
+own_more held names written more step (Edits fault) reason = reason
+own_more held names written more step (Broken which cause) reason = reason
+own_more held names written more step Write reason = step reason
+own_more held names written more step refusal reason = absurd reason
 
-pub says_untaken : (held : Held) (names : Names) (before now : Faults) (written : Type 0) (refusal : Refusal) → Says held names before now (EditOwn held names ⊥) refusal → Says held names before now (EditOwn held names written) refusal
-says_untaken held names before now written refusal says = says_more held names before now (EditOwn held names ⊥) (EditOwn held names written) (own_more held names ⊥ written (λ none. absurd none)) refusal says
+pub reason_untaken : (held : Held) (names : Names) (before now : Faults) (written : Type 0) (refusal : Refusal) → Reason held names before now (EditOwn held names ⊥) refusal → Reason held names before now (EditOwn held names written) refusal
+reason_untaken held names before now written refusal reason = reason_more held names before now (EditOwn held names ⊥) (EditOwn held names written) (own_more held names ⊥ written (λ none. absurd none)) refusal reason
 
 own_tells : (held : Held) (names : Names) (written : Type 0) (r : Refusal) → EditOwn held names written r → CanTell names r
-own_tells held names written (Edits fault) says = (says.named, says.in_file)
-own_tells held names written (Broken role.Initial cause) says = says.1.named
-own_tells held names written (Broken role.Changed cause) says = says.1.named
-own_tells held names written Write says = tt
-own_tells held names written refusal says = absurd says
+own_tells held names written (Edits fault) reason = (reason.named, reason.in_file)
+own_tells held names written (Broken role.Initial cause) reason = reason.1.named
+own_tells held names written (Broken role.Changed cause) reason = reason.1.named
+own_tells held names written Write reason = tt
+own_tells held names written refusal reason = absurd reason
 
-pub can_tell_edits : (held : Held) (names : Names) (before now : Faults) (written : Type 0) (refusal : Refusal) → Says held names before now (EditOwn held names written) refusal → CanTell names refusal
+pub can_tell_edits : (held : Held) (names : Names) (before now : Faults) (written : Type 0) (refusal : Refusal) → Reason held names before now (EditOwn held names written) refusal → CanTell names refusal
 can_tell_edits held names before now written = can_tell held names before now (EditOwn held names written) (own_tells held names written)
 
--- ---- where its statuses come
+-- ---- when its statuses come
 
-pub edited_listed : (held : Held) (names : Names) (way : List ℕ → Type 0) → Edited held names way → Listed held names
-edited_listed held names way is = record { tables = is.tables; a0 = is.a0; a = is.a; accepts = is.taken.accepts }
+pub edited_listed : (held : Held) (names : Names) (sent : List ℕ → Type 0) → Edited held names sent → Listed held names
+edited_listed held names sent is = record { tables = is.tables; a0 = is.a0; a = is.a; accepts = is.taken.accepts }
 
-pub own_listed : (held : Held) (names : Names) (way : List ℕ → Type 0) (r : Refusal) → EditOwn held names (Edited held names way) r → Listed held names
-own_listed held names way (Edits fault) says = record { tables = says.tables; a0 = says.a0; a = says.a; accepts = says.accepts }
-own_listed held names way (Broken which cause) says = breaks_listed held names which cause says.1
-own_listed held names way Write says = edited_listed held names way says
-own_listed held names way refusal says = absurd says
+pub own_listed : (held : Held) (names : Names) (sent : List ℕ → Type 0) (r : Refusal) → EditOwn held names (Edited held names sent) r → Listed held names
+own_listed held names sent (Edits fault) reason = record { tables = reason.tables; a0 = reason.a0; a = reason.a; accepts = reason.accepts }
+own_listed held names sent (Broken which cause) reason = breaks_listed held names which cause reason.1
+own_listed held names sent Write reason = edited_listed held names sent reason
+own_listed held names sent refusal reason = absurd reason
 
 -- instances that differ in room alone take the same edits files
 edits_bare : (bytes : List ℕ) (i : Tables) → edits_refusal bytes (bare i) ≡ edits_refusal bytes i
@@ -199,48 +199,48 @@ edits_same : (bytes : List ℕ) (i j : Tables) → bare i ≡ bare j → edits_r
 edits_same bytes i j same = sym (edits_bare bytes i) ∙ (ap (edits_refusal bytes) same ∙ edits_bare bytes j)
 
 -- over valid files none of its own refusals can come
-valid_none : (held : Held) (names : Names) (way : List ℕ → Type 0) → AreEditable held names → ((text : List ℕ) → way text → ⊥) → (refusal : Refusal) → EditOwn held names (Edited held names way) refusal → ⊥
-valid_none held names way editable whole (Edits fault) says =
-    let are = editable.edits says.tables says.a0 says.a says.accepts in
-    contradiction (held (name_of names file.Edits)) are.0 (λ bytes. edits_refusal bytes says.tables) fault are.1 are.2 says.refused
-valid_none held names way editable whole (Broken role.Initial cause) says =
-    let b = says.1 in
+valid_none : (held : Held) (names : Names) (sent : List ℕ → Type 0) → AreEditable held names → ((text : List ℕ) → sent text → ⊥) → (refusal : Refusal) → EditOwn held names (Edited held names sent) refusal → ⊥
+valid_none held names sent editable wrote (Edits fault) reason =
+    let accepted = editable.edits reason.tables reason.a0 reason.a reason.accepts in
+    contradiction (held (name_of names file.Edits)) accepted.0 (λ bytes. edits_refusal bytes reason.tables) fault accepted.1 accepted.2 reason.refused
+valid_none held names sent editable wrote (Broken role.Initial cause) reason =
+    let b = reason.1 in
     let none = unbroken_from_feasible b.tables b.a0 b.a0 (editable.valid.initial b.named b.tables b.a0 b.a b.accepts) in
     let both : None ≡ Some cause = sym none ∙ b.broken in
     cc
-valid_none held names way editable whole (Broken role.Changed cause) says =
-    let b = says.1 in
+valid_none held names sent editable wrote (Broken role.Changed cause) reason =
+    let b = reason.1 in
     let none = unbroken_from_feasible b.tables b.a0 b.a (editable.valid.changed b.named b.tables b.a0 b.a b.accepts) in
     let both : None ≡ Some cause = sym none ∙ b.broken in
     cc
-valid_none held names way editable whole Write says = whole _ says.run.text
-valid_none held names way editable whole refusal says = says
+valid_none held names sent editable wrote Write reason = wrote _ reason.run.text
+valid_none held names sent editable wrote refusal reason = reason
 
-pub complete_edits : {held : Held} {names : Names} {before now : Faults} {way : List ℕ → Type 0} {output : Type 0} {tells : List ℕ → Type 0} {out_same err_same : Type 0} {status : Status} → Ends held names before now output (EditOwn held names (Edited held names way)) tells out_same err_same status → AreEditable held names → NoFault names before now → ((text : List ℕ) → way text → ⊥) → (status ≡ Done) ⊎ (status ≡ NoMemory)
-complete_edits {held} {names} {before} {now} {way} ends editable sound whole = complete ends editable.valid.accepted sound (valid_none held names way editable whole)
+pub complete_edits : {held : Held} {names : Names} {before now : Faults} {sent : List ℕ → Type 0} {output : Type 0} {tells : List ℕ → Type 0} {out_same err_same : Type 0} {status : Status} → Ends held names before now output (EditOwn held names (Edited held names sent)) tells out_same err_same status → AreEditable held names → NoFault names before now → ((text : List ℕ) → sent text → ⊥) → (status ≡ Done) ⊎ (status ≡ NoMemory)
+complete_edits {held} {names} {before} {now} {sent} ends editable sound wrote = complete ends editable.valid.accepted sound (valid_none held names sent editable wrote)
 
 -- over known files that are accepted, a refusal is one of the job's own, or of memory
-own_known : (held : Held) (model : List ℕ) (closed : Option (List ℕ)) (initial current edits : List ℕ) (before now : Faults) (own : Refusal → Type 0) → KnownTo held (edit_names model closed initial current edits) before now file.Edits → (i : Tables) (a0 a : List Machine) → Accepts held (edit_names model closed initial current edits) i a0 a → (refusal : Refusal) → Says held (edit_names model closed initial current edits) before now own refusal → own refusal ⊎ (status_of refusal ≡ NoMemory)
+own_known : (held : Held) (model : List ℕ) (closed : Option (List ℕ)) (initial current edits : List ℕ) (before now : Faults) (own : Refusal → Type 0) → KnownTo held (edit_names model initial current edits closed) before now file.Edits → (i : Tables) (a0 a : List Machine) → Accepts held (edit_names model initial current edits closed) i a0 a → (refusal : Refusal) → Reason held (edit_names model initial current edits closed) before now own refusal → own refusal ⊎ (status_of refusal ≡ NoMemory)
 unfolding status_of name_of
-own_known held model closed initial current edits before now own known i a0 a accepts (Read file.Model) says = absurd ((known.0 tt).1 says.rose)
-own_known held model closed initial current edits before now own known i a0 a accepts (Read file.Closed) says = absurd ((known.1 says.named).1 says.rose)
-own_known held model closed initial current edits before now own known i a0 a accepts (Read file.Initial) says = absurd ((known.2 says.named).1 says.rose)
-own_known held model closed initial current edits before now own known i a0 a accepts (Read file.Changed) says = absurd ((known.3 says.named).1 says.rose)
-own_known held model closed initial current edits before now own known i a0 a accepts (Read file.Report) says = absurd (let none = says.named in cc)
-own_known held model closed initial current edits before now own known i a0 a accepts (Read file.Edits) says = absurd ((known.4 says.named).1 says.rose)
-own_known held model closed initial current edits before now own known i a0 a accepts (Model fault) says = absurd (no_model held model (known.0 tt).0 fault says accepts.instance.model accepts.instance.read)
-own_known held model closed initial current edits before now own known i a0 a accepts (Closed fault) says = absurd (no_closed held model closed (known.0 tt).0 (told_of held closed _ known.1) fault says i accepts.instance)
-own_known held model closed initial current edits before now own known i a0 a accepts (Assign role.Initial fault) says = absurd (no_initial held (edit_names model closed initial current edits) (known.0 tt).0 (told_of held closed _ known.1) (told_of held (Some initial) _ known.2) fault says i a0 accepts.instance accepts.initial)
-own_known held model closed initial current edits before now own known i a0 a accepts (Assign role.Changed fault) says = absurd (no_changed held (edit_names model closed initial current edits) (known.0 tt).0 (told_of held closed _ known.1) (told_of held (Some current) _ known.3) fault says i a accepts.instance accepts.changed)
-own_known held model closed initial current edits before now own known i a0 a accepts Memory says = inr refl
-own_known held model closed initial current edits before now own known i a0 a accepts refusal says = inl says
+own_known held model closed initial current edits before now own known i a0 a accepts (Read file.Model) reason = absurd ((known.0 tt).1 reason.rose)
+own_known held model closed initial current edits before now own known i a0 a accepts (Read file.Closed) reason = absurd ((known.1 reason.named).1 reason.rose)
+own_known held model closed initial current edits before now own known i a0 a accepts (Read file.Initial) reason = absurd ((known.2 reason.named).1 reason.rose)
+own_known held model closed initial current edits before now own known i a0 a accepts (Read file.Changed) reason = absurd ((known.3 reason.named).1 reason.rose)
+own_known held model closed initial current edits before now own known i a0 a accepts (Read file.Report) reason = absurd (let none = reason.named in cc)
+own_known held model closed initial current edits before now own known i a0 a accepts (Read file.Edits) reason = absurd ((known.4 reason.named).1 reason.rose)
+own_known held model closed initial current edits before now own known i a0 a accepts (Model fault) reason = absurd (no_model held model (known.0 tt).0 fault reason accepts.instance.model accepts.instance.read)
+own_known held model closed initial current edits before now own known i a0 a accepts (Closed fault) reason = absurd (no_closed held model closed (known.0 tt).0 (told_of held closed _ known.1) fault reason i accepts.instance)
+own_known held model closed initial current edits before now own known i a0 a accepts (Assign role.Initial fault) reason = absurd (no_initial held (edit_names model initial current edits closed) (known.0 tt).0 (told_of held closed _ known.1) (told_of held (Some initial) _ known.2) fault reason i a0 accepts.instance accepts.initial)
+own_known held model closed initial current edits before now own known i a0 a accepts (Assign role.Changed fault) reason = absurd (no_changed held (edit_names model initial current edits closed) (known.0 tt).0 (told_of held closed _ known.1) (told_of held (Some current) _ known.3) fault reason i a accepts.instance accepts.changed)
+own_known held model closed initial current edits before now own known i a0 a accepts Memory reason = inr refl
+own_known held model closed initial current edits before now own known i a0 a accepts refusal reason = inl reason
 
 -- no edits file is refused and accepted at once
 told_not : (told : Option (List ℕ)) → IsSome told → (P Q : List ℕ → Type 0) → ((bytes : List ℕ) → P bytes → Q bytes → ⊥) → IfSome told P → IfSome told Q → ⊥
 told_not None some P Q never p q = absurd (cc)
 told_not (Some bytes) some P Q never p q = never bytes p q
 
-not_both : (held : Held) (model : List ℕ) (closed : Option (List ℕ)) (initial current edits : List ℕ) (before now : Faults) → KnownTo held (edit_names model closed initial current edits) before now file.Edits → (fault : EditsFault) → EditsRefused held (edit_names model closed initial current edits) fault → EditsAccepted held (edit_names model closed initial current edits) → ⊥
+not_both : (held : Held) (model : List ℕ) (closed : Option (List ℕ)) (initial current edits : List ℕ) (before now : Faults) → KnownTo held (edit_names model initial current edits closed) before now file.Edits → (fault : EditsFault) → EditsRefused held (edit_names model initial current edits closed) fault → EditsAccepted held (edit_names model initial current edits closed) → ⊥
 unfolding name_of
 not_both held model closed initial current edits before now known fault refused accepted =
     let same = instances_same held model closed (known.0 tt).0 (told_of held closed _ known.1) refused.tables accepted.tables refused.accepts.instance accepted.accepts.instance in
@@ -248,61 +248,61 @@ not_both held model closed initial current edits before now known fault refused 
     (λ bytes some none. let both : None ≡ Some fault = sym none ∙ (sym (edits_same bytes refused.tables accepted.tables same) ∙ some) in cc)
     refused.refused accepted.none
 
-bad_own : (held : Held) (model : List ℕ) (closed : Option (List ℕ)) (initial current edits : List ℕ) (before now : Faults) (way : List ℕ → Type 0) → KnownTo held (edit_names model closed initial current edits) before now file.Edits → (fault : EditsFault) → EditsRefused held (edit_names model closed initial current edits) fault → (refusal : Refusal) → EditOwn held (edit_names model closed initial current edits) (Edited held (edit_names model closed initial current edits) way) refusal → status_of refusal ≡ BadEdits
+bad_own : (held : Held) (model : List ℕ) (closed : Option (List ℕ)) (initial current edits : List ℕ) (before now : Faults) (sent : List ℕ → Type 0) → KnownTo held (edit_names model initial current edits closed) before now file.Edits → (fault : EditsFault) → EditsRefused held (edit_names model initial current edits closed) fault → (refusal : Refusal) → EditOwn held (edit_names model initial current edits closed) (Edited held (edit_names model initial current edits closed) sent) refusal → status_of refusal ≡ BadEdits
 unfolding status_of
-bad_own held model closed initial current edits before now way known fault refused (Edits other) says = refl
-bad_own held model closed initial current edits before now way known fault refused (Broken which cause) says = absurd (not_both held model closed initial current edits before now known fault refused says.0)
-bad_own held model closed initial current edits before now way known fault refused Write says = absurd (not_both held model closed initial current edits before now known fault refused (accepted_of held (edit_names model closed initial current edits) says.tables says.a0 says.a says.edits says.taken))
-bad_own held model closed initial current edits before now way known fault refused refusal says = absurd says
+bad_own held model closed initial current edits before now sent known fault refused (Edits other) reason = refl
+bad_own held model closed initial current edits before now sent known fault refused (Broken which cause) reason = absurd (not_both held model closed initial current edits before now known fault refused reason.0)
+bad_own held model closed initial current edits before now sent known fault refused Write reason = absurd (not_both held model closed initial current edits before now known fault refused (accepted_of held (edit_names model initial current edits closed) reason.tables reason.a0 reason.a reason.edits reason.taken))
+bad_own held model closed initial current edits before now sent known fault refused refusal reason = absurd reason
 
 -- no run is written of lists that break a constraint
-broken_not : (held : Held) (model : List ℕ) (closed : Option (List ℕ)) (initial current edits : List ℕ) (before now : Faults) (way : List ℕ → Type 0) → KnownTo held (edit_names model closed initial current edits) before now file.Edits → (which : Role) (cause : Cause) → RoleBreaks held (edit_names model closed initial current edits) which cause → Edited held (edit_names model closed initial current edits) way → ⊥
+broken_not : (held : Held) (model : List ℕ) (closed : Option (List ℕ)) (initial current edits : List ℕ) (before now : Faults) (sent : List ℕ → Type 0) → KnownTo held (edit_names model initial current edits closed) before now file.Edits → (which : Role) (cause : Cause) → RoleBreaks held (edit_names model initial current edits closed) which cause → Edited held (edit_names model initial current edits closed) sent → ⊥
 unfolding name_of
-broken_not held model closed initial current edits before now way known role.Initial cause breaks is = no_initial_break held (edit_names model closed initial current edits) (known.0 tt).0 (told_of held closed _ known.1) (told_of held (Some initial) _ known.2) cause breaks is.tables is.a0 is.a is.taken.accepts is.run.start
-broken_not held model closed initial current edits before now way known role.Changed cause breaks is = no_changed_break held (edit_names model closed initial current edits) (known.0 tt).0 (told_of held closed _ known.1) (told_of held (Some initial) _ known.2) (told_of held (Some current) _ known.3) cause breaks is.tables is.a0 is.a is.taken.accepts is.run.current
+broken_not held model closed initial current edits before now sent known role.Initial cause breaks is = no_initial_break held (edit_names model initial current edits closed) (known.0 tt).0 (told_of held closed _ known.1) (told_of held (Some initial) _ known.2) cause breaks is.tables is.a0 is.a is.taken.accepts is.run.start
+broken_not held model closed initial current edits before now sent known role.Changed cause breaks is = no_changed_break held (edit_names model initial current edits closed) (known.0 tt).0 (told_of held closed _ known.1) (told_of held (Some initial) _ known.2) (told_of held (Some current) _ known.3) cause breaks is.tables is.a0 is.a is.taken.accepts is.run.current
 
-broken_own : (held : Held) (model : List ℕ) (closed : Option (List ℕ)) (initial current edits : List ℕ) (before now : Faults) (way : List ℕ → Type 0) → KnownTo held (edit_names model closed initial current edits) before now file.Edits → EditsAccepted held (edit_names model closed initial current edits) → (which : Role) (cause : Cause) → RoleBreaks held (edit_names model closed initial current edits) which cause → (refusal : Refusal) → EditOwn held (edit_names model closed initial current edits) (Edited held (edit_names model closed initial current edits) way) refusal → status_of refusal ≡ Infeasible
+broken_own : (held : Held) (model : List ℕ) (closed : Option (List ℕ)) (initial current edits : List ℕ) (before now : Faults) (sent : List ℕ → Type 0) → KnownTo held (edit_names model initial current edits closed) before now file.Edits → EditsAccepted held (edit_names model initial current edits closed) → (which : Role) (cause : Cause) → RoleBreaks held (edit_names model initial current edits closed) which cause → (refusal : Refusal) → EditOwn held (edit_names model initial current edits closed) (Edited held (edit_names model initial current edits closed) sent) refusal → status_of refusal ≡ Infeasible
 unfolding status_of
-broken_own held model closed initial current edits before now way known accepted which cause breaks (Edits fault) says = absurd (not_both held model closed initial current edits before now known fault says accepted)
-broken_own held model closed initial current edits before now way known accepted which cause breaks (Broken one other) says = refl
-broken_own held model closed initial current edits before now way known accepted which cause breaks Write says = absurd (broken_not held model closed initial current edits before now way known which cause breaks says)
-broken_own held model closed initial current edits before now way known accepted which cause breaks refusal says = absurd says
+broken_own held model closed initial current edits before now sent known accepted which cause breaks (Edits fault) reason = absurd (not_both held model closed initial current edits before now known fault reason accepted)
+broken_own held model closed initial current edits before now sent known accepted which cause breaks (Broken one other) reason = refl
+broken_own held model closed initial current edits before now sent known accepted which cause breaks Write reason = absurd (broken_not held model closed initial current edits before now sent known which cause breaks reason)
+broken_own held model closed initial current edits before now sent known accepted which cause breaks refusal reason = absurd reason
 
 -- what each of its own statuses says
-says_bad : (held : Held) (names : Names) (written : Type 0) (before now : Faults) (refusal : Refusal) → Says held names before now (EditOwn held names written) refusal → status_of refusal ≡ BadEdits → (fault : EditsFault) × EditsRefused held names fault
+reason_bad : (held : Held) (names : Names) (written : Type 0) (before now : Faults) (refusal : Refusal) → Reason held names before now (EditOwn held names written) refusal → status_of refusal ≡ BadEdits → (fault : EditsFault) × EditsRefused held names fault
 unfolding status_of
-says_bad held names written before now (Edits fault) says e = (fault, says)
-says_bad held names written before now refusal says e = absurd (let both : status_of refusal ≡ BadEdits = e in cc)
+reason_bad held names written before now (Edits fault) reason e = (fault, reason)
+reason_bad held names written before now refusal reason e = absurd (let both : status_of refusal ≡ BadEdits = e in cc)
 
-says_broken : (held : Held) (names : Names) (written : Type 0) (before now : Faults) (refusal : Refusal) → Says held names before now (EditOwn held names written) refusal → status_of refusal ≡ Infeasible → EditsAccepted held names × ((which : Role) × (cause : Cause) × RoleBreaks held names which cause)
+reason_broken : (held : Held) (names : Names) (written : Type 0) (before now : Faults) (refusal : Refusal) → Reason held names before now (EditOwn held names written) refusal → status_of refusal ≡ Infeasible → EditsAccepted held names × ((which : Role) × (cause : Cause) × RoleBreaks held names which cause)
 unfolding status_of
-says_broken held names written before now (Broken which cause) says e = (says.0, (which, cause, says.1))
-says_broken held names written before now refusal says e = absurd (let both : status_of refusal ≡ Infeasible = e in cc)
+reason_broken held names written before now (Broken which cause) reason e = (reason.0, (which, cause, reason.1))
+reason_broken held names written before now refusal reason e = absurd (let both : status_of refusal ≡ Infeasible = e in cc)
 
 -- a job that isn't done has a status that its own refusals give it, or that of memory
-stops : (held : Held) (model : List ℕ) (closed : Option (List ℕ)) (initial current edits : List ℕ) (before now : Faults) (output : Type 0) (own : Refusal → Type 0) (tells : List ℕ → Type 0) (out_same err_same : Type 0) (status this : Status) → Ends held (edit_names model closed initial current edits) before now output own tells out_same err_same status → KnownTo held (edit_names model closed initial current edits) before now file.Edits → Listed held (edit_names model closed initial current edits) → (output → ⊥) → ((refusal : Refusal) → own refusal → status_of refusal ≡ this) → (status ≡ this) ⊎ (status ≡ NoMemory)
+stops : (held : Held) (model : List ℕ) (closed : Option (List ℕ)) (initial current edits : List ℕ) (before now : Faults) (output : Type 0) (own : Refusal → Type 0) (tells : List ℕ → Type 0) (out_same err_same : Type 0) (status this : Status) → Ends held (edit_names model initial current edits closed) before now output own tells out_same err_same status → KnownTo held (edit_names model initial current edits closed) before now file.Edits → Listed held (edit_names model initial current edits closed) → (output → ⊥) → ((refusal : Refusal) → own refusal → status_of refusal ≡ this) → (status ≡ this) ⊎ (status ≡ NoMemory)
 stops held model closed initial current edits before now output own tells out_same err_same status this ends known listed undone step = ⊎_elim
     (λ (done : status ≡ Done). absurd (undone (ends.printed done)))
     (λ (other : status ≢ Done).
     let refused = ends.refused other in
     ⊎_elim
-    (λ (says : own refused.refusal). inl (refused.is ∙ step refused.refusal says))
+    (λ (reason : own refused.refusal). inl (refused.is ∙ step refused.refusal reason))
     (λ (memory : status_of refused.refusal ≡ NoMemory). inr (refused.is ∙ memory))
-    (own_known held model closed initial current edits before now own known listed.tables listed.a0 listed.a listed.accepts refused.refusal refused.says))
+    (own_known held model closed initial current edits before now own known listed.tables listed.a0 listed.a listed.accepts refused.refusal refused.reason))
     (is_done status)
 
 pub edit_comes : {held : Held} {before now : Faults} {tells : List ℕ → Type 0} {out_same err_same : Type 0} {status : Status} (model : List ℕ) (closed : Option (List ℕ)) (initial current edits : List ℕ) (prints breaks : List ℕ → Type 0)
-    → Ends held (edit_names model closed initial current edits) before now (Edited held (edit_names model closed initial current edits) prints) (EditOwn held (edit_names model closed initial current edits) (Edited held (edit_names model closed initial current edits) breaks)) tells out_same err_same status
-    → EditComes held (edit_names model closed initial current edits) before now status
+    → Ends held (edit_names model initial current edits closed) before now (Edited held (edit_names model initial current edits closed) prints) (EditOwn held (edit_names model initial current edits closed) (Edited held (edit_names model initial current edits closed) breaks)) tells out_same err_same status
+    → EditComes held (edit_names model initial current edits closed) before now status
 edit_comes {held} {before} {now} {tells} {out_same} {err_same} {status} model closed initial current edits prints breaks ends =
-    let names = (edit_names model closed initial current edits) in
+    let names = (edit_names model initial current edits closed) in
     let output = Edited held names prints in
     let own : Refusal → Type 0 = EditOwn held names (Edited held names breaks) in
     record {
       bad_edits = record {
         only = λ (is : status ≡ BadEdits).
             let refused = ends.refused (λ (done : status ≡ Done). let e : Done ≡ BadEdits = sym done ∙ is in cc) in
-            says_bad held names (Edited held names breaks) before now refused.refusal refused.says (sym refused.is ∙ is);
+            reason_bad held names (Edited held names breaks) before now refused.refusal refused.reason (sym refused.is ∙ is);
         always = λ known cause.
             let r = cause.1 in
             stops held model closed initial current edits before now output own tells out_same err_same status BadEdits ends known (record { tables = r.tables; a0 = r.a0; a = r.a; accepts = r.accepts })
@@ -312,7 +312,7 @@ edit_comes {held} {before} {now} {tells} {out_same} {err_same} {status} model cl
       infeasible = record {
         only = λ (is : status ≡ Infeasible).
             let refused = ends.refused (λ (done : status ≡ Done). let e : Done ≡ Infeasible = sym done ∙ is in cc) in
-            says_broken held names (Edited held names breaks) before now refused.refusal refused.says (sym refused.is ∙ is);
+            reason_broken held names (Edited held names breaks) before now refused.refusal refused.reason (sym refused.is ∙ is);
         always = λ known cause.
             let r = cause.0 in
             stops held model closed initial current edits before now output own tells out_same err_same status Infeasible ends known (record { tables = r.tables; a0 = r.a0; a = r.a; accepts = r.accepts })
@@ -321,9 +321,9 @@ edit_comes {held} {before} {now} {tells} {out_same} {err_same} {status} model cl
       };
     }
 
-pub edit_so : (model : List ℕ) (closed : Option (List ℕ)) (initial current edits : List ℕ) (files : Reading) (out err : Output) (ended : Result (Unit {0}) Refusal) (status : Status) → Tries (over (editing (edit_names model closed initial current edits))) files out ended → Finishes (edit_names model closed initial current edits) ended err status → Does (over (editing (edit_names model closed initial current edits))) files out err status
+pub edit_so : (model : List ℕ) (closed : Option (List ℕ)) (initial current edits : List ℕ) (files : Reading) (out err : Output) (ended : Result (Unit {0}) Refusal) (status : Status) → Tries (over (editing (edit_names model initial current edits closed))) files out ended → Finishes (edit_names model initial current edits closed) ended err status → Does (over (editing (edit_names model initial current edits closed))) files out err status
 edit_so model closed initial current edits files out err ended status tries finishes =
-    let names = edit_names model closed initial current edits in
+    let names = edit_names model initial current edits closed in
     let c = editing names in
     let prints : List ℕ → Type 0 = Took out.sink in
     let breaks : List ℕ → Type 0 = BrokeOff out.sink in
@@ -332,10 +332,10 @@ edit_so model closed initial current edits files out err ended status tries fini
     (edited_listed files.held names prints)
     (own_listed files.held names breaks)
     (edit_comes model closed initial current edits prints breaks ends)
-    (λ editable sound whole. complete_edits ends editable sound (λ text broken. whole broken.1))
+    (λ editable sound wrote. complete_edits ends editable sound (λ text broken. wrote broken.1))
     (left_so c files out err ended status tries finishes)
 
--- where memory was refused before the words were read
+-- if memory was refused before the words were read
 pub edit_not : (held : Held) (names : Names) (before now : Faults) (status : Status) → status ≡ NoMemory → EditComes held names before now status
 edit_not held names before now status is = record {
   bad_edits = record { only = λ e. absurd (let both : NoMemory ≡ BadEdits = sym is ∙ e in cc); always = λ known cause. inr is };

@@ -41,15 +41,15 @@ unfoldable pub edits_output : Tables → List Machine → List Machine → EditL
 edits_output i a0 a e = text_left (draft_of i a0 a) (left_of i a0 a e) e
 
 -- both lists are feasible, the edited current list is feasible from the edited initial list, and the text of the run of edits
--- went this way
-pub record IsEdited (i : Tables) (a0 a : List Machine) (e : EditLists) (way : List ℕ → Type 0) :
+-- was sent
+pub record IsEdited (i : Tables) (a0 a : List Machine) (e : EditLists) (sent : List ℕ → Type 0) :
     Type 0 where
   pub start : Feasible i a0 a0
   pub current : Feasible i a0 a
   pub left :
       Feasible (instance_of (left_of i a0 a e)) (left_of i a0 a e).initial
       (left_of i a0 a e).current
-  pub text : way (edits_output i a0 a e)
+  pub text : sent (edits_output i a0 a e)
 
 -- the told bytes of the edits file mean these edits
 abbrev pub EditsAre : Held → Names → Tables → EditLists → Type 0
@@ -64,14 +64,14 @@ pub record IsTaken (held : Held) (names : Names) (i : Tables) (a0 a : List Machi
   pub edits : EditsAre held names i e
   pub fits : AreEditsFor i e
 
--- and the run of those edits was put this way
-pub record Edited (held : Held) (names : Names) (way : List ℕ → Type 0) : Type 0 where
+-- and the text of the run of those edits was sent
+pub record Edited (held : Held) (names : Names) (sent : List ℕ → Type 0) : Type 0 where
   pub tables : Tables
   pub a0 : List Machine
   pub a : List Machine
   pub edits : EditLists
   pub taken : IsTaken held names tables a0 a edits
-  pub run : IsEdited tables a0 a edits way
+  pub run : IsEdited tables a0 a edits sent
 
 -- the lists were accepted, and the edits file is refused as this
 pub record EditsRefused (held : Held) (names : Names) (fault : EditsFault) : Type 0 where
@@ -100,7 +100,7 @@ EditOwn held names written (Broken which cause) =
 EditOwn held names written Write = written
 EditOwn held names written refusal = ⊥
 
--- where each of its own statuses comes: all lists are accepted and the edits file is refused; or that is accepted too, and a
+-- when each of its own statuses comes: all lists are accepted and the edits file is refused; or that is accepted too, and a
 -- list breaks a constraint
 pub record EditComes (held : Held) (names : Names) (before now : Faults) (status : Status) : Type 0
   where
@@ -121,16 +121,16 @@ pub record AreEditable (held : Held) (names : Names) : Type 0 where
 abbrev pub editing : Names → OverFiles
 editing names = record {
   names = names;
-  prints = λ held way. Edited held names way;
-  refuses = λ held whole part. EditOwn held names (Edited held names part);
+  prints = λ held sent. Edited held names sent;
+  refuses = λ held took broke_off. EditOwn held names (Edited held names broke_off);
   own_comes = λ files status. EditComes files.held names files.before files.after status;
   valid = λ held. AreEditable held names;
   answers = λ status. (status ≡ Done) ⊎ (status ≡ NoMemory);
 }
 
-abbrev pub edit_command : List ℕ → Option (List ℕ) → List ℕ → List ℕ → List ℕ → Command
-edit_command model closed initial current edits =
-    over (editing (edit_names model closed initial current edits))
+abbrev pub edit_command : List ℕ → List ℕ → List ℕ → List ℕ → Option (List ℕ) → Command
+edit_command model initial current edits closed =
+    over (editing (edit_names model initial current edits closed))
 
 -- ---- the stages
 
@@ -140,29 +140,29 @@ edits_as reader.ReadFault = Read file.Edits
 edits_as reader.NoMemory = Memory
 edits_as fault = Edits fault
 
-abbrev pub EditsSay : Held → List ℕ → Tables → Faults → Faults → Refusal → Type 0
-EditsSay held name i before now (Read file.Edits) = Rose (before name) (now name)
-EditsSay held name i before now (Edits fault) =
+abbrev pub EditsReason : Held → List ℕ → Tables → Faults → Faults → Refusal → Type 0
+EditsReason held name i before now (Read file.Edits) = Rose (before name) (now name)
+EditsReason held name i before now (Edits fault) =
     IsInEdits fault × IfSome (held name) (λ bytes. edits_refusal bytes i ≡ Some fault)
-EditsSay held name i before now Memory = Unit {0}
-EditsSay held name i before now refusal = ⊥
+EditsReason held name i before now Memory = Unit {0}
+EditsReason held name i before now refusal = ⊥
 
 -- an edits file means these edits
 pub record HasEdits (held : Held) (name : List ℕ) (i : Tables) (e : EditLists) : Type 0 where
   pub edits : IfSome (held name) (λ bytes. AreEditsOf bytes i e)
   pub fits : AreEditsFor i e
 
--- what a refusal of the run says
-abbrev pub EditSays : Tables → List Machine → List Machine → Type 0 → Refusal → Type 0
-EditSays i a0 a written (Broken role.Initial cause) = first_broken i a0 a0 ≡ Some cause
-EditSays i a0 a written (Broken role.Changed cause) =
+-- why the run is refused
+abbrev pub EditReason : Tables → List Machine → List Machine → Type 0 → Refusal → Type 0
+EditReason i a0 a written (Broken role.Initial cause) = first_broken i a0 a0 ≡ Some cause
+EditReason i a0 a written (Broken role.Changed cause) =
     Feasible i a0 a0 × (first_broken i a0 a ≡ Some cause)
-EditSays i a0 a written Write = written
-EditSays i a0 a written Memory = Unit {0}
-EditSays i a0 a written refusal = ⊥
+EditReason i a0 a written Write = written
+EditReason i a0 a written Memory = Unit {0}
+EditReason i a0 a written refusal = ⊥
 
 -- of the run of feasible lists
-abbrev pub OverSays : Type 0 → Refusal → Type 0
-OverSays written Write = written
-OverSays written Memory = Unit {0}
-OverSays written refusal = ⊥
+abbrev pub OverReason : Type 0 → Refusal → Type 0
+OverReason written Write = written
+OverReason written Memory = Unit {0}
+OverReason written refusal = ⊥

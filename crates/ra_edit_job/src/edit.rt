@@ -9,8 +9,8 @@ ghost use Rattle.ra_topology.specs.Fits.{IsTopologyOf};
 ghost use Rattle.ra_jobs.specs.Ends.{Does, Tries};
 ghost use Rattle.ra_jobs.specs.Files.{edit_names};
 ghost use Rattle.ra_jobs.specs.Output.{output, BrokeOff};
-ghost use Rattle.ra_jobs.specs.Refusals.{Says};
-ghost use Rattle.ra_edit_job.specs.Editing.{EditOwn, EditSays, EditsSay, HasEdits, IsEdited, IsTaken, OverSays, edits_as, edit_command};
+ghost use Rattle.ra_jobs.specs.Refusals.{Reason};
+ghost use Rattle.ra_edit_job.specs.Editing.{EditOwn, EditReason, EditsReason, HasEdits, IsEdited, IsTaken, OverReason, edits_as, edit_command};
 
 use crate::edited::write_edited;
 use ra_base::{Assignment, Name, Parts};
@@ -36,8 +36,8 @@ pub fn edit_run<'n, F: Files, O: Sink, E: Sink>(
     out: &mut O,
     err: &mut E,
 ) -> Status
-    ensures { Does (edit_command model.now
-        (option_copied closed.entry) initial.now current.now edits.now)
+    ensures { Does (edit_command model.now initial.now current.now edits.now
+        (option_copied closed.entry))
         (reading F.Files files.old files.new) (output O.Sink out.old out.new)
         (output E.Sink err.old err.new) result }
 {
@@ -64,8 +64,8 @@ fn edit<F: Files, O: Sink>(
     files: &mut F,
     out: &mut O,
 ) -> Result<(), Refusal>
-    ensures { Tries (edit_command model.now
-        (option_copied closed.entry) initial.now current.now edits.now)
+    ensures { Tries (edit_command model.now initial.now current.now edits.now
+        (option_copied closed.entry))
         (reading F.Files files.old files.new) (output O.Sink out.old out.new) result }
 {
     let taken = read_taken(alloc, model, initial, current, edits, closed, files)?;
@@ -89,7 +89,7 @@ struct Taken {
     edits: Edits,
 }
 
-/// The instance, the two lists and the edits, where all files are accepted.
+/// The instance, the two lists and the edits, if all files are accepted.
 fn read_taken<F: Files>(
     alloc: Global,
     model: &Name,
@@ -100,13 +100,13 @@ fn read_taken<F: Files>(
     files: &mut F,
 ) -> Result<Taken, Refusal>
     ensures read { IfOk result (λ t. IsTaken (F.held files.old)
-        (edit_names model.now (option_copied closed.entry) initial.now current.now edits.now)
+        (edit_names model.now initial.now current.now edits.now (option_copied closed.entry))
         t.inst.tables t.lists.initial.items t.lists.changed.items t.edits) }
-    ensures refused { IfErr result (Says (F.held files.old)
-        (edit_names model.now (option_copied closed.entry) initial.now current.now edits.now)
+    ensures refused { IfErr result (Reason (F.held files.old)
+        (edit_names model.now initial.now current.now edits.now (option_copied closed.entry))
         (F.faults files.old) (F.faults files.new)
         (EditOwn (F.held files.old)
-        (edit_names model.now (option_copied closed.entry) initial.now current.now edits.now) ⊥)) }
+        (edit_names model.now initial.now current.now edits.now (option_copied closed.entry)) ⊥)) }
     ensures kept { (other : List ℕ) → F.held files.new other ≡ F.held files.old other }
     ensures never_fall { (other : List ℕ) → F.faults files.old other ≤ F.faults files.new other }
 {
@@ -124,7 +124,7 @@ fn take_edits<F: Files>(
     inst: &Instance,
 ) -> Result<Edits, Refusal>
     ensures read { IfOk result (λ e. HasEdits (F.held files.old) name.now inst.now.tables e) }
-    ensures refused { IfErr result (EditsSay (F.held files.old) name.now inst.now.tables
+    ensures refused { IfErr result (EditsReason (F.held files.old) name.now inst.now.tables
         (F.faults files.old) (F.faults files.new)) }
     ensures kept { (other : List ℕ) → F.held files.new other ≡ F.held files.old other }
     ensures never_fall { (other : List ℕ) → F.faults files.old other ≤ F.faults files.new other }
@@ -146,7 +146,7 @@ fn edits_refused(fault: EditsFault) -> Refusal
     }
 }
 
-/// The edits and their text, where both lists are feasible.
+/// The edits and their text, if both lists are feasible.
 fn edit_from<O: Sink>(
     alloc: Global,
     inst: &Instance,
@@ -160,10 +160,10 @@ fn edit_from<O: Sink>(
     requires edits { AreEditsFor inst.now.tables edits.now }
     ensures printed { OnOk result (IsEdited inst.now.tables initial.now.items current.now.items
         edits.now (Took (writing O.Sink out.old out.new))) }
-    ensures refused { IfErr result (EditSays inst.now.tables initial.now.items current.now.items
+    ensures refused { IfErr result (EditReason inst.now.tables initial.now.items current.now.items
         (IsEdited inst.now.tables initial.now.items current.now.items edits.now
         (BrokeOff (writing O.Sink out.old out.new)))) }
-    ensures untouched { IfErr result (λ refusal. refusal ≢ Refusal.Write → out.new ≡ out.old) }
+    ensures no_output { IfErr result (λ refusal. refusal ≢ Refusal.Write → out.new ≡ out.old) }
     ensures out_never_falls { O.faults out.old ≤ O.faults out.new }
 {
     let start = judge(alloc, inst, initial, current)?;
@@ -195,10 +195,10 @@ fn edit_over<O: Sink>(
     requires parts { start ≡ parts_of inst.now.tables initial.now.items current.now.items }
     ensures printed { OnOk result (IsEdited inst.now.tables initial.now.items current.now.items
         edits.now (Took (writing O.Sink out.old out.new))) }
-    ensures refused { IfErr result (OverSays
+    ensures refused { IfErr result (OverReason
         (IsEdited inst.now.tables initial.now.items current.now.items edits.now
         (BrokeOff (writing O.Sink out.old out.new)))) }
-    ensures untouched { IfErr result (λ refusal. refusal ≢ Refusal.Write → out.new ≡ out.old) }
+    ensures no_output { IfErr result (λ refusal. refusal ≢ Refusal.Write → out.new ≡ out.old) }
     ensures out_never_falls { O.faults out.old ≤ O.faults out.new }
 {
     let Ok(mut draft) = Draft::make(alloc, inst, topo, initial, current, start) else {

@@ -12,7 +12,7 @@ use Rattle.ra_jobs.specs.declared.refusals.Role.TheVariants as role
 use Rattle.ra_jobs.specs.declared.status.Status.{Status}
 use Rattle.ra_jobs.specs.declared.status.Status.TheVariants.{Done, ReadFault, WriteFault, NoMemory}
 use Rattle.ra_jobs.specs.Files.{Held, Faults, Names}
-use Rattle.ra_jobs.specs.Refusals.{Says, Judges, OnlyWrites}
+use Rattle.ra_jobs.specs.Refusals.{Reason, Judges, OnlyWrites}
 use Rattle.ra_jobs.specs.Complete.{AreAccepted, AreValid, NoFault}
 use Rattle.ra_jobs.specs.Statuses.{status_of}
 use Rattle.ra_jobs.proofs.EndLemmas.{Ends}
@@ -23,21 +23,21 @@ contradiction None bytes refusal fault is accepted refused = cc
 contradiction (Some other) bytes refusal fault is accepted refused = let same : other ≡ bytes = cc in let none : refusal other ≡ None = rw same accepted in let both : None ≡ Some fault = sym none ∙ refused in cc
 
 -- a refusal over accepted files is one of the job's own, or of memory
-pub own_left : (held : Held) (names : Names) (before now : Faults) (own : Refusal → Type 0) → AreAccepted held names → NoFault names before now → (refusal : Refusal) → Says held names before now own refusal → own refusal ⊎ (status_of refusal ≡ NoMemory)
+pub own_left : (held : Held) (names : Names) (before now : Faults) (own : Refusal → Type 0) → AreAccepted held names → NoFault names before now → (refusal : Refusal) → Reason held names before now own refusal → own refusal ⊎ (status_of refusal ≡ NoMemory)
 unfolding status_of
-own_left held names before now own valid sound (Read f) says = absurd (sound f says.named says.rose)
-own_left held names before now own valid sound (Model fault) says = absurd (contradiction (held names.model) valid.model.0 model_refusal fault valid.model.1 valid.model.2 says.refused)
-own_left held names before now own valid sound (Closed fault) says =
-    let accepted = valid.closed says.name says.named says.model says.read in
-    absurd (contradiction (held says.name) accepted.0 (λ bytes. closed_refusal bytes says.model) fault accepted.1 accepted.2 says.refused)
-own_left held names before now own valid sound (Assign role.Initial fault) says =
-    let accepted = valid.initial says.name says.named says.tables says.instance in
-    absurd (contradiction (held says.name) accepted.0 (λ bytes. assign_refusal bytes says.tables) fault accepted.1 accepted.2 says.refused.refused)
-own_left held names before now own valid sound (Assign role.Changed fault) says =
-    let accepted = valid.changed says.name says.named says.tables says.instance in
-    absurd (contradiction (held says.name) accepted.0 (λ bytes. assign_refusal bytes says.tables) fault accepted.1 accepted.2 says.refused.refused)
-own_left held names before now own valid sound Memory says = inr refl
-own_left held names before now own valid sound refusal says = inl says
+own_left held names before now own valid sound (Read f) reason = absurd (sound f reason.named reason.rose)
+own_left held names before now own valid sound (Model fault) reason = absurd (contradiction (held names.model) valid.model.0 model_refusal fault valid.model.1 valid.model.2 reason.refused)
+own_left held names before now own valid sound (Closed fault) reason =
+    let accepted = valid.closed reason.name reason.named reason.model reason.read in
+    absurd (contradiction (held reason.name) accepted.0 (λ bytes. closed_refusal bytes reason.model) fault accepted.1 accepted.2 reason.refused)
+own_left held names before now own valid sound (Assign role.Initial fault) reason =
+    let accepted = valid.initial reason.name reason.named reason.tables reason.instance in
+    absurd (contradiction (held reason.name) accepted.0 (λ bytes. assign_refusal bytes reason.tables) fault accepted.1 accepted.2 reason.refused.refused)
+own_left held names before now own valid sound (Assign role.Changed fault) reason =
+    let accepted = valid.changed reason.name reason.named reason.tables reason.instance in
+    absurd (contradiction (held reason.name) accepted.0 (λ bytes. assign_refusal bytes reason.tables) fault accepted.1 accepted.2 reason.refused.refused)
+own_left held names before now own valid sound Memory reason = inr refl
+own_left held names before now own valid sound refusal reason = inl reason
 
 pub is_done : (status : Status) → (status ≡ Done) ⊎ (status ≢ Done)
 is_done Done = inl refl
@@ -46,7 +46,7 @@ is_done status = inr (λ e. cc)
 -- a job over accepted files is done, or memory was refused, or its refusal is one of its own
 pub record OwnRefused (own : Refusal → Type 0) (status : Status) : Type 0 where
   pub refusal : Refusal
-  pub says : own refusal
+  pub reason : own refusal
   pub is : status ≡ status_of refusal
 
 pub complete_own : {held : Held} {names : Names} {before now : Faults} {printed : Type 0} {own : Refusal → Type 0} {tells : List ℕ → Type 0} {out_same err_same : Type 0} {status : Status} → Ends held names before now printed own tells out_same err_same status → AreAccepted held names → NoFault names before now → (status ≡ Done) ⊎ ((status ≡ NoMemory) ⊎ OwnRefused own status)
@@ -55,60 +55,60 @@ complete_own {held} {names} {before} {now} {printed} {own} {tells} {out_same} {e
     (λ (other : status ≢ Done).
     let refused = ends.refused other in
     inr (⊎_elim
-    (λ (says : own refused.refusal). inr (record { refusal = refused.refusal; says = says; is = refused.is }))
+    (λ (reason : own refused.refusal). inr (record { refusal = refused.refusal; reason = reason; is = refused.is }))
     (λ (memory : status_of refused.refusal ≡ NoMemory). inl (refused.is ∙ memory))
-    (own_left held names before now own valid sound refused.refusal refused.says)))
+    (own_left held names before now own valid sound refused.refusal refused.reason)))
     (is_done status)
 
--- where none of its own can come
+-- if none of its own can come
 pub complete : {held : Held} {names : Names} {before now : Faults} {printed : Type 0} {own : Refusal → Type 0} {tells : List ℕ → Type 0} {out_same err_same : Type 0} {status : Status} → Ends held names before now printed own tells out_same err_same status → AreAccepted held names → NoFault names before now → ((refusal : Refusal) → own refusal → ⊥) → (status ≡ Done) ⊎ (status ≡ NoMemory)
 complete {held} {names} {before} {now} {printed} {own} {tells} {out_same} {err_same} {status} ends valid sound none = ⊎_elim
     (λ (done : status ≡ Done). inl done)
     (λ (other : (status ≡ NoMemory) ⊎ OwnRefused own status). ⊎_elim
     (λ (memory : status ≡ NoMemory). inr memory)
-    (λ (refused : OwnRefused own status). absurd (none refused.refusal refused.says))
+    (λ (refused : OwnRefused own status). absurd (none refused.refusal refused.reason))
     other)
     (complete_own ends valid sound)
 
 -- over feasible lists no list breaks a constraint
 pub judges_none : (held : Held) (names : Names) (written : Type 0) → AreValid held names → (written → ⊥) → (refusal : Refusal) → Judges held names written refusal → ⊥
-judges_none held names written valid whole (Broken role.Initial cause) says =
-    let none = unbroken_from_feasible says.tables says.a0 says.a0 (valid.initial says.named says.tables says.a0 says.a says.accepts) in
-    let both : None ≡ Some cause = sym none ∙ says.broken in
+judges_none held names written valid wrote (Broken role.Initial cause) reason =
+    let none = unbroken_from_feasible reason.tables reason.a0 reason.a0 (valid.initial reason.named reason.tables reason.a0 reason.a reason.accepts) in
+    let both : None ≡ Some cause = sym none ∙ reason.broken in
     cc
-judges_none held names written valid whole (Broken role.Changed cause) says =
-    let none = unbroken_from_feasible says.tables says.a0 says.a (valid.changed says.named says.tables says.a0 says.a says.accepts) in
-    let both : None ≡ Some cause = sym none ∙ says.broken in
+judges_none held names written valid wrote (Broken role.Changed cause) reason =
+    let none = unbroken_from_feasible reason.tables reason.a0 reason.a (valid.changed reason.named reason.tables reason.a0 reason.a reason.accepts) in
+    let both : None ≡ Some cause = sym none ∙ reason.broken in
     cc
-judges_none held names written valid whole Write says = whole says
-judges_none held names written valid whole refusal says = says
+judges_none held names written valid wrote Write reason = wrote reason
+judges_none held names written valid wrote refusal reason = reason
 
 pub writes_none : (written : Type 0) → (written → ⊥) → (refusal : Refusal) → OnlyWrites written refusal → ⊥
-writes_none written whole Write says = whole says
-writes_none written whole refusal says = says
+writes_none written wrote Write reason = wrote reason
+writes_none written wrote refusal reason = reason
 
 -- a count that is always 0 never rose
 pub never_rose : Rose 0 0 → ⊥
 never_rose = ⊎_elim (λ (less : 0 < 0). lt_irrefl 0 less) (λ (e : 0 ≡ 2 ^ 64 - 1). cc)
 
--- a fault of a file is told only where its count rose
-read_rose : (held : Held) (names : Names) (before now : Faults) (own : Refusal → Type 0) (refusal : Refusal) → Says held names before now own refusal → ((name : List ℕ) → Rose (before name) (now name) → ⊥) → status_of refusal ≢ ReadFault
+-- a fault of a file is told only if its count rose
+read_rose : (held : Held) (names : Names) (before now : Faults) (own : Refusal → Type 0) (refusal : Refusal) → Reason held names before now own refusal → ((name : List ℕ) → Rose (before name) (now name) → ⊥) → status_of refusal ≢ ReadFault
 unfolding status_of
-read_rose held names before now own (Read f) says sound e = sound _ says.rose
-read_rose held names before now own refusal says sound e = cc
+read_rose held names before now own (Read f) reason sound e = sound _ reason.rose
+read_rose held names before now own refusal reason sound e = cc
 
--- a fault of the output is told only where writing failed
-write_rose : (held : Held) (names : Names) (before now : Faults) (own : Refusal → Type 0) (refusal : Refusal) → Says held names before now own refusal → (own Write → ⊥) → status_of refusal ≢ WriteFault
+-- a fault of the output is told only if writing failed
+write_rose : (held : Held) (names : Names) (before now : Faults) (own : Refusal → Type 0) (refusal : Refusal) → Reason held names before now own refusal → (own Write → ⊥) → status_of refusal ≢ WriteFault
 unfolding status_of
-write_rose held names before now own Write says whole e = whole says
-write_rose held names before now own refusal says whole e = cc
+write_rose held names before now own Write reason wrote e = wrote reason
+write_rose held names before now own refusal reason wrote e = cc
 
 pub no_read_fault : {held : Held} {names : Names} {before now : Faults} {printed : Type 0} {own : Refusal → Type 0} {tells : List ℕ → Type 0} {out_same err_same : Type 0} {status : Status} → Ends held names before now printed own tells out_same err_same status → ((name : List ℕ) → Rose (before name) (now name) → ⊥) → status ≢ ReadFault
 no_read_fault {held} {names} {before} {now} {printed} {own} {tells} {out_same} {err_same} {status} ends sound fault =
     let refused = ends.refused (λ (done : status ≡ Done). let e : Done ≡ ReadFault = sym done ∙ fault in cc) in
-    read_rose held names before now own refused.refusal refused.says sound (sym refused.is ∙ fault)
+    read_rose held names before now own refused.refusal refused.reason sound (sym refused.is ∙ fault)
 
 pub no_write_fault : {held : Held} {names : Names} {before now : Faults} {printed : Type 0} {own : Refusal → Type 0} {tells : List ℕ → Type 0} {out_same err_same : Type 0} {status : Status} → Ends held names before now printed own tells out_same err_same status → (own Write → ⊥) → status ≢ WriteFault
-no_write_fault {held} {names} {before} {now} {printed} {own} {tells} {out_same} {err_same} {status} ends whole fault =
+no_write_fault {held} {names} {before} {now} {printed} {own} {tells} {out_same} {err_same} {status} ends wrote fault =
     let refused = ends.refused (λ (done : status ≡ Done). let e : Done ≡ WriteFault = sym done ∙ fault in cc) in
-    write_rose held names before now own refused.refusal refused.says whole (sym refused.is ∙ fault)
+    write_rose held names before now own refused.refusal refused.reason wrote (sym refused.is ∙ fault)

@@ -14,11 +14,11 @@ use Rattle.ra_jobs.specs.Files.{Held, Faults, Names, bound_names}
 use Rattle.ra_jobs.specs.Lines.{refusal_line}
 use Rattle.ra_jobs.specs.Output.{Output, BrokeOff, Put}
 use Rattle.ra_jobs.specs.Outputs.{Printed, BoundPrinted, checked, bounded}
-use Rattle.ra_jobs.specs.Refusals.{Says}
+use Rattle.ra_jobs.specs.Refusals.{Reason}
 use Rattle.ra_jobs.proofs.CompleteLemmas.{complete, judges_none, writes_none}
 use Rattle.ra_jobs.proofs.ComesLemmas.{Listed, Went, comes, infeasible_comes, judges_listed, printed_went, bound_listed, writes_listed, never_infeasible}
 use Rattle.ra_jobs.proofs.EndLemmas.{EndsOver, ends_memory, ends_otherwise, finished, left_so}
-use Rattle.ra_jobs.proofs.StageLemmas.{says_more}
+use Rattle.ra_jobs.proofs.StageLemmas.{reason_more}
 
 not_ok : (ended : Result (Unit {0}) Refusal) (follows : Type 0) → IsErr ended → OnOk ended follows
 not_ok (Ok x) follows err = absurd (cc)
@@ -26,31 +26,31 @@ not_ok (Err e) follows err = tt
 
 -- the end of a stage at a `?`, before anything was put
 pub not_tried : (c : Command) (files : Reading) (out : Output) (ended : Result (Unit {0}) Refusal) (refusal : Refusal) → IsErr ended × IsErrAnd ended (λ e. e ≡ refusal) → c.refuses files (Took out.sink) (BrokeOff out.sink) refusal → out.same → LeavesFiles files → out.sink.before ≤ out.sink.after → Tries c files out ended
-not_tried c files out ended refusal exit says same left counts = record {
+not_tried c files out ended refusal exit reason same left counts = record {
   printed = not_ok ended (c.prints files.held (Took out.sink)) exit.0;
-  refused = at_exit ended (c.refuses files (Took out.sink) (BrokeOff out.sink)) refusal exit says;
-  untouched = at_exit ended (λ r. puts_first r ≡ false → out.same) refusal exit (λ _. same);
+  refused = at_exit ended (c.refuses files (Took out.sink) (BrokeOff out.sink)) refusal exit reason;
+  no_output = at_exit ended (λ r. puts_first r ≡ false → out.same) refusal exit (λ _. same);
   leaves = left;
   never_falls = counts;
 }
 
--- from how it ends, and what its output and its own refusals say: `listed` that they come behind all lists
+-- from how it ends: `listed` says of its output and of its own refusals that they come behind all lists
 pub does_so : (c : OverFiles) (files : Reading) (out err : Output) (status : Status) → EndsOver c files out err status → (c.prints files.held (Took out.sink) → Listed files.held c.names) → ((r : Refusal) → c.refuses files.held (Took out.sink) (BrokeOff out.sink) r → Listed files.held c.names) → c.own_comes files status
     → (c.valid files.held → NoFault c.names files.before files.after → (WriteFailed out.sink → ⊥) → c.answers status) → Leaves files out err → Does (over c) files out err status
 does_so c files out err status ends printed listed own completes leaves = record {
   printed = ends.printed;
-  quiet = ends.quiet;
-  refused = λ other. let r = ends.refused other in record { refusal = r.refusal; says = r.says; is = r.is; line = r.line; untouched = r.untouched };
+  no_line = ends.no_line;
+  refused = λ other. let r = ends.refused other in record { refusal = r.refusal; reason = r.reason; is = r.is; line = r.line; no_output = r.no_output };
   not_usage = ends_otherwise ends;
   comes = record { any = comes ends printed listed; own = own };
-  complete = λ valid whole. completes valid.0 valid.1 whole;
+  complete = λ valid wrote. completes valid.0 valid.1 wrote;
   leaves = leaves;
 }
 
 -- of a command whose lists have to be feasible: `went` says of what was printed, whole or in part, that they are, and `text`
 -- that a text went so
 pub judged_so : (names : Names) (prints : Held → (List ℕ → Type 0) → Type 0) (files : Reading) (out err : Output) (ended : Result (Unit {0}) Refusal) (status : Status) → Tries (over (judged names prints)) files out ended → Finishes names ended err status
-    → ((way : List ℕ → Type 0) → prints files.held way → Went files.held names) → ((way : List ℕ → Type 0) → prints files.held way → (text : List ℕ) × way text) → Does (over (judged names prints)) files out err status
+    → ((sent : List ℕ → Type 0) → prints files.held sent → Went files.held names) → ((sent : List ℕ → Type 0) → prints files.held sent → (text : List ℕ) × sent text) → Does (over (judged names prints)) files out err status
 judged_so names prints files out err ended status tries finishes went text =
     let c = judged names prints in
     let ends : EndsOver c files out err status = finished c files out err ended status tries finishes in
@@ -59,15 +59,15 @@ judged_so names prints files out err ended status tries finishes went text =
     (λ p. (went _ p).listed)
     (judges_listed files.held names written (went _))
     (infeasible_comes ends (went _) (went _))
-    (λ valid sound whole. complete ends valid.accepted sound (judges_none files.held names written valid (λ broken. whole (text _ broken).1.1)))
+    (λ valid sound wrote. complete ends valid.accepted sound (judges_none files.held names written valid (λ broken. wrote (text _ broken).1.1)))
     (left_so c files out err ended status tries finishes)
 
 pub check_so : (names : Names) (files : Reading) (out err : Output) (ended : Result (Unit {0}) Refusal) (status : Status) → Tries (over (checked names)) files out ended → Finishes names ended err status → Does (over (checked names)) files out err status
-check_so names files out err ended status tries finishes = judged_so names (λ held way. Printed held names way) files out err ended status tries finishes (λ way p. printed_went files.held names way p) (λ way p. (_, p.text))
+check_so names files out err ended status tries finishes = judged_so names (λ held sent. Printed held names sent) files out err ended status tries finishes (λ sent p. printed_went files.held names sent p) (λ sent p. (_, p.text))
 
-pub bound_so : (model : List ℕ) (closed initial : Option (List ℕ)) (files : Reading) (out err : Output) (ended : Result (Unit {0}) Refusal) (status : Status) → Tries (over (bounded (bound_names model closed initial))) files out ended → Finishes (bound_names model closed initial) ended err status → Does (over (bounded (bound_names model closed initial))) files out err status
+pub bound_so : (model : List ℕ) (closed initial : Option (List ℕ)) (files : Reading) (out err : Output) (ended : Result (Unit {0}) Refusal) (status : Status) → Tries (over (bounded (bound_names model initial closed))) files out ended → Finishes (bound_names model initial closed) ended err status → Does (over (bounded (bound_names model initial closed))) files out err status
 bound_so model closed initial files out err ended status tries finishes =
-    let names = bound_names model closed initial in
+    let names = bound_names model initial closed in
     let c = bounded names in
     let ends : EndsOver c files out err status = finished c files out err ended status tries finishes in
     let written = BoundPrinted files.held names (BrokeOff out.sink) in
@@ -75,10 +75,10 @@ bound_so model closed initial files out err ended status tries finishes =
     (bound_listed files.held model closed initial (Took out.sink))
     (writes_listed files.held names written (bound_listed files.held model closed initial (BrokeOff out.sink)))
     (never_infeasible ends)
-    (λ valid sound whole. complete ends valid sound (writes_none written (λ broken. whole broken.text.1)))
+    (λ valid sound wrote. complete ends valid sound (writes_none written (λ broken. wrote broken.text.1)))
     (left_so c files out err ended status tries finishes)
 
--- where memory was refused before a file was read
+-- if memory was refused before a file was read
 pub infeasible_not : (held : Held) (names : Names) (before now : Faults) (status : Status) → status ≡ NoMemory → InfeasibleComes held names before now status
 infeasible_not held names before now status is = record { only = λ e. absurd (let both : NoMemory ≡ Infeasible = sym is ∙ e in cc); always = λ known cause. inr is }
 
@@ -89,7 +89,7 @@ comes_not held names before now own out_same status is same = record {
   bad_closed = record { only = λ e. absurd (let both : NoMemory ≡ BadClosed = sym is ∙ e in cc); always = λ known cause. inr is };
   bad_assignment = record { only = λ e. absurd (let both : NoMemory ≡ BadAssignment = sym is ∙ e in cc); always = λ which known cause. inr is };
   write_fault = λ e. absurd (let both : NoMemory ≡ WriteFault = sym is ∙ e in cc);
-  untouched = λ _ _ _. same;
+  no_output = λ _ _ _. same;
 }
 
 pub memory_refused : (c : OverFiles) (files : Reading) (out err : Output) (status : Status) → status ≡ NoMemory → ((names : Names) → Put err.sink (refusal_line names Memory)) → out.same → Leaves files out err → c.own_comes files status → c.answers status → Does (over c) files out err status
@@ -97,11 +97,11 @@ memory_refused c files out err status is line same leaves own answers =
     let ends : EndsOver c files out err status = ends_memory files.held c.names files.before files.after _ _ (Put err.sink) out.same err.same status is (line c.names) same in
     record {
       printed = ends.printed;
-      quiet = ends.quiet;
-      refused = λ other. let r = ends.refused other in record { refusal = r.refusal; says = r.says; is = r.is; line = r.line; untouched = r.untouched };
+      no_line = ends.no_line;
+      refused = λ other. let r = ends.refused other in record { refusal = r.refusal; reason = r.reason; is = r.is; line = r.line; no_output = r.no_output };
       not_usage = ends_otherwise ends;
       comes = record { any = comes_not files.held c.names files.before files.after _ out.same status is same; own = own };
-      complete = λ valid whole. answers;
+      complete = λ valid wrote. answers;
       leaves = leaves;
     }
 
@@ -111,7 +111,7 @@ judged_memory names prints files out err status is line same leaves = memory_ref
 pub bound_memory : (names : Names) (files : Reading) (out err : Output) (status : Status) → status ≡ NoMemory → ((names : Names) → Put err.sink (refusal_line names Memory)) → out.same → Leaves files out err → Does (over (bounded names)) files out err status
 bound_memory names files out err status is line same leaves = memory_refused (bounded names) files out err status is line same leaves (λ e. let both : NoMemory ≡ Infeasible = sym is ∙ e in cc) (inr is)
 
--- what is said of a command's own said more weakly
+-- more is so of a command's own
 
 comes_more : (held : Held) (names : Names) (before now : Faults) (own more : Refusal → Type 0) (out_same : Type 0) (status : Status) → ((r : Refusal) → own r → more r) → Comes held names before now own out_same status → Comes held names before now more out_same status
 comes_more held names before now own more out_same status step v = record {
@@ -120,7 +120,7 @@ comes_more held names before now own more out_same status step v = record {
   bad_closed = v.bad_closed;
   bad_assignment = v.bad_assignment;
   write_fault = λ e. step Write (v.write_fault e);
-  untouched = v.untouched;
+  no_output = v.no_output;
 }
 
 -- a command over the same files
@@ -133,8 +133,8 @@ does_more names prints prints_more own own_more own_comes own_comes_more valid a
     let more = own_more files.held (Took out.sink) (BrokeOff out.sink) in
     record {
       printed = λ done. printed (does.printed done);
-      quiet = does.quiet;
-      refused = λ other. let r = does.refused other in record { refusal = r.refusal; says = says_more files.held names files.before files.after said more refuses r.refusal r.says; is = r.is; line = r.line; untouched = r.untouched };
+      no_line = does.no_line;
+      refused = λ other. let r = does.refused other in record { refusal = r.refusal; reason = reason_more files.held names files.before files.after said more refuses r.refusal r.reason; is = r.is; line = r.line; no_output = r.no_output };
       not_usage = does.not_usage;
       comes = record { any = comes_more files.held names files.before files.after said more out.same status refuses does.comes.any; own = comes does.comes.own };
       complete = does.complete;

@@ -25,7 +25,7 @@ use Rattle.ra_jobs.specs.Refusals.{ModelRefused, ListRefused, ClosedRefused, Ini
 use Rattle.ra_jobs.proofs.RowLemmas.{bare_raw, raw_same}
 use Rattle.ra_jobs.proofs.BareLemmas.{bare, bare_closed, machines_bare, closed_list_bare, assign_bare, broken_bare}
 
--- a file that a job may not have is told, where it has it
+-- a file that a job may not have is told, if it has it
 abbrev pub Told : Held → Option (List ℕ) → Type 0
 Told held named = (name : List ℕ) → named ≡ Some name → IsSome (held name)
 

@@ -1,4 +1,4 @@
--- Where each status comes. The causes are those that the refusals of `Says` name.
+-- When each status comes. Its cause is the reason of a refusal.
 use Rattle.std.specs.Prelude.{◌≡◌, ◌≢◌, ◌⊎◌, IsSome}
 use Rattle.ra_base.specs.declared.causes.Cause.{Cause}
 use Rattle.ra_io.specs.Faults.{Rose}
@@ -15,7 +15,7 @@ use Rattle.ra_jobs.specs.declared.status.Status.TheVariants.{Done, ReadFault, Ba
 use Rattle.ra_jobs.specs.Files.{Held, Faults, Names, name_of, file_of, IsNamed}
 use Rattle.ra_jobs.specs.Refusals.{ReadFailed, ModelRefused, ClosedRefused, RoleRefused, RoleBreaks}
 
--- where a job has this file, its bytes are told, and no fault of it was counted
+-- if a job has this file, its bytes are told, and no fault of it was counted
 abbrev pub IsKnown : Held → Names → Faults → Faults → File → Type 0
 IsKnown held names before now f =
     IsNamed names f
@@ -41,8 +41,8 @@ KnownTo held names before now file.Report =
     IsKnown held names before now file.Model × IsKnown held names before now file.Closed
     × IsKnown held names before now file.Initial × IsKnown held names before now file.Report
 
--- a status comes only where its cause stands; and where that stands, over files that are known, no other status comes
--- but that of refused memory
+-- a status comes only if its cause stands; and if that stands, over files that are known, no other status comes but that of
+-- refused memory
 pub record Exactly (status this : Status) (known cause : Type 0) : Type 0 where
   pub only : status ≡ this → cause
   pub always : known → cause → (status ≡ this) ⊎ (status ≡ NoMemory)
@@ -68,7 +68,7 @@ pub record BadAssignmentComes (held : Held) (names : Names) (before now : Faults
       → ((fault : AssignFault) × RoleRefused held names which fault)
       → (status ≡ BadAssignment) ⊎ (status ≡ NoMemory)
 
--- each status of a refused job that any job may have, and where it comes. The status of refused memory is free, but nothing
+-- each status of a refused job that any job may have, and when it comes. The status of refused memory is free, but nothing
 -- was written then
 pub record Comes (held : Held) (names : Names) (before now : Faults) (own : Refusal → Type 0)
     (out_same : Type 0) (status : Status) : Type 0 where
@@ -77,7 +77,7 @@ pub record Comes (held : Held) (names : Names) (before now : Faults) (own : Refu
   pub bad_closed : BadClosedComes held names before now status
   pub bad_assignment : BadAssignmentComes held names before now status
   pub write_fault : status ≡ WriteFault → own Write
-  pub untouched : status ≢ Done → status ≢ WriteFault → status ≢ Unrepaired → out_same
+  pub no_output : status ≢ Done → status ≢ WriteFault → status ≢ Unrepaired → out_same
 
 -- of a job whose lists have to be feasible: all files before the report are accepted, and the initial list breaks a
 -- constraint; or that is feasible, and the new list breaks one

@@ -1,4 +1,4 @@
--- When a job has to be done.
+-- What has to be so of the files of a job, so that it is done unless writing failed or memory was refused.
 use Rattle.std.specs.Prelude.{◌≡◌, ℕ, List, Some, None, IsSome}
 use Rattle.ra_base.specs.declared.ids.Machine.{Machine}
 use Rattle.ra_io.specs.Faults.{Rose}
@@ -15,8 +15,8 @@ abbrev pub ListAccepted : Held → List ℕ → Tables → Type 0
 ListAccepted held name i =
     (bytes : List ℕ) × (held name ≡ Some bytes) × (assign_refusal bytes i ≡ None)
 
--- the model, the closed list and the lists of a job are told and accepted: the model file is a model, the closed list is one
--- where it is named, and the lists that are named are assignments
+-- the model, the closed list and the lists of a job are told and accepted: the model file is a model, the closed list is one,
+-- if it is named, and the lists that are named are assignments
 pub record AreAccepted (held : Held) (names : Names) : Type 0 where
   pub model : (bytes : List ℕ) × (held names.model ≡ Some bytes) × (model_refusal bytes ≡ None)
   pub closed : (name : List ℕ) → names.closed ≡ Some name → (i : Tables)

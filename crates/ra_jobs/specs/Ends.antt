@@ -17,15 +17,15 @@ puts_first (Unrepaired cause) = true
 puts_first Write = true
 puts_first refusal = false
 
--- a command is refused: what its refusal says stands, its status is that of the refusal, its line is put to the error sink,
--- and the output took nothing, unless the refusal came after it
+-- a command is refused: the reason of its refusal stands, its status is that of the refusal, its line is put to the error
+-- sink, and the output took nothing, unless the refusal came after it
 pub record Refused (c : Command) (files : Reading) (out err : Output) (status : Status) : Type 0
   where
     pub refusal : Refusal
-    pub says : c.refuses files (Took out.sink) (BrokeOff out.sink) refusal
+    pub reason : c.refuses files (Took out.sink) (BrokeOff out.sink) refusal
     pub is : status ≡ status_of refusal
     pub line : Put err.sink (refusal_line c.names refusal)
-    pub untouched : puts_first refusal ≡ false → out.same
+    pub no_output : puts_first refusal ≡ false → out.same
 
 -- what every command leaves of the files and of the two sinks: all that is held, and no count that fell
 pub record Leaves (files : Reading) (out err : Output) : Type 0 where
@@ -33,11 +33,12 @@ pub record Leaves (files : Reading) (out err : Output) : Type 0 where
   pub out_never_falls : out.sink.before ≤ out.sink.after
   pub err_never_falls : err.sink.before ≤ err.sink.after
 
--- a command does what it says: it is done, its output was printed and the error sink took nothing; or it is refused. Each
--- status comes where its cause stands, and only there; and where nothing is wrong with its files and nothing failed, it is done
+-- a command does what it promises: it is done, its output was printed and the error sink took nothing; or it is refused. Each
+-- status comes only if its cause stands. If nothing is wrong with its files, and neither reading nor writing failed, it is done,
+-- or ends with a verdict of its own, or memory was refused
 pub record Does (c : Command) (files : Reading) (out err : Output) (status : Status) : Type 0 where
   pub printed : status ≡ Done → c.prints files.held (Took out.sink)
-  pub quiet : status ≡ Done → err.same
+  pub no_line : status ≡ Done → err.same
   pub refused : status ≢ Done → Refused c files out err status
   pub not_usage : status ≢ Usage
   pub comes : c.comes files out status
@@ -51,7 +52,7 @@ pub record Tries (c : Command) (files : Reading) (out : Output)
     (ended : Result (Unit {0}) Refusal) : Type 0 where
   pub printed : OnOk ended (c.prints files.held (Took out.sink))
   pub refused : IfErr ended (c.refuses files (Took out.sink) (BrokeOff out.sink))
-  pub untouched : IfErr ended (λ refusal. puts_first refusal ≡ false → out.same)
+  pub no_output : IfErr ended (λ refusal. puts_first refusal ≡ false → out.same)
   pub leaves : LeavesFiles files
   pub never_falls : out.sink.before ≤ out.sink.after
 
@@ -59,7 +60,7 @@ pub record Tries (c : Command) (files : Reading) (out : Output)
 pub record Finishes (names : Names) (ended : Result (Unit {0}) Refusal) (err : Output)
     (status : Status) : Type 0 where
   pub done : ended ≡ Ok tt → status ≡ Done
-  pub quiet : ended ≡ Ok tt → err.same
+  pub no_line : ended ≡ Ok tt → err.same
   pub is : IfErr ended (λ refusal. status ≡ status_of refusal)
   pub line : IfErr ended (λ refusal. Put err.sink (refusal_line names refusal))
   pub never_falls : err.sink.before ≤ err.sink.after

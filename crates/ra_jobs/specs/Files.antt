@@ -26,8 +26,8 @@ pub record Names : Type 0 where
   pub edits : Option (List ℕ)
 
 -- those of `check`, of `solve`, of `bound`, of `verify` and of `edit`
-abbrev pub check_names : List ℕ → Option (List ℕ) → List ℕ → List ℕ → Names
-check_names model closed initial changed =
+abbrev pub check_names : List ℕ → List ℕ → List ℕ → Option (List ℕ) → Names
+check_names model initial changed closed =
     record {
       model = model;
       closed = closed;
@@ -37,8 +37,8 @@ check_names model closed initial changed =
       edits = None;
     }
 
-abbrev pub solve_names : List ℕ → Option (List ℕ) → List ℕ → Names
-solve_names model closed initial =
+abbrev pub solve_names : List ℕ → List ℕ → Option (List ℕ) → Names
+solve_names model initial closed =
     record {
       model = model;
       closed = closed;
@@ -49,7 +49,7 @@ solve_names model closed initial =
     }
 
 abbrev pub bound_names : List ℕ → Option (List ℕ) → Option (List ℕ) → Names
-bound_names model closed initial =
+bound_names model initial closed =
     record {
       model = model;
       closed = closed;
@@ -59,8 +59,8 @@ bound_names model closed initial =
       edits = None;
     }
 
-abbrev pub verify_names : List ℕ → Option (List ℕ) → List ℕ → List ℕ → Names
-verify_names model closed initial report =
+abbrev pub verify_names : List ℕ → List ℕ → List ℕ → Option (List ℕ) → Names
+verify_names model initial report closed =
     record {
       model = model;
       closed = closed;
@@ -70,8 +70,8 @@ verify_names model closed initial report =
       edits = None;
     }
 
-abbrev pub edit_names : List ℕ → Option (List ℕ) → List ℕ → List ℕ → List ℕ → Names
-edit_names model closed initial current edits =
+abbrev pub edit_names : List ℕ → List ℕ → List ℕ → List ℕ → Option (List ℕ) → Names
+edit_names model initial current edits closed =
     record {
       model = model;
       closed = closed;
@@ -123,25 +123,25 @@ Held = List ℕ → Option (List ℕ)
 abbrev pub Faults : Type 0
 Faults = List ℕ → ℕ
 
--- the model file means these tables, where its bytes are told
+-- the model file means these tables, if its bytes are told
 abbrev pub ModelIs : Held → List ℕ → Tables → Type 0
 ModelIs held name i = IfSome (held name) (λ bytes. IsModel bytes i)
 
--- the same with the machines of a closed list closed, where one is named
+-- the same with the machines of a closed list closed, if one is named
 abbrev pub CloseIs : Held → Option (List ℕ) → Tables → Tables → Type 0
 CloseIs held None model i = i ≡ model
 CloseIs held (Some name) model i =
     (flags : Listed Bool) × (i ≡ with_closed model flags)
     × IfSome (held name) (λ bytes. IsClosedOf bytes model flags.items)
 
--- a model file and a closed list, where one is named, mean the instance of these tables
+-- a model file and a closed list, if one is named, mean the instance of these tables
 pub record InstanceIs (held : Held) (name : List ℕ) (closed_name : Option (List ℕ)) (i : Tables) :
     Type 0 where
   pub model : Tables
   pub read : ModelIs held name model
   pub closed : CloseIs held closed_name model i
 
--- a file means this assignment, where its bytes are told
+-- a file means this assignment, if its bytes are told
 abbrev pub ListIs : Held → List ℕ → Tables → List Machine → Type 0
 ListIs held name i a = IfSome (held name) (λ bytes. IsAssignmentOf bytes i a)
 

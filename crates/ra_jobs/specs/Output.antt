@@ -16,6 +16,6 @@ output told old new = record { sink = writing told old new; same = new ≡ old }
 abbrev pub BrokeOff : Writing → List ℕ → Type 0
 BrokeOff out text = TookPart out text × WriteFailed out
 
--- it took the text, or a front of it where taking failed
+-- it took the text, or a front of it if taking failed
 abbrev pub Put : Writing → List ℕ → Type 0
 Put out text = Took out text ⊎ BrokeOff out text

@@ -1,4 +1,4 @@
--- `check` and `bound`. A way says where a text went: to the output, whole or in part.
+-- `check` and `bound`. `sent` is how far a text came: the output took it whole, or broke off behind a front of it.
 use Rattle.std.specs.Prelude.{◌≡◌, ◌≢◌, ◌⊎◌, ℕ, List, Option, Some, None}
 use Rattle.ra_base.specs.declared.ids.Machine.{Machine}
 use Rattle.ra_model.specs.declared.raw.Tables.{Tables}
@@ -15,49 +15,49 @@ use Rattle.ra_jobs.specs.Complete.{AreAccepted}
 use Rattle.ra_jobs.specs.Files.{Held, Names, check_names, bound_names, InstanceIs, ListIs, Passes}
 use Rattle.ra_jobs.specs.Refusals.{OnlyWrites}
 
--- `check`: all files passed, and the six lines of the parts of the new list went this way
-pub record Printed (held : Held) (names : Names) (way : List ℕ → Type 0) : Type 0 where
+-- `check`: all files passed, and the six lines of the parts of the new list were sent
+pub record Printed (held : Held) (names : Names) (sent : List ℕ → Type 0) : Type 0 where
   pub tables : Tables
   pub a0 : List Machine
   pub a : List Machine
   pub passes : Passes held names tables a0 a
-  pub text : way (parts_text (parts_of tables a0 a))
+  pub text : sent (parts_text (parts_of tables a0 a))
 
 abbrev pub checked : Names → OverFiles
-checked names = judged names (λ held way. Printed held names way)
+checked names = judged names (λ held sent. Printed held names sent)
 
-abbrev pub check_command : List ℕ → Option (List ℕ) → List ℕ → List ℕ → Command
-check_command model closed initial changed =
-    over (checked (check_names model closed initial changed))
+abbrev pub check_command : List ℕ → List ℕ → List ℕ → Option (List ℕ) → Command
+check_command model initial changed closed =
+    over (checked (check_names model initial changed closed))
 
--- the bound of an instance; where an initial list is named, that of both, which counts the load of the pinned processes
+-- the bound of an instance; if an initial list is named, that of both, which counts the load of the pinned processes
 abbrev pub BoundIs : Held → Option (List ℕ) → Tables → Bound → Type 0
 BoundIs held None i bound = bound ≡ bound_of i
 BoundIs held (Some name) i bound =
     (a0 : List Machine) × ListIs held name i a0 × IsAssignment i a0 × (bound ≡ pinned_bound_of i a0)
 
--- the files of `bound` mean an instance and an initial list, where one is named, and this is their bound
+-- the files of `bound` mean an instance and an initial list, if one is named, and this is their bound
 pub record BoundRead (held : Held) (names : Names) (bound : Bound) : Type 0 where
   pub tables : Tables
   pub instance : InstanceIs held names.model names.closed tables
   pub is : BoundIs held names.initial tables bound
 
--- `bound`: the three lines of it went this way
-pub record BoundPrinted (held : Held) (names : Names) (way : List ℕ → Type 0) : Type 0 where
+-- `bound`: the three lines of it were sent
+pub record BoundPrinted (held : Held) (names : Names) (sent : List ℕ → Type 0) : Type 0 where
   pub bound : Bound
   pub read : BoundRead held names bound
-  pub text : way (bound_text bound)
+  pub text : sent (bound_text bound)
 
 -- it asks no list to be feasible
 abbrev pub bounded : Names → OverFiles
 bounded names = record {
   names = names;
-  prints = λ held way. BoundPrinted held names way;
-  refuses = λ held whole part. OnlyWrites (BoundPrinted held names part);
+  prints = λ held sent. BoundPrinted held names sent;
+  refuses = λ held took broke_off. OnlyWrites (BoundPrinted held names broke_off);
   own_comes = λ files status. status ≢ Infeasible;
   valid = λ held. AreAccepted held names;
   answers = λ status. (status ≡ Done) ⊎ (status ≡ NoMemory);
 }
 
 abbrev pub bound_command : List ℕ → Option (List ℕ) → Option (List ℕ) → Command
-bound_command model closed initial = over (bounded (bound_names model closed initial))
+bound_command model initial closed = over (bounded (bound_names model initial closed))

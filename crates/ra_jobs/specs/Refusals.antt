@@ -1,4 +1,4 @@
--- Why a job is refused: what each refusal says of the files.
+-- Why a job is refused: the reason of each refusal.
 use Rattle.std.specs.Prelude.{◌≡◌, ℕ, List, Option, Some, IsSome, IfSome}
 use Rattle.ra_base.specs.declared.causes.Cause.{Cause}
 use Rattle.ra_base.specs.declared.ids.Machine.{Machine}
@@ -61,7 +61,7 @@ pub record ClosedRefused (held : Held) (model_name : List ℕ) (closed_name : Op
   pub in_file : IsInClosed fault
   pub refused : IfSome (held name) (λ bytes. closed_refusal bytes model ≡ Some fault)
 
--- the initial list is refused as this, where the instance was read
+-- the instance was read, and the initial list is refused as this
 pub record InitialRefused (held : Held) (names : Names) (fault : AssignFault) : Type 0 where
   pub tables : Tables
   pub instance : InstanceIs held names.model names.closed tables
@@ -69,7 +69,7 @@ pub record InitialRefused (held : Held) (names : Names) (fault : AssignFault) : 
   pub named : names.initial ≡ Some name
   pub refused : ListRefused held name tables fault
 
--- the new list is refused as this, where the initial list was read
+-- the initial list was read, and the new list is refused as this
 pub record ChangedRefused (held : Held) (names : Names) (fault : AssignFault) : Type 0 where
   pub tables : Tables
   pub a0 : List Machine
@@ -84,7 +84,7 @@ abbrev pub RoleRefused : Held → Names → Role → AssignFault → Type 0
 RoleRefused held names role.Initial fault = InitialRefused held names fault
 RoleRefused held names role.Changed fault = ChangedRefused held names fault
 
--- the initial list breaks a constraint first, where all files were accepted
+-- all files were accepted, and the initial list breaks this constraint first
 pub record InitialBreaks (held : Held) (names : Names) (cause : Cause) : Type 0 where
   pub tables : Tables
   pub a0 : List Machine
@@ -93,7 +93,7 @@ pub record InitialBreaks (held : Held) (names : Names) (cause : Cause) : Type 0 
   pub accepts : Accepts held names tables a0 a
   pub broken : first_broken tables a0 a0 ≡ Some cause
 
--- the initial list is feasible, and the new list breaks a constraint first
+-- so they were, the initial list is feasible, and the new list breaks this constraint first
 pub record ChangedBreaks (held : Held) (names : Names) (cause : Cause) : Type 0 where
   pub tables : Tables
   pub a0 : List Machine
@@ -109,17 +109,18 @@ abbrev pub RoleBreaks : Held → Names → Role → Cause → Type 0
 RoleBreaks held names role.Initial cause = InitialBreaks held names cause
 RoleBreaks held names role.Changed cause = ChangedBreaks held names cause
 
--- what each refusal says of the files of a job, whose counts of faults went from before to now. What is the job's own stands
--- in `own`: what it says of its refusals beyond those of the model, of the closed list, of the lists and of memory
-abbrev pub Says : Held → Names → Faults → Faults → (Refusal → Type 0) → Refusal → Type 0
-Says held names before now own (Read f) = ReadFailed held names before now f
-Says held names before now own (Model fault) = ModelRefused held names.model fault
-Says held names before now own (Closed fault) = ClosedRefused held names.model names.closed fault
-Says held names before now own (Assign which fault) = RoleRefused held names which fault
-Says held names before now own Memory = Unit {0}
-Says held names before now own refusal = own refusal
+-- the reason of each refusal: what is so of the files of a job, whose counts of faults went from before to now. What is the
+-- job's own stands in `own`: the reasons of its refusals beyond those of the model, of the closed list, of the lists and of
+-- memory
+abbrev pub Reason : Held → Names → Faults → Faults → (Refusal → Type 0) → Refusal → Type 0
+Reason held names before now own (Read f) = ReadFailed held names before now f
+Reason held names before now own (Model fault) = ModelRefused held names.model fault
+Reason held names before now own (Closed fault) = ClosedRefused held names.model names.closed fault
+Reason held names before now own (Assign which fault) = RoleRefused held names which fault
+Reason held names before now own Memory = Unit {0}
+Reason held names before now own refusal = own refusal
 
--- the own refusals of a job whose lists have to be feasible, and which says `written` where writing its output failed
+-- the own refusals of a job whose lists have to be feasible, and of which `written` is so if writing its output failed
 abbrev pub Judges : Held → Names → Type 0 → Refusal → Type 0
 Judges held names written (Broken which cause) = RoleBreaks held names which cause
 Judges held names written Write = written

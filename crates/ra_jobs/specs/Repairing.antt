@@ -19,32 +19,33 @@ use Rattle.ra_jobs.specs.Commands.{Command, OverFiles, over}
 use Rattle.ra_jobs.specs.Complete.{AreAccepted}
 use Rattle.ra_jobs.specs.Files.{Held, Faults, Names, Accepts, solve_names}
 
--- the run of tries from a list: its last list breaks this constraint first, or none, and its text went this way. A list that
--- breaks none is feasible, and before one that breaks some the whole budget was tried
+-- the run of tries from a list: its last list breaks this constraint first, or none, and its text was sent. A list that breaks
+-- none is feasible, and before one that breaks some all of the budget was tried
 pub record IsTried (i : Tables) (a0 : List Machine) (lot : Lot) (broken : Option Cause)
-    (way : List ℕ → Type 0) : Type 0 where
+    (sent : List ℕ → Type 0) : Type 0 where
   pub is : first_broken i a0 (repair_run i a0 lot).assignment ≡ broken
   pub feasible : broken ≡ None → Feasible i a0 (repair_run i a0 lot).assignment
   pub tried : broken ≢ None → length (repair_run i a0 lot).tries ≡ lot.budget
-  pub text : way (repair_lines broken (repair_run i a0 lot).assignment (repair_run i a0 lot).tries)
+  pub text : sent (repair_lines broken (repair_run i a0 lot).assignment (repair_run i a0 lot).tries)
 
 -- the files are accepted, and so it is with the run of the one lot from the initial list
 pub record Tried (held : Held) (names : Names) (l : Lots) (broken : Option Cause)
-    (way : List ℕ → Type 0) : Type 0 where
+    (sent : List ℕ → Type 0) : Type 0 where
   pub tables : Tables
   pub a0 : List Machine
   pub accepts : Accepts held names tables a0 a0
   pub lot : Lot
   pub one : l.lots.items ≡ lot ∷ []
-  pub run : IsTried tables a0 lot broken way
+  pub run : IsTried tables a0 lot broken sent
 
--- its own refusals: the whole text of a run whose last list breaks a constraint was put; or a part of a text was
+-- its own refusals: the output took the text of a run whose last list breaks a constraint; or it broke off behind a front of a
+-- text
 abbrev pub RepairOwn : Held → Names → Lots → (List ℕ → Type 0) → (List ℕ → Type 0) → Refusal
     → Type 0
-RepairOwn held names l prints breaks (Left cause) = Tried held names l (Some cause) prints
-RepairOwn held names l prints breaks Write =
-    (broken : Option Cause) × Tried held names l broken breaks
-RepairOwn held names l prints breaks refusal = ⊥
+RepairOwn held names l took broke_off (Left cause) = Tried held names l (Some cause) took
+RepairOwn held names l took broke_off Write =
+    (broken : Option Cause) × Tried held names l broken broke_off
+RepairOwn held names l took broke_off refusal = ⊥
 
 -- the last list of the run of the one lot breaks this constraint first, or none
 abbrev pub LeavesBroken : Tables → List Machine → Lots → Option Cause → Type 0
@@ -52,42 +53,42 @@ LeavesBroken i a0 l broken =
     (lot : Lot) → l.lots.items ≡ lot ∷ []
     → first_broken i a0 (repair_run i a0 lot).assignment ≡ broken
 
--- of a job with such lots: where each of its own statuses comes. No list has to be feasible. Any instance that the files
+-- of the lots that were asked for: when each of its own statuses comes. No list has to be feasible. Any instance that the files
 -- mean will do: by `told_files_mean_one` and `alike_run_alike` of `ra_laws` the run is the same from each
-pub record RepairComes (held : Held) (names : Names) (are : Lots → Type 0) (before now : Faults)
+pub record RepairComes (held : Held) (names : Names) (asked : Lots → Type 0) (before now : Faults)
     (status : Status) : Type 0 where
   pub never_infeasible : status ≢ Infeasible
   pub unrepaired : status ≡ Unrepaired
-      → (l : Lots) × are l × ((cause : Cause) × Tried held names l (Some cause) (λ text. Unit {0}))
+      → (l : Lots) × asked l × ((cause : Cause) × Tried held names l (Some cause) (λ text. Unit {0}))
   pub stays : (i : Tables) (a0 : List Machine) → Accepts held names i a0 a0
       → KnownTo held names before now file.Initial → (cause : Cause)
-      → ((l : Lots) → are l → LeavesBroken i a0 l (Some cause))
+      → ((l : Lots) → asked l → LeavesBroken i a0 l (Some cause))
       → (status ≡ Unrepaired) ⊎ ((status ≡ WriteFault) ⊎ (status ≡ NoMemory))
   pub is_repaired : (i : Tables) (a0 : List Machine) → Accepts held names i a0 a0
-      → KnownTo held names before now file.Initial → ((l : Lots) → are l → LeavesBroken i a0 l None)
+      → KnownTo held names before now file.Initial → ((l : Lots) → asked l → LeavesBroken i a0 l None)
       → (status ≡ Done) ⊎ ((status ≡ WriteFault) ⊎ (status ≡ NoMemory))
 
--- of such lots: over accepted files its tries are told
+-- of the lots that were asked for: over accepted files its tries are told
 abbrev pub repaired : Names → (Lots → Type 0) → OverFiles
-repaired names are = record {
+repaired names asked = record {
   names = names;
-  prints = λ held way. (l : Lots) × are l × Tried held names l None way;
-  refuses = λ held whole part refusal.
-      (l : Lots) × are l × RepairOwn held names l whole part refusal;
-  own_comes = λ files status. RepairComes files.held names are files.before files.after status;
+  prints = λ held sent. (l : Lots) × asked l × Tried held names l None sent;
+  refuses = λ held took broke_off refusal.
+      (l : Lots) × asked l × RepairOwn held names l took broke_off refusal;
+  own_comes = λ files status. RepairComes files.held names asked files.before files.after status;
   valid = λ held. AreAccepted held names;
   answers = λ status. (status ≡ Done) ⊎ ((status ≡ Unrepaired) ⊎ (status ≡ NoMemory));
 }
 
-abbrev pub repair_command : List ℕ → Option (List ℕ) → List ℕ → (Lots → Type 0) → Command
-repair_command model closed initial are = over (repaired (solve_names model closed initial) are)
+abbrev pub repair_command : List ℕ → List ℕ → Option (List ℕ) → (Lots → Type 0) → Command
+repair_command model initial closed asked = over (repaired (solve_names model initial closed) asked)
 
 -- ---- the stages
 
--- what a refusal of the tries says
-abbrev pub TrySays : Tables → List Machine → Lot → (List ℕ → Type 0) → (List ℕ → Type 0) → Refusal
+-- why the tries are refused
+abbrev pub TryReason : Tables → List Machine → Lot → (List ℕ → Type 0) → (List ℕ → Type 0) → Refusal
     → Type 0
-TrySays i a0 lot prints breaks (Left cause) = IsTried i a0 lot (Some cause) prints
-TrySays i a0 lot prints breaks Write = (broken : Option Cause) × IsTried i a0 lot broken breaks
-TrySays i a0 lot prints breaks Memory = Unit {0}
-TrySays i a0 lot prints breaks refusal = ⊥
+TryReason i a0 lot took broke_off (Left cause) = IsTried i a0 lot (Some cause) took
+TryReason i a0 lot took broke_off Write = (broken : Option Cause) × IsTried i a0 lot broken broke_off
+TryReason i a0 lot took broke_off Memory = Unit {0}
+TryReason i a0 lot took broke_off refusal = ⊥

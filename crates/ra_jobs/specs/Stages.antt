@@ -1,4 +1,4 @@
--- What each stage of a job says where it refuses.
+-- Why each stage of a job refuses.
 use Rattle.std.specs.Prelude.{◌≡◌, ℕ, List, Option, Some, None, IfSome}
 use Rattle.ra_base.specs.declared.costs.Parts.{Parts}
 use Rattle.ra_base.specs.declared.ids.Machine.{Machine}
@@ -38,11 +38,11 @@ model_as reader.ReadFault = Read file.Model
 model_as reader.NoMemory = Memory
 model_as fault = Model fault
 
-abbrev pub ModelSays : Held → List ℕ → Faults → Faults → Refusal → Type 0
-ModelSays held name before now (Read file.Model) = Rose (before name) (now name)
-ModelSays held name before now (Model fault) = ModelRefused held name fault
-ModelSays held name before now Memory = Unit {0}
-ModelSays held name before now refusal = ⊥
+abbrev pub ModelReason : Held → List ℕ → Faults → Faults → Refusal → Type 0
+ModelReason held name before now (Read file.Model) = Rose (before name) (now name)
+ModelReason held name before now (Model fault) = ModelRefused held name fault
+ModelReason held name before now Memory = Unit {0}
+ModelReason held name before now refusal = ⊥
 
 -- a refusal of the reader of closed lists, as one of a job
 abbrev pub closed_as : ClosedFault → Refusal
@@ -50,12 +50,12 @@ closed_as closer.ReadFault = Read file.Closed
 closed_as closer.NoMemory = Memory
 closed_as fault = Closed fault
 
-abbrev pub ClosedSays : Held → List ℕ → Tables → Faults → Faults → Refusal → Type 0
-ClosedSays held name i before now (Read file.Closed) = Rose (before name) (now name)
-ClosedSays held name i before now (Closed fault) =
+abbrev pub ClosedReason : Held → List ℕ → Tables → Faults → Faults → Refusal → Type 0
+ClosedReason held name i before now (Read file.Closed) = Rose (before name) (now name)
+ClosedReason held name i before now (Closed fault) =
     IsInClosed fault × IfSome (held name) (λ bytes. closed_refusal bytes i ≡ Some fault)
-ClosedSays held name i before now Memory = Unit {0}
-ClosedSays held name i before now refusal = ⊥
+ClosedReason held name i before now Memory = Unit {0}
+ClosedReason held name i before now refusal = ⊥
 
 -- the model was read, and reading the closed list failed
 pub record ClosedFailed (held : Held) (model : List ℕ) (closed : Option (List ℕ))
@@ -67,14 +67,14 @@ pub record ClosedFailed (held : Held) (model : List ℕ) (closed : Option (List 
   pub rose : Rose (before name) (now name)
 
 -- the model file and the closed list
-abbrev pub SourceSays : Held → List ℕ → Option (List ℕ) → Faults → Faults → Refusal → Type 0
-SourceSays held model closed before now (Read file.Model) = Rose (before model) (now model)
-SourceSays held model closed before now (Read file.Closed) =
+abbrev pub SourceReason : Held → List ℕ → Option (List ℕ) → Faults → Faults → Refusal → Type 0
+SourceReason held model closed before now (Read file.Model) = Rose (before model) (now model)
+SourceReason held model closed before now (Read file.Closed) =
     ClosedFailed held model closed before now
-SourceSays held model closed before now (Model fault) = ModelRefused held model fault
-SourceSays held model closed before now (Closed fault) = ClosedRefused held model closed fault
-SourceSays held model closed before now Memory = Unit {0}
-SourceSays held model closed before now refusal = ⊥
+SourceReason held model closed before now (Model fault) = ModelRefused held model fault
+SourceReason held model closed before now (Closed fault) = ClosedRefused held model closed fault
+SourceReason held model closed before now Memory = Unit {0}
+SourceReason held model closed before now refusal = ⊥
 
 -- a refusal of the reader of lists, as one of a job
 abbrev pub list_as : Role → AssignFault → Refusal
@@ -83,29 +83,29 @@ list_as which assigner.NoMemory = Memory
 list_as which fault = Assign which fault
 
 -- one of the two lists
-abbrev pub ListSays : Role → Held → List ℕ → Tables → Faults → Faults → Refusal → Type 0
-ListSays which held name i before now (Read f) = (f ≡ file_of which) × Rose (before name) (now name)
-ListSays which held name i before now (Assign one fault) =
+abbrev pub ListReason : Role → Held → List ℕ → Tables → Faults → Faults → Refusal → Type 0
+ListReason which held name i before now (Read f) = (f ≡ file_of which) × Rose (before name) (now name)
+ListReason which held name i before now (Assign one fault) =
     (one ≡ which) × ListRefused held name i fault
-ListSays which held name i before now Memory = Unit {0}
-ListSays which held name i before now refusal = ⊥
+ListReason which held name i before now Memory = Unit {0}
+ListReason which held name i before now refusal = ⊥
 
 -- the initial list, if one is named
-abbrev pub NamedSays : Held → Option (List ℕ) → Tables → Faults → Faults → Refusal → Type 0
-NamedSays held None i before now refusal = ⊥
-NamedSays held (Some name) i before now refusal = ListSays role.Initial held name i before now refusal
+abbrev pub NamedReason : Held → Option (List ℕ) → Tables → Faults → Faults → Refusal → Type 0
+NamedReason held None i before now refusal = ⊥
+NamedReason held (Some name) i before now refusal = ListReason role.Initial held name i before now refusal
 
-abbrev pub JudgeSays : Tables → List Machine → List Machine → Refusal → Type 0
-JudgeSays i a0 a (Broken role.Initial cause) = first_broken i a0 a0 ≡ Some cause
-JudgeSays i a0 a (Broken role.Changed cause) = Feasible i a0 a0 × (first_broken i a0 a ≡ Some cause)
-JudgeSays i a0 a Memory = Unit {0}
-JudgeSays i a0 a refusal = ⊥
+abbrev pub JudgeReason : Tables → List Machine → List Machine → Refusal → Type 0
+JudgeReason i a0 a (Broken role.Initial cause) = first_broken i a0 a0 ≡ Some cause
+JudgeReason i a0 a (Broken role.Changed cause) = Feasible i a0 a0 × (first_broken i a0 a ≡ Some cause)
+JudgeReason i a0 a Memory = Unit {0}
+JudgeReason i a0 a refusal = ⊥
 
 -- the initial list alone
-abbrev pub StartSays : Tables → List Machine → Refusal → Type 0
-StartSays i a0 (Broken role.Initial cause) = first_broken i a0 a0 ≡ Some cause
-StartSays i a0 Memory = Unit {0}
-StartSays i a0 refusal = ⊥
+abbrev pub StartReason : Tables → List Machine → Refusal → Type 0
+StartReason i a0 (Broken role.Initial cause) = first_broken i a0 a0 ≡ Some cause
+StartReason i a0 Memory = Unit {0}
+StartReason i a0 refusal = ⊥
 
 -- all files were accepted, and the initial list fits the instance
 pub record IsStart (held : Held) (names : Names) (i : Tables) (a0 : List Machine) : Type 0 where
@@ -120,15 +120,15 @@ pub record ReadsLists (held : Held) (first second : List ℕ) (i : Tables) (a0 a
   pub changed : ListIs held second i a
   pub changed_fits : IsAssignment i a
 
-abbrev pub ListsSay : Held → List ℕ → List ℕ → Tables → Faults → Faults → Refusal → Type 0
-ListsSay held first second i before now (Read file.Initial) = Rose (before first) (now first)
-ListsSay held first second i before now (Read file.Changed) =
+abbrev pub ListsReason : Held → List ℕ → List ℕ → Tables → Faults → Faults → Refusal → Type 0
+ListsReason held first second i before now (Read file.Initial) = Rose (before first) (now first)
+ListsReason held first second i before now (Read file.Changed) =
     (a0 : List Machine) × ListIs held first i a0 × Rose (before second) (now second)
-ListsSay held first second i before now (Assign role.Initial fault) = ListRefused held first i fault
-ListsSay held first second i before now (Assign role.Changed fault) =
+ListsReason held first second i before now (Assign role.Initial fault) = ListRefused held first i fault
+ListsReason held first second i before now (Assign role.Changed fault) =
     (a0 : List Machine) × ListIs held first i a0 × ListRefused held second i fault
-ListsSay held first second i before now Memory = Unit {0}
-ListsSay held first second i before now refusal = ⊥
+ListsReason held first second i before now Memory = Unit {0}
+ListsReason held first second i before now refusal = ⊥
 
 -- all files passed, and these are the parts of the new list
 pub record Passed (held : Held) (names : Names) (parts : Parts) : Type 0 where
@@ -136,10 +136,10 @@ pub record Passed (held : Held) (names : Names) (parts : Parts) : Type 0 where
   pub a0 : List Machine
   pub a : List Machine
   pub passes : Passes held names tables a0 a
-  pub are : parts ≡ parts_of tables a0 a
+  pub parts_are : parts ≡ parts_of tables a0 a
 
 -- both lists are feasible, and these are the parts of the new one
 pub record Judged (i : Tables) (a0 a : List Machine) (parts : Parts) : Type 0 where
   pub initial : Feasible i a0 a0
   pub changed : Feasible i a0 a
-  pub are : parts ≡ parts_of i a0 a
+  pub parts_are : parts ≡ parts_of i a0 a

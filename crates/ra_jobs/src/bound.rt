@@ -7,8 +7,8 @@ ghost use Rattle.ra_jobs.specs.Ends.{Does, Tries};
 ghost use Rattle.ra_jobs.specs.Files.{bound_names};
 ghost use Rattle.ra_jobs.specs.Output.{output};
 ghost use Rattle.ra_jobs.specs.Outputs.{BoundIs, BoundRead, bound_command};
-ghost use Rattle.ra_jobs.specs.Refusals.{Says, Nothing};
-ghost use Rattle.ra_jobs.specs.Stages.{ListSays, NamedSays};
+ghost use Rattle.ra_jobs.specs.Refusals.{Reason, Nothing};
+ghost use Rattle.ra_jobs.specs.Stages.{ListReason, NamedReason};
 
 use crate::lists::read_list;
 use crate::reading::read_instance;
@@ -35,8 +35,8 @@ pub fn bound_run<'n, F: Files, O: Sink, E: Sink>(
     out: &mut O,
     err: &mut E,
 ) -> Status
-    ensures { Does (bound_command model.now
-        (option_copied closed.entry) (option_copied initial.entry))
+    ensures { Does (bound_command model.now (option_copied initial.entry)
+        (option_copied closed.entry))
         (reading F.Files files.old files.new) (output O.Sink out.old out.new)
         (output E.Sink err.old err.new) result }
 {
@@ -61,8 +61,8 @@ fn print_bound<F: Files, O: Sink>(
     files: &mut F,
     out: &mut O,
 ) -> Result<(), Refusal>
-    ensures { Tries (bound_command model.now
-        (option_copied closed.entry) (option_copied initial.entry))
+    ensures { Tries (bound_command model.now (option_copied initial.entry)
+        (option_copied closed.entry))
         (reading F.Files files.old files.new) (output O.Sink out.old out.new) result }
 {
     let bound = read_bound(alloc, model, initial, closed, files)?;
@@ -80,10 +80,10 @@ fn read_bound<F: Files>(
     closed: Option<&Name>,
     files: &mut F,
 ) -> Result<Bound, Refusal>
-    ensures read { IfOk result (BoundRead (F.held files.old) (bound_names model.now
-        (option_copied closed.entry) (option_copied initial.entry))) }
-    ensures refused { IfErr result (Says (F.held files.old) (bound_names model.now
-        (option_copied closed.entry) (option_copied initial.entry))
+    ensures read { IfOk result (BoundRead (F.held files.old) (bound_names model.now (option_copied initial.entry)
+        (option_copied closed.entry))) }
+    ensures refused { IfErr result (Reason (F.held files.old) (bound_names model.now (option_copied initial.entry)
+        (option_copied closed.entry))
         (F.faults files.old) (F.faults files.new) Nothing) }
     ensures kept { (other : List ℕ) → F.held files.new other ≡ F.held files.old other }
     ensures never_fall { (other : List ℕ) → F.faults files.old other ≤ F.faults files.new other }
@@ -94,7 +94,7 @@ fn read_bound<F: Files>(
     ended
 }
 
-/// The bound of an instance, or of an instance and the initial list, where one is named.
+/// The bound of an instance, or of an instance and the initial list, if one is named.
 fn bound_over<F: Files>(
     alloc: Global,
     files: &mut F,
@@ -103,7 +103,7 @@ fn bound_over<F: Files>(
 ) -> Result<Bound, Refusal>
     ensures read { IfOk result (BoundIs (F.held files.old)
         (option_copied initial.entry) inst.now.tables) }
-    ensures refused { IfErr result (NamedSays (F.held files.old)
+    ensures refused { IfErr result (NamedReason (F.held files.old)
         (option_copied initial.entry) inst.now.tables (F.faults files.old) (F.faults files.new)) }
     ensures kept { (other : List ℕ) → F.held files.new other ≡ F.held files.old other }
     ensures never_fall { (other : List ℕ) → F.faults files.old other ≤ F.faults files.new other }
@@ -122,7 +122,7 @@ fn bound_with<F: Files>(
     inst: &Instance,
 ) -> Result<Bound, Refusal>
     ensures read { IfOk result (BoundIs (F.held files.old) (Some initial.now) inst.now.tables) }
-    ensures refused { IfErr result (ListSays Role.Initial (F.held files.old) initial.now inst.now.tables
+    ensures refused { IfErr result (ListReason Role.Initial (F.held files.old) initial.now inst.now.tables
         (F.faults files.old) (F.faults files.new)) }
     ensures kept { (other : List ℕ) → F.held files.new other ≡ F.held files.old other }
     ensures never_fall { (other : List ℕ) → F.faults files.old other ≤ F.faults files.new other }

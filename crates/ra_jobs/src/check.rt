@@ -5,7 +5,7 @@ ghost use Rattle.ra_jobs.specs.Ends.{Does, Tries};
 ghost use Rattle.ra_jobs.specs.Files.{check_names};
 ghost use Rattle.ra_jobs.specs.Output.{output};
 ghost use Rattle.ra_jobs.specs.Outputs.{check_command};
-ghost use Rattle.ra_jobs.specs.Refusals.{Says, Judges};
+ghost use Rattle.ra_jobs.specs.Refusals.{Reason, Judges};
 ghost use Rattle.ra_jobs.specs.Stages.{Passed};
 
 use crate::judging::judge;
@@ -31,8 +31,8 @@ pub fn check_run<'n, F: Files, O: Sink, E: Sink>(
     out: &mut O,
     err: &mut E,
 ) -> Status
-    ensures { Does (check_command model.now
-        (option_copied closed.entry) initial.now changed.now)
+    ensures { Does (check_command model.now initial.now changed.now
+        (option_copied closed.entry))
         (reading F.Files files.old files.new) (output O.Sink out.old out.new)
         (output E.Sink err.old err.new) result }
 {
@@ -58,8 +58,8 @@ fn check<F: Files, O: Sink>(
     files: &mut F,
     out: &mut O,
 ) -> Result<(), Refusal>
-    ensures { Tries (check_command model.now
-        (option_copied closed.entry) initial.now changed.now)
+    ensures { Tries (check_command model.now initial.now changed.now
+        (option_copied closed.entry))
         (reading F.Files files.old files.new) (output O.Sink out.old out.new) result }
 {
     let parts = read_parts(alloc, model, initial, changed, closed, files)?;
@@ -69,7 +69,7 @@ fn check<F: Files, O: Sink>(
     }
 }
 
-/// The parts of the new list, where all files are accepted and both lists are feasible.
+/// The parts of the new list, if all files are accepted and both lists are feasible.
 fn read_parts<F: Files>(
     alloc: Global,
     model: &Name,
@@ -79,11 +79,11 @@ fn read_parts<F: Files>(
     files: &mut F,
 ) -> Result<Parts, Refusal>
     ensures passed { IfOk result (Passed (F.held files.old)
-        (check_names model.now (option_copied closed.entry) initial.now changed.now)) }
-    ensures refused { IfErr result (Says (F.held files.old)
-        (check_names model.now (option_copied closed.entry) initial.now changed.now)
+        (check_names model.now initial.now changed.now (option_copied closed.entry))) }
+    ensures refused { IfErr result (Reason (F.held files.old)
+        (check_names model.now initial.now changed.now (option_copied closed.entry))
         (F.faults files.old) (F.faults files.new) (Judges (F.held files.old)
-        (check_names model.now (option_copied closed.entry) initial.now changed.now) ⊥)) }
+        (check_names model.now initial.now changed.now (option_copied closed.entry)) ⊥)) }
     ensures kept { (other : List ℕ) → F.held files.new other ≡ F.held files.old other }
     ensures never_fall { (other : List ℕ) → F.faults files.old other ≤ F.faults files.new other }
 {

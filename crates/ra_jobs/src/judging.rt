@@ -3,7 +3,7 @@ ghost use Rattle.ra_model.specs.Assignments.{IsAssignment};
 ghost use Rattle.ra_check.specs.Made.{IsMadeFor};
 ghost use Rattle.ra_model.specs.Broken.{first_broken};
 ghost use Rattle.ra_model.specs.Feasible.{Feasible};
-ghost use Rattle.ra_jobs.specs.Stages.{Judged, JudgeSays, StartSays};
+ghost use Rattle.ra_jobs.specs.Stages.{Judged, JudgeReason, StartReason};
 
 use crate::refusals::{Refusal, Role};
 use ra_base::{Assignment, Parts};
@@ -11,7 +11,7 @@ use ra_check::{Scratch, first_broken, parts};
 use ra_model::Instance;
 use std::alloc::Global;
 
-/// The parts of the cost of the new list, where both lists are feasible. Else the refusal names the list that breaks a
+/// The parts of the cost of the new list, if both lists are feasible. Else the refusal names the list that breaks a
 /// constraint, the initial one first, and what it breaks; or memory was refused.
 pub fn judge(
     alloc: Global,
@@ -22,7 +22,7 @@ pub fn judge(
     requires initial { IsAssignment inst.now.tables initial.now.items }
     requires changed { IsAssignment inst.now.tables changed.now.items }
     ensures passes { IfOk result (Judged inst.now.tables initial.now.items changed.now.items) }
-    ensures refused { IfErr result (JudgeSays inst.now.tables initial.now.items changed.now.items) }
+    ensures refused { IfErr result (JudgeReason inst.now.tables initial.now.items changed.now.items) }
 {
     let mut scratch = judge_start(alloc, inst, initial)?;
     match first_broken(inst, initial, changed, &mut scratch) {
@@ -31,7 +31,7 @@ pub fn judge(
     }
 }
 
-/// Tables to check with, where the initial list is feasible.
+/// Tables to check with, if the initial list is feasible.
 pub fn judge_start(alloc: Global, inst: &Instance, initial: &Assignment) -> Result<Scratch, Refusal>
     requires { IsAssignment inst.now.tables initial.now.items }
     ensures feasible { IfOk result (λ _.
@@ -39,7 +39,7 @@ pub fn judge_start(alloc: Global, inst: &Instance, initial: &Assignment) -> Resu
     ensures unbroken { IfOk result (λ _.
         first_broken inst.now.tables initial.now.items initial.now.items ≡ None) }
     ensures made { IfOk result (λ scratch. IsMadeFor scratch inst.now.tables) }
-    ensures refused { IfErr result (StartSays inst.now.tables initial.now.items) }
+    ensures refused { IfErr result (StartReason inst.now.tables initial.now.items) }
 {
     let Ok(mut scratch) = Scratch::make(alloc, inst) else {
         return Err(Refusal::Memory);

@@ -1,5 +1,5 @@
 ghost use Rattle.std.specs.Prelude.{◌≡◌, ℕ, ◌≤◌, List, IfOk, IfErr};
-ghost use Rattle.ra_jobs.specs.Stages.{list_as, ListSays, IsList, ReadsLists, ListsSay};
+ghost use Rattle.ra_jobs.specs.Stages.{list_as, ListReason, IsList, ReadsLists, ListsReason};
 
 use crate::refusals::{Refusal, Role};
 use ra_assign::{AssignFault, read_assignment};
@@ -17,7 +17,7 @@ pub(crate) fn read_list<F: Files>(
     inst: &Instance,
 ) -> Result<Assignment, Refusal>
     ensures read { IfOk result (λ a. IsList (F.held files.old) name.now inst.now.tables a.items) }
-    ensures refused { IfErr result (ListSays role (F.held files.old) name.now inst.now.tables
+    ensures refused { IfErr result (ListReason role (F.held files.old) name.now inst.now.tables
         (F.faults files.old) (F.faults files.new)) }
     ensures kept { (other : List ℕ) → F.held files.new other ≡ F.held files.old other }
     ensures never_fall { (other : List ℕ) → F.faults files.old other ≤ F.faults files.new other }
@@ -57,7 +57,7 @@ pub fn read_lists<F: Files>(
 ) -> Result<Lists, Refusal>
     ensures read { IfOk result (λ l. ReadsLists (F.held files.old) initial.now changed.now
         inst.now.tables l.initial.items l.changed.items) }
-    ensures refused { IfErr result (ListsSay
+    ensures refused { IfErr result (ListsReason
         (F.held files.old) initial.now changed.now inst.now.tables (F.faults files.old)
         (F.faults files.new)) }
     ensures kept { (other : List ℕ) → F.held files.new other ≡ F.held files.old other }

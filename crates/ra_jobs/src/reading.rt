@@ -1,7 +1,7 @@
 ghost use Rattle.std.specs.Prelude.{◌≡◌, ℕ, ◌≤◌, List, IfSome, IfOk, IfErr};
 ghost use Rattle.std.specs.Option.{option_copied};
 ghost use Rattle.ra_jobs.specs.Files.{ModelIs, InstanceIs};
-ghost use Rattle.ra_jobs.specs.Stages.{model_as, closed_as, ModelSays, ClosedSays, SourceSays, IsClosing};
+ghost use Rattle.ra_jobs.specs.Stages.{model_as, closed_as, ModelReason, ClosedReason, SourceReason, IsClosing};
 
 use crate::refusals::{File, Refusal};
 use ra_assign::{ClosedFault, read_closed};
@@ -11,7 +11,7 @@ use ra_model::Instance;
 use ra_model_read::{ModelFault, read_model};
 use std::alloc::Global;
 
-/// The instance of the model file, with the machines of the closed list closed, where one is named. Else the first of the
+/// The instance of the model file, with the machines of the closed list closed, if one is named. Else the first of the
 /// two files that could not be read, or that is no model or no closed list for it, is refused; or memory was.
 pub fn read_instance<F: Files>(
     alloc: Global,
@@ -21,7 +21,7 @@ pub fn read_instance<F: Files>(
 ) -> Result<Instance, Refusal>
     ensures read { IfOk result (λ inst. InstanceIs (F.held files.old) model.now
         (option_copied closed.entry) inst.tables) }
-    ensures refused { IfErr result (SourceSays (F.held files.old) model.now
+    ensures refused { IfErr result (SourceReason (F.held files.old) model.now
         (option_copied closed.entry) (F.faults files.old) (F.faults files.new)) }
     ensures kept { (other : List ℕ) → F.held files.new other ≡ F.held files.old other }
     ensures never_fall { (other : List ℕ) → F.faults files.old other ≤ F.faults files.new other }
@@ -40,7 +40,7 @@ pub(crate) fn read_open<F: Files>(
     model: &Name,
 ) -> Result<Instance, Refusal>
     ensures read { IfOk result (λ inst. ModelIs (F.held files.old) model.now inst.tables) }
-    ensures refused { IfErr result (ModelSays (F.held files.old) model.now (F.faults files.old)
+    ensures refused { IfErr result (ModelReason (F.held files.old) model.now (F.faults files.old)
         (F.faults files.new)) }
     ensures kept { (other : List ℕ) → F.held files.new other ≡ F.held files.old other }
     ensures never_fall { (other : List ℕ) → F.faults files.old other ≤ F.faults files.new other }
@@ -70,7 +70,7 @@ pub(crate) fn close<F: Files>(
     inst: Instance,
 ) -> Result<Instance, Refusal>
     ensures read { IfOk result (λ i. IsClosing (F.held files.old) closed.now inst.tables i.tables) }
-    ensures refused { IfErr result (ClosedSays (F.held files.old) closed.now inst.tables
+    ensures refused { IfErr result (ClosedReason (F.held files.old) closed.now inst.tables
         (F.faults files.old) (F.faults files.new)) }
     ensures kept { (other : List ℕ) → F.held files.new other ≡ F.held files.old other }
     ensures never_fall { (other : List ℕ) → F.faults files.old other ≤ F.faults files.new other }

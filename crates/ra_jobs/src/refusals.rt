@@ -37,7 +37,7 @@ impl Role {
     }
 }
 
-/// Why a job was not done, in the order in which it is found.
+/// Why a job was not done, in the order in which it is found, that of the initial list first.
 #[derive(Clone, Copy)]
 pub enum Refusal {
     /// Reading a file failed.
@@ -52,7 +52,7 @@ pub enum Refusal {
     Edits(EditsFault),
     /// This list breaks a constraint.
     Broken(Role, Cause),
-    /// This line of the report is wrong first.
+    /// This line of the report is told to be wrong.
     Wrong(u64),
     /// The last list of a repair breaks a constraint.
     Unrepaired(Cause),

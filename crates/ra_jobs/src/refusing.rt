@@ -101,7 +101,7 @@ fn fault<'n>(names: &JobFiles<'n>, refusal: Refusal) -> Fault<'n>
     }
 }
 
-/// Puts the line of a fault, or a front of it where a put fails.
+/// Puts the line of a fault, or a front of it if a put fails.
 pub fn put_line<E: Sink>(err: &mut E, fault: &Fault<'_>)
     requires { CanBeTold fault.now }
     ensures line { Put (writing E.Sink err.old err.new) (fault_text fault.now) }

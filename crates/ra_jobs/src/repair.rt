@@ -8,7 +8,7 @@ ghost use Rattle.ra_topology.specs.Fits.{IsTopologyOf};
 ghost use Rattle.ra_jobs.specs.Commands.{These};
 ghost use Rattle.ra_jobs.specs.Ends.{Does, Tries, puts_first};
 ghost use Rattle.ra_jobs.specs.Output.{output, BrokeOff};
-ghost use Rattle.ra_jobs.specs.Repairing.{IsTried, TrySays, repair_command};
+ghost use Rattle.ra_jobs.specs.Repairing.{IsTried, TryReason, repair_command};
 
 use crate::refusals::{JobFiles, Refusal};
 use crate::refusing::finish;
@@ -37,8 +37,8 @@ pub fn repair_run<'n, F: Files, O: Sink, E: Sink>(
     err: &mut E,
 ) -> Status
     requires one { length lots.now.lots.items ≡ 1 }
-    ensures { Does (repair_command model.now
-        (option_copied closed.entry) initial.now (These lots.now))
+    ensures { Does (repair_command model.now initial.now
+        (option_copied closed.entry) (These lots.now))
         (reading F.Files files.old files.new) (output O.Sink out.old out.new)
         (output E.Sink err.old err.new) result }
 {
@@ -65,8 +65,8 @@ fn mend<F: Files, O: Sink>(
     out: &mut O,
 ) -> Result<(), Refusal>
     requires one { length lots.now.lots.items ≡ 1 }
-    ensures { Tries (repair_command model.now
-        (option_copied closed.entry) initial.now (These lots.now))
+    ensures { Tries (repair_command model.now initial.now
+        (option_copied closed.entry) (These lots.now))
         (reading F.Files files.old files.new) (output O.Sink out.old out.new) result }
 {
     let start = read_start(alloc, model, initial, closed, files)?;
@@ -87,9 +87,9 @@ fn try_from<O: Sink>(
     requires lot { IsLots (lot.now ∷ []) }
     ensures printed { OnOk result (IsTried inst.now.tables initial.now.items lot.now None
         (Took (writing O.Sink out.old out.new))) }
-    ensures refused { IfErr result (TrySays inst.now.tables initial.now.items lot.now
+    ensures refused { IfErr result (TryReason inst.now.tables initial.now.items lot.now
         (Took (writing O.Sink out.old out.new)) (BrokeOff (writing O.Sink out.old out.new))) }
-    ensures untouched { IfErr result (λ refusal. puts_first refusal ≡ false → out.new ≡ out.old) }
+    ensures no_output { IfErr result (λ refusal. puts_first refusal ≡ false → out.new ≡ out.old) }
     ensures out_never_falls { O.faults out.old ≤ O.faults out.new }
 {
     let Ok(mut scratch) = Scratch::make(alloc, inst) else {
@@ -119,9 +119,9 @@ fn try_over<O: Sink>(
     requires made { IsMadeFor scratch.old inst.now.tables }
     ensures printed { OnOk result (IsTried inst.now.tables initial.now.items lot.now None
         (Took (writing O.Sink out.old out.new))) }
-    ensures refused { IfErr result (TrySays inst.now.tables initial.now.items lot.now
+    ensures refused { IfErr result (TryReason inst.now.tables initial.now.items lot.now
         (Took (writing O.Sink out.old out.new)) (BrokeOff (writing O.Sink out.old out.new))) }
-    ensures untouched { IfErr result (λ refusal. puts_first refusal ≡ false → out.new ≡ out.old) }
+    ensures no_output { IfErr result (λ refusal. puts_first refusal ≡ false → out.new ≡ out.old) }
     ensures out_never_falls { O.faults out.old ≤ O.faults out.new }
 {
     let Ok(mut repair) = Repair::make(alloc, inst, topo, initial, lot) else {

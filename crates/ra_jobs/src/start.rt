@@ -1,7 +1,7 @@
 ghost use Rattle.std.specs.Prelude.{◌≡◌, ℕ, ◌≤◌, List, IfOk, IfErr};
 ghost use Rattle.std.specs.Option.{option_copied};
 ghost use Rattle.ra_jobs.specs.Files.{solve_names};
-ghost use Rattle.ra_jobs.specs.Refusals.{Says, Nothing};
+ghost use Rattle.ra_jobs.specs.Refusals.{Reason, Nothing};
 ghost use Rattle.ra_jobs.specs.Stages.{IsStart};
 
 use crate::lists::read_list;
@@ -19,7 +19,7 @@ pub struct Start {
     pub initial: Assignment,
 }
 
-/// The instance and the initial list, where all files are accepted.
+/// The instance and the initial list, if all files are accepted.
 pub fn read_start<F: Files>(
     alloc: Global,
     model: &Name,
@@ -29,9 +29,9 @@ pub fn read_start<F: Files>(
 ) -> Result<Start, Refusal>
     ensures read { IfOk result (λ s. IsStart (F.held files.old)
         (solve_names model.now
-        (option_copied closed.entry) initial.now) s.inst.tables s.initial.items) }
-    ensures refused { IfErr result (Says (F.held files.old)
-        (solve_names model.now (option_copied closed.entry) initial.now) (F.faults files.old)
+        initial.now (option_copied closed.entry)) s.inst.tables s.initial.items) }
+    ensures refused { IfErr result (Reason (F.held files.old)
+        (solve_names model.now initial.now (option_copied closed.entry)) (F.faults files.old)
         (F.faults files.new) Nothing) }
     ensures kept { (other : List ℕ) → F.held files.new other ≡ F.held files.old other }
     ensures never_fall { (other : List ℕ) → F.faults files.old other ≤ F.faults files.new other }

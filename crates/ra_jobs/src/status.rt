@@ -22,7 +22,7 @@ pub enum Status {
     NoMemory,
     /// The closed list is none for the model.
     BadClosed,
-    /// A line of a report is wrong.
+    /// A line of a report is told to be wrong.
     Wrong,
     /// The last list of a repair breaks a constraint.
     Unrepaired,

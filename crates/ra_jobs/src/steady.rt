@@ -26,15 +26,15 @@ pub fn check_steady<'n>(
     out: &mut CountSink,
     err: &mut CountSink,
 ) -> Status
-    ensures does { Does (check_command model.now
-        (option_copied closed.entry) initial.now changed.now)
+    ensures does { Does (check_command model.now initial.now changed.now
+        (option_copied closed.entry))
         (reading ⟦<SteadyFiles as Files>⟧ files.old files.new)
         (output ⟦<CountSink as Sink>⟧ out.old out.new)
         (output ⟦<CountSink as Sink>⟧ err.old err.new) result }
     ensures no_read_fault { result ≢ Status.ReadFault }
     ensures no_write_fault { result ≢ Status.WriteFault }
     ensures complete { AreValid (⟦<SteadyFiles as Files>⟧.held files.old)
-        (check_names model.now (option_copied closed.entry) initial.now changed.now)
+        (check_names model.now initial.now changed.now (option_copied closed.entry))
         → (result ≡ Status.Done) ⊎ (result ≡ Status.NoMemory) }
 {
     check_run(alloc, model, initial, changed, closed, files, out, err)

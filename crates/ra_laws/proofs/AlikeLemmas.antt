@@ -23,7 +23,7 @@ use Rattle.ra_jobs.proofs.RowLemmas.{raw_of, bare_raw, raw_same}
 use Rattle.ra_jobs.proofs.BareLemmas.{bare, bare_closed}
 use Rattle.ra_jobs.proofs.MeaningLemmas.{broken_same}
 use Rattle.ra_jobs.proofs.AlikeLemmas.{opened, whole, along, repaired_same}
-use Rattle.ra_run.proofs.AlikeLemmas.{parts_same, pinned_same, planned_same, judged_same, best_same, legal_same, report_same, first_wrong_same, is_report_same}
+use Rattle.ra_run.proofs.AlikeLemmas.{parts_same, pinned_same, planned_same, judged_same, best_same, legal_same, report_same, wrong_line_same, is_report_same}
 
 -- no room is looked at
 
@@ -86,7 +86,7 @@ run_same i j same = record {
   legal = legal_same i j same;
   report = report_same i j same;
   is_report = is_report_same i j same;
-  first_wrong = first_wrong_same i j same;
+  first_wrong = wrong_line_same i j same;
   alone = λ a0 l k lots. along (λ (t : Tables). solo t a0 l) (λ raw closed. solo_bare raw closed a0 l) i j same ∙ lots_alike j a0 l k lots;
   summary = summary_same i j same;
   repaired = repaired_same i j same;

@@ -30,7 +30,7 @@ module _ {N : Type 0} (i : Tables) (makes : N → Option (List Step)) (history :
   abbrev made : List (Option (List Step))
   made = map makes history
 
-  -- the entry at a place touches the guard exactly if it touches its number
+  -- the entry at a place touches the guard if it touches its number
   there : (j : ℕ) (x : N) → slice_get history j ≡ Some x → touches i (made_at made j) g ≡ touches_number i (makes x) (number_of i g)
   there j x e = ap (λ (m : Option (List Step)). touches i m g) (made_there makes history j x e) ∙ sym (touches_agree i (makes x) g known)
 

@@ -23,7 +23,7 @@ use Rattle.ra_report.specs.JournalTexts.{report_text}
 use Rattle.ra_report.specs.Summaries.{summary_text}
 use Rattle.ra_trial.specs.Instances.{IsTrial, start_list}
 use Rattle.ra_trial.specs.Numbers.{trial_word}
-use Rattle.ra_verify.specs.WrongLines.{IsFirstWrong, IsReport}
+use Rattle.ra_verify.specs.WrongLines.{IsWrongLine, IsReport}
 use Rattle.ra_jobs.specs.declared.refusals.File.{File}
 use Rattle.ra_jobs.specs.Files.{Held, Names, name_of, IsNamed, Accepts}
 use Rattle.ra_run.specs.Trials.{IsTrialLots, TrialPrinted}
@@ -61,7 +61,7 @@ pub record RunAlike (i j : Tables) : Type 0 where
   pub is_report : (a0 : List Machine) (l : Lots) (bytes : List ℕ) (n : ℕ) → IsReport i a0 l bytes n
       → IsReport j a0 l bytes n
   pub first_wrong : (a0 : List Machine) (l : Lots) (bytes : List ℕ) (line : Option ℕ)
-      → IsFirstWrong i a0 l bytes line → IsFirstWrong j a0 l bytes line
+      → IsWrongLine i a0 l bytes line → IsWrongLine j a0 l bytes line
   pub alone : (a0 : List Machine) (l k : Lots) → AreAlikeLots l k → solo i a0 l ≡ solo j a0 k
   pub summary : (a0 : List Machine) (h : List Entry) → summary_text i a0 h ≡ summary_text j a0 h
   pub repaired : (a0 : List Machine) (lot : Lot) → repair_run i a0 lot ≡ repair_run j a0 lot

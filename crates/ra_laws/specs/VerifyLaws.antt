@@ -5,7 +5,7 @@ use Rattle.ra_model.specs.declared.raw.Tables.{Tables}
 use Rattle.ra_draws.specs.declared.budgets.Lots.{Lots}
 use Rattle.ra_journal.specs.declared.entries.Entry.{Entry}
 use Rattle.ra_journal.specs.Legal.{Legal}
-use Rattle.ra_verify.specs.WrongLines.{IsFirstWrong, IsReport}
+use Rattle.ra_verify.specs.WrongLines.{IsWrongLine, IsReport}
 
 -- the entries so far, the worker and the place of a plan tell the one entry that may follow
 abbrev pub OneNextEntry : Type 0
@@ -17,5 +17,5 @@ OneNextEntry =
 -- if no line is wrong, the bytes are the report of a legal whole journal
 abbrev pub NoneWrongIsReport : Type 0
 NoneWrongIsReport =
-    (i : Tables) (a0 : List Machine) (l : Lots) (bytes : List ℕ) → IsFirstWrong i a0 l bytes None
+    (i : Tables) (a0 : List Machine) (l : Lots) (bytes : List ℕ) → IsWrongLine i a0 l bytes None
     → (n : ℕ) × IsReport i a0 l bytes n

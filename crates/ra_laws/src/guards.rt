@@ -7,7 +7,7 @@ pub fn untouched_is_apart()
     ensures { UntouchedIsApart }
 {}
 
-/// A table has the versions of a history entry after entry, if each entry that is done touches its write guards.
+/// A table has the versions of a history entry after entry, in which each entry that is done touches its write guards.
 pub fn versions_are_kept()
     ensures { VersionsAreKept }
 {}

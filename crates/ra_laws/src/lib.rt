@@ -30,5 +30,5 @@ pub mod report;
 pub mod shared;
 /// The texts of a trial and its start.
 pub mod trial;
-/// The first wrong line of a report.
+/// The wrong line of a report.
 pub mod verify;

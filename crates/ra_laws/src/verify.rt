@@ -1,5 +1,5 @@
 //! Laws of reports: each function does nothing, and its contract is a law that was proved.
-ghost use Rattle.ra_verify.specs.Laws.{OneFirstWrong, ReportHasNoneWrong};
+ghost use Rattle.ra_verify.specs.Laws.{OneWrongLine, ReportHasNoneWrong};
 ghost use Rattle.ra_laws.specs.VerifyLaws.{OneNextEntry, NoneWrongIsReport};
 
 /// The entries so far, the worker and the place of a plan tell the one entry that may follow.
@@ -7,9 +7,9 @@ pub fn one_next_entry()
     ensures { OneNextEntry }
 {}
 
-/// Bytes have one first wrong line, or none.
-pub fn one_first_wrong()
-    ensures { OneFirstWrong }
+/// Bytes have one wrong line, or none.
+pub fn one_wrong_line()
+    ensures { OneWrongLine }
 {}
 
 /// Bytes of which no line is wrong are the report of a legal whole journal.

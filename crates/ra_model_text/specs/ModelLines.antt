@@ -1,4 +1,4 @@
--- The text of a model on its way: what of a line and of a group is written so far.
+-- What of a line and of a group is written so far.
 use Rattle.std.specs.Prelude.{ℕ, zero, suc, List, [], ◌∷◌, ◌++◌}
 use Rattle.std.specs.Fmt.{decimal}
 use Rattle.ra_model_read.specs.FieldOrder.{joined}

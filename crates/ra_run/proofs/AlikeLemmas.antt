@@ -25,7 +25,7 @@ use Rattle.ra_moves.specs.Judging.{broken_by, judge}
 use Rattle.ra_moves.specs.Options.{option_cost, plan_place, plan_of}
 use Rattle.ra_pins.specs.Pinned.{flagged_share, flagged_use, lacks, lacks_between, holds, taken, blocked, is_open, stuck, round, rounds, is_pinned, pinned_load}
 use Rattle.ra_report.specs.JournalTexts.{report_text}
-use Rattle.ra_verify.specs.WrongLines.{AreRight, AreAllRight, IsWrongEntry, IsCutOff, IsWrongHead, IsFirstWrong, IsReport}
+use Rattle.ra_verify.specs.WrongLines.{AreRight, AreAllRight, IsWrongEntry, IsCutOff, IsWrongHead, IsWrongLine, IsReport}
 use Rattle.ra_jobs.proofs.BareLemmas.{bare}
 use Rattle.ra_jobs.proofs.AlikeLemmas.{opened, whole, along}
 
@@ -139,18 +139,18 @@ module _ (i j : Tables) (same : bare i ≡ bare j) where
     number = is.number;
   }
 
-  pub first_wrong_same : (a0 : List Machine) (l : Lots) (bytes : List ℕ) (line : Option ℕ) → IsFirstWrong i a0 l bytes line → IsFirstWrong j a0 l bytes line
-  first_wrong_same a0 l bytes None is = record {
+  pub wrong_line_same : (a0 : List Machine) (l : Lots) (bytes : List ℕ) (line : Option ℕ) → IsWrongLine i a0 l bytes line → IsWrongLine j a0 l bytes line
+  wrong_line_same a0 l bytes None is = record {
     short = is.short;
     journal = is.journal;
     right = all_right_same a0 l bytes is.journal is.right;
     whole = is.whole;
     head = λ n within. rw (report_same i j same a0 l is.journal) at (is.head n within);
   }
-  first_wrong_same a0 l bytes (Some n) (inl long) = inl long
-  first_wrong_same a0 l bytes (Some n) (inr (inl entry)) = inr (inl (entry_same a0 l bytes n entry))
-  first_wrong_same a0 l bytes (Some n) (inr (inr (inl cut_off))) = inr (inr (inl (cut_off_same a0 l bytes n cut_off)))
-  first_wrong_same a0 l bytes (Some n) (inr (inr (inr head))) = inr (inr (inr (head_same a0 l bytes n head)))
+  wrong_line_same a0 l bytes (Some n) (inl long) = inl long
+  wrong_line_same a0 l bytes (Some n) (inr (inl entry)) = inr (inl (entry_same a0 l bytes n entry))
+  wrong_line_same a0 l bytes (Some n) (inr (inr (inl cut_off))) = inr (inr (inl (cut_off_same a0 l bytes n cut_off)))
+  wrong_line_same a0 l bytes (Some n) (inr (inr (inr head))) = inr (inr (inr (head_same a0 l bytes n head)))
 
   pub is_report_same : (a0 : List Machine) (l : Lots) (bytes : List ℕ) (n : ℕ) → IsReport i a0 l bytes n → IsReport j a0 l bytes n
   is_report_same a0 l bytes n is = record {

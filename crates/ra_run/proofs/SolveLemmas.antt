@@ -31,18 +31,18 @@ use Rattle.ra_jobs.specs.Ends.{Does, Tries, Finishes, Leaves}
 use Rattle.ra_jobs.specs.Files.{Held, Faults, Names, solve_names}
 use Rattle.ra_jobs.specs.Lines.{refusal_line}
 use Rattle.ra_jobs.specs.Output.{Output, BrokeOff, Put}
-use Rattle.ra_jobs.specs.Refusals.{Says, Judges}
+use Rattle.ra_jobs.specs.Refusals.{Reason, Judges}
 use Rattle.ra_jobs.specs.Stages.{IsStart}
 use Rattle.ra_jobs.proofs.ComesLemmas.{Went}
 use Rattle.ra_jobs.proofs.DoesLemmas.{does_more, judged_so, judged_memory}
-use Rattle.ra_jobs.proofs.StageLemmas.{judges_more, says_more}
+use Rattle.ra_jobs.proofs.StageLemmas.{judges_more, reason_more}
 use Rattle.ra_run.specs.Outputs.{IsFirstLeast, Solved, solving}
-use Rattle.ra_run.specs.Solving.{IsReported, RunSays}
+use Rattle.ra_run.specs.Solving.{IsReported, RunReason}
 
 -- the report of a run is that of its journal
-pub run_told : (i : Tables) (a0 : List Machine) (l : Lots) (run : Run) (way : List ℕ → Type 0) → IsRun i a0 l run → Feasible i a0 a0 → way (text_of run.journal) → IsReported i a0 l way
+pub run_told : (i : Tables) (a0 : List Machine) (l : Lots) (run : Run) (sent : List ℕ → Type 0) → IsRun i a0 l run → Feasible i a0 a0 → sent (text_of run.journal) → IsReported i a0 l sent
 unfolding text_of
-run_told i a0 l run way is start text = record {
+run_told i a0 l run sent is start text = record {
   start = start;
   journal = run.journal.book.entries.items;
   legal = is.legal;
@@ -74,9 +74,9 @@ first_least i a0 h =
       first = λ k before. omega (arith, cost, is.earliest k (cost_at i a0 h k) before refl);
     }
 
-unfoldable pub solved : (held : Held) (names : Names) (i : Tables) (a0 : List Machine) (l : Lots) (way : List ℕ → Type 0) → WellFormed i → IsStart held names i a0 → IsReported i a0 l way → Solved held names l way
+unfoldable pub solved : (held : Held) (names : Names) (i : Tables) (a0 : List Machine) (l : Lots) (sent : List ℕ → Type 0) → WellFormed i → IsStart held names i a0 → IsReported i a0 l sent → Solved held names l sent
 unfolding report_text
-solved held names i a0 l way limits start told =
+solved held names i a0 l sent limits start told =
     let h = told.journal in
     record {
       tables = i;
@@ -99,36 +99,36 @@ solved held names i a0 l way limits start told =
       least = λ a fits feasible. (none_costs_less_pinned i a0 a limits fits feasible).total;
     }
 
--- what a refusal of a run says of the files
-pub says_run : (held : Held) (names : Names) (i : Tables) (a0 : List Machine) (l : Lots) (first now : Faults) (way : List ℕ → Type 0) → IsSome names.initial → WellFormed i → IsStart held names i a0 → (refusal : Refusal) → RunSays i a0 (IsReported i a0 l way) refusal → Says held names first now (Judges held names (Solved held names l way)) refusal
-says_run held names i a0 l first now way has_initial limits start (Broken role.Initial cause) says = record { tables = i; a0 = a0; a = a0; named = has_initial; accepts = start.accepts; broken = says }
-says_run held names i a0 l first now way has_initial limits start Write says = solved held names i a0 l way limits start says
-says_run held names i a0 l first now way has_initial limits start Memory says = tt
-says_run held names i a0 l first now way has_initial limits start refusal says = absurd says
+-- the reason of a refusal of a run, of the files
+pub reason_run : (held : Held) (names : Names) (i : Tables) (a0 : List Machine) (l : Lots) (first now : Faults) (sent : List ℕ → Type 0) → IsSome names.initial → WellFormed i → IsStart held names i a0 → (refusal : Refusal) → RunReason i a0 (IsReported i a0 l sent) refusal → Reason held names first now (Judges held names (Solved held names l sent)) refusal
+reason_run held names i a0 l first now sent has_initial limits start (Broken role.Initial cause) reason = record { tables = i; a0 = a0; a = a0; named = has_initial; accepts = start.accepts; broken = reason }
+reason_run held names i a0 l first now sent has_initial limits start Write reason = solved held names i a0 l sent limits start reason
+reason_run held names i a0 l first now sent has_initial limits start Memory reason = tt
+reason_run held names i a0 l first now sent has_initial limits start refusal reason = absurd reason
 
 -- what was printed of a run, whole or in part, is of files that were accepted, and of a list that is feasible
-pub solved_went : (held : Held) (model : List ℕ) (closed : Option (List ℕ)) (initial : List ℕ) (l : Lots) (way : List ℕ → Type 0) → Solved held (solve_names model closed initial) l way → Went held (solve_names model closed initial)
-solved_went held model closed initial l way p = record { listed = record { tables = p.tables; a0 = p.a0; a = p.a0; accepts = p.accepts }; initial = λ named. p.start; changed = λ named. absurd (cc) }
+pub solved_went : (held : Held) (model : List ℕ) (closed : Option (List ℕ)) (initial : List ℕ) (l : Lots) (sent : List ℕ → Type 0) → Solved held (solve_names model initial closed) l sent → Went held (solve_names model initial closed)
+solved_went held model closed initial l sent p = record { listed = record { tables = p.tables; a0 = p.a0; a = p.a0; accepts = p.accepts }; initial = λ named. p.start; changed = λ named. absurd (cc) }
 
--- what a refusal of some lots says of these
-pub says_these : (held : Held) (names : Names) (l : Lots) (before now : Faults) (way : List ℕ → Type 0) (refusal : Refusal) → Says held names before now (Judges held names (Solved held names l way)) refusal → Says held names before now (Judges held names ((k : Lots) × These l k × Solved held names k way)) refusal
-says_these held names l before now way = says_more held names before now (Judges held names (Solved held names l way)) (Judges held names ((k : Lots) × These l k × Solved held names k way)) (judges_more held names (Solved held names l way) ((k : Lots) × These l k × Solved held names k way) (λ s. (l, refl, s)))
+-- the reason of a refusal of some lots, of these
+pub reason_these : (held : Held) (names : Names) (l : Lots) (before now : Faults) (sent : List ℕ → Type 0) (refusal : Refusal) → Reason held names before now (Judges held names (Solved held names l sent)) refusal → Reason held names before now (Judges held names ((k : Lots) × These l k × Solved held names k sent)) refusal
+reason_these held names l before now sent = reason_more held names before now (Judges held names (Solved held names l sent)) (Judges held names ((k : Lots) × These l k × Solved held names k sent)) (judges_more held names (Solved held names l sent) ((k : Lots) × These l k × Solved held names k sent) (λ s. (l, refl, s)))
 
 -- what the command does
 
-pub solve_so : (model : List ℕ) (closed : Option (List ℕ)) (initial : List ℕ) (are : Lots → Type 0) (files : Reading) (out err : Output) (ended : Result (Unit {0}) Refusal) (status : Status) → Tries (over (solving (solve_names model closed initial) are)) files out ended → Finishes (solve_names model closed initial) ended err status → Does (over (solving (solve_names model closed initial) are)) files out err status
-solve_so model closed initial are files out err ended status tries finishes =
-    let names = solve_names model closed initial in
-    judged_so names (solving names are).prints files out err ended status tries finishes (λ way p. solved_went files.held model closed initial p.0 way p.2) (λ way p. (_, p.2.text))
+pub solve_so : (model : List ℕ) (closed : Option (List ℕ)) (initial : List ℕ) (asked : Lots → Type 0) (files : Reading) (out err : Output) (ended : Result (Unit {0}) Refusal) (status : Status) → Tries (over (solving (solve_names model initial closed) asked)) files out ended → Finishes (solve_names model initial closed) ended err status → Does (over (solving (solve_names model initial closed) asked)) files out err status
+solve_so model closed initial asked files out err ended status tries finishes =
+    let names = solve_names model initial closed in
+    judged_so names (solving names asked).prints files out err ended status tries finishes (λ sent p. solved_went files.held model closed initial p.0 sent p.2) (λ sent p. (_, p.2.text))
 
-pub solve_more : (names : Names) (are more : Lots → Type 0) (files : Reading) (out err : Output) (status : Status) → ((l : Lots) → are l → more l) → Does (over (solving names are)) files out err status → Does (over (solving names more)) files out err status
-solve_more names are more files out err status step does =
-    let c = solving names are in
+pub solve_more : (names : Names) (asked more : Lots → Type 0) (files : Reading) (out err : Output) (status : Status) → ((l : Lots) → asked l → more l) → Does (over (solving names asked)) files out err status → Does (over (solving names more)) files out err status
+solve_more names asked more files out err status step does =
+    let c = solving names asked in
     let d = solving names more in
     does_more names c.prints d.prints c.refuses d.refuses c.own_comes d.own_comes c.valid c.answers files out err status
     (λ p. (p.0, step p.0 p.1, p.2))
     (judges_more files.held names (c.prints files.held (BrokeOff out.sink)) (d.prints files.held (BrokeOff out.sink)) (λ p. (p.0, step p.0 p.1, p.2)))
     (λ own. own) does
 
-pub solve_memory : (names : Names) (are : Lots → Type 0) (files : Reading) (out err : Output) (status : Status) → status ≡ NoMemory → ((names : Names) → Put err.sink (refusal_line names Memory)) → out.same → Leaves files out err → Does (over (solving names are)) files out err status
-solve_memory names are files out err status is line same leaves = judged_memory names (solving names are).prints files out err status is line same leaves
+pub solve_memory : (names : Names) (asked : Lots → Type 0) (files : Reading) (out err : Output) (status : Status) → status ≡ NoMemory → ((names : Names) → Put err.sink (refusal_line names Memory)) → out.same → Leaves files out err → Does (over (solving names asked)) files out err status
+solve_memory names asked files out err status is line same leaves = judged_memory names (solving names asked).prints files out err status is line same leaves

@@ -30,7 +30,7 @@ use Rattle.ra_io.specs.Outside.{Reading, Took}
 use Rattle.ra_jobs.specs.declared.refusals.Refusal.{Refusal}
 use Rattle.ra_jobs.specs.declared.refusals.Refusal.TheVariants.{Write, Memory}
 use Rattle.ra_jobs.specs.Complete.{AreAccepted}
-use Rattle.ra_jobs.specs.Refusals.{Says, Nothing}
+use Rattle.ra_jobs.specs.Refusals.{Reason, Nothing}
 use Rattle.ra_jobs.specs.Statuses.{status_of}
 use Rattle.ra_jobs.specs.declared.status.Status.{Status}
 use Rattle.ra_jobs.specs.declared.status.Status.TheVariants.{Done, WriteFault, NoMemory, Usage}
@@ -43,7 +43,7 @@ use Rattle.ra_jobs.specs.Stages.{IsStart}
 use Rattle.ra_jobs.proofs.CompleteLemmas.{never_rose, own_left}
 use Rattle.ra_run.specs.declared.trial.TrialFault.{TrialFault}
 use Rattle.ra_run.specs.declared.trial.TrialFault.TheVariants as fault
-use Rattle.ra_run.specs.Trials.{HoldsTrial, IsTrialStart, IsTrialLots, IsSummarized, TrialPrinted, TrialSays, no_names, trial_command}
+use Rattle.ra_run.specs.Trials.{HoldsTrial, IsTrialStart, IsTrialLots, IsSummarized, TrialPrinted, TrialReason, no_names, trial_command}
 
 -- what is told is so of what is told
 told : (told : Option (List ℕ)) (bytes : List ℕ) (P : List ℕ → Type 0) → told ≡ Some bytes → IfSome told P → P bytes
@@ -62,7 +62,7 @@ list_read : (number : ℕ) (held : Held) (i : Tables) (a0 : List Machine) → Ho
 list_read number held i a0 holds is list =
     (start_text_is_start (trial_word number) i is a0).0 (told (held (codes "start")) start_text (λ bytes. IsAssignmentOf bytes i a0) holds.start list)
 
-pub start_read : (number : ℕ) (held : Held) (model start : List ℕ) (i : Tables) (a0 : List Machine) → HoldsTrial number held → model ≡ codes "model" → start ≡ codes "start" → IsStart held (solve_names model None start) i a0 → IsTrialStart number i a0
+pub start_read : (number : ℕ) (held : Held) (model start : List ℕ) (i : Tables) (a0 : List Machine) → HoldsTrial number held → model ≡ codes "model" → start ≡ codes "start" → IsStart held (solve_names model start None) i a0 → IsTrialStart number i a0
 start_read number held model start i a0 holds model_is start_is read =
     let instance = subst (λ (name : List ℕ). InstanceIs held name None i) model_is read.accepts.instance in
     let list = subst (λ (name : List ℕ). ListIs held name i a0) start_is read.accepts.initial in
@@ -70,7 +70,7 @@ start_read number held model start i a0 holds model_is start_is read =
     record { trial = is; initial = list_read number held i a0 holds is list }
 
 -- both texts are accepted, and files in memory have no fault: so only memory can be refused
-accepted : (number : ℕ) (held : Held) → HoldsTrial number held → AreAccepted held (solve_names (codes "model") None (codes "start"))
+accepted : (number : ℕ) (held : Held) → HoldsTrial number held → AreAccepted held (solve_names (codes "model") (codes "start") None)
 unfolding model_text
 accepted number held holds = record {
   model = (model_text number, holds.model, text_accepted_whole (trial_word number));
@@ -87,12 +87,12 @@ unfolding status_of
 memory_alone Memory is = refl
 memory_alone refusal is = cc
 
-pub only_memory : (number : ℕ) (held : Held) (model start : List ℕ) (refusal : Refusal) → HoldsTrial number held → model ≡ codes "model" → start ≡ codes "start" → Says held (solve_names model None start) (λ name. 0) (λ name. 0) Nothing refusal → refusal ≡ Memory
-only_memory number held model start refusal holds model_is start_is says =
-    let valid = subst (λ (name : List ℕ). AreAccepted held (solve_names (codes "model") None name)) (sym start_is) (accepted number held holds) in
-    let named = subst (λ (name : List ℕ). AreAccepted held (solve_names name None start)) (sym model_is) valid in
+pub only_memory : (number : ℕ) (held : Held) (model start : List ℕ) (refusal : Refusal) → HoldsTrial number held → model ≡ codes "model" → start ≡ codes "start" → Reason held (solve_names model start None) (λ name. 0) (λ name. 0) Nothing refusal → refusal ≡ Memory
+only_memory number held model start refusal holds model_is start_is reason =
+    let valid = subst (λ (name : List ℕ). AreAccepted held (solve_names (codes "model") name None)) (sym start_is) (accepted number held holds) in
+    let named = subst (λ (name : List ℕ). AreAccepted held (solve_names name start None)) (sym model_is) valid in
     memory_alone refusal (⊎_elim (λ (none : ⊥). absurd none) (λ (memory : status_of refusal ≡ NoMemory). memory)
-    (own_left held (solve_names model None start) (λ name. 0) (λ name. 0) Nothing named (λ f is rose. never_rose rose) refusal says))
+    (own_left held (solve_names model start None) (λ name. 0) (λ name. 0) Nothing named (λ f is rose. never_rose rose) refusal reason))
 
 -- the start fits its instance and breaks nothing
 pub start_fitting : (number : ℕ) (i : Tables) (a0 : List Machine) → IsTrialStart number i a0 → IsAssignment i a0
@@ -127,24 +127,24 @@ unfolding worker_count
 one_worker number l is = ap length is.lots
 
 -- the journal of a run of one lot is that of the worker alone
-pub summarized : (i : Tables) (a0 : List Machine) (l : Lots) (run : Run) (way : List ℕ → Type 0) → IsRun i a0 l run → worker_count l ≡ 1 → way (summary_of run.journal) → IsSummarized i a0 l way
+pub summarized : (i : Tables) (a0 : List Machine) (l : Lots) (run : Run) (sent : List ℕ → Type 0) → IsRun i a0 l run → worker_count l ≡ 1 → sent (summary_of run.journal) → IsSummarized i a0 l sent
 unfolding summary_of
-summarized i a0 l run way is one text =
+summarized i a0 l run sent is one text =
     let alone : run.journal.book.entries.items ≡ solo i a0 l = (one_lot i a0 l one).no_other run.journal.book.entries.items (record { legal = is.legal; whole = is.whole }) in
     rw (is.instance, is.initial, alone) at text
 
-pub trial_printed : (number : ℕ) (i : Tables) (a0 : List Machine) (l : Lots) (way : List ℕ → Type 0) → IsTrialStart number i a0 → IsTrialLots number l → IsSummarized i a0 l way → TrialPrinted number way
-trial_printed number i a0 l way start lots text = record {
+pub trial_printed : (number : ℕ) (i : Tables) (a0 : List Machine) (l : Lots) (sent : List ℕ → Type 0) → IsTrialStart number i a0 → IsTrialLots number l → IsSummarized i a0 l sent → TrialPrinted number sent
+trial_printed number i a0 l sent start lots text = record {
   tables = i;
   lots = l;
   trial = start.trial;
   lots_are = lots;
-  text = subst (λ (a : List Machine). IsSummarized i a l way) start.initial text;
+  text = subst (λ (a : List Machine). IsSummarized i a l sent) start.initial text;
 }
 
-pub trial_says : (number : ℕ) (i : Tables) (a0 : List Machine) (l : Lots) (way : List ℕ → Type 0) → IsTrialStart number i a0 → IsTrialLots number l → (why : TrialFault) → TrialSays (IsSummarized i a0 l way) why → TrialSays (TrialPrinted number way) why
-trial_says number i a0 l way start lots fault.Write says = trial_printed number i a0 l way start lots says
-trial_says number i a0 l way start lots fault.Memory says = tt
+pub trial_reason : (number : ℕ) (i : Tables) (a0 : List Machine) (l : Lots) (sent : List ℕ → Type 0) → IsTrialStart number i a0 → IsTrialLots number l → (why : TrialFault) → TrialReason (IsSummarized i a0 l sent) why → TrialReason (TrialPrinted number sent) why
+trial_reason number i a0 l sent start lots fault.Write reason = trial_printed number i a0 l sent start lots reason
+trial_reason number i a0 l sent start lots fault.Memory reason = tt
 
 pub ok_then : (result : Result (Unit {0}) TrialFault) (known follows : Type 0) → (known → follows) → OnOk result known → OnOk result follows
 ok_then (Ok x) known follows step is = step is
@@ -157,9 +157,9 @@ err_then (Err e) known follows step is = step e is
 -- ---- how it ends
 
 pub trial_done : (number : ℕ) (files : Reading) (out err : Output) (status : Status) → status ≡ Done → TrialPrinted number (Took out.sink) → err.same → Leaves files out err → Does (trial_command number) files out err status
-trial_done number files out err status is printed quiet leaves = record {
+trial_done number files out err status is printed no_line leaves = record {
   printed = λ _. printed;
-  quiet = λ _. quiet;
+  no_line = λ _. no_line;
   refused = λ other. absurd (other is);
   not_usage = λ e. let both : Done ≡ Usage = sym is ∙ e in cc;
   comes = inl is;
@@ -171,11 +171,11 @@ pub trial_broke : (number : ℕ) (files : Reading) (out err : Output) (status : 
 unfolding status_of
 trial_broke number files out err status is broken line leaves = record {
   printed = λ e. absurd (let both : WriteFault ≡ Done = sym is ∙ e in cc);
-  quiet = λ e. absurd (let both : WriteFault ≡ Done = sym is ∙ e in cc);
-  refused = λ _. record { refusal = Write; says = broken; is = is; line = line no_names; untouched = λ first. absurd (let both : true ≡ false = first in cc) };
+  no_line = λ e. absurd (let both : WriteFault ≡ Done = sym is ∙ e in cc);
+  refused = λ _. record { refusal = Write; reason = broken; is = is; line = line no_names; no_output = λ first. absurd (let both : true ≡ false = first in cc) };
   not_usage = λ e. let both : WriteFault ≡ Usage = sym is ∙ e in cc;
   comes = inr (inl is);
-  complete = λ _ whole. absurd (whole broken.text.1);
+  complete = λ _ wrote. absurd (wrote broken.text.1);
   leaves = leaves;
 }
 
@@ -183,8 +183,8 @@ pub trial_memory : (number : ℕ) (files : Reading) (out err : Output) (status :
 unfolding status_of
 trial_memory number files out err status is line same leaves = record {
   printed = λ e. absurd (let both : NoMemory ≡ Done = sym is ∙ e in cc);
-  quiet = λ e. absurd (let both : NoMemory ≡ Done = sym is ∙ e in cc);
-  refused = λ _. record { refusal = Memory; says = tt; is = is; line = line no_names; untouched = λ _. same };
+  no_line = λ e. absurd (let both : NoMemory ≡ Done = sym is ∙ e in cc);
+  refused = λ _. record { refusal = Memory; reason = tt; is = is; line = line no_names; no_output = λ _. same };
   not_usage = λ e. let both : NoMemory ≡ Usage = sym is ∙ e in cc;
   comes = inr (inr is);
   complete = λ _ _. inr is;

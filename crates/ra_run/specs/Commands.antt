@@ -26,20 +26,20 @@ pub record AreLots (slack : ℕ) (drawing : Drawing) (lots : List LotSays) (l : 
   pub lots_are : map said_lot l.lots.items ≡ lots
 
 abbrev pub command_of : JobSays → Command
-command_of (Checks model initial changed closed) = check_command model closed initial changed
-command_of (Bounds model initial closed) = bound_command model closed initial
+command_of (Checks model initial changed closed) = check_command model initial changed closed
+command_of (Bounds model initial closed) = bound_command model initial closed
 command_of (Solves model initial closed slack drawing lots) =
-    solve_command model closed initial (AreLots slack drawing lots)
+    solve_command model initial closed (AreLots slack drawing lots)
 command_of (Trials number) = trial_command number
 command_of (Verifies model initial report closed slack drawing lots) =
-    verify_command model closed initial report (AreLots slack drawing lots)
+    verify_command model initial report closed (AreLots slack drawing lots)
 command_of (Repairs model initial closed slack drawing lots) =
-    repair_command model closed initial (AreLots slack drawing lots)
+    repair_command model initial closed (AreLots slack drawing lots)
 command_of (Edits model initial current edits closed) =
-    edit_command model closed initial current edits
+    edit_command model initial current edits closed
 
 -- the status of words that are no job comes for these and for no others, with the usage line and no output
 pub record UsageComes (job : Option JobSays) (out err : Output) (status : Status) : Type 0 where
   pub exactly : (status ≡ Usage) ↔ (job ≡ None)
   pub line : status ≡ Usage → Put err.sink (joined (usage_line ∷ line_end ∷ []))
-  pub quiet : status ≡ Usage → out.same
+  pub no_output : status ≡ Usage → out.same

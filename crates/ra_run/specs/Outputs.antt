@@ -1,4 +1,4 @@
--- `solve`. A way says where a text went: to the output, whole or in part.
+-- `solve`. `sent` is how far a text came: the output took it whole, or broke off behind a front of it.
 use Rattle.std.specs.Prelude.{◌≡◌, ℕ, ◌<◌, ◌≤◌, List, length, Option}
 use Rattle.ra_base.specs.declared.ids.Machine.{Machine}
 use Rattle.ra_model.specs.declared.raw.Tables.{Tables}
@@ -27,7 +27,7 @@ pub record IsFirstLeast (i : Tables) (a0 : List Machine) (h : List Entry) (j : �
 -- once; every state in it meets all constraints, and its kept cost is the challenge's objective computed afresh; the
 -- printed assignment is the first of least cost among those states, its parts are exact, and no feasible assignment
 -- costs less than the printed bound
-pub record Solved (held : Held) (names : Names) (l : Lots) (way : List ℕ → Type 0) : Type 0 where
+pub record Solved (held : Held) (names : Names) (l : Lots) (sent : List ℕ → Type 0) : Type 0 where
   pub tables : Tables
   pub a0 : List Machine
   pub journal : List Entry
@@ -35,9 +35,9 @@ pub record Solved (held : Held) (names : Names) (l : Lots) (way : List ℕ → T
   -- the files mean an instance and an initial assignment, which is feasible
   pub accepts : Accepts held names tables a0 a0
   pub start : Feasible tables a0 a0
-  -- these bytes went this way: they are the report of the journal, which is the only one that they tell, and it is legal
+  -- these bytes were sent: they are the report of the journal, which is the only one that they tell, and it is legal
   -- and whole
-  pub text : way bytes
+  pub text : sent bytes
   pub report : bytes ≡ report_text tables a0 l journal
   pub told : IsJournalOf bytes journal
   pub only : (other : List Entry) → IsJournalOf bytes other → other ≡ journal
@@ -58,9 +58,9 @@ pub record Solved (held : Held) (names : Names) (l : Lots) (way : List ℕ → T
   pub least : (a : List Machine) → IsAssignment tables a → Feasible tables a0 a
       → (pinned_bound_of tables a0).total ≤ objective tables a0 a
 
--- of such lots
+-- of the lots that were asked for
 abbrev pub solving : Names → (Lots → Type 0) → OverFiles
-solving names are = judged names (λ held way. (l : Lots) × are l × Solved held names l way)
+solving names asked = judged names (λ held sent. (l : Lots) × asked l × Solved held names l sent)
 
-abbrev pub solve_command : List ℕ → Option (List ℕ) → List ℕ → (Lots → Type 0) → Command
-solve_command model closed initial are = over (solving (solve_names model closed initial) are)
+abbrev pub solve_command : List ℕ → List ℕ → Option (List ℕ) → (Lots → Type 0) → Command
+solve_command model initial closed asked = over (solving (solve_names model initial closed) asked)

@@ -12,18 +12,18 @@ use Rattle.ra_jobs.specs.declared.refusals.Refusal.{Refusal}
 use Rattle.ra_jobs.specs.declared.refusals.Refusal.TheVariants.{Broken, Write, Memory}
 use Rattle.ra_jobs.specs.declared.refusals.Role.TheVariants as role
 
--- the initial list is feasible, and the report of a legal whole journal from it went this way
-pub record IsReported (i : Tables) (a0 : List Machine) (l : Lots) (way : List ℕ → Type 0) : Type 0
+-- the initial list is feasible, and the report of a legal whole journal from it was sent
+pub record IsReported (i : Tables) (a0 : List Machine) (l : Lots) (sent : List ℕ → Type 0) : Type 0
   where
     pub start : Feasible i a0 a0
     pub journal : List Entry
     pub legal : Legal i a0 l journal
     pub whole : Whole l journal
-    pub text : way (report_text i a0 l journal)
+    pub text : sent (report_text i a0 l journal)
 
--- what a refusal of a run says, where a part of its report was written
-abbrev pub RunSays : Tables → List Machine → Type 0 → Refusal → Type 0
-RunSays i a0 written (Broken role.Initial cause) = first_broken i a0 a0 ≡ Some cause
-RunSays i a0 written Write = written
-RunSays i a0 written Memory = Unit {0}
-RunSays i a0 written refusal = ⊥
+-- why a run is refused; `written` is so if writing its report failed
+abbrev pub RunReason : Tables → List Machine → Type 0 → Refusal → Type 0
+RunReason i a0 written (Broken role.Initial cause) = first_broken i a0 a0 ≡ Some cause
+RunReason i a0 written Write = written
+RunReason i a0 written Memory = Unit {0}
+RunReason i a0 written refusal = ⊥

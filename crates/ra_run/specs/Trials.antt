@@ -39,30 +39,30 @@ pub record IsTrialLots (number : ℕ) (l : Lots) : Type 0 where
   pub drawing : l.drawing ≡ Two
   pub lots : l.lots.items ≡ record { source = Seed number; budget = 2000 } ∷ []
 
--- the summary of the run of one worker alone went this way
+-- the summary of the run of one worker alone was sent
 abbrev pub IsSummarized : Tables → List Machine → Lots → (List ℕ → Type 0) → Type 0
-IsSummarized i a0 l way = way (summary_text i a0 (solo i a0 l))
+IsSummarized i a0 l sent = sent (summary_text i a0 (solo i a0 l))
 
--- `trial`: so did that of the trial of a number, from its instance, its start and its lot. Which instance and which lots
+-- `trial`: so was that of the trial of a number, from its instance, its start and its lot. Which instance and which lots
 -- of the number these are is no matter: they differ in rooms alone, and the text rests on the number (`ra_laws`,
 -- `trials_have_one_text`)
-pub record TrialPrinted (number : ℕ) (way : List ℕ → Type 0) : Type 0 where
+pub record TrialPrinted (number : ℕ) (sent : List ℕ → Type 0) : Type 0 where
   pub tables : Tables
   pub lots : Lots
   pub trial : IsTrial (trial_word number) tables
   pub lots_are : IsTrialLots number lots
-  pub text : IsSummarized tables start_list lots way
+  pub text : IsSummarized tables start_list lots sent
 
--- what a refusal of a trial says, where a part of its summary was written
-abbrev pub TrialSays : Type 0 → TrialFault → Type 0
-TrialSays written Write = written
-TrialSays written Memory = Unit {0}
+-- why a trial is refused; `written` is so if writing its summary failed
+abbrev pub TrialReason : Type 0 → TrialFault → Type 0
+TrialReason written Write = written
+TrialReason written Memory = Unit {0}
 
--- what its refusals say: writing failed behind a part of the summary, or memory was refused. There is no other one
+-- the reasons of its refusals: the output broke off behind a front of the summary, or memory was refused. There is no other
 abbrev pub TrialRefused : ℕ → (List ℕ → Type 0) → Refusal → Type 0
-TrialRefused number part refusal.Write = TrialPrinted number part
-TrialRefused number part refusal.Memory = Unit {0}
-TrialRefused number part why = ⊥
+TrialRefused number broke_off refusal.Write = TrialPrinted number broke_off
+TrialRefused number broke_off refusal.Memory = Unit {0}
+TrialRefused number broke_off why = ⊥
 
 -- the names of no files
 abbrev pub no_names : Names
@@ -78,8 +78,8 @@ no_names = record {
 abbrev pub trial_command : ℕ → Command
 trial_command number = record {
   names = no_names;
-  prints = λ held way. TrialPrinted number way;
-  refuses = λ files whole part. TrialRefused number part;
+  prints = λ held sent. TrialPrinted number sent;
+  refuses = λ files took broke_off. TrialRefused number broke_off;
   comes = λ files out status. (status ≡ Done) ⊎ ((status ≡ WriteFault) ⊎ (status ≡ NoMemory));
   valid = λ files. Unit {0};
   answers = λ status. (status ≡ Done) ⊎ (status ≡ NoMemory);

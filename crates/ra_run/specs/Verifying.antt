@@ -1,4 +1,4 @@
--- `verify`: the report of a run is accepted, or its first wrong line is told.
+-- `verify`: the report of a run is accepted, or its wrong line is told.
 use Rattle.std.specs.Prelude.{◌≡◌, ◌⊎◌, ℕ, List, length, Option, Some, None, IfSome}
 use Rattle.ra_base.specs.declared.ids.Machine.{Machine}
 use Rattle.ra_draws.specs.declared.budgets.Lots.{Lots}
@@ -7,7 +7,7 @@ use Rattle.ra_model.specs.declared.raw.Tables.{Tables}
 use Rattle.ra_model.specs.Broken.{first_broken}
 use Rattle.ra_model.specs.Feasible.{Feasible}
 use Rattle.ra_report.specs.JournalTexts.{accepted_line}
-use Rattle.ra_verify.specs.WrongLines.{IsFirstWrong, IsReport}
+use Rattle.ra_verify.specs.WrongLines.{IsWrongLine, IsReport}
 use Rattle.ra_verify.specs.declared.faults.VerifyFault.{VerifyFault}
 use Rattle.ra_verify.specs.declared.faults.VerifyFault.TheVariants as fault
 use Rattle.ra_jobs.specs.declared.refusals.File.TheVariants as file
@@ -28,7 +28,7 @@ pub record IsSolved (held : Held) (names : Names) (l : Lots) (entries : ℕ) (by
   where
     pub solved : Solved held names l (λ text. text ≡ bytes)
     pub number : length solved.journal ≡ entries
-    pub none_wrong : IsFirstWrong solved.tables solved.a0 l bytes None
+    pub none_wrong : IsWrongLine solved.tables solved.a0 l bytes None
 
 -- the other files pass, and the told bytes of the report are one of `solve`
 pub record IsRead (held : Held) (names : Names) (l : Lots) (entries : ℕ) : Type 0 where
@@ -37,19 +37,19 @@ pub record IsRead (held : Held) (names : Names) (l : Lots) (entries : ℕ) : Typ
   pub passes : Passes held names tables a0 a0
   pub report : IfSome (held (name_of names file.Report)) (IsSolved held names l entries)
 
--- it is accepted: the line with the number of its entries went this way
-pub record Verified (held : Held) (names : Names) (l : Lots) (way : List ℕ → Type 0) : Type 0 where
+-- it is accepted: the line with the number of its entries was sent
+pub record Verified (held : Held) (names : Names) (l : Lots) (sent : List ℕ → Type 0) : Type 0 where
   pub entries : ℕ
   pub read : IsRead held names l entries
-  pub text : way (accepted_line entries)
+  pub text : sent (accepted_line entries)
 
--- these bytes have this line as their first wrong one, so that they are no report of a legal whole journal
+-- this is the wrong line of these bytes, so that they are no report of a legal whole journal
 pub record IsWrongAt (i : Tables) (a0 : List Machine) (l : Lots) (line : ℕ) (bytes : List ℕ) : Type
     0 where
-  pub first : IsFirstWrong i a0 l bytes (Some line)
+  pub first : IsWrongLine i a0 l bytes (Some line)
   pub no_report : (n : ℕ) → IsReport i a0 l bytes n → ⊥
 
--- the other files pass, and this line of the told report is its first wrong one
+-- the other files pass, and this is the wrong line of the told report
 pub record ReportWrong (held : Held) (names : Names) (l : Lots) (line : ℕ) : Type 0 where
   pub tables : Tables
   pub a0 : List Machine
@@ -63,48 +63,48 @@ VerifyOwn held names l written (WrongLine line) = ReportWrong held names l line
 VerifyOwn held names l written Write = written
 VerifyOwn held names l written refusal = ⊥
 
--- this line of the told report is its first wrong one
+-- this is the wrong line of the told report
 abbrev pub IsWrongReport : Held → Names → Tables → List Machine → Lots → ℕ → Type 0
 IsWrongReport held names i a0 l line =
-    IfSome (held (name_of names file.Report)) (λ bytes. IsFirstWrong i a0 l bytes (Some line))
+    IfSome (held (name_of names file.Report)) (λ bytes. IsWrongLine i a0 l bytes (Some line))
 
 -- it is the report of a legal whole journal
 abbrev pub IsRightReport : Held → Names → Tables → List Machine → Lots → Type 0
 IsRightReport held names i a0 l =
     IfSome (held (name_of names file.Report)) (λ bytes. (n : ℕ) × IsReport i a0 l bytes n)
 
--- of a job with such lots: the status tells a wrong report, and over known files that pass a wrong report is told, and one
+-- of the lots that were asked for: the status tells a wrong report, and over known files that pass a wrong report is told, and one
 -- that is right is accepted. Any instance that the other files mean will do: by `told_files_mean_one` and
--- `alike_run_alike` of `ra_laws` a report is wrong for one of them exactly where it is for each
-pub record VerdictComes (held : Held) (names : Names) (are : Lots → Type 0) (before now : Faults)
+-- `alike_run_alike` of `ra_laws` a report is wrong for one of them exactly if it is for each
+pub record VerdictComes (held : Held) (names : Names) (asked : Lots → Type 0) (before now : Faults)
     (status : Status) : Type 0 where
-  pub wrong : status ≡ Wrong → (l : Lots) × are l × ((line : ℕ) × ReportWrong held names l line)
+  pub wrong : status ≡ Wrong → (l : Lots) × asked l × ((line : ℕ) × ReportWrong held names l line)
   pub is_wrong : (i : Tables) (a0 : List Machine) → Passes held names i a0 a0
       → KnownTo held names before now file.Report → (line : ℕ)
-      → ((l : Lots) → are l → IsWrongReport held names i a0 l line)
+      → ((l : Lots) → asked l → IsWrongReport held names i a0 l line)
       → (status ≡ Wrong) ⊎ (status ≡ NoMemory)
   pub is_right : (i : Tables) (a0 : List Machine) → Passes held names i a0 a0
       → KnownTo held names before now file.Report
-      → ((l : Lots) → are l → IsRightReport held names i a0 l)
+      → ((l : Lots) → asked l → IsRightReport held names i a0 l)
       → (status ≡ Done) ⊎ ((status ≡ WriteFault) ⊎ (status ≡ NoMemory))
 
--- of such lots: over valid files a verdict is told
+-- of the lots that were asked for: over valid files the report is accepted, or its wrong line told, or memory was refused
 abbrev pub verifying : Names → (Lots → Type 0) → OverFiles
-verifying names are = record {
+verifying names asked = record {
   names = names;
-  prints = λ held way. (l : Lots) × are l × Verified held names l way;
-  refuses = λ held whole part refusal.
-      (l : Lots) × are l × VerifyOwn held names l (Verified held names l part) refusal;
+  prints = λ held sent. (l : Lots) × asked l × Verified held names l sent;
+  refuses = λ held took broke_off refusal.
+      (l : Lots) × asked l × VerifyOwn held names l (Verified held names l broke_off) refusal;
   own_comes = λ files status.
       InfeasibleComes files.held names files.before files.after status
-      × VerdictComes files.held names are files.before files.after status;
+      × VerdictComes files.held names asked files.before files.after status;
   valid = λ held. AreValid held names;
   answers = λ status. (status ≡ Done) ⊎ ((status ≡ Wrong) ⊎ (status ≡ NoMemory));
 }
 
-abbrev pub verify_command : List ℕ → Option (List ℕ) → List ℕ → List ℕ → (Lots → Type 0) → Command
-verify_command model closed initial report are =
-    over (verifying (verify_names model closed initial report) are)
+abbrev pub verify_command : List ℕ → List ℕ → List ℕ → Option (List ℕ) → (Lots → Type 0) → Command
+verify_command model initial report closed asked =
+    over (verifying (verify_names model initial report closed) asked)
 
 -- ---- the stages
 
@@ -112,7 +112,7 @@ verify_command model closed initial report are =
 pub record IsRightAt (i : Tables) (a0 : List Machine) (l : Lots) (entries : ℕ) (bytes : List ℕ) :
     Type 0 where
   pub report : IsReport i a0 l bytes entries
-  pub none_wrong : IsFirstWrong i a0 l bytes None
+  pub none_wrong : IsWrongLine i a0 l bytes None
 
 -- the initial list is feasible, and the told report is that of a legal whole journal of so many entries
 pub record IsCounted (held : Held) (name : List ℕ) (i : Tables) (a0 : List Machine) (l : Lots)
@@ -120,16 +120,16 @@ pub record IsCounted (held : Held) (name : List ℕ) (i : Tables) (a0 : List Mac
   pub start : Feasible i a0 a0
   pub report : IfSome (held name) (IsRightAt i a0 l entries)
 
--- what a refusal of the report says
-abbrev pub CountSays : Held → List ℕ → Tables → List Machine → Lots → Faults → Faults → Refusal
+-- why the report is refused
+abbrev pub CountReason : Held → List ℕ → Tables → List Machine → Lots → Faults → Faults → Refusal
     → Type 0
-CountSays held name i a0 l before now (Broken role.Initial cause) = first_broken i a0 a0 ≡ Some cause
-CountSays held name i a0 l before now (Read file.Report) =
+CountReason held name i a0 l before now (Broken role.Initial cause) = first_broken i a0 a0 ≡ Some cause
+CountReason held name i a0 l before now (Read file.Report) =
     Feasible i a0 a0 × Rose (before name) (now name)
-CountSays held name i a0 l before now (WrongLine line) =
+CountReason held name i a0 l before now (WrongLine line) =
     Feasible i a0 a0 × IfSome (held name) (IsWrongAt i a0 l line)
-CountSays held name i a0 l before now Memory = Unit {0}
-CountSays held name i a0 l before now refusal = ⊥
+CountReason held name i a0 l before now Memory = Unit {0}
+CountReason held name i a0 l before now refusal = ⊥
 
 -- the refusal of a job whose report was not accepted
 abbrev pub refused_by : VerifyFault → Refusal

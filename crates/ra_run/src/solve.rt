@@ -12,7 +12,7 @@ ghost use Rattle.ra_jobs.specs.Commands.{These};
 ghost use Rattle.ra_jobs.specs.Ends.{Does, Tries};
 ghost use Rattle.ra_jobs.specs.Output.{output, BrokeOff};
 ghost use Rattle.ra_run.specs.Outputs.{solve_command};
-ghost use Rattle.ra_run.specs.Solving.{IsReported, RunSays};
+ghost use Rattle.ra_run.specs.Solving.{IsReported, RunReason};
 
 use ra_base::{Assignment, Name, Parts};
 use ra_bounds::Bound;
@@ -44,8 +44,8 @@ pub fn solve_run<'n, R: Threads + Wait + Sync, F: Files, O: Sink, E: Sink, G: Ga
     err: &mut E,
     gate: &G,
 ) -> Status
-    ensures { Does (solve_command model.now
-        (option_copied closed.entry) initial.now (These lots.now))
+    ensures { Does (solve_command model.now initial.now
+        (option_copied closed.entry) (These lots.now))
         (reading F.Files files.old files.new) (output O.Sink out.old out.new)
         (output E.Sink err.old err.new) result }
 {
@@ -73,8 +73,8 @@ fn solve<R: Threads + Wait + Sync, F: Files, O: Sink, G: Gate>(
     out: &mut O,
     gate: &G,
 ) -> Result<(), Refusal>
-    ensures { Tries (solve_command model.now
-        (option_copied closed.entry) initial.now (These lots.now))
+    ensures { Tries (solve_command model.now initial.now
+        (option_copied closed.entry) (These lots.now))
         (reading F.Files files.old files.new) (output O.Sink out.old out.new) result }
 {
     let start = read_start(alloc, model, initial, closed, files)?;
@@ -83,7 +83,7 @@ fn solve<R: Threads + Wait + Sync, F: Files, O: Sink, G: Gate>(
     ended
 }
 
-/// The run and its report, where the initial list is feasible.
+/// The run and its report, if the initial list is feasible.
 fn run_from<R: Threads + Wait + Sync, O: Sink, G: Gate>(
     rt: &R,
     alloc: Global,
@@ -96,10 +96,10 @@ fn run_from<R: Threads + Wait + Sync, O: Sink, G: Gate>(
     requires fits { IsAssignment inst.now.tables initial.now.items }
     ensures printed { OnOk result (IsReported inst.now.tables initial.now.items lots.now
         (Took (writing O.Sink out.old out.new))) }
-    ensures refused { IfErr result (RunSays inst.now.tables initial.now.items
+    ensures refused { IfErr result (RunReason inst.now.tables initial.now.items
         (IsReported inst.now.tables initial.now.items lots.now
         (BrokeOff (writing O.Sink out.old out.new)))) }
-    ensures untouched { IfErr result (λ refusal. refusal ≢ Refusal.Write → out.new ≡ out.old) }
+    ensures no_output { IfErr result (λ refusal. refusal ≢ Refusal.Write → out.new ≡ out.old) }
     ensures out_never_falls { O.faults out.old ≤ O.faults out.new }
 {
     let mut scratch = judge_start(alloc, inst, initial)?;
@@ -133,10 +133,10 @@ fn run_over<R: Threads + Wait + Sync, O: Sink, G: Gate>(
     requires parts { start ≡ parts_of inst.now.tables initial.now.items initial.now.items }
     ensures printed { OnOk result (IsReported inst.now.tables initial.now.items lots.now
         (Took (writing O.Sink out.old out.new))) }
-    ensures refused { IfErr result (RunSays inst.now.tables initial.now.items
+    ensures refused { IfErr result (RunReason inst.now.tables initial.now.items
         (IsReported inst.now.tables initial.now.items lots.now
         (BrokeOff (writing O.Sink out.old out.new)))) }
-    ensures untouched { IfErr result (λ refusal. refusal ≢ Refusal.Write → out.new ≡ out.old) }
+    ensures no_output { IfErr result (λ refusal. refusal ≢ Refusal.Write → out.new ≡ out.old) }
     ensures out_never_falls { O.faults out.old ≤ O.faults out.new }
 {
     let Ok(bound) = bound_from(alloc, inst, initial) else {

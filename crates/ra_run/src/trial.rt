@@ -13,7 +13,7 @@ ghost use Rattle.ra_jobs.specs.Ends.{Does};
 ghost use Rattle.ra_jobs.specs.Files.{Names};
 ghost use Rattle.ra_jobs.specs.Lines.{refusal_line};
 ghost use Rattle.ra_jobs.specs.Output.{output, BrokeOff, Put};
-ghost use Rattle.ra_run.specs.Trials.{HoldsTexts, HoldsTrial, IsTrialStart, IsTrialLots, IsSummarized, TrialPrinted, TrialSays, trial_command};
+ghost use Rattle.ra_run.specs.Trials.{HoldsTexts, HoldsTrial, IsTrialStart, IsTrialLots, IsSummarized, TrialPrinted, TrialReason, trial_command};
 
 use ra_base::{Assignment, Drawing, Name, NoMemory, Parts};
 use ra_bounds::Bound;
@@ -93,9 +93,9 @@ fn trial<R: Threads + Wait + Sync, O: Sink, G: Gate>(
 ) -> Result<(), TrialFault>
     ensures printed { OnOk result (TrialPrinted number
         (Took (writing O.Sink out.old out.new))) }
-    ensures refused { IfErr result (TrialSays (TrialPrinted number
+    ensures refused { IfErr result (TrialReason (TrialPrinted number
         (BrokeOff (writing O.Sink out.old out.new)))) }
-    ensures untouched { IfErr result (λ fault. fault ≢ TrialFault.Write → out.new ≡ out.old) }
+    ensures no_output { IfErr result (λ fault. fault ≢ TrialFault.Write → out.new ≡ out.old) }
     ensures never_falls { O.faults out.old ≤ O.faults out.new }
 {
     let lots = trial_lots(alloc, number)?;
@@ -169,10 +169,10 @@ fn trial_from<R: Threads + Wait + Sync, O: Sink, G: Gate>(
     requires one { worker_count lots.now ≡ 1 }
     ensures printed { OnOk result (IsSummarized inst.now.tables initial.now.items lots.now
         (Took (writing O.Sink out.old out.new))) }
-    ensures refused { IfErr result (TrialSays (IsSummarized inst.now.tables initial.now.items
+    ensures refused { IfErr result (TrialReason (IsSummarized inst.now.tables initial.now.items
         lots.now
         (BrokeOff (writing O.Sink out.old out.new)))) }
-    ensures untouched { IfErr result (λ fault. fault ≢ TrialFault.Write → out.new ≡ out.old) }
+    ensures no_output { IfErr result (λ fault. fault ≢ TrialFault.Write → out.new ≡ out.old) }
     ensures never_falls { O.faults out.old ≤ O.faults out.new }
 {
     let mut scratch = Scratch::make(alloc, inst)?;
@@ -211,10 +211,10 @@ fn trial_over<R: Threads + Wait + Sync, O: Sink, G: Gate>(
     requires made { IsMadeFor scratch.old inst.now.tables }
     ensures printed { OnOk result (IsSummarized inst.now.tables initial.now.items lots.now
         (Took (writing O.Sink out.old out.new))) }
-    ensures refused { IfErr result (TrialSays (IsSummarized inst.now.tables initial.now.items
+    ensures refused { IfErr result (TrialReason (IsSummarized inst.now.tables initial.now.items
         lots.now
         (BrokeOff (writing O.Sink out.old out.new)))) }
-    ensures untouched { IfErr result (λ fault. fault ≢ TrialFault.Write → out.new ≡ out.old) }
+    ensures no_output { IfErr result (λ fault. fault ≢ TrialFault.Write → out.new ≡ out.old) }
     ensures never_falls { O.faults out.old ≤ O.faults out.new }
 {
     let bound = bound_from(alloc, inst, initial)?;

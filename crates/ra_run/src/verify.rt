@@ -6,8 +6,8 @@ ghost use Rattle.ra_jobs.specs.Commands.{These};
 ghost use Rattle.ra_jobs.specs.Ends.{Does, Tries};
 ghost use Rattle.ra_jobs.specs.Files.{verify_names};
 ghost use Rattle.ra_jobs.specs.Output.{output};
-ghost use Rattle.ra_jobs.specs.Refusals.{Says};
-ghost use Rattle.ra_run.specs.Verifying.{CountSays, IsCounted, IsRead, VerifyOwn, refused_by, verify_command};
+ghost use Rattle.ra_jobs.specs.Refusals.{Reason};
+ghost use Rattle.ra_run.specs.Verifying.{CountReason, IsCounted, IsRead, VerifyOwn, refused_by, verify_command};
 
 use ra_base::{Assignment, Name};
 use ra_check::{Scratch, parts};
@@ -21,7 +21,7 @@ use ra_verify::{VerifyFault, verify};
 use std::alloc::Global;
 
 /// Checks the report of a run of the lots from the list `initial` of a model: prints how many entries its journal has, or
-/// puts one line that says why not, as which line is wrong first. It returns, and waits for nobody.
+/// puts one line that says why not, as which line is wrong. It returns, and waits for nobody.
 pub fn verify_run<'n, F: Files, O: Sink, E: Sink>(
     alloc: Global,
     model: &'n Name,
@@ -33,8 +33,8 @@ pub fn verify_run<'n, F: Files, O: Sink, E: Sink>(
     out: &mut O,
     err: &mut E,
 ) -> Status
-    ensures { Does (verify_command model.now
-        (option_copied closed.entry) initial.now report.now (These lots.now))
+    ensures { Does (verify_command model.now initial.now report.now
+        (option_copied closed.entry) (These lots.now))
         (reading F.Files files.old files.new) (output O.Sink out.old out.new)
         (output E.Sink err.old err.new) result }
 {
@@ -61,8 +61,8 @@ fn accept<F: Files, O: Sink>(
     files: &mut F,
     out: &mut O,
 ) -> Result<(), Refusal>
-    ensures { Tries (verify_command model.now
-        (option_copied closed.entry) initial.now report.now (These lots.now))
+    ensures { Tries (verify_command model.now initial.now report.now
+        (option_copied closed.entry) (These lots.now))
         (reading F.Files files.old files.new) (output O.Sink out.old out.new) result }
 {
     let entries = read_report(alloc, model, initial, report, closed, lots, files)?;
@@ -72,7 +72,7 @@ fn accept<F: Files, O: Sink>(
     }
 }
 
-/// How many entries the report has, where all files pass and none of its lines is wrong.
+/// How many entries the report has, if all files pass and none of its lines is wrong.
 fn read_report<F: Files>(
     alloc: Global,
     model: &Name,
@@ -83,12 +83,12 @@ fn read_report<F: Files>(
     files: &mut F,
 ) -> Result<u64, Refusal>
     ensures read { IfOk result (IsRead (F.held files.old)
-        (verify_names model.now (option_copied closed.entry) initial.now report.now) lots.now) }
-    ensures refused { IfErr result (Says (F.held files.old)
-        (verify_names model.now (option_copied closed.entry) initial.now report.now)
+        (verify_names model.now initial.now report.now (option_copied closed.entry)) lots.now) }
+    ensures refused { IfErr result (Reason (F.held files.old)
+        (verify_names model.now initial.now report.now (option_copied closed.entry))
         (F.faults files.old) (F.faults files.new)
         (VerifyOwn (F.held files.old)
-        (verify_names model.now (option_copied closed.entry) initial.now report.now) lots.now ⊥)) }
+        (verify_names model.now initial.now report.now (option_copied closed.entry)) lots.now ⊥)) }
     ensures kept { (other : List ℕ) → F.held files.new other ≡ F.held files.old other }
     ensures never_fall { (other : List ℕ) → F.faults files.old other ≤ F.faults files.new other }
 {
@@ -110,7 +110,7 @@ fn count_entries<F: Files>(
     requires fits { IsAssignment inst.now.tables initial.now.items }
     ensures counted { IfOk result (IsCounted (F.held files.old)
         report.now inst.now.tables initial.now.items lots.now) }
-    ensures refused { IfErr result (CountSays (F.held files.old)
+    ensures refused { IfErr result (CountReason (F.held files.old)
         report.now inst.now.tables initial.now.items lots.now (F.faults files.old)
         (F.faults files.new)) }
     ensures kept { (other : List ℕ) → F.held files.new other ≡ F.held files.old other }

@@ -1,4 +1,4 @@
--- Bytes have one first wrong line, or none.
+-- Bytes have one wrong line, or none.
 use Rattle.std.proofs.Common.{◌≡◌, ◌≢◌, ℕ, ◌+◌, ◌<◌, ◌≤◌, ◌⊎◌, inl, inr, List, [], ◌∷◌, ◌++◌, length, Option, Some, None, unwrap_or, refl, sym, ap, ◌∙◌, subst, arith}
 use Rattle.std.proofs.lemmas.List.{ext_get_or}
 use Rattle.std.proofs.lemmas.Option.{slice_get_past}
@@ -13,8 +13,8 @@ use Rattle.ra_journal.proofs.NextLemmas.{carried, next_legal}
 use Rattle.ra_journal.proofs.Places.{SameBelow}
 use Rattle.ra_report.specs.JournalTexts.{entry_line, report_text}
 use Rattle.ra_report.proofs.EntryTexts.{entry_then}
-use Rattle.ra_verify.specs.WrongLines.{first_over_long, AreRight, AreAllRight, IsWrongEntry, IsCutOff, IsWrongHead, NoneIsWrong, IsFirstWrong}
-use Rattle.ra_verify.specs.Laws.{OneFirstWrong}
+use Rattle.ra_verify.specs.WrongLines.{first_over_long, AreRight, AreAllRight, IsWrongEntry, IsCutOff, IsWrongHead, NoneIsWrong, IsWrongLine}
+use Rattle.ra_verify.specs.Laws.{OneWrongLine}
 use Rattle.ra_verify.proofs.PlaceLemmas.{is_some}
 
 same_some : (x y : List ℕ) → Some x ≡ Some y → x ≡ y
@@ -45,7 +45,7 @@ same_journal i a0 l bytes h g one other =
     let long : length h ≡ length g = omega arith in
     ext_get_or _ h g long (λ j within. both_same i a0 l bytes h g j one.right other.right within (omega (arith, within, long)))
 
--- so do all of them, where they are right
+-- so do all of them, if they are right
 all_stop : (i : Tables) (a0 : List Machine) (l : Lots) (bytes : List ℕ) (h : List Entry) → AreAllRight i a0 l bytes h → Stops i a0 l bytes h
 unfolding line_at
 all_stop i a0 l bytes h all = record {
@@ -53,7 +53,7 @@ all_stop i a0 l bytes h all = record {
   stop = λ e legal there. is_some (line_at (10 + length h) bytes) (entry_line (length h) e) there (slice_get_past (lines_of bytes) (10 + length h) all.all);
 }
 
--- what is wrong first behind the right entry lines of journal h
+-- what is wrong behind the right entry lines of journal h
 record EntryFirst (bytes : List ℕ) (h : List Entry) (answer : Option ℕ) : Type 0 where
   pub there : 10 + length h < length (lines_of bytes)
   pub is : answer ≡ Some (11 + length h)
@@ -104,7 +104,7 @@ same_end i a0 l bytes h one other (inr (inr (inr e))) (inr (inl f)) = absurd (f.
 same_end i a0 l bytes h one other (inr (inr (inr e))) (inr (inr (inl f))) = absurd (f.unlike.here (e.head f.place f.within))
 same_end i a0 l bytes h one other (inr (inr (inr e))) (inr (inr (inr f))) = e.is ∙ sym f.is
 
--- an answer where no line of the first ten is over long
+-- an answer if no line of the first ten is over long
 record HasEnded (i : Tables) (a0 : List Machine) (l : Lots) (bytes : List ℕ) (answer : Option ℕ) : Type 0 where
   pub short : first_over_long bytes ≡ None
   pub journal : List Entry
@@ -151,7 +151,7 @@ none_ended i a0 l bytes is = record {
   ended = inr (inr (inr (record { all = is.right.all; whole = is.whole; head = is.head; is = refl })));
 }
 
-answered : (i : Tables) (a0 : List Machine) (l : Lots) (bytes : List ℕ) (answer : Option ℕ) → IsFirstWrong i a0 l bytes answer → Answered i a0 l bytes answer
+answered : (i : Tables) (a0 : List Machine) (l : Lots) (bytes : List ℕ) (answer : Option ℕ) → IsWrongLine i a0 l bytes answer → Answered i a0 l bytes answer
 answered i a0 l bytes (Some n) (inl long) = inl (record { number = n; long = long; is = refl })
 answered i a0 l bytes (Some n) (inr (inl is)) = inr (entry_ended i a0 l bytes n is)
 answered i a0 l bytes (Some n) (inr (inr (inl is))) = inr (cut_ended i a0 l bytes n is)
@@ -166,5 +166,5 @@ one_answer i a0 l bytes one other (inr e) (inr f) =
     let same = same_journal i a0 l bytes e.journal f.journal e.stops f.stops in
     same_end i a0 l bytes f.journal one other (subst (λ (h : List Entry). Ended i a0 l bytes h one) same e.ended) f.ended
 
-pub one_first_wrong : OneFirstWrong
-one_first_wrong i a0 l bytes one other is also = one_answer i a0 l bytes one other (answered i a0 l bytes one is) (answered i a0 l bytes other also)
+pub one_wrong_line : OneWrongLine
+one_wrong_line i a0 l bytes one other is also = one_answer i a0 l bytes one other (answered i a0 l bytes one is) (answered i a0 l bytes other also)

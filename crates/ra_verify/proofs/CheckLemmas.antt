@@ -15,7 +15,7 @@ use Rattle.ra_verify.specs.declared.faults.VerifyFault.TheVariants as fault
 use Rattle.ra_verify.specs.Checking.{IsSameRun}
 use Rattle.ra_verify.specs.Judging.{IsAccepted, IsMisjudged}
 use Rattle.ra_verify.specs.Reading.{IsHead, AreFirst, IsWrongNext}
-use Rattle.ra_verify.specs.WrongLines.{first_over_long, AreAllRight, IsFirstWrong, IsReport}
+use Rattle.ra_verify.specs.WrongLines.{first_over_long, AreAllRight, IsWrongLine, IsReport}
 use Rattle.ra_verify.proofs.VerdictLemmas.{accepted, reported, wrong_entry, misjudged}
 
 abbrev Told : Option (List ℕ) → (List ℕ → Type 0) → Type 0
@@ -31,11 +31,11 @@ pub first_lines : (told : Option (List ℕ)) (place lines : ℕ) (head : List �
 first_lines None place lines head is = tt
 first_lines (Some bytes) place lines head is = is.first
 
-pub long_wrong : {X : Type 0} (told : Option (List ℕ)) (i : Tables) (a0 : List Machine) (l : Lots) (r : Result X VerifyFault) (why : VerifyFault) → r ≡ Err why → Told told (λ bytes. (n : ℕ) → r ≡ Err (fault.Wrong n) → first_over_long bytes ≡ Some n) → Told told (λ bytes. (n : ℕ) → (let s : Result ℕ VerifyFault = Err why in s) ≡ Err (fault.Wrong n) → IsFirstWrong i a0 l bytes (Some n))
+pub long_wrong : {X : Type 0} (told : Option (List ℕ)) (i : Tables) (a0 : List Machine) (l : Lots) (r : Result X VerifyFault) (why : VerifyFault) → r ≡ Err why → Told told (λ bytes. (n : ℕ) → r ≡ Err (fault.Wrong n) → first_over_long bytes ≡ Some n) → Told told (λ bytes. (n : ℕ) → (let s : Result ℕ VerifyFault = Err why in s) ≡ Err (fault.Wrong n) → IsWrongLine i a0 l bytes (Some n))
 long_wrong None i a0 l r why is long = tt
 long_wrong (Some bytes) i a0 l r why is long = λ n same. inl (long n (is ∙ ap Err (same_why why (fault.Wrong n) same)))
 
-pub entry_wrong_first : {X : Type 0} (told : Option (List ℕ)) (i : Tables) (a0 : List Machine) (l : Lots) (place lines : ℕ) (head : List ℕ) (r : Result X VerifyFault) (why : VerifyFault) → r ≡ Err why → Told told (λ bytes. IsHead bytes place lines head) → Told told (λ bytes. (n : ℕ) → r ≡ Err (fault.Wrong n) → (h : List Entry) × IsWrongNext i a0 l bytes h n) → Told told (λ bytes. (n : ℕ) → (let s : Result ℕ VerifyFault = Err why in s) ≡ Err (fault.Wrong n) → IsFirstWrong i a0 l bytes (Some n))
+pub entry_wrong_first : {X : Type 0} (told : Option (List ℕ)) (i : Tables) (a0 : List Machine) (l : Lots) (place lines : ℕ) (head : List ℕ) (r : Result X VerifyFault) (why : VerifyFault) → r ≡ Err why → Told told (λ bytes. IsHead bytes place lines head) → Told told (λ bytes. (n : ℕ) → r ≡ Err (fault.Wrong n) → (h : List Entry) × IsWrongNext i a0 l bytes h n) → Told told (λ bytes. (n : ℕ) → (let s : Result ℕ VerifyFault = Err why in s) ≡ Err (fault.Wrong n) → IsWrongLine i a0 l bytes (Some n))
 entry_wrong_first None i a0 l place lines head r why is first wrong = tt
 entry_wrong_first (Some bytes) i a0 l place lines head r why is first wrong = λ n same.
     let next = wrong n (is ∙ ap Err (same_why why (fault.Wrong n) same)) in
@@ -50,7 +50,7 @@ pub record SameJournal (i : Tables) (a0 : List Machine) (l : Lots) (j : Journal)
 pub same_journal : (c d : Checker) → IsSameRun c d → SameJournal c.journal.inst.now.tables c.journal.a0.now.items c.journal.lots.now d.journal
 same_journal c d same = record { instance = ap (λ (x : Instance). x.tables) same.instance; initial = ap (λ (x : Listed Machine). x.items) same.initial; lots = same.lots }
 
-pub judged_none : {X : Type 0} (told : Option (List ℕ)) (i : Tables) (a0 : List Machine) (l : Lots) (place lines : ℕ) (head : List ℕ) (j : Journal) (rest : Result X VerifyFault) (x : X) (r : Result ℕ VerifyFault) → rest ≡ Ok x → SameJournal i a0 l j → Told told (λ bytes. IsHead bytes place lines head) → Told told (λ bytes. OnOk rest (AreAllRight i a0 l bytes j.book.entries.items)) → IfOk r (IsAccepted j head) → Told told (λ bytes. IfOk r (λ n. IsFirstWrong i a0 l bytes None))
+pub judged_none : {X : Type 0} (told : Option (List ℕ)) (i : Tables) (a0 : List Machine) (l : Lots) (place lines : ℕ) (head : List ℕ) (j : Journal) (rest : Result X VerifyFault) (x : X) (r : Result ℕ VerifyFault) → rest ≡ Ok x → SameJournal i a0 l j → Told told (λ bytes. IsHead bytes place lines head) → Told told (λ bytes. OnOk rest (AreAllRight i a0 l bytes j.book.entries.items)) → IfOk r (IsAccepted j head) → Told told (λ bytes. IfOk r (λ n. IsWrongLine i a0 l bytes None))
 judged_none None i a0 l place lines head j rest x r ok same first right judged = tt
 judged_none (Some bytes) i a0 l place lines head j rest x (Ok n) ok same first right judged = accepted i a0 l bytes head place lines n j same.instance same.initial same.lots first (subst (λ s. OnOk s (AreAllRight i a0 l bytes j.book.entries.items)) ok right) judged
 judged_none (Some bytes) i a0 l place lines head j rest x (Err why) ok same first right judged = tt
@@ -60,7 +60,7 @@ judged_report None i a0 l place lines head j rest x r ok same first right judged
 judged_report (Some bytes) i a0 l place lines head j rest x (Ok n) ok same first right judged = reported i a0 l bytes head place lines n j same.instance same.initial same.lots first (subst (λ s. OnOk s (AreAllRight i a0 l bytes j.book.entries.items)) ok right) judged
 judged_report (Some bytes) i a0 l place lines head j rest x (Err why) ok same first right judged = tt
 
-pub judged_wrong : {X : Type 0} (told : Option (List ℕ)) (i : Tables) (a0 : List Machine) (l : Lots) (place lines : ℕ) (head : List ℕ) (j : Journal) (rest : Result X VerifyFault) (x : X) (r : Result ℕ VerifyFault) → rest ≡ Ok x → SameJournal i a0 l j → Told told (λ bytes. IsHead bytes place lines head) → Told told (λ bytes. OnOk rest (AreAllRight i a0 l bytes j.book.entries.items)) → Told told (λ bytes. OnOk rest (length (lines_of bytes) ≡ lines + length j.book.entries.items)) → IfErr r (λ why. (n : ℕ) × (why ≡ fault.Wrong n) × IsMisjudged j head lines n) → Told told (λ bytes. (n : ℕ) → r ≡ Err (fault.Wrong n) → IsFirstWrong i a0 l bytes (Some n))
+pub judged_wrong : {X : Type 0} (told : Option (List ℕ)) (i : Tables) (a0 : List Machine) (l : Lots) (place lines : ℕ) (head : List ℕ) (j : Journal) (rest : Result X VerifyFault) (x : X) (r : Result ℕ VerifyFault) → rest ≡ Ok x → SameJournal i a0 l j → Told told (λ bytes. IsHead bytes place lines head) → Told told (λ bytes. OnOk rest (AreAllRight i a0 l bytes j.book.entries.items)) → Told told (λ bytes. OnOk rest (length (lines_of bytes) ≡ lines + length j.book.entries.items)) → IfErr r (λ why. (n : ℕ) × (why ≡ fault.Wrong n) × IsMisjudged j head lines n) → Told told (λ bytes. (n : ℕ) → r ≡ Err (fault.Wrong n) → IsWrongLine i a0 l bytes (Some n))
 judged_wrong None i a0 l place lines head j rest x r ok same first right long judged = tt
 judged_wrong (Some bytes) i a0 l place lines head j rest x r ok same first right long judged = λ n is.
     let why = subst (λ (s : Result ℕ VerifyFault). IfErr s (λ (w : VerifyFault). (m : ℕ) × (w ≡ fault.Wrong m) × IsMisjudged j head lines m)) is judged in
@@ -82,6 +82,6 @@ pub over_all : {P : List ℕ → Type 0} (told : Option (List ℕ)) → ((bytes 
 over_all None holds = tt
 over_all (Some bytes) holds = holds bytes
 
--- a count that rose rose since before, where it never falls
+-- a count that rose rose since before, if it never falls
 pub rose_since : {before between now : ℕ} → before ≤ between → Rose between now → Rose before now
 rose_since {before} {between} {now} up rose = ⊎_elim (λ (h : between < now). inl (omega arith)) (λ (h : now ≡ 2 ^ 64 - 1). inr h) rose

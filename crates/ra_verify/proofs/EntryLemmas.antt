@@ -80,7 +80,7 @@ front_is_no_entry bytes front room j e long front_is is =
     let few : length front ≤ room + 1 = omega (arith, ap (λ (x : List ℕ). length x) front_is, length-take (room + 1) bytes) in
     omega (arith, no_end, few, body_less front ended)
 
--- and where they are the front of one, it is longer
+-- and if they are the front of one, it is longer
 front_of_long : (bytes front : List ℕ) (room j : ℕ) (e : Entry) → (long : BeginsOverLong room bytes) → front ≡ take (room + 1) bytes → long.line ≡ entry_line j e → (front ++ drop (room + 1) long.line ≡ entry_line j e) × (room + 1 < length (entry_line j e))
 front_of_long bytes front room j e long front_is is =
     let part : front ≡ take (room + 1) long.line = front_is ∙ long_front bytes long.line long.others (room + 1) long.lines (omega (arith, long.long)) in
@@ -150,7 +150,7 @@ entry_wrong i a0 l bytes place after room n front h line Long which few read is 
 entry_wrong i a0 l bytes place after room n front h line Last which few read is given far checked number = absurd (⊎_elim (λ (a : Last ≡ Line). (cc)) (λ (a : Last ≡ Long). (cc)) which)
 entry_wrong i a0 l bytes place after room n front h line End which few read is given far checked number = absurd (⊎_elim (λ (a : End ≡ Line). (cc)) (λ (a : End ≡ Long). (cc)) which)
 
--- the same where the bytes are told
+-- the same if the bytes are told
 pub record IsTakenIn (i : Tables) (a0 : List Machine) (l : Lots) (h g : List Entry) (line : List ℕ) : Type 0 where
   pub entry : Entry
   pub text : line ≡ entry_line (length h) entry

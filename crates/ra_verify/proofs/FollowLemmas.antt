@@ -108,14 +108,14 @@ recorded i a0 l h e start legal next =
     ap (λ (t : Turn). is_recorded t.reply) (turn_answered i a0 l h e.worker e.q (not_skipped i a0 l h e next))
     ∙ ap (λ c. is_recorded (Answer c.reply)) (committed_recorded i a0 l h e.worker (plan_in i a0 h e) (commits i a0 l h e next) (none_newer i a0 l h e start legal next))
 
--- where a turn records nothing, no entry of that worker and place may follow
+-- if a turn records nothing, no entry of that worker and place may follow
 pub none_may_follow : (i : Tables) (a0 : List Machine) (l : Lots) (h : List Entry) (w q : ℕ) (reply : CoreReply) → IsStart i a0 → reply ≡ (turn i a0 l h w q).reply → is_recorded reply ≡ false → (e : Entry) → Legal i a0 l (h ++ e ∷ []) → e.worker ≡ w → e.q ≡ q → ⊥
 none_may_follow i a0 l h w q reply start reply_is none e legal worker_is q_is =
     let yes = recorded i a0 l h e start (front_legal i a0 l h e legal) (last_legal i a0 l h e legal) in
     let same : is_recorded reply ≡ true = ap is_recorded reply_is ∙ sym (ap₂ (λ v p. is_recorded (turn i a0 l h v p).reply) worker_is q_is) ∙ yes in
     (cc)
 
--- where it records something, that is the next entry
+-- if it records something, that is the next entry
 recorded_by : (newer : Option Newer) (h : List Entry) (e : Entry) → is_recorded (answered (committed_by newer h e)).reply ≡ true → (answered (committed_by newer h e)).journal ≡ h ++ e ∷ []
 unfolding committed_by answered is_recorded
 recorded_by (Some newer) h e is = absurd (cc)

@@ -67,7 +67,7 @@ head_end bytes place after n head more on few before more_is none =
 pub head_long : (bytes : List ℕ) (place n : ℕ) (head : List ℕ) → n < 10 → IsHeadSoFar bytes place n head → BeginsOverLong (most_bytes n) (drop place bytes) → first_over_long bytes ≡ Some (n + 1)
 head_long bytes place n head few before is = first_over bytes n few before.short (over_at bytes is.line n (line_next bytes is.line is.others place n before.given is.lines) is.long)
 
--- the same where the bytes are told
+-- the same if the bytes are told
 abbrev SoFar : Option (List ℕ) → ℕ → ℕ → List ℕ → Type 0
 SoFar told place n head = IfSome told (λ bytes. IsHeadSoFar bytes place n head)
 

@@ -32,7 +32,7 @@ body_less (b ∷ c ∷ x) e = either (eqb b 10) (body_less (c ∷ x) e)
     either true less = omega arith
     either false less = omega arith
 
--- the first bytes of a line, where they are no more than its body has, have no LF
+-- the first bytes of a line, if they are no more than its body has, have no LF
 pub body_front : (n : ℕ) (x : List ℕ) → n ≤ length (body_of x) → length (body_of (take n x)) ≡ n
 unfolding body_of
 body_front zero x within = refl

@@ -1,4 +1,4 @@
--- What a report's head and its entry lines say of the first wrong line.
+-- What a report's head and its entry lines say of the wrong line.
 use Rattle.std.proofs.Common.{◌≡◌, ℕ, ◌+◌, ◌<◌, ◌≤◌, inl, inr, List, [], ◌++◌, length, drop, slice_get, Some, refl, sym, ap, ◌∙◌, subst, ⊎_elim, arith}
 use Rattle.std.proofs.lemmas.Bool.{cases_lt}
 use Rattle.std.proofs.lemmas.List.{append-nil}
@@ -14,7 +14,7 @@ use Rattle.ra_report.specs.JournalTexts.{report_head, report_text, head_of}
 use Rattle.ra_report.proofs.LineEnds.{head_line_count}
 use Rattle.ra_verify.specs.Judging.{IsAccepted, IsUnfinished, HasUnlike, IsMisjudged}
 use Rattle.ra_verify.specs.Reading.{AreFirst, IsHead, IsWrongNext}
-use Rattle.ra_verify.specs.WrongLines.{AreAllRight, IsCutOff, IsWrongHead, NoneIsWrong, IsFirstWrong, IsReport}
+use Rattle.ra_verify.specs.WrongLines.{AreAllRight, IsCutOff, IsWrongHead, NoneIsWrong, IsWrongLine, IsReport}
 use Rattle.ra_verify.proofs.PlaceLemmas.{got_left}
 use Rattle.ra_verify.proofs.ReadingLemmas.{lines_end, none_over}
 use Rattle.ra_verify.proofs.ReportLemmas.{report_at, is_report}
@@ -51,7 +51,7 @@ unfolding accepted
 reported i a0 l bytes head place lines n j inst initial lots is right judged = is_report i a0 l bytes n (accepted i a0 l bytes head place lines n j inst initial lots is right judged) (sym judged.number)
 
 -- an entry line that isn't right
-pub wrong_entry : (i : Tables) (a0 : List Machine) (l : Lots) (bytes head : List ℕ) (place lines n : ℕ) (h : List Entry) → IsHead bytes place lines head → IsWrongNext i a0 l bytes h n → IsFirstWrong i a0 l bytes (Some n)
+pub wrong_entry : (i : Tables) (a0 : List Machine) (l : Lots) (bytes head : List ℕ) (place lines n : ℕ) (h : List Entry) → IsHead bytes place lines head → IsWrongNext i a0 l bytes h n → IsWrongLine i a0 l bytes (Some n)
 wrong_entry i a0 l bytes head place lines n h is next = inr (inl (record { short = none_over bytes is.short; journal = h; right = next.right; there = next.there; wrong = next.wrong; number = next.number }))
 
 -- what isn't whole
@@ -94,7 +94,7 @@ wrong_head i a0 l bytes head place lines n j inst initial lots is right judged =
       number = judged.number;
     }
 
-pub misjudged : (i : Tables) (a0 : List Machine) (l : Lots) (bytes head : List ℕ) (place lines n : ℕ) (j : Journal) → j.inst.now.tables ≡ i → j.a0.now.items ≡ a0 → j.lots.now ≡ l → IsHead bytes place lines head → AreAllRight i a0 l bytes j.book.entries.items → length (lines_of bytes) ≡ lines + length j.book.entries.items → IsMisjudged j head lines n → IsFirstWrong i a0 l bytes (Some n)
+pub misjudged : (i : Tables) (a0 : List Machine) (l : Lots) (bytes head : List ℕ) (place lines n : ℕ) (j : Journal) → j.inst.now.tables ≡ i → j.a0.now.items ≡ a0 → j.lots.now ≡ l → IsHead bytes place lines head → AreAllRight i a0 l bytes j.book.entries.items → length (lines_of bytes) ≡ lines + length j.book.entries.items → IsMisjudged j head lines n → IsWrongLine i a0 l bytes (Some n)
 misjudged i a0 l bytes head place lines n j inst initial lots is right long (inl unfinished) = inr (inr (inl (cut_off i a0 l bytes head place lines n j lots is right long unfinished)))
 misjudged i a0 l bytes head place lines n j inst initial lots is right long (inr unlike) = inr (inr (inr (wrong_head i a0 l bytes head place lines n j inst initial lots is right unlike)))
 

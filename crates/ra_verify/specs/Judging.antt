@@ -23,6 +23,6 @@ pub record HasUnlike (journal : Journal) (head : List ℕ) (n : ℕ) : Type 0 wh
   pub unlike : FirstUnlike head (head_of journal) place
   pub number : n ≡ place + 1
 
--- line n is wrong first
+-- line n is told to be wrong
 abbrev pub IsMisjudged : Journal → List ℕ → ℕ → ℕ → Type 0
 IsMisjudged journal head lines n = IsUnfinished journal lines n ⊎ HasUnlike journal head n

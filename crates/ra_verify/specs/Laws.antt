@@ -6,17 +6,17 @@ use Rattle.ra_model.specs.declared.raw.Tables.{Tables}
 use Rattle.ra_model.specs.Assignments.{IsAssignment}
 use Rattle.ra_model.specs.Feasible.{Feasible}
 use Rattle.ra_model.specs.Limits.{WellFormed, Small}
-use Rattle.ra_verify.specs.WrongLines.{IsFirstWrong, IsReport}
+use Rattle.ra_verify.specs.WrongLines.{IsWrongLine, IsReport}
 
--- bytes have one first wrong line, or none
-abbrev pub OneFirstWrong : Type 0
-OneFirstWrong =
+-- bytes have one wrong line, or none
+abbrev pub OneWrongLine : Type 0
+OneWrongLine =
     (i : Tables) (a0 : List Machine) (l : Lots) (bytes : List ℕ) (one other : Option ℕ)
-    → IsFirstWrong i a0 l bytes one → IsFirstWrong i a0 l bytes other → one ≡ other
+    → IsWrongLine i a0 l bytes one → IsWrongLine i a0 l bytes other → one ≡ other
 
 -- and in such a report no line is wrong
 abbrev pub ReportHasNoneWrong : Type 0
 ReportHasNoneWrong =
     (i : Tables) (a0 : List Machine) (l : Lots) (bytes : List ℕ) (n : ℕ) → WellFormed i → Small i
     → IsAssignment i a0 → Feasible i a0 a0 → IsReport i a0 l bytes n
-    → IsFirstWrong i a0 l bytes None
+    → IsWrongLine i a0 l bytes None

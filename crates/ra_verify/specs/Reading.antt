@@ -14,7 +14,7 @@ pub record AreLines (bytes : List ℕ) (place n : ℕ) : Type 0 where
   pub lines : lines_of bytes ≡ lines_of (take place bytes) ++ lines_of (drop place bytes)
   pub number : length (lines_of (take place bytes)) ≡ n
 
--- they are the first ten, or all where there are fewer
+-- they are the first ten, or all if there are fewer
 pub record AreFirst (bytes : List ℕ) (place n : ℕ) : Type 0 where
   pub given : AreLines bytes place n
   pub few : n ≤ 10

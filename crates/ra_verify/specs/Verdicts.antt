@@ -16,18 +16,18 @@ use Rattle.ra_verify.specs.declared.faults.VerifyFault.{VerifyFault}
 use Rattle.ra_verify.specs.declared.faults.VerifyFault.TheVariants as why
 use Rattle.ra_verify.specs.Checking.{entries_in, IsOpen, IsSameRun, HasMore}
 use Rattle.ra_verify.specs.Reading.{AreRead, IsHead, IsWrongNext}
-use Rattle.ra_verify.specs.WrongLines.{AreAllRight, IsFirstWrong, IsReport, first_over_long}
+use Rattle.ra_verify.specs.WrongLines.{AreAllRight, IsWrongLine, IsReport, first_over_long}
 
 -- the report of a run of these lots was checked: it is accepted if no line is wrong, and then it is the report of a legal
--- whole journal with so many entries; and else the first wrong line is told
+-- whole journal with so many entries; and else its wrong line is told
 pub record TellsVerdict (i : Tables) (a0 : List Machine) (l : Lots) (files : Reading)
     (name : List ℕ) (told : Result ℕ VerifyFault) : Type 0 where
   pub none_wrong :
-      IfSome (files.held name) (λ bytes. IfOk told (λ n. IsFirstWrong i a0 l bytes None))
+      IfSome (files.held name) (λ bytes. IfOk told (λ n. IsWrongLine i a0 l bytes None))
   pub report : IfSome (files.held name) (λ bytes. IfOk told (λ n. IsReport i a0 l bytes n))
   pub wrong :
       IfSome (files.held name) (λ bytes. (n : ℕ) → told ≡ Err (why.Wrong n)
-      → IsFirstWrong i a0 l bytes (Some n))
+      → IsWrongLine i a0 l bytes (Some n))
   pub fault : told ≡ Err why.ReadFault → ReadFailed files name
   pub leaves : LeavesFiles files
 
@@ -46,7 +46,7 @@ pub record AreAtStart (checker : Checker) (world : World) (bound : Bound) : Type
   pub bounded :
       bound ≡ pinned_bound_of checker.journal.inst.now.tables checker.journal.a0.now.items
 
--- the first ten lines of a report were read, or all where it has fewer, and their number is told; or the first that is over
+-- the first ten lines of a report were read, or all if it has fewer, and their number is told; or the first that is over
 -- long
 pub record ReadsHead (files : Reading) (old new : Standing) (head : List ℕ)
     (told : Result ℕ VerifyFault) : Type 0 where

@@ -1,4 +1,5 @@
--- Which line of a report is wrong first. Lines count from 1; lines 1 to 10 are the head of a report, and those from the
+-- Which line of a report is told to be wrong. Four rules are tried in turn, and the first that a report breaks names the line;
+-- so it needn't be the lowest that differs. Lines count from 1; lines 1 to 10 are the head of a report, and those from the
 -- eleventh on are its entry lines. (`line_at` counts from 0.)
 use Rattle.std.specs.Prelude.{◌≡◌, ◌≢◌, ◌⊎◌, ℕ, ◌+◌, ◌<◌, ◌≤◌, ◌==◌, nat_lt, if◌then◌else◌, List, [], ◌∷◌, ◌++◌, length, Option, Some, None}
 use Rattle.ra_base.specs.Searches.{first}
@@ -15,7 +16,7 @@ use Rattle.ra_report.specs.JournalTexts.{entry_line, report_text}
 unfoldable pub most_bytes : ℕ → ℕ
 most_bytes n = if n == 8 then 600000 else 64
 
--- the number of line n + 1, where it is there and over long
+-- the number of line n + 1, if it is there and over long
 unfoldable pub if_over_long : ℕ → Option (List ℕ) → Option ℕ
 if_over_long n None = None
 if_over_long n (Some line) =
@@ -82,13 +83,13 @@ pub record NoneIsWrong (i : Tables) (a0 : List Machine) (l : Lots) (bytes : List
   pub whole : Whole l journal
   pub head : (n : ℕ) → n < 10 → line_at n bytes ≡ line_at n (report_text i a0 l journal)
 
--- the first wrong line of a report's bytes, by what applies first: an over long line among lines 1 to 10, an entry line
--- that isn't right, the line behind the last where the journal isn't whole, a line of the head; and None else
-abbrev pub IsFirstWrong : Tables → List Machine → Lots → List ℕ → Option ℕ → Type 0
-IsFirstWrong i a0 l bytes (Some n) =
+-- the wrong line of a report's bytes, by the first of these that applies: an over long line among lines 1 to 10, an entry line
+-- that isn't right, the line behind the last if the journal isn't whole, a line of the head; and None else
+abbrev pub IsWrongLine : Tables → List Machine → Lots → List ℕ → Option ℕ → Type 0
+IsWrongLine i a0 l bytes (Some n) =
     (first_over_long bytes ≡ Some n)
     ⊎ (IsWrongEntry i a0 l bytes n ⊎ (IsCutOff i a0 l bytes n ⊎ IsWrongHead i a0 l bytes n))
-IsFirstWrong i a0 l bytes None = NoneIsWrong i a0 l bytes
+IsWrongLine i a0 l bytes None = NoneIsWrong i a0 l bytes
 
 -- bytes are the report of a journal of n entries that is legal and whole
 pub record IsReport (i : Tables) (a0 : List Machine) (l : Lots) (bytes : List ℕ) (n : ℕ) : Type 0

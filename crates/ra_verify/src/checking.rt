@@ -50,7 +50,7 @@ pub(crate) fn check<'a, F: Files>(
     }
 }
 
-/// The same where the first lines of the report were read.
+/// The same if the first lines of the report were read.
 fn check_rest<'a, F: Files>(
     files: &mut F,
     reader: &mut LineReader,

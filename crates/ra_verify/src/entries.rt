@@ -16,7 +16,7 @@ use ra_io::Files;
 use ra_report::{LONGEST_FRONT, LONGEST_LINE};
 use ra_report_lines::{LineReader, Next};
 
-/// Reads what follows the first lines of a report, where those are ten, and takes the entries of its lines in.
+/// Reads what follows the first lines of a report, if those are ten, and takes the entries of its lines in.
 pub(crate) fn read_rest<F: Files>(
     files: &mut F,
     reader: &mut LineReader,
@@ -89,7 +89,7 @@ fn read_entry<F: Files>(
     }
 }
 
-/// Takes in the entry that a line of a report tells, where it may follow.
+/// Takes in the entry that a line of a report tells, if it may follow.
 fn take_entry(line: &[u8], checker: &mut Checker<'_>) -> Result<bool, VerifyFault>
     requires ready { IsOpen checker.old }
     ensures right { IsOk result → (result ≡ Ok true) × HasTakenLine checker.old checker.new

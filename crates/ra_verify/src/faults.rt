@@ -6,7 +6,7 @@ use ra_report_lines::ReadFault;
 pub enum VerifyFault {
     /// A fetch of the report failed, and the count of its faults rose.
     ReadFault,
-    /// This is the first wrong line, counted from 1.
+    /// This is the wrong line, counted from 1.
     Wrong { line: u64 },
     /// There is too little memory for the run.
     NoMemory,

@@ -12,7 +12,7 @@ use ra_report_lines::{LineReader, Next};
 /// The most bytes of ten lines of which none is over long, with their LF: nine of 64, and one of 600,000.
 pub(crate) const HEAD_BYTES: usize = 600_586;
 
-/// Reads the first ten lines of a report, or all where it has fewer, and tells their number.
+/// Reads the first ten lines of a report, or all if it has fewer, and tells their number.
 pub(crate) fn read_head<F: Files>(
     files: &mut F,
     reader: &mut LineReader,

@@ -1,5 +1,5 @@
 //! The check of a report that need not be believed: whether it is the report of a legal whole journal, or which of its
-//! lines is wrong first. Given the entries so far, the worker and the place of an entry tell the one entry that may
+//! lines is wrong. Given the entries so far, the worker and the place of an entry tell the one entry that may
 //! follow, so each line is compared with the one that could stand there.
 #![tactic(auto)]
 

@@ -38,7 +38,7 @@ impl<'a> Checker<'a> {
         Ok(Checker { journal, replicas })
     }
 
-    /// Takes in the entry that this line of a report tells, where it may follow, and says whether it may. `line` may be
+    /// Takes in the entry that this line of a report tells, if it may follow, and says whether it may. `line` may be
     /// the front of a line that is too long.
     pub(crate) fn take_line(&mut self, line: &[u8]) -> bool
         requires ready { IsOpen self.old }
@@ -57,7 +57,7 @@ impl<'a> Checker<'a> {
         }
     }
 
-    /// The same where the worker of the line and the place of its plan are read.
+    /// The same if the worker of the line and the place of its plan are read.
     fn take_fronted(&mut self, line: &[u8], front: &Front) -> bool
         requires ready { IsOpen self.old }
         ensures right { result ≡ true → HasTakenLine self.old self.new line.now }
@@ -77,7 +77,7 @@ impl<'a> Checker<'a> {
         is_entry_line(line, at, &entry)
     }
 
-    /// Takes in the next entry of a worker, planned at a place, where it may follow, and says whether it may.
+    /// Takes in the next entry of a worker, planned at a place, if it may follow, and says whether it may.
     fn take(&mut self, worker: u32, q: u64) -> bool
         requires ready { IsOpen self.old }
         ensures right { result ≡ true → HasTaken self.old self.new

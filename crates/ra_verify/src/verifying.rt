@@ -28,7 +28,7 @@ use std::alloc::Global;
 ///
 /// # Errors
 ///
-/// `Wrong` tells the first wrong line; `ReadFault` comes only where the count of faults of the file rose.
+/// `Wrong` tells its wrong line; `ReadFault` comes only if the count of faults of the file rose.
 pub fn verify<'a, F: Files>(
     alloc: Global,
     files: &mut F,

@@ -31,7 +31,7 @@ digits_named (x ∷ xs) number =
     let first = tells_all_ascii_digits.parts x xs digits in
     ap not (ne_eqb x 45 (λ e. omega (arith, first.0.0, e)))
 
--- the value of an option, where it is given, is a name
+-- the value of an option, if it is given, is a name
 abbrev is_named : Option (List ℕ) → Bool
 is_named text = option_map_or is_name text true
 
@@ -116,7 +116,7 @@ words_here (suc n) place words within =
     ∙ ap (λ ws. word_at words place ∷ ws) (words_here n (suc place) words (omega (arith, within)))
     ∙ ap (λ k. word_at words place ∷ (words_from (suc place) words n ++ drop k words)) far
 
--- an option and its value, where it stands at a place, and the words behind
+-- an option and its value, if it stands at a place, and the words behind
 option_here : (option : List ℕ) (words : List (List ℕ)) (place : ℕ) → is_named (value_at option words place) ≡ true
     → drop place words ≡ option_words option (value_at option words place) ++ drop (behind option words place) words
 unfolding value_at behind has_option option_words

@@ -114,7 +114,7 @@ plain_walked rows pending waiting word free name = met waiting free ∙ settles
     settles : at (is_pending plain pending && false) ≡ standing (settled_rows line_rules pending rows) (Some (codes "plain", word ∷ [])) positional
     settles = ap at (and_false (is_pending plain pending))
 
--- the word is taken, where what waited before it is
+-- the word is taken, if what waited before it is
 plain_turn : (rows : List Row) (pending : Option (Text × List Text)) (waiting : Waiting) (word : Text) → is_free waiting ≡ true → is_name word ≡ true
     → settle_passes line_rules false (held rows pending) ≡ true → turn_passes line_shape [] (standing rows pending waiting) word ≡ true
 plain_turn rows pending waiting word free name settles =
@@ -380,7 +380,7 @@ plains_go w seen all (word ∷ plain) words h names more =
     (λ v holds. plains_go v (record seen { plain = seen.plain ++ word ∷ [] }) all plain words holds parts.1
     (λ u last. more u (subst (λ ps. Holds u (record seen { plain = ps })) (append_assoc seen.plain (word ∷ []) plain) last)))
 
--- an option, where it is given
+-- an option, if it is given
 pub maybe_goes : (w : Walk) (seen all : Seen) (given : Given) (text : Option Text) (words : List Text) → Holds w seen → option_map_or is_name text true ≡ true → seen_of given seen ≡ None
     → ((v : Walk) → Holds v (with_seen given text seen) → Goes v words all) → Goes w (option_words (flag_of given) text ++ words) all
 unfolding option_words

@@ -34,7 +34,7 @@ place_end separator [] (suc k) past = refl
 place_end separator (byte ∷ bytes) zero past = absurd (omega arith)
 place_end separator (byte ∷ bytes) (suc k) past = place_end separator bytes k (omega arith)
 
--- the pieces that begin at a place or behind it, where a piece begins at that place; none behind the end
+-- the pieces that begin at a place or behind it, if a piece begins at that place; none behind the end
 unfoldable pub left_from : List ℕ → ℕ → List (List ℕ)
 left_from text zero = pieces text
 left_from [] (suc k) = []

@@ -35,7 +35,7 @@ others_kept id other how s vs (r ∷ rows) apart = go (others_kept id other how 
     go more false e true is = rw e (rw is refl)
     go more false e false is = rw e (rw is more)
 
--- a row stands there exactly where the id has values
+-- a row stands there exactly if the id has values
 pub has_row_all : (id : Text) (rows : List Row) → has_row id rows ≡ is_some (all_of id rows)
 has_row_all id [] = refl
 has_row_all id (r ∷ rows) = go (has_row_all id rows) (bytes_eq r.id id) refl
@@ -44,7 +44,7 @@ has_row_all id (r ∷ rows) = go (has_row_all id rows) (bytes_eq r.id id) refl
     go more true e = rw e refl
     go more false e = rw e more
 
--- nothing is taken out where the id has no row
+-- nothing is taken out if the id has no row
 pub none_out : (id : Text) (rows : List Row) → all_of id rows ≡ None → without id rows ≡ rows
 none_out id [] none = refl
 none_out id (r ∷ rows) none = go (none_out id rows) (bytes_eq r.id id) refl

@@ -26,7 +26,7 @@ pub data JobSays : Type 0 where
       → JobSays
   Edits : (model initial current edits : List ℕ) (closed : Option (List ℕ)) → JobSays
 
--- the value of `--closed`, where it is given, is a file name
+-- the value of `--closed`, if it is given, is a file name
 abbrev pub is_closed : Option (List ℕ) → Bool
 is_closed None = true
 is_closed (Some text) = is_name text
@@ -70,22 +70,22 @@ unfoldable pub bound_from_says : List (List ℕ) → JobSays
 bound_from_says words =
     Bounds (word_at words 1) (Some (word_at words 2)) (value_at (codes "--closed") words 3)
 
--- the value of `--slack`, where it is given, is a number
+-- the value of `--slack`, if it is given, is a number
 abbrev pub is_slack : Option (List ℕ) → Bool
 is_slack None = true
 is_slack (Some text) = is_number text
 
--- the slack is what that number is worth, and 0 where it isn't given
+-- the slack is what that number is worth, and 0 if it isn't given
 abbrev pub slack_says : Option (List ℕ) → ℕ
 slack_says None = 0
 slack_says (Some text) = worth text
 
--- the value of `--draws`, where it is given, is `1` or `2`
+-- the value of `--draws`, if it is given, is `1` or `2`
 abbrev pub is_drawing : Option (List ℕ) → Bool
 is_drawing None = true
 is_drawing (Some text) = bytes_eq text (codes "1") || bytes_eq text (codes "2")
 
--- the drawing is the first at `1`, and the second at `2` and where it isn't given
+-- the drawing is the first at `1`, and the second at `2` and if it isn't given
 abbrev pub drawing_says : Option (List ℕ) → Drawing
 drawing_says None = Two
 drawing_says (Some text) = if bytes_eq text (codes "1") then One else Two
@@ -196,7 +196,7 @@ edit_says words =
     Edits (word_at words 1) (word_at words 2) (word_at words 3) (word_at words 4)
     (value_at (codes "--closed") words 5)
 
--- what the words say, and nothing where they are no job
+-- what the words say, and nothing if they are no job
 unfoldable pub job_of : List (List ℕ) → Option JobSays
 job_of words =
     if is_check words then Some (check_says words)

@@ -16,7 +16,7 @@ pub record Line : Type 0 where
   pub draws : Option (List ℕ)
   pub behind : List (List ℕ)
 
--- an option and its value, where it is given
+-- an option and its value, if it is given
 unfoldable pub option_words : List ℕ → Option (List ℕ) → List (List ℕ)
 option_words option None = []
 option_words option (Some text) = option ∷ text ∷ []

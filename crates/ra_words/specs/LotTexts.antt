@@ -14,7 +14,7 @@ pub record LotSays : Type 0 where
   pub source : SourceSays
   pub budget : ℕ
 
--- the place of the first separator, and the length of the text where there is none
+-- the place of the first separator, and the length of the text if there is none
 unfoldable pub first_place : ℕ → List ℕ → ℕ
 first_place separator [] = 0
 first_place separator (byte ∷ bytes) =

@@ -21,7 +21,7 @@ pub(crate) enum Form {
     Edit,
 }
 
-/// The form of the words. `None` where they are no job.
+/// The form of the words. `None` if they are no job.
 #[tactic(auto, unfolding(crate::specs::Forms::form_of))]
 pub(crate) fn form_of(words: &[String]) -> Option<Form>
     ensures { result ≡ form_of (texts words.now) }
@@ -165,7 +165,7 @@ fn ends_in_lots(words: &[String], place: usize) -> bool
         && are_lots(words, lots_place(words, place))
 }
 
-/// Where `--closed` may stand: at a place, or behind `--slack` and its value where these stand there.
+/// Where `--closed` may stand: at a place, or behind `--slack` and its value if these stand there.
 #[tactic(auto, unfolding(crate::specs::Jobs::closed_place))]
 fn closed_place(words: &[String], place: usize) -> usize
     requires { place ≤ 8 }
@@ -195,7 +195,7 @@ fn lots_place(words: &[String], place: usize) -> usize
     behind(words, draws_place(words, place), "--draws")
 }
 
-/// Whether a file name stands behind `--closed`, where that option stands at a place.
+/// Whether a file name stands behind `--closed`, if that option stands at a place.
 #[tactic(auto, unfolding(crate::specs::Words::value_at))]
 fn fits_closed(words: &[String], place: usize) -> bool
     requires { place ≤ 16 }
@@ -204,7 +204,7 @@ fn fits_closed(words: &[String], place: usize) -> bool
     !has_option(words, place, "--closed") || names_file(text_at(words, place + 1))
 }
 
-/// Whether a number stands behind `--slack`, where that option stands at a place.
+/// Whether a number stands behind `--slack`, if that option stands at a place.
 #[tactic(auto, unfolding(crate::specs::Words::value_at))]
 fn fits_slack(words: &[String], place: usize) -> bool
     requires { place ≤ 16 }
@@ -213,7 +213,7 @@ fn fits_slack(words: &[String], place: usize) -> bool
     !has_option(words, place, "--slack") || is_number(text_at(words, place + 1).as_bytes())
 }
 
-/// Whether `1` or `2` stands behind `--draws`, where that option stands at a place.
+/// Whether `1` or `2` stands behind `--draws`, if that option stands at a place.
 #[tactic(auto, unfolding(crate::specs::Words::value_at))]
 fn fits_drawing(words: &[String], place: usize) -> bool
     requires { place ≤ 16 }

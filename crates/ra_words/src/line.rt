@@ -79,7 +79,7 @@ pub(crate) fn plain_name(
     Name::make(alloc, plain_at(taken, place))
 }
 
-/// The file that `--closed` names, where it is given.
+/// The file that `--closed` names, if it is given.
 pub(crate) fn closed_name(alloc: Global, taken: &ArgMatches<'_>) -> Result<Option<Name>, NoMemory>
     ensures { IfOk result (λ name. name ≡ first_value (found_of taken.now) (codes "closed")) }
 {
@@ -89,7 +89,7 @@ pub(crate) fn closed_name(alloc: Global, taken: &ArgMatches<'_>) -> Result<Optio
     }
 }
 
-/// The number that `--slack` gives, and 0 where it isn't given.
+/// The number that `--slack` gives, and 0 if it isn't given.
 fn slack(taken: &ArgMatches<'_>) -> u64
     requires { is_slack (first_value (found_of taken.now) (codes "slack")) ≡ true }
     ensures { result ≡ slack_says (first_value (found_of taken.now) (codes "slack")) }
@@ -100,7 +100,7 @@ fn slack(taken: &ArgMatches<'_>) -> u64
     }
 }
 
-/// The drawing that `--draws` names, and the second where it isn't given.
+/// The drawing that `--draws` names, and the second if it isn't given.
 fn drawing(taken: &ArgMatches<'_>) -> Drawing
     ensures { result ≡ drawing_says (first_value (found_of taken.now) (codes "draws")) }
 {

@@ -43,7 +43,7 @@ fn fit_together(words: &[String], place: usize) -> bool
     true
 }
 
-/// How many proposals a lot makes. `None` where a word is no lot.
+/// How many proposals a lot makes. `None` if a word is no lot.
 #[tactic(auto, unfolding(crate::specs::LotTexts::is_lot, crate::specs::LotTexts::budget_says))]
 fn budget(word: &[u8]) -> Option<u64>
     ensures { result ≡ (if is_lot word.now then Some (budget_says word.now) else None) }
@@ -64,7 +64,7 @@ fn is_written(word: &[u8]) -> bool
     word.len() >= 2 && word[0] == b'w' && word[1] == b':'
 }
 
-/// How many proposals the written words behind `w:` are for. `None` where they are no lot.
+/// How many proposals the written words behind `w:` are for. `None` if they are no lot.
 #[tactic(auto, unfolding(crate::specs::LotTexts::is_written_lot, crate::specs::LotTexts::written_pieces))]
 fn written_budget(word: &[u8]) -> Option<u64>
     requires { 2 ≤ length word.now }
@@ -77,7 +77,7 @@ fn written_budget(word: &[u8]) -> Option<u64>
     }
 }
 
-/// How many proposals stand behind a seed and a colon. `None` where that is no lot.
+/// How many proposals stand behind a seed and a colon. `None` if that is no lot.
 #[tactic(auto, using(crate::proofs::LotLaws::no_colon, crate::proofs::LotLaws::behind_colon), unfolding(crate::specs::LotTexts::is_seed_lot, crate::specs::LotTexts::seed_text, crate::specs::LotTexts::budget_text))]
 fn seed_budget(word: &[u8]) -> Option<u64>
     ensures { result ≡ (if is_seed_lot word.now then Some
@@ -90,7 +90,7 @@ fn seed_budget(word: &[u8]) -> Option<u64>
     budget_of(text_from(word, colon + 1))
 }
 
-/// The number of proposals that a text gives. `None` where it is no number, or too large.
+/// The number of proposals that a text gives. `None` if it is no number, or too large.
 fn budget_of(text: &[u8]) -> Option<u64>
     ensures { result ≡ (if is_number text.now && nat_le (worth text.now) 1000000 then Some
         (worth text.now) else None) }

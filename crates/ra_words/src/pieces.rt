@@ -15,7 +15,7 @@ pub(crate) fn text_from(text: &[u8], start: usize) -> &[u8]
     &text[start..]
 }
 
-/// The place of the first separator, and the length of the text where there is none.
+/// The place of the first separator, and the length of the text if there is none.
 #[tactic(auto, using(crate::proofs::PieceLaws::place_here, crate::proofs::PieceLaws::place_next, crate::proofs::PieceLaws::place_end))]
 pub(crate) fn first_place(text: &[u8], separator: u8) -> usize
     ensures value { result ≡ first_place separator text.now }
@@ -41,7 +41,7 @@ fn piece_at(text: &[u8], start: usize) -> &[u8]
     &rest[..end]
 }
 
-/// How many numbers a text has, with one comma between two. `None` where another thing stands there.
+/// How many numbers a text has, with one comma between two. `None` if another thing stands there.
 #[tactic(auto, using(crate::proofs::PieceLaws::piece_refused, crate::proofs::PieceLaws::piece_accepted, crate::proofs::PieceLaws::piece_counted, crate::proofs::PieceLaws::left_past), unfolding(crate::proofs::PieceLaws::left_from))]
 pub(crate) fn count_numbers(text: &[u8]) -> Option<usize>
     ensures { result ≡ (if list_all is_number (pieces text.now) then Some

@@ -34,7 +34,7 @@ pub(crate) fn has_option(words: &[String], place: usize, option: &str) -> bool
     text_at(words, place) == option
 }
 
-/// The place behind an option and its value where the option stands at a place, and that place itself where it doesn't.
+/// The place behind an option and its value if the option stands at a place, and that place itself if it doesn't.
 #[tactic(auto, unfolding(crate::specs::Words::behind))]
 pub(crate) fn behind(words: &[String], place: usize, option: &str) -> usize
     requires { place ≤ 16 }

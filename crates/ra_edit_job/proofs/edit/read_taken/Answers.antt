@@ -2,9 +2,9 @@ use Rattle.std.proofs.Common.{◌∙◌, le_trans}
 use Rattle.std.specs.Option.{option_copied}
 use Rattle.ra_token.proofs.ToldLemmas.{at_exit}
 use Rattle.ra_jobs.specs.Files.{edit_names}
-use Rattle.ra_jobs.proofs.StageLemmas.{says_source}
+use Rattle.ra_jobs.proofs.StageLemmas.{reason_source}
 use Rattle.ra_edit_job.specs.Editing.{EditOwn}
-use Rattle.ra_edit_job.proofs.EditLemmas.{accepts_lists, says_edits, says_listed, taken_all}
+use Rattle.ra_edit_job.proofs.EditLemmas.{accepts_lists, reason_edits, reason_listed, taken_all}
 use Rattle.ra_edit_job.proofs.edit.read_taken.Goals as goal
 
 pub returns-clause-read : goal.returns-clause-read
@@ -21,14 +21,14 @@ returns-in_err-edits-clause-refused g c =
     let i = c.in_ok-inst.inst.tables in
     let l = c.in_ok-lists.lists in
     let accepts = accepts_lists held (g.F.Files.held c.read_instance.new.files) c.args.model.now (option_copied c.args.closed) c.args.initial.now c.args.current.now c.args.edits.now i l.initial.items l.changed.items c.read_instance.ensures.kept c.in_ok-inst.ensures.read c.in_ok-lists.ensures.read in
-    at_exit _ _ _ c.from_residual-in_err-edits.ensures (says_edits held (g.F.Files.held c.read_lists.new.files) c.args.model.now (option_copied c.args.closed) c.args.initial.now c.args.current.now c.args.edits.now i l.initial.items l.changed.items (g.F.Files.faults c.args.files.now) (g.F.Files.faults c.read_lists.new.files) (g.F.Files.faults c.take_edits.new.files) ⊥
+    at_exit _ _ _ c.from_residual-in_err-edits.ensures (reason_edits held (g.F.Files.held c.read_lists.new.files) c.args.model.now (option_copied c.args.closed) c.args.initial.now c.args.current.now c.args.edits.now i l.initial.items l.changed.items (g.F.Files.faults c.args.files.now) (g.F.Files.faults c.read_lists.new.files) (g.F.Files.faults c.take_edits.new.files) ⊥
     (λ other. c.read_lists.ensures.kept other ∙ c.read_instance.ensures.kept other) (λ other. le_trans (c.read_instance.ensures.never_fall other) (c.read_lists.ensures.never_fall other)) accepts _ c.in_err-edits.ensures.refused)
 
 pub returns-in_err-lists-clause-refused : goal.returns-in_err-lists-clause-refused
-returns-in_err-lists-clause-refused g c = at_exit _ _ _ c.from_residual-in_err-lists.ensures (says_listed (g.F.Files.held c.args.files.now) (g.F.Files.held c.read_instance.new.files) c.args.model.now (option_copied c.args.closed) c.args.initial.now c.args.current.now c.args.edits.now c.in_ok-inst.inst.tables (g.F.Files.faults c.args.files.now) (g.F.Files.faults c.read_instance.new.files) (g.F.Files.faults c.read_lists.new.files) (EditOwn (g.F.Files.held c.args.files.now) (edit_names c.args.model.now (option_copied c.args.closed) c.args.initial.now c.args.current.now c.args.edits.now) ⊥) c.read_instance.ensures.kept c.read_instance.ensures.never_fall c.in_ok-inst.ensures.read _ c.in_err-lists.ensures.refused)
+returns-in_err-lists-clause-refused g c = at_exit _ _ _ c.from_residual-in_err-lists.ensures (reason_listed (g.F.Files.held c.args.files.now) (g.F.Files.held c.read_instance.new.files) c.args.model.now (option_copied c.args.closed) c.args.initial.now c.args.current.now c.args.edits.now c.in_ok-inst.inst.tables (g.F.Files.faults c.args.files.now) (g.F.Files.faults c.read_instance.new.files) (g.F.Files.faults c.read_lists.new.files) (EditOwn (g.F.Files.held c.args.files.now) (edit_names c.args.model.now c.args.initial.now c.args.current.now c.args.edits.now (option_copied c.args.closed)) ⊥) c.read_instance.ensures.kept c.read_instance.ensures.never_fall c.in_ok-inst.ensures.read _ c.in_err-lists.ensures.refused)
 
 pub returns-in_err-inst-clause-refused : goal.returns-in_err-inst-clause-refused
-returns-in_err-inst-clause-refused g c = at_exit _ _ _ c.from_residual.ensures (says_source (g.F.Files.held c.args.files.now) (edit_names c.args.model.now (option_copied c.args.closed) c.args.initial.now c.args.current.now c.args.edits.now) (g.F.Files.faults c.args.files.now) (g.F.Files.faults c.read_instance.new.files) (EditOwn (g.F.Files.held c.args.files.now) (edit_names c.args.model.now (option_copied c.args.closed) c.args.initial.now c.args.current.now c.args.edits.now) ⊥) _ c.in_err-inst.ensures.refused)
+returns-in_err-inst-clause-refused g c = at_exit _ _ _ c.from_residual.ensures (reason_source (g.F.Files.held c.args.files.now) (edit_names c.args.model.now c.args.initial.now c.args.current.now c.args.edits.now (option_copied c.args.closed)) (g.F.Files.faults c.args.files.now) (g.F.Files.faults c.read_instance.new.files) (EditOwn (g.F.Files.held c.args.files.now) (edit_names c.args.model.now c.args.initial.now c.args.current.now c.args.edits.now (option_copied c.args.closed)) ⊥) _ c.in_err-inst.ensures.refused)
 
 pub returns-clause-kept : goal.returns-clause-kept
 returns-clause-kept g c = λ other. c.take_edits.ensures.kept other ∙ (c.read_lists.ensures.kept other ∙ c.read_instance.ensures.kept other)

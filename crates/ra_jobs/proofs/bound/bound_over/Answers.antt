@@ -1,4 +1,4 @@
--- Where an initial list is named, what is said is what is said of it.
+-- If an initial list is named, the reason is that of it.
 use Rattle.ra_jobs.proofs.bound.bound_over.Goals as goal
 
 pub returns-in-Some-clause-refused : goal.returns-in-Some-clause-refused

@@ -7,14 +7,14 @@ use Rattle.ra_jobs.specs.Output.{output, BrokeOff}
 use Rattle.ra_jobs.specs.Outputs.{BoundPrinted, bound_command}
 use Rattle.ra_jobs.specs.Refusals.{OnlyWrites}
 use Rattle.ra_jobs.proofs.DoesLemmas.{not_tried}
-use Rattle.ra_jobs.proofs.StageLemmas.{says_anywhere}
+use Rattle.ra_jobs.proofs.StageLemmas.{reason_anywhere}
 use Rattle.ra_jobs.proofs.bound.print_bound.Goals as goal
 
 pub returns-in-Ok : goal.returns-in-Ok
 returns-in-Ok g c = record {
   printed = record { bound = c.in_ok-bound.bound; read = c.in_ok-bound.ensures.read; text = c.in-Ok.ensures.whole };
   refused = tt;
-  untouched = tt;
+  no_output = tt;
   leaves = record { kept = c.read_bound.ensures.kept; never_fall = c.read_bound.ensures.never_fall };
   never_falls = c.write_bound.ensures.never_falls;
 }
@@ -23,7 +23,7 @@ pub returns-in-Err : goal.returns-in-Err
 returns-in-Err g c = record {
   printed = tt;
   refused = record { bound = c.in_ok-bound.bound; read = c.in_ok-bound.ensures.read; text = c.in-Err.ensures.part };
-  untouched = λ first. absurd cc;
+  no_output = λ first. absurd cc;
   leaves = record { kept = c.read_bound.ensures.kept; never_fall = c.read_bound.ensures.never_fall };
   never_falls = c.write_bound.ensures.never_falls;
 }
@@ -31,8 +31,8 @@ returns-in-Err g c = record {
 pub returns-in_err-bound : goal.returns-in_err-bound
 returns-in_err-bound g c =
     let held = g.F.Files.held c.args.files.now in
-    let names = bound_names c.args.model.now (option_copied c.args.closed) (option_copied c.args.initial) in
+    let names = bound_names c.args.model.now (option_copied c.args.initial) (option_copied c.args.closed) in
     let out = output g.O.Sink c.args.out.now c.args.out.now in
-    not_tried (bound_command c.args.model.now (option_copied c.args.closed) (option_copied c.args.initial)) (reading g.F.Files c.args.files.now c.read_bound.new.files) out _ _ c.from_residual.ensures
-    (says_anywhere held names (g.F.Files.faults c.args.files.now) (g.F.Files.faults c.read_bound.new.files) (OnlyWrites (BoundPrinted held names (BrokeOff out.sink))) _ c.in_err-bound.ensures.refused)
+    not_tried (bound_command c.args.model.now (option_copied c.args.initial) (option_copied c.args.closed)) (reading g.F.Files c.args.files.now c.read_bound.new.files) out _ _ c.from_residual.ensures
+    (reason_anywhere held names (g.F.Files.faults c.args.files.now) (g.F.Files.faults c.read_bound.new.files) (OnlyWrites (BoundPrinted held names (BrokeOff out.sink))) _ c.in_err-bound.ensures.refused)
     refl (record { kept = c.read_bound.ensures.kept; never_fall = c.read_bound.ensures.never_fall }) (omega arith)

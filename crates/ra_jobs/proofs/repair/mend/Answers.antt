@@ -7,9 +7,9 @@ use Rattle.ra_jobs.specs.Files.{solve_names}
 use Rattle.ra_jobs.specs.Output.{output, BrokeOff}
 use Rattle.ra_jobs.specs.Repairing.{RepairOwn, repaired, repair_command}
 use Rattle.ra_jobs.proofs.DoesLemmas.{not_tried}
-use Rattle.ra_jobs.proofs.RepairLemmas.{one_lot, lot_alone, tried_all, says_try}
+use Rattle.ra_jobs.proofs.RepairLemmas.{one_lot, lot_alone, tried_all, reason_try}
 use Rattle.ra_jobs.proofs.ResultLemmas.{on_ok_then, if_err_then}
-use Rattle.ra_jobs.proofs.StageLemmas.{says_anywhere, says_more}
+use Rattle.ra_jobs.proofs.StageLemmas.{reason_anywhere, reason_more}
 use Rattle.ra_jobs.proofs.repair.mend.Goals as goal
 
 pub try_from-ended-requires-clause-lot : goal.try_from-ended-requires-clause-lot
@@ -20,7 +20,7 @@ returns g c =
     let held = g.F.Files.held c.args.files.now in
     let before = g.F.Files.faults c.args.files.now in
     let now = g.F.Files.faults c.read_start.new.files in
-    let names = solve_names c.args.model.now (option_copied c.args.closed) c.args.initial.now in
+    let names = solve_names c.args.model.now c.args.initial.now (option_copied c.args.closed) in
     let out = writing g.O.Sink c.args.out.now c.try_from-ended.new.out in
     let lots = c.args.lots.now in
     let i = c.in_ok-start.start.inst.tables in
@@ -30,9 +30,9 @@ returns g c =
     record {
       printed = on_ok_then c.try_from-ended.result _ _ (λ tried. (lots, refl, tried_all held names lots i a0 c.lot.result.now None (Took out) start one tried)) c.try_from-ended.ensures.printed;
       refused = if_err_then c.try_from-ended.result _ _
-          (λ r says. says_more held names before now (RepairOwn held names lots (Took out) (BrokeOff out)) ((repaired names (These lots)).refuses held (Took out) (BrokeOff out)) (λ refusal own. (lots, refl, own)) r
-          (says_try held names lots i a0 c.lot.result.now before now (Took out) (BrokeOff out) start one r says)) c.try_from-ended.ensures.refused;
-      untouched = c.try_from-ended.ensures.untouched;
+          (λ r reason. reason_more held names before now (RepairOwn held names lots (Took out) (BrokeOff out)) ((repaired names (These lots)).refuses held (Took out) (BrokeOff out)) (λ refusal own. (lots, refl, own)) r
+          (reason_try held names lots i a0 c.lot.result.now before now (Took out) (BrokeOff out) start one r reason)) c.try_from-ended.ensures.refused;
+      no_output = c.try_from-ended.ensures.no_output;
       leaves = record { kept = c.read_start.ensures.kept; never_fall = c.read_start.ensures.never_fall };
       never_falls = c.try_from-ended.ensures.out_never_falls;
     }
@@ -40,8 +40,8 @@ returns g c =
 pub returns-in_err-start : goal.returns-in_err-start
 returns-in_err-start g c =
     let held = g.F.Files.held c.args.files.now in
-    let names = solve_names c.args.model.now (option_copied c.args.closed) c.args.initial.now in
+    let names = solve_names c.args.model.now c.args.initial.now (option_copied c.args.closed) in
     let out = output g.O.Sink c.args.out.now c.args.out.now in
-    not_tried (repair_command c.args.model.now (option_copied c.args.closed) c.args.initial.now (These c.args.lots.now)) (reading g.F.Files c.args.files.now c.read_start.new.files) out _ _ c.from_residual.ensures
-    (says_anywhere held names (g.F.Files.faults c.args.files.now) (g.F.Files.faults c.read_start.new.files) ((repaired names (These c.args.lots.now)).refuses held (Took out.sink) (BrokeOff out.sink)) _ c.in_err-start.ensures.refused)
+    not_tried (repair_command c.args.model.now c.args.initial.now (option_copied c.args.closed) (These c.args.lots.now)) (reading g.F.Files c.args.files.now c.read_start.new.files) out _ _ c.from_residual.ensures
+    (reason_anywhere held names (g.F.Files.faults c.args.files.now) (g.F.Files.faults c.read_start.new.files) ((repaired names (These c.args.lots.now)).refuses held (Took out.sink) (BrokeOff out.sink)) _ c.in_err-start.ensures.refused)
     refl (record { kept = c.read_start.ensures.kept; never_fall = c.read_start.ensures.never_fall }) (omega arith)

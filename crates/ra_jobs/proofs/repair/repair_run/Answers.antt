@@ -14,10 +14,10 @@ use Rattle.ra_jobs.proofs.repair.repair_run.Goals as goal
 pub finish-requires : goal.finish-requires
 finish-requires g c =
     let held = g.F.Files.held c.args.files.now in
-    let names = solve_names c.args.model.now (option_copied c.args.closed) c.args.initial.now in
+    let names = solve_names c.args.model.now c.args.initial.now (option_copied c.args.closed) in
     let out = writing g.O.Sink c.args.out.now c.mend-ended.new.out in
     let own = (repaired names (These c.args.lots.now)).refuses held (Took out) (BrokeOff out) in
-    if_err_then c.mend-ended.result _ _ (can_tell held names _ _ own (λ r says. own_tells held names says.0 (Took out) (BrokeOff out) refl r says.2)) c.mend-ended.ensures.refused
+    if_err_then c.mend-ended.result _ _ (can_tell held names _ _ own (λ r reason. own_tells held names reason.0 (Took out) (BrokeOff out) refl r reason.2)) c.mend-ended.ensures.refused
 
 pub returns : goal.returns
 returns g c = repair_so c.args.model.now (option_copied c.args.closed) c.args.initial.now c.args.lots.now

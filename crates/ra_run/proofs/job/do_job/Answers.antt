@@ -29,7 +29,7 @@ returns-in-Bound g c = rw c.in-Bound.is (rw (c.as_ref-in-Bound.ensures.value, c.
 pub returns-in-Solve : goal.returns-in-Solve
 returns-in-Solve g c =
     let lots = c.in-Solve.lots in
-    rw c.in-Solve.is (solve_more (solve_names c.in-Solve.model c.in-Solve.closed c.in-Solve.initial) (These lots) (AreLots lots.slack lots.drawing (map said_lot lots.lots.items))
+    rw c.in-Solve.is (solve_more (solve_names c.in-Solve.model c.in-Solve.initial c.in-Solve.closed) (These lots) (AreLots lots.slack lots.drawing (map said_lot lots.lots.items))
     (reading g.F.Files c.args.files.now c.solve_run.new.files) (output g.O.Sink c.args.out.now c.solve_run.new.out) (output g.E.Sink c.args.err.now c.solve_run.new.err) c.solve_run.result (are_said lots) (rw c.as_ref-in-Solve.ensures.value at c.solve_run.ensures))
 
 pub returns-in-Trial : goal.returns-in-Trial
@@ -38,7 +38,7 @@ returns-in-Trial g c = rw c.in-Trial.is (c.trial_run.ensures (reading g.F.Files 
 pub returns-in-Repair : goal.returns-in-Repair
 returns-in-Repair g c =
     let lots = c.in-Repair.lots in
-    rw c.in-Repair.is (repair_command_more (solve_names c.in-Repair.model c.in-Repair.closed c.in-Repair.initial) (These lots) (AreLots lots.slack lots.drawing (map said_lot lots.lots.items))
+    rw c.in-Repair.is (repair_command_more (solve_names c.in-Repair.model c.in-Repair.initial c.in-Repair.closed) (These lots) (AreLots lots.slack lots.drawing (map said_lot lots.lots.items))
     (reading g.F.Files c.args.files.now c.repair_run.new.files) (output g.O.Sink c.args.out.now c.repair_run.new.out) (output g.E.Sink c.args.err.now c.repair_run.new.err) c.repair_run.result (are_said lots) (rw c.as_ref-in-Repair.ensures.value at c.repair_run.ensures))
 
 pub returns-in-Edit : goal.returns-in-Edit
@@ -47,5 +47,5 @@ returns-in-Edit g c = rw c.in-Edit.is (rw c.as_ref-in-Edit.ensures.value at c.ed
 pub returns-in-Verify : goal.returns-in-Verify
 returns-in-Verify g c =
     let lots = c.in-Verify.lots in
-    rw c.in-Verify.is (verify_more (verify_names c.in-Verify.model c.in-Verify.closed c.in-Verify.initial c.in-Verify.report) (These lots) (AreLots lots.slack lots.drawing (map said_lot lots.lots.items))
+    rw c.in-Verify.is (verify_more (verify_names c.in-Verify.model c.in-Verify.initial c.in-Verify.report c.in-Verify.closed) (These lots) (AreLots lots.slack lots.drawing (map said_lot lots.lots.items))
     (reading g.F.Files c.args.files.now c.verify_run.new.files) (output g.O.Sink c.args.out.now c.verify_run.new.out) (output g.E.Sink c.args.err.now c.verify_run.new.err) c.verify_run.result (are_said lots) (rw c.as_ref-in-Verify.ensures.value at c.verify_run.ensures))

@@ -15,7 +15,7 @@ pub returns-in-Ok-clause-usage : goal.returns-in-Ok-clause-usage
 returns-in-Ok-clause-usage g c = record {
   exactly = (λ e. absurd (c.do_job-status.ensures.not_usage e), λ none. absurd (let some = c.in-Ok.ensures.ok in cc));
   line = λ e. absurd (c.do_job-status.ensures.not_usage e);
-  quiet = λ e. absurd (c.do_job-status.ensures.not_usage e);
+  no_output = λ e. absurd (c.do_job-status.ensures.not_usage e);
 }
 
 pub returns-in-Ok-clause-does : goal.returns-in-Ok-clause-does

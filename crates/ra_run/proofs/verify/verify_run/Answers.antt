@@ -13,10 +13,10 @@ use Rattle.ra_run.proofs.verify.verify_run.Goals as goal
 pub finish-requires : goal.finish-requires
 finish-requires g c =
     let held = g.F.Files.held c.args.files.now in
-    let names = verify_names c.args.model.now (option_copied c.args.closed) c.args.initial.now c.args.report.now in
+    let names = verify_names c.args.model.now c.args.initial.now c.args.report.now (option_copied c.args.closed) in
     let out = writing g.O.Sink c.args.out.now c.accept-ended.new.out in
     let own = (verifying names (These c.args.lots.now)).refuses held (Took out) (BrokeOff out) in
-    if_err_then c.accept-ended.result _ _ (can_tell held names _ _ own (λ r says. own_tells held names says.0 (Verified held names says.0 (BrokeOff out)) r says.2)) c.accept-ended.ensures.refused
+    if_err_then c.accept-ended.result _ _ (can_tell held names _ _ own (λ r reason. own_tells held names reason.0 (Verified held names reason.0 (BrokeOff out)) r reason.2)) c.accept-ended.ensures.refused
 
 pub returns : goal.returns
 returns g c = verify_so c.args.model.now (option_copied c.args.closed) c.args.initial.now c.args.report.now c.args.lots.now
