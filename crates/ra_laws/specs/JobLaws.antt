@@ -60,7 +60,7 @@ pub record RunAlike (i j : Tables) : Type 0 where
       → report_text i a0 l h ≡ report_text j a0 l h
   pub is_report : (a0 : List Machine) (l : Lots) (bytes : List ℕ) (n : ℕ) → IsReport i a0 l bytes n
       → IsReport j a0 l bytes n
-  pub first_wrong : (a0 : List Machine) (l : Lots) (bytes : List ℕ) (line : Option ℕ)
+  pub wrong_line : (a0 : List Machine) (l : Lots) (bytes : List ℕ) (line : Option ℕ)
       → IsWrongLine i a0 l bytes line → IsWrongLine j a0 l bytes line
   pub alone : (a0 : List Machine) (l k : Lots) → AreAlikeLots l k → solo i a0 l ≡ solo j a0 k
   pub summary : (a0 : List Machine) (h : List Entry) → summary_text i a0 h ≡ summary_text j a0 h

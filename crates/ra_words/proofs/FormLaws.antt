@@ -6,7 +6,7 @@ use Rattle.ra_words.specs.declared.forms.Form.TheVariants.{Check, Bound, BoundFr
 use Rattle.ra_words.specs.Lines.{Finds, Line, Spells}
 use Rattle.ra_words.specs.Jobs.{JobSays, job_of, is_check, check_says, is_bound, bound_says, is_bound_from, bound_from_says, is_solve, solve_says, is_trial, trial_says, is_verify, verify_says, is_repair, repair_says, is_edit, edit_says}
 use Rattle.ra_words.specs.Forms.{form_of, found_says, FitsForm}
-use Rattle.ra_words.proofs.JobLines.{check_is_line, check_found, bound_is_line, bound_found, bound_from_is_line, bound_from_found, solve_is_line, solve_fits, solve_found, trial_is_line, trial_plain, trial_found, verify_is_line, verify_fits, verify_found, repair_is_line, repair_lots, repair_found, edit_is_line, edit_found}
+use Rattle.ra_words.proofs.JobLines.{closing_line, closing_spelled, pair_line, running_line, running_spelled, repair_line, check_files, check_found, bound_spelled, bound_found, bound_from_files, bound_from_found, solve_files, solve_fits, solve_found, trial_spelled, trial_plain, trial_found, verify_files, verify_fits, verify_found, repair_spelled, repair_lots, repair_found, edit_files, edit_found}
 
 -- the words are a job of the form
 abbrev IsA : Form → List (List ℕ) → Type 0
@@ -77,14 +77,14 @@ pub is_job : (words : List (List ℕ)) (form : Form) → form_of words ≡ Some 
 is_job words form is none = let job = (told words form is).told in cc
 
 line_of : (form : Form) (words : List (List ℕ)) → IsA form words → (line : Line) × Spells line words
-line_of Check words is = check_is_line words is
-line_of Bound words is = bound_is_line words is
-line_of BoundFrom words is = bound_from_is_line words is
-line_of Solve words is = solve_is_line words is
-line_of Trial words is = trial_is_line words is
-line_of Verify words is = verify_is_line words is
-line_of Repair words is = repair_is_line words is
-line_of Edit words is = edit_is_line words is
+line_of Check words is = (closing_line 3 words, closing_spelled 2 words (check_files words is))
+line_of Bound words is = (pair_line words, bound_spelled words is)
+line_of BoundFrom words is = (closing_line 2 words, closing_spelled 1 words (bound_from_files words is))
+line_of Solve words is = (running_line 2 words, running_spelled 1 words (solve_files words is))
+line_of Trial words is = (pair_line words, trial_spelled words is)
+line_of Verify words is = (running_line 3 words, running_spelled 2 words (verify_files words is))
+line_of Repair words is = (repair_line words, repair_spelled words is)
+line_of Edit words is = (closing_line 4 words, closing_spelled 3 words (edit_files words is))
 
 fits : (form : Form) (words : List (List ℕ)) (found : Found) → IsA form words → ((line : Line) → Spells line words → Finds line found) → FitsForm form found
 fits Check words found is finds = tt

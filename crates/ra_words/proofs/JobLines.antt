@@ -97,14 +97,23 @@ name_within words place name = elim (cases_lt place (length words)) [
       absurd (true≢false (sym name ∙ none))
 ]
 
-word_here : (words : List (List ℕ)) (place : ℕ) → place < length words → drop place words ≡ word_at words place ∷ drop (place + 1) words
-unfolding word_at
-word_here words place within = rw add-one (drop-cons words place [] within)
-
 -- so many words from a place on
 abbrev words_from : ℕ → List (List ℕ) → ℕ → List (List ℕ)
 words_from place words zero = []
 words_from place words (suc n) = word_at words place ∷ words_from (suc place) words n
+
+names_within : (n place : ℕ) (words : List (List ℕ)) → list_all is_name (words_from place words (suc n)) ≡ true → n + place < length words
+names_within zero place words names =
+    let within : place < length words = name_within words place (both (is_name (word_at words place)) true names).0 in
+    omega (arith, within)
+names_within (suc n) place words names =
+    let later = (both (is_name (word_at words place)) (list_all is_name (words_from (suc place) words (suc n))) names).1 in
+    let within : n + suc place < length words = names_within n (suc place) words later in
+    omega (arith, within)
+
+word_here : (words : List (List ℕ)) (place : ℕ) → place < length words → drop place words ≡ word_at words place ∷ drop (place + 1) words
+unfolding word_at
+word_here words place within = rw add-one (drop-cons words place [] within)
 
 words_here : (n place : ℕ) (words : List (List ℕ)) → n + place ≤ length words → drop place words ≡ words_from place words n ++ drop (n + place) words
 words_here zero place words within = let none : place ≡ 0 + place = omega arith in ap (λ k. drop k words) none
@@ -148,10 +157,15 @@ options_here words slack closed draws behind_slack behind_closed one two three =
     ∙ ap (λ k. first ++ (second ++ drop k words)) (sym behind_closed)
     ∙ ap (λ ws. first ++ (second ++ ws)) (option_here (codes "--draws") words draws three)
 
+-- so many names stand behind the command word, and behind them a line ends so
+pub record Files (end : List (List ℕ) → ℕ → Bool) (n : ℕ) (words : List (List ℕ)) : Type 0 where
+  names : list_all is_name (words_from 1 words n) ≡ true
+  ends : end words (suc n) ≡ true
+
 -- ---- files, and then `--closed` or nothing: check, a bound from a start, and edit
 
 -- the command word, so many names, and what `--closed` names behind them
-abbrev closing_line : ℕ → List (List ℕ) → Line
+abbrev pub closing_line : ℕ → List (List ℕ) → Line
 closing_line n words = record {
   command = word_at words 0;
   files = words_from 1 words n;
@@ -169,10 +183,12 @@ closed_parts : (words : List (List ℕ)) (place : ℕ) → ends_closed words pla
 unfolding ends_closed
 closed_parts words place ends = record { closed = grind (arith, common_steps); last = grind (arith, common_steps) }
 
-closing_spelled : (n : ℕ) (words : List (List ℕ)) → list_all is_name (words_from 1 words n) ≡ true → n < length words → ends_closed words (suc n) ≡ true → Spells (closing_line n words) words
+pub closing_spelled : (k : ℕ) (words : List (List ℕ)) → Files ends_closed (suc k) words → Spells (closing_line (suc k) words) words
 unfolding words_of option_words
-closing_spelled n words names within ends =
-    let is = closed_parts words (suc n) ends in
+closing_spelled k words files =
+    let n = suc k in
+    let is = closed_parts words (suc n) files.ends in
+    let within : k + 1 < length words = names_within k 1 words files.names in
     let named = closed_named (value_at (codes "--closed") words (suc n)) is.closed in
     let none : drop (behind (codes "--closed") words (suc n)) words ≡ [] = drop_all (behind (codes "--closed") words (suc n)) words (omega (arith, is.last)) in
     let here : suc n + 0 ≡ suc n = omega arith in
@@ -182,98 +198,50 @@ closing_spelled n words names within ends =
           ∙ ap (λ k. words_from 0 words (suc n) ++ drop k words) here
           ∙ ap (λ ws. words_from 0 words (suc n) ++ ws) (option_here (codes "--closed") words (suc n) named)
           ∙ ap (λ ws. words_from 0 words (suc n) ++ (option_words (codes "--closed") (value_at (codes "--closed") words (suc n)) ++ ws)) none;
-      files = names;
+      files = files.names;
       slack = refl;
       closed = named;
       draws = refl;
       behind = refl;
     }
 
-record IsCheck (words : List (List ℕ)) : Type 0 where
-  model : is_name (word_at words 1) ≡ true
-  initial : is_name (word_at words 2) ≡ true
-  changed : is_name (word_at words 3) ≡ true
-  ends : ends_closed words 4 ≡ true
-
-check_parts : (words : List (List ℕ)) → is_check words ≡ true → IsCheck words
+pub check_files : (words : List (List ℕ)) → is_check words ≡ true → Files ends_closed 3 words
 unfolding is_check
-check_parts words check = record { model = grind (arith, common_steps); initial = grind (arith, common_steps); changed = grind (arith, common_steps); ends = grind (arith, common_steps) }
-
-check_spelled : (words : List (List ℕ)) → is_check words ≡ true → Spells (closing_line 3 words) words
-check_spelled words check =
-    let is = check_parts words check in
-    closing_spelled 3 words (rw (is.model, is.initial, is.changed) refl) (name_within words 3 is.changed) is.ends
-
-pub check_is_line : (words : List (List ℕ)) → is_check words ≡ true → (line : Line) × Spells line words
-check_is_line words is = (closing_line 3 words, check_spelled words is)
+check_files words is = record { names = grind (arith, common_steps); ends = grind (arith, common_steps) }
 
 pub check_found : (words : List (List ℕ)) (found : Found) → is_check words ≡ true → ((line : Line) → Spells line words → Finds line found)
     → found_check found ≡ check_says words
 unfolding check_says word_at
 check_found words found check finds =
-    let f = finds (closing_line 3 words) (check_spelled words check) in
+    let f = finds (closing_line 3 words) (closing_spelled 2 words (check_files words check)) in
     λ i. Checks (word_at (f.plain i) 0) (word_at (f.plain i) 1) (word_at (f.plain i) 2) (f.closed i)
 
-record IsBoundFrom (words : List (List ℕ)) : Type 0 where
-  model : is_name (word_at words 1) ≡ true
-  initial : is_name (word_at words 2) ≡ true
-  ends : ends_closed words 3 ≡ true
-
-bound_from_parts : (words : List (List ℕ)) → is_bound_from words ≡ true → IsBoundFrom words
+pub bound_from_files : (words : List (List ℕ)) → is_bound_from words ≡ true → Files ends_closed 2 words
 unfolding is_bound_from
-bound_from_parts words bound = record { model = grind (arith, common_steps); initial = grind (arith, common_steps); ends = grind (arith, common_steps) }
-
-bound_from_spelled : (words : List (List ℕ)) → is_bound_from words ≡ true → Spells (closing_line 2 words) words
-bound_from_spelled words bound =
-    let is = bound_from_parts words bound in
-    closing_spelled 2 words (rw (is.model, is.initial) refl) (name_within words 2 is.initial) is.ends
-
-pub bound_from_is_line : (words : List (List ℕ)) → is_bound_from words ≡ true → (line : Line) × Spells line words
-bound_from_is_line words is = (closing_line 2 words, bound_from_spelled words is)
+bound_from_files words is = record { names = grind (arith, common_steps); ends = grind (arith, common_steps) }
 
 pub bound_from_found : (words : List (List ℕ)) (found : Found) → is_bound_from words ≡ true → ((line : Line) → Spells line words → Finds line found)
     → found_bound_from found ≡ bound_from_says words
 unfolding bound_from_says word_at
 bound_from_found words found bound finds =
-    let f = finds (closing_line 2 words) (bound_from_spelled words bound) in
+    let f = finds (closing_line 2 words) (closing_spelled 1 words (bound_from_files words bound)) in
     λ i. Bounds (word_at (f.plain i) 0) (Some (word_at (f.plain i) 1)) (f.closed i)
 
-record IsEdit (words : List (List ℕ)) : Type 0 where
-  model : is_name (word_at words 1) ≡ true
-  initial : is_name (word_at words 2) ≡ true
-  current : is_name (word_at words 3) ≡ true
-  edits : is_name (word_at words 4) ≡ true
-  ends : ends_closed words 5 ≡ true
-
-edit_parts : (words : List (List ℕ)) → is_edit words ≡ true → IsEdit words
+pub edit_files : (words : List (List ℕ)) → is_edit words ≡ true → Files ends_closed 4 words
 unfolding is_edit
-edit_parts words edit = record {
-  model = grind (arith, common_steps);
-  initial = grind (arith, common_steps);
-  current = grind (arith, common_steps);
-  edits = grind (arith, common_steps);
-  ends = grind (arith, common_steps);
-}
-
-edit_spelled : (words : List (List ℕ)) → is_edit words ≡ true → Spells (closing_line 4 words) words
-edit_spelled words edit =
-    let is = edit_parts words edit in
-    closing_spelled 4 words (rw (is.model, is.initial, is.current, is.edits) refl) (name_within words 4 is.edits) is.ends
-
-pub edit_is_line : (words : List (List ℕ)) → is_edit words ≡ true → (line : Line) × Spells line words
-edit_is_line words is = (closing_line 4 words, edit_spelled words is)
+edit_files words is = record { names = grind (arith, common_steps); ends = grind (arith, common_steps) }
 
 pub edit_found : (words : List (List ℕ)) (found : Found) → is_edit words ≡ true → ((line : Line) → Spells line words → Finds line found)
     → found_edit found ≡ edit_says words
 unfolding edit_says word_at
 edit_found words found edit finds =
-    let f = finds (closing_line 4 words) (edit_spelled words edit) in
+    let f = finds (closing_line 4 words) (closing_spelled 3 words (edit_files words edit)) in
     λ i. Edits (word_at (f.plain i) 0) (word_at (f.plain i) 1) (word_at (f.plain i) 2) (word_at (f.plain i) 3) (f.closed i)
 
 -- ---- bound and trial
 
 -- the command word and one plain word
-abbrev pair_line : List (List ℕ) → Line
+abbrev pub pair_line : List (List ℕ) → Line
 pair_line words = record { command = word_at words 0; files = words_from 1 words 1; slack = None; closed = None; draws = None; behind = [] }
 
 pair_spelled : (words : List (List ℕ)) → length words ≡ 2 → is_name (word_at words 1) ≡ true → Spells (pair_line words) words
@@ -287,15 +255,12 @@ pair_spelled words two name = record {
   behind = refl;
 }
 
-bound_spelled : (words : List (List ℕ)) → is_bound words ≡ true → Spells (pair_line words) words
+pub bound_spelled : (words : List (List ℕ)) → is_bound words ≡ true → Spells (pair_line words) words
 unfolding is_bound
 bound_spelled words bound =
     let name : is_name (word_at words 1) ≡ true = grind (arith, common_steps) in
     let two : length words ≡ 2 = grind (arith, common_steps) in
     pair_spelled words two name
-
-pub bound_is_line : (words : List (List ℕ)) → is_bound words ≡ true → (line : Line) × Spells line words
-bound_is_line words is = (pair_line words, bound_spelled words is)
 
 pub bound_found : (words : List (List ℕ)) (found : Found) → is_bound words ≡ true → ((line : Line) → Spells line words → Finds line found)
     → found_bound found ≡ bound_says words
@@ -308,14 +273,11 @@ trial_number : (words : List (List ℕ)) → is_trial words ≡ true → is_numb
 unfolding is_trial
 trial_number words trial = grind (arith, common_steps)
 
-trial_spelled : (words : List (List ℕ)) → is_trial words ≡ true → Spells (pair_line words) words
+pub trial_spelled : (words : List (List ℕ)) → is_trial words ≡ true → Spells (pair_line words) words
 unfolding is_trial
 trial_spelled words trial =
     let two : length words ≡ 2 = grind (arith, common_steps) in
     pair_spelled words two (digits_named (word_at words 1) (trial_number words trial))
-
-pub trial_is_line : (words : List (List ℕ)) → is_trial words ≡ true → (line : Line) × Spells line words
-trial_is_line words is = (pair_line words, trial_spelled words is)
 
 -- the plain word that is found is the number
 pub trial_plain : (words : List (List ℕ)) (found : Found) → is_trial words ≡ true → ((line : Line) → Spells line words → Finds line found)
@@ -335,7 +297,7 @@ trial_found words found trial finds =
 -- ---- files, options and lots: solve and verify
 
 -- the command word, so many names, the options in their order, and lots
-abbrev running_line : ℕ → List (List ℕ) → Line
+abbrev pub running_line : ℕ → List (List ℕ) → Line
 running_line n words = record {
   command = word_at words 0;
   files = words_from 1 words n;
@@ -360,10 +322,12 @@ lots_parts words place ends = record {
   lots = grind (arith, common_steps);
 }
 
-running_spelled : (n : ℕ) (words : List (List ℕ)) → list_all is_name (words_from 1 words n) ≡ true → n < length words → ends_in_lots words (suc n) ≡ true → Spells (running_line n words) words
+pub running_spelled : (k : ℕ) (words : List (List ℕ)) → Files ends_in_lots (suc k) words → Spells (running_line (suc k) words) words
 unfolding words_of slack_text closed_text draws_text lot_words closed_place draws_place lots_place
-running_spelled n words names within ends =
-    let is = lots_parts words (suc n) ends in
+running_spelled k words files =
+    let n = suc k in
+    let is = lots_parts words (suc n) files.ends in
+    let within : k + 1 < length words = names_within k 1 words files.names in
     let slack = slack_named (slack_text words (suc n)) is.slack in
     let closed = closed_named (closed_text words (suc n)) is.closed in
     let draws = draws_named (draws_text words (suc n)) is.draws in
@@ -373,7 +337,7 @@ running_spelled n words names within ends =
           words_here (suc n) 0 words (omega (arith, within))
           ∙ ap (λ k. words_from 0 words (suc n) ++ drop k words) here
           ∙ ap (λ ws. words_from 0 words (suc n) ++ ws) (options_here words (suc n) (closed_place words (suc n)) (draws_place words (suc n)) refl refl slack closed draws);
-      files = names;
+      files = files.names;
       slack = slack;
       closed = closed;
       draws = draws;
@@ -390,64 +354,37 @@ run_fits n words found ends f behind =
       lots = ap (λ ws. are_lots (drop n ws)) f.plain ∙ ap are_lots behind ∙ is.lots;
     }
 
-record IsSolve (words : List (List ℕ)) : Type 0 where
-  model : is_name (word_at words 1) ≡ true
-  initial : is_name (word_at words 2) ≡ true
-  ends : ends_in_lots words 3 ≡ true
-
-solve_parts : (words : List (List ℕ)) → is_solve words ≡ true → IsSolve words
+pub solve_files : (words : List (List ℕ)) → is_solve words ≡ true → Files ends_in_lots 2 words
 unfolding is_solve
-solve_parts words solve = record { model = grind (arith, common_steps); initial = grind (arith, common_steps); ends = grind (arith, common_steps) }
-
-solve_spelled : (words : List (List ℕ)) → is_solve words ≡ true → Spells (running_line 2 words) words
-solve_spelled words solve =
-    let is = solve_parts words solve in
-    running_spelled 2 words (rw (is.model, is.initial) refl) (name_within words 2 is.initial) is.ends
-
-pub solve_is_line : (words : List (List ℕ)) → is_solve words ≡ true → (line : Line) × Spells line words
-solve_is_line words is = (running_line 2 words, solve_spelled words is)
+solve_files words is = record { names = grind (arith, common_steps); ends = grind (arith, common_steps) }
 
 pub solve_fits : (words : List (List ℕ)) (found : Found) → is_solve words ≡ true → ((line : Line) → Spells line words → Finds line found) → RunFound found 2
-solve_fits words found solve finds = run_fits 2 words found (solve_parts words solve).ends (finds (running_line 2 words) (solve_spelled words solve)) refl
+solve_fits words found solve finds = run_fits 2 words found (solve_files words solve).ends (finds (running_line 2 words) (running_spelled 1 words (solve_files words solve))) refl
 
 pub solve_found : (words : List (List ℕ)) (found : Found) → is_solve words ≡ true → ((line : Line) → Spells line words → Finds line found)
     → found_solve found ≡ solve_says words
 unfolding solve_says word_at
 solve_found words found solve finds =
-    let f = finds (running_line 2 words) (solve_spelled words solve) in
+    let f = finds (running_line 2 words) (running_spelled 1 words (solve_files words solve)) in
     λ i. Solves (word_at (f.plain i) 0) (word_at (f.plain i) 1) (f.closed i) (slack_says (f.slack i)) (drawing_says (f.draws i)) (map lot_says (drop 2 (f.plain i)))
 
-record IsVerify (words : List (List ℕ)) : Type 0 where
-  model : is_name (word_at words 1) ≡ true
-  initial : is_name (word_at words 2) ≡ true
-  report : is_name (word_at words 3) ≡ true
-  ends : ends_in_lots words 4 ≡ true
-
-verify_parts : (words : List (List ℕ)) → is_verify words ≡ true → IsVerify words
+pub verify_files : (words : List (List ℕ)) → is_verify words ≡ true → Files ends_in_lots 3 words
 unfolding is_verify
-verify_parts words verify = record { model = grind (arith, common_steps); initial = grind (arith, common_steps); report = grind (arith, common_steps); ends = grind (arith, common_steps) }
-
-verify_spelled : (words : List (List ℕ)) → is_verify words ≡ true → Spells (running_line 3 words) words
-verify_spelled words verify =
-    let is = verify_parts words verify in
-    running_spelled 3 words (rw (is.model, is.initial, is.report) refl) (name_within words 3 is.report) is.ends
-
-pub verify_is_line : (words : List (List ℕ)) → is_verify words ≡ true → (line : Line) × Spells line words
-verify_is_line words is = (running_line 3 words, verify_spelled words is)
+verify_files words is = record { names = grind (arith, common_steps); ends = grind (arith, common_steps) }
 
 pub verify_fits : (words : List (List ℕ)) (found : Found) → is_verify words ≡ true → ((line : Line) → Spells line words → Finds line found) → RunFound found 3
-verify_fits words found verify finds = run_fits 3 words found (verify_parts words verify).ends (finds (running_line 3 words) (verify_spelled words verify)) refl
+verify_fits words found verify finds = run_fits 3 words found (verify_files words verify).ends (finds (running_line 3 words) (running_spelled 2 words (verify_files words verify))) refl
 
 pub verify_found : (words : List (List ℕ)) (found : Found) → is_verify words ≡ true → ((line : Line) → Spells line words → Finds line found)
     → found_verify found ≡ verify_says words
 unfolding verify_says word_at
 verify_found words found verify finds =
-    let f = finds (running_line 3 words) (verify_spelled words verify) in
+    let f = finds (running_line 3 words) (running_spelled 2 words (verify_files words verify)) in
     λ i. Verifies (word_at (f.plain i) 0) (word_at (f.plain i) 1) (word_at (f.plain i) 2) (f.closed i) (slack_says (f.slack i)) (drawing_says (f.draws i)) (map lot_says (drop 3 (f.plain i)))
 
 -- ---- repair
 
-abbrev repair_line : List (List ℕ) → Line
+abbrev pub repair_line : List (List ℕ) → Line
 repair_line words = record {
   command = word_at words 0;
   files = words_from 1 words 2;
@@ -458,33 +395,29 @@ repair_line words = record {
 }
 
 record IsRepair (words : List (List ℕ)) : Type 0 where
-  model : is_name (word_at words 1) ≡ true
-  initial : is_name (word_at words 2) ≡ true
+  names : list_all is_name (words_from 1 words 2) ≡ true
   closed : is_closed (value_at (codes "--closed") words 3) ≡ true
   lots : are_lots (drop (lot_place words) words) ≡ true
 
 repair_parts : (words : List (List ℕ)) → is_repair words ≡ true → IsRepair words
 unfolding is_repair
-repair_parts words repair = record { model = grind (arith, common_steps); initial = grind (arith, common_steps); closed = grind (arith, common_steps); lots = grind (arith, common_steps) }
+repair_parts words repair = record { names = grind (arith, common_steps); closed = grind (arith, common_steps); lots = grind (arith, common_steps) }
 
-repair_spelled : (words : List (List ℕ)) → is_repair words ≡ true → Spells (repair_line words) words
+pub repair_spelled : (words : List (List ℕ)) → is_repair words ≡ true → Spells (repair_line words) words
 unfolding words_of option_words lot_place
 repair_spelled words repair =
     let is = repair_parts words repair in
     let named = closed_named (value_at (codes "--closed") words 3) is.closed in
     record {
       is =
-          words_here 3 0 words (omega (arith, name_within words 2 is.initial))
+          words_here 3 0 words (omega (arith, names_within 1 1 words is.names))
           ∙ ap (λ ws. words_from 0 words 3 ++ ws) (option_here (codes "--closed") words 3 named);
-      files = rw (is.model, is.initial) refl;
+      files = is.names;
       slack = refl;
       closed = named;
       draws = refl;
       behind = lots_named (drop (lot_place words) words) (lots_told (drop (lot_place words) words) is.lots);
     }
-
-pub repair_is_line : (words : List (List ℕ)) → is_repair words ≡ true → (line : Line) × Spells line words
-repair_is_line words is = (repair_line words, repair_spelled words is)
 
 pub repair_lots : (words : List (List ℕ)) (found : Found) → is_repair words ≡ true → ((line : Line) → Spells line words → Finds line found) → are_lots (drop 2 (plain_of found)) ≡ true
 repair_lots words found repair finds = ap (λ ws. are_lots (drop 2 ws)) (finds (repair_line words) (repair_spelled words repair)).plain ∙ (repair_parts words repair).lots
