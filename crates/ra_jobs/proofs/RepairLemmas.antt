@@ -1,10 +1,12 @@
 -- What is printed of the tries of a repair, and when its statuses come.
 use Rattle.std.proofs.Common.{◌≡◌, ◌≢◌, ◌⊎◌, ℕ, false, List, [], ◌∷◌, length, Option, Some, None, IsSome, Result, Ok, Err, OnOk, IfErr, inl, inr, ⊎_elim, refl, sym, ap, ◌∙◌, subst, arith}
 use Rattle.ra_base.specs.declared.causes.Cause.{Cause}
+use Rattle.ra_base.specs.Listed.{Listed}
 use Rattle.ra_base.specs.declared.ids.Machine.{Machine}
 use Rattle.ra_draws.specs.declared.budgets.Lots.{Lots}
 use Rattle.ra_draws.specs.declared.sources.Lot.{Lot}
 use Rattle.ra_draws.specs.Lots.{lot_at, IsLots}
+use Rattle.ra_model.specs.declared.numbers.Instance.{Instance}
 use Rattle.ra_model.specs.declared.raw.Tables.{Tables}
 use Rattle.ra_model.specs.Limits.{WellFormed}
 use Rattle.ra_model.specs.Assignments.{IsAssignment}
@@ -37,7 +39,7 @@ use Rattle.ra_jobs.specs.Repairing.{IsTried, Tried, RepairOwn, LeavesBroken, Rep
 use Rattle.ra_jobs.specs.Stages.{IsStart}
 use Rattle.ra_jobs.specs.Statuses.{status_of}
 use Rattle.ra_jobs.proofs.CompleteLemmas.{is_done, complete_own, OwnRefused}
-use Rattle.ra_jobs.proofs.ComesLemmas.{Listed, told_of}
+use Rattle.ra_jobs.proofs.ComesLemmas.{Listed as AreListed, told_of}
 use Rattle.ra_jobs.proofs.EndLemmas.{Ends, EndsOver, finished, left_so}
 use Rattle.ra_jobs.proofs.DoesLemmas.{does_so, does_more, memory_refused}
 use Rattle.ra_jobs.proofs.AlikeLemmas.{repaired_same}
@@ -50,7 +52,7 @@ use Rattle.ra_jobs.proofs.MeaningLemmas.{broken_same, no_model, no_closed, no_in
 some_penalty : (i : Tables) (a0 a : List Machine) (broken : Option Cause) → WellFormed i → IsAssignment i a → first_broken i a0 a ≡ broken → broken ≢ None → penalty i a0 a ≢ 0
 some_penalty i a0 a broken limits fits is other zeros = other (sym is ∙ unbroken_from_feasible i a0 a ((zero.zero_is_feasible i a0 a limits fits).0 zeros))
 
-pub tried : (i : Tables) (a0 : List Machine) (lot : Lot) (r : Repair) (broken : Option Cause) (sent : List ℕ → Type 0) → WellFormed i → IsRepaired r → r.inst.now.tables ≡ i → r.start.now.items ≡ a0 → r.lot.now ≡ lot → IsAssignment i r.kept.assignment.items → broken ≡ first_broken i a0 r.kept.assignment.items → (broken ≡ None → Feasible i a0 r.kept.assignment.items) → sent (text_of_repair r) → IsTried i a0 lot broken sent
+tried : (i : Tables) (a0 : List Machine) (lot : Lot) (r : Repair) (broken : Option Cause) (sent : List ℕ → Type 0) → WellFormed i → IsRepaired r → r.inst.now.tables ≡ i → r.start.now.items ≡ a0 → r.lot.now ≡ lot → IsAssignment i r.kept.assignment.items → broken ≡ first_broken i a0 r.kept.assignment.items → (broken ≡ None → Feasible i a0 r.kept.assignment.items) → sent (text_of_repair r) → IsTried i a0 lot broken sent
 unfolding text_of_repair
 tried i a0 lot r broken sent limits repaired instance initial of_lot fits is feasible text =
     let run_is : (record { assignment = r.kept.assignment.items; tries = r.tries.items }) ≡ repair_run i a0 lot = rw (instance, initial, of_lot) at repaired.run in
@@ -63,6 +65,17 @@ tried i a0 lot r broken sent limits repaired instance initial of_lot fits is fea
       tried = λ some. run.uses_its_budget i a0 lot (some_penalty i a0 (repair_run i a0 lot).assignment broken limits (subst (IsAssignment i) last fits) first some);
       text = rw (instance, initial, sym is, last, all) at text;
     }
+
+-- the same of what a run of tries gives, and of the constraint that was found in its last list
+pub run_tried : (inst : Instance) (start a : Listed Machine) (lot : Lot) (r : Repair) (found broken : Option Cause) (sent : List ℕ → Type 0) → IsRepaired r → r.inst.now ≡ inst → r.start.now ≡ start → r.lot.now ≡ lot → a ≡ r.kept.assignment → found ≡ first_broken inst.tables start.items a.items → (found ≡ None → Feasible inst.tables start.items a.items) → found ≡ broken → sent (text_of_repair r) → IsTried inst.tables start.items lot broken sent
+run_tried inst start a lot r found broken sent repaired instance initial of_lot last first feasible is text =
+    let i : r.inst.now.tables ≡ inst.tables = ap (λ (x : Instance). x.tables) instance in
+    let items : a.items ≡ r.kept.assignment.items = ap (λ (x : Listed Machine). x.items) last in
+    tried inst.tables start.items lot r broken sent inst.well_formed repaired i (ap (λ (x : Listed Machine). x.items) initial) of_lot
+    (subst (λ t. IsAssignment t r.kept.assignment.items) i r.keeps.stands.fits)
+    (sym is ∙ (first ∙ ap (first_broken inst.tables start.items) items))
+    (λ none. subst (Feasible inst.tables start.items) items (feasible (is ∙ none)))
+    text
 
 -- one lot of a run
 
@@ -89,10 +102,10 @@ reason_try held names l i a0 lot before now prints breaks start one Write reason
 reason_try held names l i a0 lot before now prints breaks start one Memory reason = tt
 reason_try held names l i a0 lot before now prints breaks start one refusal reason = absurd reason
 
-pub tried_listed : (held : Held) (names : Names) (l : Lots) (broken : Option Cause) (sent : List ℕ → Type 0) → Tried held names l broken sent → Listed held names
+pub tried_listed : (held : Held) (names : Names) (l : Lots) (broken : Option Cause) (sent : List ℕ → Type 0) → Tried held names l broken sent → AreListed held names
 tried_listed held names l broken sent is = record { tables = is.tables; a0 = is.a0; a = is.a0; accepts = is.accepts }
 
-pub own_listed : (held : Held) (names : Names) (l : Lots) (prints breaks : List ℕ → Type 0) (r : Refusal) → RepairOwn held names l prints breaks r → Listed held names
+pub own_listed : (held : Held) (names : Names) (l : Lots) (prints breaks : List ℕ → Type 0) (r : Refusal) → RepairOwn held names l prints breaks r → AreListed held names
 own_listed held names l prints breaks (Left cause) reason = tried_listed held names l (Some cause) prints reason
 own_listed held names l prints breaks Write reason = tried_listed held names l reason.0 breaks reason.1
 own_listed held names l prints breaks refusal reason = absurd reason

@@ -25,29 +25,7 @@ pub record Names : Type 0 where
   pub report : Option (List ℕ)
   pub edits : Option (List ℕ)
 
--- those of `check`, of `solve`, of `bound`, of `verify` and of `edit`
-abbrev pub check_names : List ℕ → List ℕ → List ℕ → Option (List ℕ) → Names
-check_names model initial changed closed =
-    record {
-      model = model;
-      closed = closed;
-      initial = Some initial;
-      changed = Some changed;
-      report = None;
-      edits = None;
-    }
-
-abbrev pub solve_names : List ℕ → List ℕ → Option (List ℕ) → Names
-solve_names model initial closed =
-    record {
-      model = model;
-      closed = closed;
-      initial = Some initial;
-      changed = None;
-      report = None;
-      edits = None;
-    }
-
+-- those of `bound`, of `solve` and `repair`, of `check`, of `verify` and of `edit`
 abbrev pub bound_names : List ℕ → Option (List ℕ) → Option (List ℕ) → Names
 bound_names model initial closed =
     record {
@@ -59,27 +37,20 @@ bound_names model initial closed =
       edits = None;
     }
 
+abbrev pub solve_names : List ℕ → List ℕ → Option (List ℕ) → Names
+solve_names model initial closed = bound_names model (Some initial) closed
+
+abbrev pub check_names : List ℕ → List ℕ → List ℕ → Option (List ℕ) → Names
+check_names model initial changed closed =
+    record (solve_names model initial closed) { changed = Some changed }
+
 abbrev pub verify_names : List ℕ → List ℕ → List ℕ → Option (List ℕ) → Names
 verify_names model initial report closed =
-    record {
-      model = model;
-      closed = closed;
-      initial = Some initial;
-      changed = None;
-      report = Some report;
-      edits = None;
-    }
+    record (solve_names model initial closed) { report = Some report }
 
 abbrev pub edit_names : List ℕ → List ℕ → List ℕ → List ℕ → Option (List ℕ) → Names
 edit_names model initial current edits closed =
-    record {
-      model = model;
-      closed = closed;
-      initial = Some initial;
-      changed = Some current;
-      report = None;
-      edits = Some edits;
-    }
+    record (check_names model initial current closed) { edits = Some edits }
 
 -- those that are lent
 abbrev pub names_of : JobFiles → Names

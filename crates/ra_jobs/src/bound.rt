@@ -80,10 +80,10 @@ fn read_bound<F: Files>(
     closed: Option<&Name>,
     files: &mut F,
 ) -> Result<Bound, Refusal>
-    ensures read { IfOk result (BoundRead (F.held files.old) (bound_names model.now (option_copied initial.entry)
-        (option_copied closed.entry))) }
-    ensures refused { IfErr result (Reason (F.held files.old) (bound_names model.now (option_copied initial.entry)
-        (option_copied closed.entry))
+    ensures read { IfOk result (BoundRead (F.held files.old)
+        (bound_names model.now (option_copied initial.entry) (option_copied closed.entry))) }
+    ensures refused { IfErr result (Reason (F.held files.old)
+        (bound_names model.now (option_copied initial.entry) (option_copied closed.entry))
         (F.faults files.old) (F.faults files.new) Nothing) }
     ensures kept { (other : List ℕ) → F.held files.new other ≡ F.held files.old other }
     ensures never_fall { (other : List ℕ) → F.faults files.old other ≤ F.faults files.new other }
@@ -122,8 +122,8 @@ fn bound_with<F: Files>(
     inst: &Instance,
 ) -> Result<Bound, Refusal>
     ensures read { IfOk result (BoundIs (F.held files.old) (Some initial.now) inst.now.tables) }
-    ensures refused { IfErr result (ListReason Role.Initial (F.held files.old) initial.now inst.now.tables
-        (F.faults files.old) (F.faults files.new)) }
+    ensures refused { IfErr result (ListReason Role.Initial (F.held files.old) initial.now
+        inst.now.tables (F.faults files.old) (F.faults files.new)) }
     ensures kept { (other : List ℕ) → F.held files.new other ≡ F.held files.old other }
     ensures never_fall { (other : List ℕ) → F.faults files.old other ≤ F.faults files.new other }
 {

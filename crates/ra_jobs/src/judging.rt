@@ -22,7 +22,8 @@ pub fn judge(
     requires initial { IsAssignment inst.now.tables initial.now.items }
     requires changed { IsAssignment inst.now.tables changed.now.items }
     ensures passes { IfOk result (Judged inst.now.tables initial.now.items changed.now.items) }
-    ensures refused { IfErr result (JudgeReason inst.now.tables initial.now.items changed.now.items) }
+    ensures refused { IfErr result (JudgeReason inst.now.tables initial.now.items
+        changed.now.items) }
 {
     let mut scratch = judge_start(alloc, inst, initial)?;
     match first_broken(inst, initial, changed, &mut scratch) {

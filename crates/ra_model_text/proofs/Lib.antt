@@ -1,4 +1,4 @@
-pub mod Lines
+pub mod LineTexts
 pub mod LineTokens
 pub mod Telling
 pub mod SmallNumbers

@@ -1,5 +1,5 @@
 -- The tokens of lines of numbers are the numbers of the lines, one after another.
-use Rattle.std.proofs.Common.{◌≡◌, ℕ, suc, ◌^◌, ◌<◌, ◌≤◌, false, List, [], ◌∷◌, ◌++◌, length, map, get_or, None, refl, sym, subst, arith, append_assoc, append-nil}
+use Rattle.std.proofs.Common.{◌≡◌, ℕ, suc, ◌≤◌, false, List, [], ◌∷◌, ◌++◌, length, map, get_or, None, refl, sym, subst, arith, append_assoc, append-nil}
 use Rattle.std.specs.Char.{is_ascii_digit}
 use Rattle.std.specs.Fmt.{decimal}
 use Rattle.std.specs.List.{All, concat}
@@ -9,7 +9,7 @@ use Rattle.ra_token.specs.TokenList.{tokens}
 use Rattle.ra_token.specs.Values.{value_of}
 use Rattle.ra_token.proofs.Written.{Ahead, ahead_all, ahead_blank, ahead_number, ahead_none}
 use Rattle.ra_model_text.specs.Lines.{more_text, line_text, lines_text}
-use Rattle.ra_model_text.proofs.Lines.{IsSmall}
+use Rattle.ra_model_text.proofs.LineTexts.{IsSmall}
 
 -- a list of small numbers
 abbrev pub Small : List ℕ → Type 0

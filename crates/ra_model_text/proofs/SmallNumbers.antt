@@ -7,7 +7,7 @@ use Rattle.ra_model.specs.Limits as limits
 use Rattle.ra_model.specs.Numbers.{resource_count, machine_count, service_count, process_count, balance_count, transient_at, capacity_of, safety_of, way_cost_of, dependency_start, dependency_end, dependency_count, need_of, requirement_of, first_of, second_of, target_of, balance_weight_of, process_weight_of, service_weight_of, machine_weight_of}
 use Rattle.ra_model_read.specs.FieldOrder.{joined, row_of, resource_numbers, machine_numbers, service_numbers, process_numbers, balance_numbers, numbers_of}
 use Rattle.ra_model_text.specs.Lines.{line_text}
-use Rattle.ra_model_text.proofs.Lines.{IsSmall}
+use Rattle.ra_model_text.proofs.LineTexts.{IsSmall}
 use Rattle.ra_model_text.proofs.LineTokens.{Small}
 use Rattle.ra_model_text.specs.ModelTexts.{resource_text, machine_text, service_text, process_text, balance_text, weights_text, model_text}
 use Rattle.ra_model_text.proofs.Telling.{Tells, tells_line, tells_append, tells_group}

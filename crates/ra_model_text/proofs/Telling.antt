@@ -8,7 +8,7 @@ use Rattle.ra_token.specs.Values.{value_of}
 use Rattle.ra_token.proofs.Written.{Ahead, ahead_all, ahead_none}
 use Rattle.ra_model_read.specs.FieldOrder.{joined, counted}
 use Rattle.ra_model_text.specs.Lines.{line_text}
-use Rattle.ra_model_text.proofs.Lines.{IsSmall, line_short}
+use Rattle.ra_model_text.proofs.LineTexts.{IsSmall, line_short}
 use Rattle.ra_model_text.proofs.LineTokens.{Small, line_ahead}
 use Rattle.ra_model_text.specs.ModelTexts.{group_text}
 

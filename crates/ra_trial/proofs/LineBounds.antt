@@ -6,7 +6,7 @@ use Rattle.std.specs.Fmt.{decimal}
 use Rattle.std.specs.List.{All}
 use Rattle.ra_model_text.specs.Lines.{more_text, line_text, lines_text}
 use Rattle.ra_trial.specs.Lines.{listed}
-use Rattle.ra_model_text.proofs.Lines.{IsSmall, line_short, lines_append, lines_one}
+use Rattle.ra_model_text.proofs.LineTexts.{IsSmall, line_short, lines_append, lines_one}
 use Rattle.ra_trial.proofs.LineLemmas.{length_listed}
 
 -- a line of at most c small numbers

@@ -7,7 +7,7 @@ use Rattle.std.specs.Prelude.{drop}
 use Rattle.std.specs.Fmt.{decimal}
 use Rattle.ra_base.specs.Listed.{Listed}
 use Rattle.ra_model_text.specs.Lines.{more_text, line_text, lines_text}
-use Rattle.ra_model_text.proofs.Lines.{lines_append, lines_one}
+use Rattle.ra_model_text.proofs.LineTexts.{lines_append, lines_one}
 use Rattle.ra_trial.specs.Lines.{listed, number_text, Adds}
 
 -- the text from number k of a line on

@@ -18,9 +18,9 @@ use Rattle.ra_trial.specs.Lines.{listed}
 use Rattle.ra_trial.specs.Numbers.{start_of}
 use Rattle.ra_trial.specs.Trials.{start_machine, start_text}
 use Rattle.ra_trial.specs.Instances.{start_list, IsTrial}
-use Rattle.ra_model_text.proofs.Lines.{IsSmall}
+use Rattle.ra_model_text.proofs.LineTexts.{IsSmall}
 use Rattle.ra_trial.proofs.LineBounds.{IsShort, listed_all, one_short}
-use Rattle.ra_model_text.proofs.Lines.{lines_one}
+use Rattle.ra_model_text.proofs.LineTexts.{lines_one}
 use Rattle.ra_model_text.proofs.LineTokens.{lines_told}
 use Rattle.ra_trial.proofs.StartFeasible.{start_many}
 use Rattle.ra_trial.proofs.TrialNumbers.{has_numbers}

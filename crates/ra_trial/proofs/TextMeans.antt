@@ -11,7 +11,7 @@ use Rattle.ra_model_read.proofs.TextAccepted.{text_accepted}
 use Rattle.ra_model_text.specs.Lines.{lines_text}
 use Rattle.ra_trial.specs.Trials.{text_over}
 use Rattle.ra_trial.specs.Instances.{trial_lists, IsTrial}
-use Rattle.ra_model_text.proofs.Lines.{lines_append}
+use Rattle.ra_model_text.proofs.LineTexts.{lines_append}
 use Rattle.ra_trial.proofs.LineNumbers.{all_lines, numbers_same}
 use Rattle.ra_model_text.proofs.LineTokens.{lines_told}
 use Rattle.ra_trial.proofs.Made.{made, made_is_trial}
