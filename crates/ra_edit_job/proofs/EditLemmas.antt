@@ -17,6 +17,7 @@ use Rattle.ra_io.specs.Faults.{Rose}
 use Rattle.ra_model.specs.Assignments.{IsAssignment}
 use Rattle.ra_model.specs.Costs.{parts_of}
 use Rattle.ra_model.specs.Feasible.{Feasible}
+use Rattle.ra_model.specs.Limits.{WellFormed, Small}
 use Rattle.ra_model.specs.Numbers.{resource_row, machine_row, service_row, process_row, balance_row, resource_count, machine_count, service_count, process_count, balance_count, transient_at, load_weight_of, neighbourhood_of, location_of, capacity_of, safety_of, way_cost_of, spread_of, dependency_end, dependency_start, dependency_count, need_at, need_of, service_of, requirement_of, process_cost_of, first_of, second_of, target_of, balance_weight_of, process_weight_of, service_weight_of, machine_weight_of}
 use Rattle.ra_model.specs.declared.raw.RawInstance.{RawInstance}
 use Rattle.ra_model.specs.declared.raw.Tables.{Tables}
@@ -75,15 +76,17 @@ unfolding edited_text edited_lines model_part
 left_text d i a0 a replies same first second parts = rw (parts, text_same (instance_of d) i same.lists, first, second) refl
 
 -- the run of edits of an instance and two lists
-pub edited : (i : Tables) (a0 a : List Machine) (e : EditLists) (made d : Drafted) (instance : Tables) (first second : List Machine) (replies : List EditReply) (sent : List ℕ → Type 0) → Feasible i a0 a0 → Feasible i a0 a → made ≡ draft_of i a0 a → d ≡ after_edits made e (length e.edits) → replies ≡ replies_to made e (length e.edits) → Feasible (instance_of d) d.initial d.current → AreSameLists (instance_of d) instance → first ≡ d.initial → second ≡ d.current → parts_of instance first second ≡ parts_of (instance_of d) d.initial d.current
+pub edited : (i : Tables) (a0 a : List Machine) (e : EditLists) (made d : Drafted) (instance : Tables) (first second : List Machine) (replies : List EditReply) (sent : List ℕ → Type 0) → Feasible i a0 a0 → Feasible i a0 a → made ≡ draft_of i a0 a → d ≡ after_edits made e (length e.edits) → replies ≡ replies_to made e (length e.edits) → WellFormed (instance_of d) → Small (instance_of d) → Feasible (instance_of d) d.initial d.current → AreSameLists (instance_of d) instance → first ≡ d.initial → second ≡ d.current → parts_of instance first second ≡ parts_of (instance_of d) d.initial d.current
     → sent (edited_text instance first second replies) → IsEdited i a0 a e sent
 unfolding left_of text_left edits_output
-edited i a0 a e made d instance first second replies sent start current from run answers feasible same first_is second_is parts text =
+edited i a0 a e made d instance first second replies sent start current from run answers limits small feasible same first_is second_is parts text =
     let left : d ≡ left_of i a0 a e = rw from at run in
     let told : replies ≡ replies_to (draft_of i a0 a) e (length e.edits) = rw from at answers in
     record {
       start = start;
       current = current;
+      limits = subst (λ (x : Drafted). WellFormed (instance_of x)) left limits;
+      small = subst (λ (x : Drafted). Small (instance_of x)) left small;
       left = subst (λ (x : Drafted). Feasible (instance_of x) x.initial x.current) left feasible;
       text = subst (λ (x : Drafted). sent (text_left (draft_of i a0 a) x e)) left (rw (sym told) (rw (left_text d instance first second replies same first_is second_is parts) at text));
     }

@@ -5,7 +5,6 @@ ghost use Rattle.ra_io.specs.Outside.{reading, writing, Took};
 ghost use Rattle.ra_model.specs.Assignments.{IsAssignment};
 ghost use Rattle.ra_model.specs.Costs.{parts_of};
 ghost use Rattle.ra_model.specs.Feasible.{Feasible};
-ghost use Rattle.ra_topology.specs.Fits.{IsTopologyOf};
 ghost use Rattle.ra_jobs.specs.Ends.{Does, Tries};
 ghost use Rattle.ra_jobs.specs.Files.{edit_names};
 ghost use Rattle.ra_jobs.specs.Output.{output, BrokeOff};
@@ -189,7 +188,6 @@ fn edit_over<O: Sink>(
     requires a0_fits { IsAssignment inst.now.tables initial.now.items }
     requires fits { IsAssignment inst.now.tables current.now.items }
     requires edits { AreEditsFor inst.now.tables edits.now }
-    requires topology { IsTopologyOf topo.now inst.now.tables }
     requires start { Feasible inst.now.tables initial.now.items initial.now.items }
     requires feasible { Feasible inst.now.tables initial.now.items current.now.items }
     requires parts { start ≡ parts_of inst.now.tables initial.now.items current.now.items }
