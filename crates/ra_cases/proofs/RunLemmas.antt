@@ -75,7 +75,7 @@ output_more held (Repairs model initial closed slack drawing lots) sent more ste
     let t = p.2 in
     (p.0, p.1, record { tables = t.tables; a0 = t.a0; accepts = t.accepts; lot = t.lot; one = t.one; run = record { is = t.run.is; feasible = t.run.feasible; tried = t.run.tried; text = step _ t.run.text } })
 output_more held (Edits model initial current edits closed) sent more step p =
-    record { tables = p.tables; a0 = p.a0; a = p.a; edits = p.edits; taken = p.taken; run = record { start = p.run.start; current = p.run.current; left = p.run.left; text = step _ p.run.text } }
+    record { tables = p.tables; a0 = p.a0; a = p.a; edits = p.edits; taken = p.taken; run = record { start = p.run.start; current = p.run.current; limits = p.run.limits; accepted = p.run.accepted; left = p.run.left; text = step _ p.run.text } }
 output_more held (Trials number) sent more step p = trial_more number sent more step p
 output_more held (Verifies model initial report closed slack drawing lots) sent more step p = (p.0, p.1, record { entries = p.2.entries; read = p.2.read; text = step _ p.2.text })
 

@@ -24,6 +24,8 @@ use Rattle.ra_model.specs.declared.raw.Tables.{Tables}
 use Rattle.ra_model.proofs.BrokenLemmas.{unbroken_from_feasible}
 use Rattle.ra_model_read.specs.FieldOrder.{joined, resource_numbers, machine_numbers, service_numbers, process_numbers}
 use Rattle.ra_model_read.specs.Lists.{lists_of}
+use Rattle.ra_model_read.specs.ModelText.{model_refusal}
+use Rattle.ra_model_text.proofs.Meaning.{text_accepted_whole}
 use Rattle.ra_model_text.specs.ModelTexts.{group_text, resource_text, machine_text, service_text, process_text, balance_text, weights_text, model_text}
 use Rattle.ra_io.specs.Outside.{Reading, Took}
 use Rattle.ra_jobs.specs.declared.refusals.File.TheVariants as file
@@ -86,7 +88,7 @@ edited i a0 a e made d instance first second replies sent start current from run
       start = start;
       current = current;
       limits = subst (λ (x : Drafted). WellFormed (instance_of x)) left limits;
-      small = subst (λ (x : Drafted). Small (instance_of x)) left small;
+      accepted = subst (λ (x : Drafted). model_refusal (model_text (instance_of x)) ≡ None) left (text_accepted_whole (instance_of d) limits small);
       left = subst (λ (x : Drafted). Feasible (instance_of x) x.initial x.current) left feasible;
       text = subst (λ (x : Drafted). sent (text_left (draft_of i a0 a) x e)) left (rw (sym told) (rw (left_text d instance first second replies same first_is second_is parts) at text));
     }

@@ -13,7 +13,9 @@ use Rattle.ra_model.specs.declared.raw.Tables.{Tables}
 use Rattle.ra_model.specs.Assignments.{IsAssignment}
 use Rattle.ra_model.specs.Broken.{first_broken}
 use Rattle.ra_model.specs.Feasible.{Feasible}
-use Rattle.ra_model.specs.Limits.{WellFormed, Small}
+use Rattle.ra_model.specs.Limits.{WellFormed}
+use Rattle.ra_model_read.specs.ModelText.{model_refusal}
+use Rattle.ra_model_text.specs.ModelTexts.{model_text}
 use Rattle.ra_report.specs.FaultTexts.{IsInEdits}
 use Rattle.ra_jobs.specs.declared.refusals.File.TheVariants as file
 use Rattle.ra_jobs.specs.declared.refusals.Refusal.{Refusal}
@@ -41,14 +43,14 @@ text_left start left e =
 unfoldable pub edits_output : Tables → List Machine → List Machine → EditLists → List ℕ
 edits_output i a0 a e = text_left (draft_of i a0 a) (left_of i a0 a e) e
 
--- both lists are feasible, the edited instance is within the limits, with numbers below 2^32, the edited current list is
--- feasible from the edited initial list, and the text of the run of edits was sent
+-- both lists are feasible, the edited instance is within the limits, and nothing is wrong with its text as a model file; the
+-- edited current list is feasible from the edited initial list, and the text of the run of edits was sent
 pub record IsEdited (i : Tables) (a0 a : List Machine) (e : EditLists) (sent : List ℕ → Type 0) :
     Type 0 where
   pub start : Feasible i a0 a0
   pub current : Feasible i a0 a
   pub limits : WellFormed (instance_of (left_of i a0 a e))
-  pub small : Small (instance_of (left_of i a0 a e))
+  pub accepted : model_refusal (model_text (instance_of (left_of i a0 a e))) ≡ None
   pub left :
       Feasible (instance_of (left_of i a0 a e)) (left_of i a0 a e).initial
       (left_of i a0 a e).current
