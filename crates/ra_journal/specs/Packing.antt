@@ -1,5 +1,5 @@
 -- How a journal keeps its entries: packed, so that each takes less room than an entry that is handed out.
-use Rattle.std.specs.Prelude.{ℕ, ◌<◌, ◌^◌, List, [], ◌∷◌, map}
+use Rattle.std.specs.Prelude.{◌<◌, ◌^◌, List, [], ◌∷◌, map}
 use Rattle.ra_base.specs.Listed.{Listed}
 use Rattle.ra_base.specs.declared.causes.Cause.TheVariants as cause
 use Rattle.ra_moves.specs.declared.steps.MoveKind.{MoveKind}

@@ -1,10 +1,12 @@
--- What the parts of a record do to a book.
+-- What recording does to a book, as a whole and by its parts.
 use Rattle.std.specs.Prelude.{◌≡◌, ℕ, ◌+◌, List, [], ◌∷◌, ◌++◌, length, Option, None, slice_index, slice_set, if◌then◌else◌, nat_lt, IfSome}
 use Rattle.ra_base.specs.declared.causes.Cause.{Cause}
 use Rattle.ra_base.specs.declared.ids.Guard.{Guard}
 use Rattle.ra_base.specs.declared.ids.Machine.{Machine}
+use Rattle.ra_draws.specs.declared.budgets.Lots.{Lots}
 use Rattle.ra_model.specs.declared.raw.Tables.{Tables}
 use Rattle.ra_moves.specs.declared.steps.Step.{Step}
+use Rattle.ra_moves.specs.declared.verdicts.Plan.{Plan}
 use Rattle.ra_moves.specs.declared.verdicts.Verdict.{Verdict}
 use Rattle.ra_moves.specs.declared.verdicts.Verdict.TheVariants.{Done, Refused}
 use Rattle.ra_moves.specs.declared.verdicts.Weighed.{Weighed}
@@ -20,8 +22,29 @@ use Rattle.ra_guards.specs.VersionTable.{VersionTable}
 use Rattle.ra_guards.specs.Versions.{touches}
 use Rattle.ra_journal.specs.declared.entries.Entry.{Entry}
 use Rattle.ra_journal.specs.declared.book.Book.{Book}
+use Rattle.ra_journal.specs.declared.replies.Reply.{Reply}
+use Rattle.ra_journal.specs.declared.replies.Reply.TheVariants.{Recorded}
+use Rattle.ra_journal.specs.Committing.{newer_since, next_entry, IsCommit}
 use Rattle.ra_journal.specs.Entries.{steps_made}
+use Rattle.ra_journal.specs.Keeping.{IsKept}
 use Rattle.ra_journal.specs.States.{cost_then}
+
+-- worker w may hand in this plan, and no guard of its move was touched since it was planned
+pub record MayRecord (i : Tables) (a0 : List Machine) (l : Lots) (h : List Entry) (w : ℕ)
+    (plan : Plan) : Type 0 where
+  pub commit : IsCommit i a0 l h w plan
+  pub untouched : newer_since i h plan.q plan.mv.steps ≡ None
+
+-- worker w's next proposal, planned at place q, stands at the end of a book that keeps its journal, and is answered
+pub record HasRecorded (i : Tables) (a0 : List Machine) (l : Lots) (before after : Book) (w q : ℕ)
+    (said : Reply) : Type 0 where
+  pub kept : IsKept i a0 l after
+  pub journal :
+      after.entries.items ≡
+      before.entries.items ++ next_entry i a0 l before.entries.items w q ∷ []
+  pub reply :
+      said ≡
+      Recorded (length before.entries.items) (next_entry i a0 l before.entries.items w q).verdict
 
 -- an entry stands at the end, its worker has made one more, and all else is as it was
 pub record IsAdded (before after : Book) (e : Entry) : Type 0 where

@@ -1,16 +1,14 @@
-ghost use Rattle.std.specs.Prelude.{◌≡◌, ◌<◌, ◌≤◌, ◌^◌, [], ◌∷◌, ◌++◌, Some, None, length, slice_index, option_copied, IfSome};
+ghost use Rattle.std.specs.Prelude.{◌≡◌, ◌<◌, ◌^◌, Some, length, slice_index, option_copied, IfSome};
 ghost use Rattle.ra_topology.specs.Fits.{IsTopologyOf};
 ghost use Rattle.ra_moves.specs.Judging.{judge};
 ghost use Rattle.ra_guards.specs.Guards.{AreWithin};
 ghost use Rattle.ra_guards.specs.Kept.{IsTableOf};
 ghost use Rattle.ra_guards.specs.Order.{AreWrites};
-ghost use Rattle.ra_journal.specs.Committing.{newer_since, next_entry, IsCommit};
 ghost use Rattle.ra_journal.specs.Entries.{allowed, steps_made};
 ghost use Rattle.ra_journal.specs.Keeping.{IsStart, IsKept};
 ghost use Rattle.ra_journal.specs.Packing.{IsSmall};
-ghost use Rattle.ra_journal.specs.Recording.{IsAdded, AreChangesOf, AreTouched, IsTakenIn, IsBestKept};
+ghost use Rattle.ra_journal.specs.Recording.{MayRecord, HasRecorded, IsAdded, AreChangesOf, AreTouched, IsTakenIn, IsBestKept};
 ghost use Rattle.ra_journal.specs.States.{state};
-ghost use Rattle.ra_journal.specs.declared.replies.Reply.TheVariants.{Recorded};
 
 use crate::allowances::allowed;
 use crate::book::Book;
@@ -39,18 +37,11 @@ pub(crate) fn record(
     requires topology { IsTopologyOf topo.now inst.now.tables }
     requires start { IsStart inst.now.tables a0.now.items }
     requires kept { IsKept inst.now.tables a0.now.items lots.now book.old }
-    requires commit { IsCommit inst.now.tables a0.now.items lots.now book.old.entries.items worker
+    requires next { MayRecord inst.now.tables a0.now.items lots.now book.old.entries.items worker
         plan.now }
-    requires untouched { newer_since inst.now.tables book.old.entries.items plan.now.q
-        plan.now.mv.steps ≡ None }
     requires held { IfSome (option_copied held) (AreWrites inst.now.tables plan.now.mv.steps) }
-    ensures kept { IsKept inst.now.tables a0.now.items lots.now book.new }
-    ensures journal { book.new.entries.items ≡ book.old.entries.items
-        ++ next_entry inst.now.tables a0.now.items lots.now book.old.entries.items worker plan.now.q
-        ∷ [] }
-    ensures reply { result ≡ Recorded (length book.old.entries.items)
-        (next_entry inst.now.tables a0.now.items lots.now book.old.entries.items worker
-        plan.now.q).verdict }
+    ensures { HasRecorded inst.now.tables a0.now.items lots.now book.old book.new worker plan.now.q
+        result }
 {
     let verdict = judge_now(inst, a0, lots, book, worker, plan);
     let at = book.entries.len() as u64;
@@ -78,10 +69,8 @@ fn judge_now(
 ) -> Verdict
     requires start { IsStart inst.now.tables a0.now.items }
     requires kept { IsKept inst.now.tables a0.now.items lots.now book.now }
-    requires commit { IsCommit inst.now.tables a0.now.items lots.now book.now.entries.items worker
+    requires next { MayRecord inst.now.tables a0.now.items lots.now book.now.entries.items worker
         plan.now }
-    requires untouched { newer_since inst.now.tables book.now.entries.items plan.now.q
-        plan.now.mv.steps ≡ None }
     ensures { result ≡
         judge inst.now.tables a0.now.items
         (state a0.now.items book.now.entries.items (length book.now.entries.items))
@@ -168,7 +157,7 @@ fn touch_gathered(
     versions.touch(&guards, version);
 }
 
-/// Keeps the state after all entries as the best one, where it costs less than the best so far.
+/// Keeps the state after all entries as the best one if it costs less than the best so far.
 fn keep_best(book: &mut Book)
     ensures { IsBestKept book.old book.new }
 {

@@ -5,14 +5,14 @@ use Rattle.ra_journal.proofs.EndLemmas.{settling_now, has_settling}
 use Rattle.ra_journal.proofs.recording.judge_now.Goals as goal
 
 pub allowed-rise-requires-clause-worker : goal.allowed-rise-requires-clause-worker
-allowed-rise-requires-clause-worker c = c.requires.commit.worker
+allowed-rise-requires-clause-worker c = c.requires.next.commit.worker
 
 pub allowed-rise-requires-clause-left : goal.allowed-rise-requires-clause-left
-allowed-rise-requires-clause-left c = c.requires.commit.within
+allowed-rise-requires-clause-left c = c.requires.next.commit.within
 
 pub settle_now-requires : goal.settle_now-requires
 settle_now-requires c =
-    let settling = settling_now c.args.inst.now.tables c.args.a0.now.items c.args.lots.now c.args.book.now c.args.worker c.args.plan.now c.requires.start c.requires.kept c.requires.commit c.requires.untouched in
+    let settling = settling_now c.args.inst.now.tables c.args.a0.now.items c.args.lots.now c.args.book.now c.args.worker c.args.plan.now c.requires.start c.requires.kept c.requires.next.commit c.requires.next.untouched in
     record { some = has_settling c.args.inst.now.tables c.args.a0.now.items _ c.args.plan.now.mv.steps c.args.book.now c.args.plan.now settling }
 
 pub returns : goal.returns
@@ -21,5 +21,5 @@ returns c =
     let a0 = c.args.a0.now.items in
     let h = c.args.book.now.entries.items in
     let steps = c.args.plan.now.mv.steps in
-    let settling = settling_now i a0 c.args.lots.now c.args.book.now c.args.worker c.args.plan.now c.requires.start c.requires.kept c.requires.commit c.requires.untouched in
+    let settling = settling_now i a0 c.args.lots.now c.args.book.now c.args.worker c.args.plan.now c.requires.start c.requires.kept c.requires.next.commit c.requires.next.untouched in
     c.settle_now.ensures a0 (state a0 h (length h)) steps settling ∙ ap (judge i a0 (state a0 h (length h)) steps) c.allowed-rise.ensures

@@ -4,8 +4,8 @@ use Rattle.ra_journal.proofs.HeldLemmas.{held_listed}
 use Rattle.ra_journal.proofs.NewerLemmas.{committed_stale, committed_recorded}
 use Rattle.ra_journal.proofs.journal.Journal.commit_with.Goals as goal
 
-pub record-requires-clause-untouched : goal.record-requires-clause-untouched
-record-requires-clause-untouched c = sym c.first_newer.ensures ∙ c.in-None.is
+pub record-requires-clause-next : goal.record-requires-clause-next
+record-requires-clause-next c = record { commit = c.requires.commit; untouched = sym c.first_newer.ensures ∙ c.in-None.is }
 
 pub record-requires-clause-held : goal.record-requires-clause-held
 record-requires-clause-held c = held_listed c.args.self.now c.args.plan.now (option_copied c.args.held) c.requires.held
