@@ -42,7 +42,7 @@ moves_none true a f u = (refl, refl)
 
 module _ {O : Type 0} (taken : O → Option (List ℕ)) (faults : O → ℕ) where
   pub adds_none : (a : Gathered O) → Adds taken faults a a []
-  adds_none a = (refl, le_refl _, moves_none a.failed (taken a.to.now) (faults a.to.now) a.waiting.items)
+  adds_none a = (refl, le_refl _, moves_none a.failed (taken a.to.now) (faults a.to.now) a.waiting)
 
   pub adds_more : (a b c : Gathered O) (s t : List ℕ) → Adds taken faults a b s → Adds taken faults b c t → Adds taken faults a c (s ++ t)
   adds_more a b c s t first next = (
@@ -72,21 +72,21 @@ ended_part a b f g w text m = m
 
 module _ {O : Type 0} (taken : O → Option (List ℕ)) (faults : O → ℕ) where
   -- from nothing waiting to nothing waiting: the sink took the text, or a front of it where a put failed
-  pub put_whole : {T E : Type 0} (old new : O) (a b c : Gathered O) (text : List ℕ) (r : Result T E) → a.to.now ≡ old → new ≡ c.to.now → a.failed ≡ false → a.waiting.items ≡ []
-      → Adds taken faults a b text → Adds taken faults b c [] → c.waiting.items ≡ [] → OnOk r (c.failed ≡ false) → OnOk r (Appends (taken old) (taken new) text)
+  pub put_whole : {T E : Type 0} (old new : O) (a b c : Gathered O) (text : List ℕ) (r : Result T E) → a.to.now ≡ old → new ≡ c.to.now → a.failed ≡ false → a.waiting ≡ []
+      → Adds taken faults a b text → Adds taken faults b c [] → c.waiting ≡ [] → OnOk r (c.failed ≡ false) → OnOk r (Appends (taken old) (taken new) text)
   put_whole old new a b c text r from to sound none first last empty =
       let all = adds_more taken faults a b c text [] first last in
       on_ok_weaker r (λ (well : c.failed ≡ false). rw to (ended_whole _ _ _ _ text (rw (append-nil, from, sound, none, empty, well) at all.2)))
 
-  pub put_part : {T E : Type 0} (old new : O) (a b c : Gathered O) (text : List ℕ) (r : Result T E) → a.to.now ≡ old → new ≡ c.to.now → a.failed ≡ false → a.waiting.items ≡ []
+  pub put_part : {T E : Type 0} (old new : O) (a b c : Gathered O) (text : List ℕ) (r : Result T E) → a.to.now ≡ old → new ≡ c.to.now → a.failed ≡ false → a.waiting ≡ []
       → Adds taken faults a b text → Adds taken faults b c [] → OnErr r (c.failed ≡ true) → OnErr r (Breaks (taken old) (taken new) (faults old) (faults new) text)
   put_part old new a b c text r from to sound none first last =
       let all = adds_more taken faults a b c text [] first last in
-      on_err_weaker r (λ (ill : c.failed ≡ true). rw to (ended_part _ _ _ _ c.waiting.items text (rw (append-nil, from, sound, none, ill) at all.2)))
+      on_err_weaker r (λ (ill : c.failed ≡ true). rw to (ended_part _ _ _ _ c.waiting text (rw (append-nil, from, sound, none, ill) at all.2)))
 
   -- from an empty text that is made to one that is finished
-  pub writes : {T E : Type 0} {old new : O} (a b c : Gathered O) {text : List ℕ} {r : Result T E} → a.to.now ≡ old → new ≡ c.to.now → a.failed ≡ false → a.waiting.items ≡ []
-      → Adds taken faults a b text → Adds taken faults b c [] → c.waiting.items ≡ [] → OnOk r (c.failed ≡ false) → OnErr r (c.failed ≡ true)
+  pub writes : {T E : Type 0} {old new : O} (a b c : Gathered O) {text : List ℕ} {r : Result T E} → a.to.now ≡ old → new ≡ c.to.now → a.failed ≡ false → a.waiting ≡ []
+      → Adds taken faults a b text → Adds taken faults b c [] → c.waiting ≡ [] → OnOk r (c.failed ≡ false) → OnErr r (c.failed ≡ true)
       → Writes (record { taken = taken old; taken_after = taken new; before = faults old; after = faults new }) text r
   writes {T} {E} {old} {new} a b c {text} {r} from to sound none first last empty well ill =
       let all = adds_more taken faults a b c text [] first last in

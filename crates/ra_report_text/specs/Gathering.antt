@@ -22,4 +22,4 @@ Adds taken faults old new text =
     (new.to.ghost_name ≡ old.to.ghost_name)
     × (faults old.to.now ≤ faults new.to.now)
     × Moves old.failed new.failed (taken old.to.now) (taken new.to.now) (faults old.to.now)
-    (faults new.to.now) old.waiting.items new.waiting.items text
+    (faults new.to.now) old.waiting new.waiting text

@@ -1,7 +1,7 @@
 ghost use Rattle.std.specs.Prelude.{◌≡◌, ◌≤◌, [], true, false, OnOk, OnErr};
 ghost use Rattle.ra_report_text.specs.Gathering.{Moves, Adds};
 
-use arrayvec::ArrayVec;
+use crate::waiting::Waiting;
 use ra_io::{Sink, put_all};
 
 /// A put failed: the sink took a front of the text, and its count of faults rose.
@@ -10,15 +10,12 @@ pub enum WriteFault {
     Put,
 }
 
-/// How many bytes wait at most.
-const ROOM: usize = 16_384;
-
 /// A text on its way to a sink: what is added waits until no more fits, and is then put in one piece. Once a put has
 /// failed, nothing more is put.
 #[derive(Drop)]
 pub struct Gathered<'a, O: Sink> {
     pub(crate) to: &'a mut O,
-    pub(crate) waiting: ArrayVec<u8, ROOM>,
+    pub(crate) waiting: Waiting,
     pub(crate) failed: bool,
 }
 
@@ -27,12 +24,12 @@ impl<'a, O: Sink> Gathered<'a, O> {
     pub fn make(to: &'a mut O) -> Gathered<'a, O>
         ensures same_reference { result.to.ghost_name ≡ to.entry.ghost_name }
         ensures same { result.to.now ≡ to.old }
-        ensures none { result.waiting.items ≡ [] }
+        ensures none { result.waiting ≡ [] }
         ensures sound { result.failed ≡ false }
     {
         Gathered {
             to,
-            waiting: ArrayVec::new(),
+            waiting: Waiting::new(),
             failed: false,
         }
     }
@@ -42,7 +39,7 @@ impl<'a, O: Sink> Gathered<'a, O> {
     pub fn add(&mut self, piece: &[u8])
         ensures { Adds O.taken O.faults self.old self.new piece.now }
     {
-        if self.waiting.try_extend_from_slice(piece).is_err() {
+        if !self.waiting.add(piece) {
             self.add_past(piece);
         }
     }
@@ -54,7 +51,7 @@ impl<'a, O: Sink> Gathered<'a, O> {
         ensures { Adds O.taken O.faults self.old self.new piece.now }
     {
         self.put_waiting();
-        if self.waiting.try_extend_from_slice(piece).is_err() {
+        if !self.waiting.add(piece) {
             self.put(piece);
         }
     }
@@ -62,7 +59,7 @@ impl<'a, O: Sink> Gathered<'a, O> {
     /// Puts what still waits, and says whether the sink took all that was added.
     pub fn finish(&mut self) -> Result<(), WriteFault>
         ensures adds { Adds O.taken O.faults self.old self.new [] }
-        ensures none { self.new.waiting.items ≡ [] }
+        ensures none { self.new.waiting ≡ [] }
         ensures whole { OnOk result (self.new.failed ≡ false) }
         ensures part { OnErr result (self.new.failed ≡ true) }
     {
@@ -77,7 +74,7 @@ impl<'a, O: Sink> Gathered<'a, O> {
     /// Puts what waits.
     fn put_waiting(&mut self)
         ensures adds { Adds O.taken O.faults self.old self.new [] }
-        ensures none { self.new.waiting.items ≡ [] }
+        ensures none { self.new.waiting ≡ [] }
     {
         self.failed = put_unless(self.failed, self.to, self.waiting.as_slice());
         self.waiting.clear();
@@ -85,7 +82,7 @@ impl<'a, O: Sink> Gathered<'a, O> {
 
     /// Puts a piece, where nothing waits.
     fn put(&mut self, piece: &[u8])
-        requires { self.old.waiting.items ≡ [] }
+        requires { self.old.waiting ≡ [] }
         ensures { Adds O.taken O.faults self.old self.new piece.now }
     {
         self.failed = put_unless(self.failed, self.to, piece);

@@ -7,6 +7,7 @@ mod line;
 mod notes;
 mod pieces;
 mod texts;
+mod waiting;
 
 pub use gathered::{Gathered, WriteFault};
 pub use line::{LINE_ROOM, Line};

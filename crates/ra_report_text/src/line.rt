@@ -45,7 +45,7 @@ impl Line {
     }
 
     /// Its bytes.
-    #[inline]
+    #[inline(always)]
     pub fn as_slice(&self) -> &[u8]
         ensures { result.now ≡ self.now }
     {
@@ -53,7 +53,7 @@ impl Line {
     }
 
     /// Writes a word in front.
-    #[inline]
+    #[inline(always)]
     pub fn prepend(&mut self, word: &[u8])
         requires { HasRoom self.old (length word.now) }
         ensures { Prepends self.old self.new word.now (length word.now) }
@@ -64,7 +64,7 @@ impl Line {
     }
 
     /// Writes a byte in front.
-    #[inline]
+    #[inline(always)]
     pub fn prepend_byte(&mut self, byte: u8)
         requires { HasRoom self.old 1 }
         ensures { Prepends self.old self.new (byte ∷ []) 1 }
@@ -74,7 +74,7 @@ impl Line {
     }
 
     /// Writes a number in decimal in front.
-    #[inline]
+    #[inline(always)]
     pub fn prepend_number(&mut self, number: u64)
         requires { HasRoom self.old 20 }
         ensures { Prepends self.old self.new (number_text number) 20 }
@@ -83,7 +83,7 @@ impl Line {
     }
 
     /// Writes a byte in front, and behind it a number in decimal.
-    #[inline]
+    #[inline(always)]
     pub fn prepend_marked(&mut self, mark: u8, number: u64)
         requires { HasRoom self.old 21 }
         ensures { Prepends self.old self.new (mark ∷ number_text number) 21 }
@@ -93,7 +93,7 @@ impl Line {
     }
 
     /// Writes a number of up to 128 bits in front.
-    #[inline]
+    #[inline(always)]
     pub fn prepend_wide(&mut self, number: u128)
         requires { HasRoom self.old 39 }
         ensures { Prepends self.old self.new (number_text number) 39 }

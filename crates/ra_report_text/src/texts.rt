@@ -76,6 +76,7 @@ pub fn add_cause<O: Sink>(text: &mut Gathered<'_, O>, cause: &Cause)
 }
 
 /// Writes a cause in front: its name and its numbers.
+#[inline(always)]
 pub fn prepend_cause(line: &mut Line, cause: &Cause)
     requires { HasRoom line.old 105 }
     ensures { Prepends line.old line.new (cause_text cause.now) 105 }
