@@ -50,6 +50,7 @@ impl Entries {
 
     /// The entry at a place.
     #[tactic(auto, using(crate::proofs::PackingLemmas::unpacked_length, crate::proofs::PackingLemmas::unpacked_at))]
+    #[inline(always)]
     pub fn get(&self, place: usize) -> Entry
         requires { place < length self.now.items }
         ensures { result ≡ entry_at self.now.items place }

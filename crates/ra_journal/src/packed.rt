@@ -43,6 +43,7 @@ pub(crate) fn pack(entry: &Entry) -> Packed
 
 /// The entry that was packed.
 #[tactic(auto, unfolding(crate::specs::Packing::unpacked))]
+#[inline(always)]
 pub(crate) fn unpack(packed: &Packed) -> Entry
     ensures { result ≡ unpacked packed.now }
 {

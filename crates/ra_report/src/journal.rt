@@ -30,6 +30,7 @@ pub(crate) fn add_entry<O: Sink>(text: &mut Gathered<'_, O>, place: u64, entry: 
 }
 
 /// Adds the line of the entry at a place, which is written in `line` first.
+#[inline(always)]
 fn add_line<O: Sink>(text: &mut Gathered<'_, O>, line: &mut Line, place: u64, entry: &Entry)
     ensures { Adds O.taken O.faults text.old text.new (entry_line place entry.now) }
 {
@@ -38,6 +39,7 @@ fn add_line<O: Sink>(text: &mut Gathered<'_, O>, line: &mut Line, place: u64, en
 }
 
 /// Writes the line of the entry at a place.
+#[inline(always)]
 pub(crate) fn write_line(line: &mut Line, place: u64, entry: &Entry)
     ensures { line.new ≡ entry_line place entry.now }
 {
@@ -49,6 +51,7 @@ pub(crate) fn write_line(line: &mut Line, place: u64, entry: &Entry)
 }
 
 /// Writes the words of an entry before its steps in front, with a space behind each.
+#[inline(always)]
 fn prepend_front(line: &mut Line, place: u64, entry: &Entry)
     requires { HasRoom line.old 90 }
     ensures { Prepends line.old line.new (entry_front place entry.now) 90 }
@@ -61,6 +64,7 @@ fn prepend_front(line: &mut Line, place: u64, entry: &Entry)
 }
 
 /// Writes the printed name of a kind of moves in front, between two spaces.
+#[inline(always)]
 pub(crate) fn prepend_kind(line: &mut Line, kind: MoveKind)
     requires { HasRoom line.old 7 }
     ensures { Prepends line.old line.new (space ++ kind_text kind ++ space) 7 }
@@ -73,6 +77,7 @@ pub(crate) fn prepend_kind(line: &mut Line, kind: MoveKind)
 }
 
 /// Writes the steps of a move in front, with a space behind each.
+#[inline(always)]
 pub(crate) fn prepend_steps(line: &mut Line, mv: &Move)
     requires { HasRoom line.old 189 }
     ensures { Prepends line.old line.new (steps_text mv.now.steps) 189 }
@@ -85,6 +90,7 @@ pub(crate) fn prepend_steps(line: &mut Line, mv: &Move)
 }
 
 /// Writes a step in front, with a space behind it.
+#[inline(always)]
 fn prepend_step(line: &mut Line, step: Step)
     requires { HasRoom line.old 63 }
     ensures { Prepends line.old line.new (step_word step) 63 }
@@ -96,6 +102,7 @@ fn prepend_step(line: &mut Line, step: Step)
 }
 
 /// Writes a verdict in front.
+#[inline(always)]
 fn prepend_verdict(line: &mut Line, verdict: &Verdict)
     requires { HasRoom line.old 113 }
     ensures { Prepends line.old line.new (verdict_text verdict.now) 113 }
