@@ -2,19 +2,23 @@
 use Rattle.std.proofs.Common.{◌≡◌, ℕ, ◌<◌, ◌≤◌, ◌||◌, List, set, get_or, length, Option, Some, None, sym, refl, ap, ◌∙◌, subst, ⊎_elim, arith, map}
 use Rattle.std.proofs.lemmas.Bool.{cond_both, cases_eq}
 use Rattle.std.proofs.lemmas.List.{length_push, length-set, get_or-set_same, get_or-set_other, get_or-map, map-set}
+use Rattle.ra_base.specs.Listed.{Listed}
 use Rattle.ra_base.specs.declared.ids.Machine.{Machine}
 use Rattle.ra_draws.specs.declared.budgets.Lots.{Lots}
+use Rattle.ra_model.specs.declared.numbers.Instance.{Instance}
 use Rattle.ra_model.specs.declared.raw.Tables.{Tables}
 use Rattle.ra_guards.specs.declared.newest.Newer.{Newer}
 use Rattle.ra_journal.specs.declared.entries.Entry.{Entry}
+use Rattle.ra_journal.specs.declared.journal.Journal.{Journal}
 use Rattle.ra_journal.specs.Committing.{next_entry, next_move, newer_since, committed, committed_by}
-use Rattle.ra_journal.specs.States.{state}
 use Rattle.ra_journal.proofs.Places.{SameBelow, same_fewer, same_added, same_state, same_entries_of}
 use Rattle.ra_worker.specs.declared.replica.Replica.{Replica}
 use Rattle.ra_worker.specs.Skipping.{has_used, is_behind, is_skipped}
 use Rattle.ra_worker.specs.Replicas.{IsAt}
+use Rattle.ra_worker_core.specs.declared.events.CoreReply.{CoreReply}
 use Rattle.ra_worker_core.specs.Core.{place_of, Turn, answered, turn}
 use Rattle.ra_worker_core.specs.Replicas.{IsAtOf, AreAt, core_of}
+use Rattle.ra_worker_core.specs.Turns.{StandIn, IsOverSame, TakesTurn}
 
 -- an answer takes no entry away
 longer_by : (newer : Option Newer) (h : List Entry) (e : Entry) → length h ≤ length (committed_by newer h e).journal
@@ -86,3 +90,27 @@ places_set h g rs w q s place = map-set (λ (x : Replica). x.place) rs w s ∙ a
 -- equal openings
 pub same_all : (i j : Tables) (a0 b0 : List Machine) (l m : Lots) (h : List Entry) (rs : List Replica) → AreAt j b0 m h rs → j ≡ i → b0 ≡ a0 → m ≡ l → AreAt i a0 l h rs
 same_all i j a0 b0 l m h rs at inst initial lots = rw (← inst, ← initial, ← lots) at
+
+-- a journal is over what it is over, and over what another is that is over the same
+pub over_itself : (j : Journal) → IsOverSame j j
+over_itself j = record { instance = refl; topology = refl; initial = refl; lots = refl }
+
+pub over_then : (j k g : Journal) → IsOverSame j k → IsOverSame k g → IsOverSame j g
+over_then j k g first second = record {
+  instance = second.instance ∙ first.instance;
+  topology = second.topology ∙ first.topology;
+  initial = second.initial ∙ first.initial;
+  lots = second.lots ∙ first.lots;
+}
+
+pub same_tables : (j k : Journal) → IsOverSame j k → k.inst.now.tables ≡ j.inst.now.tables
+same_tables j k over = ap (λ (x : Instance). x.tables) over.instance
+
+pub same_start : (j k : Journal) → IsOverSame j k → k.a0.now.items ≡ j.a0.now.items
+same_start j k over = ap (λ (x : Listed Machine). x.items) over.initial
+
+-- the replicas stay at states of a journal with which a worker has taken its turn
+pub stand_later : (j k : Journal) (w q : ℕ) (said : CoreReply) (rs : List Replica) → StandIn j rs → TakesTurn j k w q said → StandIn k rs
+stand_later j k w q said rs at turned = same_all k.inst.now.tables j.inst.now.tables k.a0.now.items j.a0.now.items k.lots.now j.lots.now k.book.entries.items rs
+    (all_later j.inst.now.tables j.a0.now.items j.lots.now j.book.entries.items k.book.entries.items w q rs at turned.journal)
+    (sym (same_tables j k turned.over)) (sym (same_start j k turned.over)) (sym turned.over.lots)

@@ -1,12 +1,10 @@
 ghost use Rattle.std.specs.Prelude.{◌≡◌, ◌+◌, ◌-◌, ◌<◌, ◌≤◌, min, false, length, slice_set};
-ghost use Rattle.ra_journal.specs.Committing.{committed};
 ghost use Rattle.ra_journal.specs.Entries.{worker_count};
-ghost use Rattle.ra_journal.specs.Journals.{instance_in, tables_in, topology_in, initial_in, start_in, lots_in, entries_in};
+ghost use Rattle.ra_journal.specs.Journals.{lots_in, entries_in};
 ghost use Rattle.ra_worker.specs.Skipping.{is_skipped};
-ghost use Rattle.ra_worker.specs.Replicas.{worker_at, place_at, IsAt};
-ghost use Rattle.ra_worker_core.specs.Core.{place_of, turn};
-ghost use Rattle.ra_worker_core.specs.declared.events.CoreReply.TheVariants.{Answer};
-ghost use Rattle.ra_worker_core.specs.Replicas.{AreAt, core_of};
+ghost use Rattle.ra_worker.specs.Replicas.{worker_at, place_at};
+ghost use Rattle.ra_worker_core.specs.Core.{place_of};
+ghost use Rattle.ra_worker_core.specs.Turns.{StandsIn, StandIn, core_in, TakesTurn};
 
 use crate::events::CoreReply;
 use ra_base::Steps;
@@ -23,25 +21,14 @@ pub fn take_turn_at<'a>(
     worker: u32,
     q: u64,
 ) -> CoreReply
-    requires at { AreAt (tables_in journal.old) (start_in journal.old) (lots_in journal.old)
-        (entries_in journal.old) replicas.old.items }
+    requires at { StandIn journal.old replicas.old.items }
     requires exists { worker < worker_count (lots_in journal.old) }
-    requires ahead { place_of (core_of (entries_in journal.old) replicas.old.items) worker
-        ≤ q }
+    requires ahead { place_of (core_in journal.old replicas.old.items) worker ≤ q }
     requires within { q ≤ length (entries_in journal.old) }
-    ensures journal { entries_in journal.new ≡ (turn (tables_in journal.old)
-        (start_in journal.old) (lots_in journal.old) (entries_in journal.old) worker
-        q).journal }
-    ensures reply { result ≡ (turn (tables_in journal.old) (start_in journal.old)
-        (lots_in journal.old) (entries_in journal.old) worker q).reply }
-    ensures places { (core_of (entries_in journal.new) replicas.new.items).places ≡ slice_set
-        (core_of (entries_in journal.old) replicas.old.items).places worker q }
-    ensures at { AreAt (tables_in journal.old) (start_in journal.old) (lots_in journal.old)
-        (entries_in journal.new) replicas.new.items }
-    ensures instance { instance_in journal.new ≡ instance_in journal.old }
-    ensures topology { topology_in journal.new ≡ topology_in journal.old }
-    ensures initial { initial_in journal.new ≡ initial_in journal.old }
-    ensures lots { lots_in journal.new ≡ lots_in journal.old }
+    ensures turn { TakesTurn journal.old journal.new worker q result }
+    ensures places { (core_in journal.new replicas.new.items).places ≡
+        slice_set (core_in journal.old replicas.old.items).places worker q }
+    ensures at { StandIn journal.new replicas.new.items }
 {
     let replica = &mut replicas[worker as usize];
     follow_to::<Brand>(journal, replica, q, Blank::new(1));
@@ -58,14 +45,12 @@ fn follow_to<'a, L: Ledger>(
     requires name { blank.name ≡ L.name }
     requires parts { blank.parts ≡ L.parts }
     requires some { 0 < blank.parts }
-    requires at { IsAt (tables_in journal.now) (start_in journal.now) (lots_in journal.now)
-        (entries_in journal.now) replica.old }
+    requires at { StandsIn journal.now replica.old }
     requires ahead { place_at replica.old ≤ place }
     requires within { place ≤ length (entries_in journal.now) }
     ensures place { place_at replica.new ≡ place }
     ensures worker { worker_at replica.new ≡ worker_at replica.old }
-    ensures at { IsAt (tables_in journal.now) (start_in journal.now) (lots_in journal.now)
-        (entries_in journal.now) replica.new }
+    ensures at { StandsIn journal.now replica.new }
 {
     let mut steps = Steps::<L>::make(blank);
     for at in replica.place()..place {
@@ -84,13 +69,11 @@ pub fn catch_up<'a, L: Ledger>(
     requires name { blank.name ≡ L.name }
     requires parts { blank.parts ≡ L.parts }
     requires some { 0 < blank.parts }
-    requires at { IsAt (tables_in journal.now) (start_in journal.now) (lots_in journal.now)
-        (entries_in journal.now) replica.old }
+    requires at { StandsIn journal.now replica.old }
     ensures count { result ≡ min 1024 (length (entries_in journal.now) - place_at replica.old) }
     ensures place { place_at replica.new ≡ place_at replica.old + result }
     ensures worker { worker_at replica.new ≡ worker_at replica.old }
-    ensures at { IsAt (tables_in journal.now) (start_in journal.now) (lots_in journal.now)
-        (entries_in journal.now) replica.new }
+    ensures at { StandsIn journal.now replica.new }
 {
     let mut steps = Steps::<L>::make(blank);
     let place = replica.place();
@@ -109,18 +92,9 @@ pub fn hand_in<'a, L: Ledger>(
     requires name { blank.name ≡ L.name }
     requires parts { blank.parts ≡ L.parts }
     requires some { 0 < blank.parts }
-    requires at { IsAt (tables_in journal.old) (start_in journal.old) (lots_in journal.old)
-        (entries_in journal.old) replica.now }
-    ensures journal { entries_in journal.new ≡ (turn (tables_in journal.old)
-        (start_in journal.old) (lots_in journal.old) (entries_in journal.old)
-        (worker_at replica.now) (place_at replica.now)).journal }
-    ensures reply { result ≡ (turn (tables_in journal.old)
-        (start_in journal.old) (lots_in journal.old) (entries_in journal.old)
-        (worker_at replica.now) (place_at replica.now)).reply }
-    ensures instance { instance_in journal.new ≡ instance_in journal.old }
-    ensures topology { topology_in journal.new ≡ topology_in journal.old }
-    ensures initial { initial_in journal.new ≡ initial_in journal.old }
-    ensures lots { lots_in journal.new ≡ lots_in journal.old }
+    requires at { StandsIn journal.old replica.now }
+    ensures { TakesTurn journal.old journal.new (worker_at replica.now) (place_at replica.now)
+        result }
 {
     if skipped(journal, replica) {
         CoreReply::Skipped
@@ -131,8 +105,7 @@ pub fn hand_in<'a, L: Ledger>(
 
 /// Whether a worker has used its budget or has not taken in all of its own entries.
 fn skipped(journal: &Journal<'_>, replica: &Replica<'_>) -> bool
-    requires at { IsAt (tables_in journal.now) (start_in journal.now) (lots_in journal.now)
-        (entries_in journal.now) replica.now }
+    requires at { StandsIn journal.now replica.now }
     ensures { result ≡ is_skipped (lots_in journal.now) (entries_in journal.now)
         (worker_at replica.now) (place_at replica.now) }
 {
@@ -151,20 +124,11 @@ fn commit_next<'a, L: Ledger>(
     requires name { blank.name ≡ L.name }
     requires parts { blank.parts ≡ L.parts }
     requires some { 0 < blank.parts }
-    requires at { IsAt (tables_in journal.old) (start_in journal.old) (lots_in journal.old)
-        (entries_in journal.old) replica.now }
+    requires at { StandsIn journal.old replica.now }
     requires not_skipped { is_skipped (lots_in journal.old) (entries_in journal.old)
         (worker_at replica.now) (place_at replica.now) ≡ false }
-    ensures journal { entries_in journal.new ≡ (committed (tables_in journal.old)
-        (start_in journal.old) (lots_in journal.old) (entries_in journal.old)
-        (worker_at replica.now) (place_at replica.now)).journal }
-    ensures reply { result ≡ Answer (committed (tables_in journal.old)
-        (start_in journal.old) (lots_in journal.old) (entries_in journal.old)
-        (worker_at replica.now) (place_at replica.now)).reply }
-    ensures instance { instance_in journal.new ≡ instance_in journal.old }
-    ensures topology { topology_in journal.new ≡ topology_in journal.old }
-    ensures initial { initial_in journal.new ≡ initial_in journal.old }
-    ensures lots { lots_in journal.new ≡ lots_in journal.old }
+    ensures { TakesTurn journal.old journal.new (worker_at replica.now) (place_at replica.now)
+        result }
 {
     let mut steps = Steps::<L>::make(blank);
     let plan = replica.offer(&mut steps);

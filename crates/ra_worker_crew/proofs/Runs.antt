@@ -91,7 +91,7 @@ own_none i a0 l w fresh none =
 same_at : (o : Opening) (i : Instance) (a0 : Listed Machine) (l : Lots) (h : List Entry) (r : Replica) → o.inst ≡ i → o.a0 ≡ a0 → o.lots ≡ l → IsAt i.tables a0.items l h r → IsAt o.inst.tables o.a0.items o.lots h r
 same_at o i a0 l h r inst initial lots at = rw (inst, initial, lots) at
 
-ready_as : (s : Shared) (i : Instance) (a0 : Listed Machine) (l : Lots) (w : Worker) (n : ℕ) → (start_of s).inst ≡ i → (start_of s).a0 ≡ a0 → (start_of s).lots ≡ l → IsFresh i.tables a0.items l w → IsNew s n w.pass → IsReadyAs s n w
+pub ready_as : (s : Shared) (i : Instance) (a0 : Listed Machine) (l : Lots) (w : Worker) (n : ℕ) → (start_of s).inst ≡ i → (start_of s).a0 ≡ a0 → (start_of s).lots ≡ l → IsFresh i.tables a0.items l w → IsNew s n w.pass → IsReadyAs s n w
 ready_as s i a0 l w n inst initial lots fresh new = record {
   may = record {
     work = record { rest = new.rest; same = fresh.worker; at = same_at (start_of s) i a0 l (seen_by w.pass) w.replica inst initial lots (fresh.at (seen_by w.pass)) };

@@ -1,7 +1,6 @@
-use Rattle.std.proofs.Common.{◌≡◌, ◌<◌, length, arith}
-use Rattle.ra_worker_core.specs.Replicas.{AreAt}
+use Rattle.std.proofs.Common.{arith}
 use Rattle.ra_journal.specs.Entries.{worker_count}
-use Rattle.ra_worker_core.proofs.AllLemmas.{AreFirst, first_more, first_all}
+use Rattle.ra_worker_core.proofs.AllLemmas.{first_more, first_all}
 use Rattle.ra_worker_core.proofs.all.make_replicas.Goals as goal
 
 pub make-requires-clause-worker : goal.make-requires-clause-worker

@@ -1,4 +1,4 @@
-use Rattle.std.proofs.Common.{◌≡◌, ◌+◌, ◌-◌, min, length, ap, ◌∙◌, arith}
+use Rattle.std.proofs.Common.{◌-◌, min, length, ap, ◌∙◌, arith}
 use Rattle.ra_journal.specs.Batches.{batch_from}
 use Rattle.ra_worker.proofs.TurnLemmas.{batch_next, taken_at}
 use Rattle.ra_worker_core.proofs.TurnLemmas.{taken_place}
