@@ -6,14 +6,16 @@ use Rattle.ra_base.specs.declared.ids.Machine.{Machine}
 use Rattle.ra_draws.specs.declared.budgets.Lots.{Lots}
 use Rattle.ra_model.specs.declared.raw.Tables.{Tables}
 use Rattle.ra_journal.specs.declared.entries.Entry.{Entry}
+use Rattle.ra_journal.specs.declared.journal.Journal.{Journal}
 use Rattle.ra_journal.specs.Entries.{worker_count}
 use Rattle.ra_worker.specs.declared.replica.Replica.{Replica}
 use Rattle.ra_worker_core.specs.declared.events.CoreEvent.{CoreEvent}
 use Rattle.ra_worker_core.specs.declared.events.CoreEvent.TheVariants.{CatchUp, Commit}
 use Rattle.ra_worker_core.specs.Core.{Core, AreNamed, place_of, turn, Stepped, caught_up, step, event_at, core_after, run, worker_of}
 use Rattle.ra_worker_core.specs.Replicas.{core_of}
-use Rattle.ra_worker_core.proofs.CoreLemmas.{place_there}
-use Rattle.ra_worker_play.specs.Rounds.{IsPlayed}
+use Rattle.ra_worker_core.specs.Turns.{StandIn, core_in}
+use Rattle.ra_worker_core.proofs.CoreLemmas.{place_there, over_itself, over_then, same_tables, same_start}
+use Rattle.ra_worker_play.specs.Rounds.{IsPlayed, PlaysOn}
 use Rattle.ra_worker_play.proofs.PlayLemmas.{core_suc, step_commit}
 
 -- a list of events with one more behind it
@@ -52,7 +54,7 @@ run_push i a0 l c xs e =
     ∙ ap (λ (x : CoreEvent). (step i a0 l (core_after i a0 l c xs (length xs)) x).after) (last_event xs e)
 
 -- no turn
-pub played_none : (i : Tables) (a0 : List Machine) (l : Lots) (c : Core) → IsPlayed i a0 l c c
+played_none : (i : Tables) (a0 : List Machine) (l : Lots) (c : Core) → IsPlayed i a0 l c c
 unfolding run core_after
 played_none i a0 l c = record { events = []; named = record { each = λ n there. absurd (omega (arith, there)) }; last = refl }
 
@@ -70,7 +72,7 @@ unfolding core_after
 played_on i a0 l a b ys zero played named within = played
 played_on i a0 l a b ys (suc n) played named within = played_more i a0 l a (core_after i a0 l b ys n) (core_after i a0 l b ys (suc n)) (event_at ys n) (played_on i a0 l a b ys n played named (omega (arith, within))) (named.each n (omega (arith, within))) (core_suc i a0 l b ys n)
 
-pub played_then : (i : Tables) (a0 : List Machine) (l : Lots) (a b c : Core) → IsPlayed i a0 l a b → IsPlayed i a0 l b c → IsPlayed i a0 l a c
+played_then : (i : Tables) (a0 : List Machine) (l : Lots) (a b c : Core) → IsPlayed i a0 l a b → IsPlayed i a0 l b c → IsPlayed i a0 l a c
 unfolding run
 played_then i a0 l a b c first second = subst (IsPlayed i a0 l a) (sym second.last) (played_on i a0 l a b second.events (length second.events) first second.named (omega arith))
 
@@ -112,5 +114,21 @@ turn_played i a0 l h g rs w v r s exists there is within place own g_is =
     played_more i a0 l (core_of h rs) (core_of h (set rs w s)) (core_of g (set rs w s)) (Commit w) before exists (sym (ap (λ (x : Stepped). x.after) stepped))
 
 -- equal openings
-pub same_played : (i j : Tables) (a0 b0 : List Machine) (l m : Lots) (c d : Core) → IsPlayed j b0 m c d → j ≡ i → b0 ≡ a0 → m ≡ l → IsPlayed i a0 l c d
+same_played : (i j : Tables) (a0 b0 : List Machine) (l m : Lots) (c d : Core) → IsPlayed j b0 m c d → j ≡ i → b0 ≡ a0 → m ≡ l → IsPlayed i a0 l c d
 same_played i j a0 b0 l m c d played inst initial lots = rw (← inst, ← initial, ← lots) played
+
+-- a journal with its replicas: no turn, and more turns
+pub plays_nothing : (j : Journal) (rs : List Replica) → StandIn j rs → PlaysOn j j rs rs
+plays_nothing j rs at = record {
+  played = played_none j.inst.now.tables j.a0.now.items j.lots.now (core_in j rs);
+  at = at;
+  over = over_itself j;
+}
+
+pub plays_then : (j k g : Journal) (rs ss ts : List Replica) → PlaysOn j k rs ss → PlaysOn k g ss ts → PlaysOn j g rs ts
+plays_then j k g rs ss ts first second = record {
+  played = played_then j.inst.now.tables j.a0.now.items j.lots.now (core_in j rs) (core_in k ss) (core_in g ts) first.played
+      (same_played j.inst.now.tables k.inst.now.tables j.a0.now.items k.a0.now.items j.lots.now k.lots.now (core_in k ss) (core_in g ts) second.played (same_tables j k first.over) (same_start j k first.over) first.over.lots);
+  at = second.at;
+  over = over_then j k g first.over second.over;
+}

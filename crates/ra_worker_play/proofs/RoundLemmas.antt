@@ -127,7 +127,3 @@ most_more l w longest own most each own_is longest_in own_in v before = ⊎_elim
     (λ (less : v < w). omega (arith, each v less))
     (λ (last : w ≤ v). let here : v ≡ w = omega (arith, before) in subst (λ k. budget l k ≤ most) (sym here) (omega (arith, own_is)))
     (cases_lt v w)
-
--- equal openings
-pub same_turn : (i j : Tables) (a0 b0 : List Machine) (l m : Lots) (h g : List Entry) (w q : ℕ) → g ≡ (turn j b0 m h w q).journal → j ≡ i → b0 ≡ a0 → m ≡ l → g ≡ (turn i a0 l h w q).journal
-same_turn i j a0 b0 l m h g w q g_is inst initial lots = rw (← inst, ← initial, ← lots) g_is

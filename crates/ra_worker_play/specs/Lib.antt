@@ -1,2 +1,3 @@
 pub mod Laws
+pub mod Plays
 pub mod Rounds

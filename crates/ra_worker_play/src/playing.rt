@@ -1,7 +1,9 @@
 ghost use Rattle.std.specs.Prelude.{◌≡◌, ◌+◌, ◌<◌, ◌≤◌, ◌++◌, true, length};
 ghost use Rattle.ra_journal.specs.Entries.{worker_count};
-ghost use Rattle.ra_worker_core.specs.Core.{AreNamed, event_at, worker_of, step, run};
-ghost use Rattle.ra_worker_core.specs.Replicas.{AreAt, core_of};
+ghost use Rattle.ra_journal.specs.Journals.{lots_in};
+ghost use Rattle.ra_worker_core.specs.Core.{AreNamed, event_at, worker_of};
+ghost use Rattle.ra_worker_core.specs.Turns.{StandIn, core_in, IsOverSame};
+ghost use Rattle.ra_worker_play.specs.Plays.{step_in, run_in};
 
 use ra_base::Fixed;
 use ra_draws::Lots;
@@ -19,23 +21,16 @@ pub fn play<'a>(
     events: &Fixed<CoreEvent>,
     replies: &mut Fixed<CoreReply>,
 )
-    requires at { AreAt journal.old.inst.now.tables journal.old.a0.now.items journal.old.lots.now
-        journal.old.book.entries.items replicas.old.items }
-    requires named { AreNamed journal.old.lots.now events.now.items }
+    requires at { StandIn journal.old replicas.old.items }
+    requires named { AreNamed (lots_in journal.old) events.now.items }
     requires room { length replies.old.items + length events.now.items ≤ replies.old.room }
-    ensures core { core_of journal.new.book.entries.items replicas.new.items ≡
-        (run journal.old.inst.now.tables journal.old.a0.now.items journal.old.lots.now
-        (core_of journal.old.book.entries.items replicas.old.items) events.now.items).last }
+    ensures core { core_in journal.new replicas.new.items ≡
+        (run_in journal.old replicas.old.items events.now.items).last }
     ensures replies { replies.new.items ≡ replies.old.items ++
-        (run journal.old.inst.now.tables journal.old.a0.now.items journal.old.lots.now
-        (core_of journal.old.book.entries.items replicas.old.items) events.now.items).replies }
+        (run_in journal.old replicas.old.items events.now.items).replies }
     ensures room { replies.new.room ≡ replies.old.room }
-    ensures at { AreAt journal.old.inst.now.tables journal.old.a0.now.items journal.old.lots.now
-        journal.new.book.entries.items replicas.new.items }
-    ensures instance { journal.new.inst.now ≡ journal.old.inst.now }
-    ensures topology { journal.new.topo.now ≡ journal.old.topo.now }
-    ensures initial { journal.new.a0.now ≡ journal.old.a0.now }
-    ensures lots { journal.new.lots.now ≡ journal.old.lots.now }
+    ensures at { StandIn journal.new replicas.new.items }
+    ensures over { IsOverSame journal.old journal.new }
 {
     for n in 0..events.len() {
         let event = event_of(events, n);
@@ -78,21 +73,12 @@ pub(crate) fn play_event<'a, L: Ledger>(
     requires name { blank.name ≡ L.name }
     requires parts { blank.parts ≡ L.parts }
     requires some { 0 < blank.parts }
-    requires at { AreAt journal.old.inst.now.tables journal.old.a0.now.items journal.old.lots.now
-        journal.old.book.entries.items replicas.old.items }
-    requires named { worker_of event < worker_count journal.old.lots.now }
-    ensures step { step journal.old.inst.now.tables journal.old.a0.now.items journal.old.lots.now
-        (core_of journal.old.book.entries.items replicas.old.items) event ≡
-        record {
-          after = core_of journal.new.book.entries.items replicas.new.items;
-          reply = result;
-        } }
-    ensures at { AreAt journal.old.inst.now.tables journal.old.a0.now.items journal.old.lots.now
-        journal.new.book.entries.items replicas.new.items }
-    ensures instance { journal.new.inst.now ≡ journal.old.inst.now }
-    ensures topology { journal.new.topo.now ≡ journal.old.topo.now }
-    ensures initial { journal.new.a0.now ≡ journal.old.a0.now }
-    ensures lots { journal.new.lots.now ≡ journal.old.lots.now }
+    requires at { StandIn journal.old replicas.old.items }
+    requires named { worker_of event < worker_count (lots_in journal.old) }
+    ensures step { step_in journal.old replicas.old.items event ≡
+        record { after = core_in journal.new replicas.new.items; reply = result } }
+    ensures at { StandIn journal.new replicas.new.items }
+    ensures over { IsOverSame journal.old journal.new }
 {
     match event {
         CoreEvent::CatchUp { worker } => {

@@ -1,10 +1,10 @@
 ghost use Rattle.std.specs.Prelude.{◌≡◌, ℕ, ◌+◌, ◌<◌, ◌≤◌, length};
 ghost use Rattle.ra_journal.specs.Entries.{worker_count, budget};
+ghost use Rattle.ra_journal.specs.Journals.{lots_in, entries_in};
 ghost use Rattle.ra_journal.specs.Legal.{Whole};
-ghost use Rattle.ra_worker.specs.Replicas.{IsAt};
-ghost use Rattle.ra_worker_core.specs.Core.{turn};
-ghost use Rattle.ra_worker_core.specs.Replicas.{AreAt, core_of};
-ghost use Rattle.ra_worker_play.specs.Rounds.{HaveMade, IsPlayed};
+ghost use Rattle.ra_worker.specs.Replicas.{worker_at, place_at};
+ghost use Rattle.ra_worker_core.specs.Turns.{StandsIn, StandIn, turn_in};
+ghost use Rattle.ra_worker_play.specs.Rounds.{HaveAllMade, PlaysOn};
 
 use ra_draws::Lots;
 use ra_journal::{Batch, Journal};
@@ -20,18 +20,9 @@ pub fn round_robin<'a>(
     replicas: &mut Vec<Replica<'a>>,
     batch: &mut Batch,
 )
-    requires at { AreAt journal.old.inst.now.tables journal.old.a0.now.items journal.old.lots.now
-        journal.old.book.entries.items replicas.old.items }
-    ensures whole { Whole journal.old.lots.now journal.new.book.entries.items }
-    ensures played { IsPlayed journal.old.inst.now.tables journal.old.a0.now.items
-        journal.old.lots.now (core_of journal.old.book.entries.items replicas.old.items)
-        (core_of journal.new.book.entries.items replicas.new.items) }
-    ensures at { AreAt journal.old.inst.now.tables journal.old.a0.now.items journal.old.lots.now
-        journal.new.book.entries.items replicas.new.items }
-    ensures instance { journal.new.inst.now ≡ journal.old.inst.now }
-    ensures topology { journal.new.topo.now ≡ journal.old.topo.now }
-    ensures initial { journal.new.a0.now ≡ journal.old.a0.now }
-    ensures lots { journal.new.lots.now ≡ journal.old.lots.now }
+    requires at { StandIn journal.old replicas.old.items }
+    ensures whole { Whole (lots_in journal.old) (entries_in journal.new) }
+    ensures played { PlaysOn journal.old journal.new replicas.old.items replicas.new.items }
 {
     let rounds = longest(journal.lots());
     for _round in 0..rounds {
@@ -60,20 +51,9 @@ fn larger(a: u64, b: u64) -> u64
 
 /// Plays each worker once. Each makes one proposal more, unless it has made all of its own.
 fn play_round<'a>(journal: &mut Journal<'a>, replicas: &mut Vec<Replica<'a>>, batch: &mut Batch)
-    requires at { AreAt journal.old.inst.now.tables journal.old.a0.now.items journal.old.lots.now
-        journal.old.book.entries.items replicas.old.items }
-    ensures made { (r : ℕ) → HaveMade journal.old.lots.now journal.old.book.entries.items
-        (worker_count journal.old.lots.now) r → HaveMade journal.old.lots.now
-        journal.new.book.entries.items (worker_count journal.old.lots.now) (r + 1) }
-    ensures played { IsPlayed journal.old.inst.now.tables journal.old.a0.now.items
-        journal.old.lots.now (core_of journal.old.book.entries.items replicas.old.items)
-        (core_of journal.new.book.entries.items replicas.new.items) }
-    ensures at { AreAt journal.old.inst.now.tables journal.old.a0.now.items journal.old.lots.now
-        journal.new.book.entries.items replicas.new.items }
-    ensures instance { journal.new.inst.now ≡ journal.old.inst.now }
-    ensures topology { journal.new.topo.now ≡ journal.old.topo.now }
-    ensures initial { journal.new.a0.now ≡ journal.old.a0.now }
-    ensures lots { journal.new.lots.now ≡ journal.old.lots.now }
+    requires at { StandIn journal.old replicas.old.items }
+    ensures made { (r : ℕ) → HaveAllMade journal.old r → HaveAllMade journal.new (r + 1) }
+    ensures played { PlaysOn journal.old journal.new replicas.old.items replicas.new.items }
 {
     for w in 0..journal.lots().len() {
         take_turn(journal, replicas, batch, w);
@@ -87,21 +67,11 @@ fn take_turn<'a>(
     batch: &mut Batch,
     w: u32,
 )
-    requires at { AreAt journal.old.inst.now.tables journal.old.a0.now.items journal.old.lots.now
-        journal.old.book.entries.items replicas.old.items }
-    requires exists { w < worker_count journal.old.lots.now }
-    ensures journal { journal.new.book.entries.items ≡ (turn journal.old.inst.now.tables
-        journal.old.a0.now.items journal.old.lots.now journal.old.book.entries.items w
-        (length journal.old.book.entries.items)).journal }
-    ensures played { IsPlayed journal.old.inst.now.tables journal.old.a0.now.items
-        journal.old.lots.now (core_of journal.old.book.entries.items replicas.old.items)
-        (core_of journal.new.book.entries.items replicas.new.items) }
-    ensures at { AreAt journal.old.inst.now.tables journal.old.a0.now.items journal.old.lots.now
-        journal.new.book.entries.items replicas.new.items }
-    ensures instance { journal.new.inst.now ≡ journal.old.inst.now }
-    ensures topology { journal.new.topo.now ≡ journal.old.topo.now }
-    ensures initial { journal.new.a0.now ≡ journal.old.a0.now }
-    ensures lots { journal.new.lots.now ≡ journal.old.lots.now }
+    requires at { StandIn journal.old replicas.old.items }
+    requires exists { w < worker_count (lots_in journal.old) }
+    ensures journal { entries_in journal.new ≡
+        (turn_in journal.old w (length (entries_in journal.old))).journal }
+    ensures played { PlaysOn journal.old journal.new replicas.old.items replicas.new.items }
 {
     let replica = &mut replicas[w as usize];
     catch_up_whole(journal, replica, batch);
@@ -110,12 +80,10 @@ fn take_turn<'a>(
 
 /// A replica takes in all entries that it has not taken in.
 fn catch_up_whole<'a>(journal: &Journal<'a>, replica: &mut Replica<'a>, batch: &mut Batch)
-    requires at { IsAt journal.now.inst.now.tables journal.now.a0.now.items journal.now.lots.now
-        journal.now.book.entries.items replica.old }
-    ensures place { replica.new.place ≡ length journal.now.book.entries.items }
-    ensures worker { replica.new.proposals.worker ≡ replica.old.proposals.worker }
-    ensures at { IsAt journal.now.inst.now.tables journal.now.a0.now.items journal.now.lots.now
-        journal.now.book.entries.items replica.new }
+    requires at { StandsIn journal.now replica.old }
+    ensures place { place_at replica.new ≡ length (entries_in journal.now) }
+    ensures worker { worker_at replica.new ≡ worker_at replica.old }
+    ensures at { StandsIn journal.now replica.new }
 {
     let length = journal.len();
     let mut place = replica.place();

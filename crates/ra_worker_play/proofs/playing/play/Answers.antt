@@ -1,10 +1,7 @@
 use Rattle.std.proofs.Common.{◌≡◌, ◌+◌, ◌<◌, ◌≤◌, ◌++◌, length, refl, sym, ap, ◌∙◌, subst, arith}
-use Rattle.ra_base.specs.Listed.{Listed}
-use Rattle.ra_base.specs.declared.ids.Machine.{Machine}
-use Rattle.ra_model.specs.declared.numbers.Instance.{Instance}
 use Rattle.ra_worker_core.specs.Core.{step}
 use Rattle.ra_worker_core.specs.Replicas.{core_of}
-use Rattle.ra_worker_core.proofs.CoreLemmas.{same_all}
+use Rattle.ra_worker_core.proofs.CoreLemmas.{over_itself, over_then, same_tables, same_start}
 use Rattle.ra_worker_play.proofs.PlayLemmas.{core_start, replies_start, core_more, replies_more, core_end, replies_end, room_left, same_step}
 use Rattle.ra_worker_play.proofs.playing.play.Goals as goal
 
@@ -14,10 +11,7 @@ loop-n-init c = record {
   replies = replies_start _ _ _ _ _ _;
   room = refl;
   at = c.requires.at;
-  instance = refl;
-  topology = refl;
-  initial = refl;
-  lots = refl;
+  over = over_itself c.args.journal.now;
 }
 
 pub push-requires : goal.push-requires
@@ -33,18 +27,13 @@ loop-n-preserved c =
     let start = core_of j.book.entries.items c.args.replicas.now.items in
     let d = core_of k.book.entries.items c.loop-n.replicas.items in
     let e = core_of c.play_event-reply.new.journal.book.entries.items c.play_event-reply.new.replicas.items in
-    let inst = ap (λ (x : Instance). x.tables) inv.instance in
-    let initial = ap (λ (x : Listed Machine). x.items) inv.initial in
-    let stepped = same_step j.inst.now.tables k.inst.now.tables j.a0.now.items k.a0.now.items j.lots.now k.lots.now d c.event_of-event.result (record { after = e; reply = c.play_event-reply.result }) c.play_event-reply.ensures.step inst initial inv.lots in
+    let stepped = same_step j.inst.now.tables k.inst.now.tables j.a0.now.items k.a0.now.items j.lots.now k.lots.now d c.event_of-event.result (record { after = e; reply = c.play_event-reply.result }) c.play_event-reply.ensures.step (same_tables j k inv.over) (same_start j k inv.over) inv.over.lots in
     record {
       core = core_more j.inst.now.tables j.a0.now.items j.lots.now start d e c.args.events.now.items c.loop-n.n c.event_of-event.result c.play_event-reply.result inv.core c.event_of-event.ensures stepped;
       replies = replies_more j.inst.now.tables j.a0.now.items j.lots.now start d e c.args.events.now.items c.loop-n.n c.event_of-event.result c.play_event-reply.result c.args.replies.now.items c.loop-n.replies.items c.push.new.self.items inv.core c.event_of-event.ensures stepped inv.replies c.push.ensures.items;
       room = c.push.ensures.room ∙ inv.room;
-      at = same_all j.inst.now.tables k.inst.now.tables j.a0.now.items k.a0.now.items j.lots.now k.lots.now c.play_event-reply.new.journal.book.entries.items c.play_event-reply.new.replicas.items c.play_event-reply.ensures.at inst initial inv.lots;
-      instance = c.play_event-reply.ensures.instance ∙ inv.instance;
-      topology = c.play_event-reply.ensures.topology ∙ inv.topology;
-      initial = c.play_event-reply.ensures.initial ∙ inv.initial;
-      lots = c.play_event-reply.ensures.lots ∙ inv.lots;
+      at = c.play_event-reply.ensures.at;
+      over = over_then j k c.play_event-reply.new.journal inv.over c.play_event-reply.ensures.over;
     }
 
 pub returns-clause-core : goal.returns-clause-core

@@ -3,7 +3,7 @@ use Rattle.ra_worker_core.specs.declared.events.CoreEvent.{CoreEvent}
 use Rattle.ra_worker_core.specs.declared.events.CoreEvent.TheVariants.{CatchUp, Commit}
 use Rattle.ra_worker_core.specs.Core.{step}
 use Rattle.ra_worker_core.specs.Replicas.{IsAtOf}
-use Rattle.ra_worker_core.proofs.CoreLemmas.{all_set, all_later}
+use Rattle.ra_worker_core.proofs.CoreLemmas.{all_set, stand_later, over_itself}
 use Rattle.ra_worker_play.proofs.PlayLemmas.{named_catch_up, named_commit, step_catch_up, step_commit}
 use Rattle.ra_worker_play.proofs.playing.play_event.Goals as goal
 
@@ -40,7 +40,8 @@ returns-in-Commit-clause-step g c =
     let there : c.in-Commit.worker < length c.args.replicas.now.items = omega (arith, named_commit c.args.event c.in-Commit.worker _ c.requires.named c.in-Commit.is, c.requires.at.one_each) in
     rw c.in-Commit.is (step_commit j.inst.now.tables j.a0.now.items j.lots.now j.book.entries.items c.hand_in.new.journal.book.entries.items c.args.replicas.now.items c.in-Commit.worker c.index-replica.result.now.proposals.worker c.index-replica.result.now c.hand_in.result there (sym c.index-replica.ensures) (c.requires.at.each c.in-Commit.worker c.index-replica.result.now there (sym c.index-replica.ensures)).worker c.hand_in.ensures.journal c.hand_in.ensures.reply)
 
+pub returns-in-CatchUp-clause-over : goal.returns-in-CatchUp-clause-over
+returns-in-CatchUp-clause-over g c = over_itself c.args.journal.now
+
 pub returns-in-Commit-clause-at : goal.returns-in-Commit-clause-at
-returns-in-Commit-clause-at g c =
-    let j = c.args.journal.now in
-    all_later j.inst.now.tables j.a0.now.items j.lots.now j.book.entries.items c.hand_in.new.journal.book.entries.items c.index-replica.result.now.proposals.worker c.index-replica.result.now.place c.args.replicas.now.items c.requires.at c.hand_in.ensures.journal
+returns-in-Commit-clause-at g c = stand_later c.args.journal.now c.hand_in.new.journal c.index-replica.result.now.proposals.worker c.index-replica.result.now.place c.hand_in.result c.args.replicas.now.items c.requires.at c.hand_in.ensures
