@@ -11,7 +11,7 @@ use Rattle.ra_world.specs.Worlds.{here_of}
 use Rattle.ra_world.specs.declared.world.World.{World}
 use Rattle.ra_plan.specs.declared.best.Best.{Best}
 
--- the cost of option k, where it is judged Done on the assignment of a world
+-- the cost of option k, if it is judged Done on the assignment of a world
 unfoldable pub cost_in : World → List ℕ → Drawing → ℕ → ℕ → Option ℕ
 cost_in w x d allowed k =
     option_cost w.inst.now.tables w.start.now.items w.kept.assignment.items x d allowed k

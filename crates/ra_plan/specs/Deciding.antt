@@ -1,4 +1,4 @@
--- What is found of one move: its cost where that can still win, and its weighing where it is planned.
+-- What is found of one move: its cost if that can still win, and its weighing if it is planned.
 use Rattle.std.specs.Prelude.{◌≡◌, ℕ, ◌<◌, ◌≤◌, List, Option, Some, None}
 use Rattle.ra_base.specs.declared.causes.Cause.{Cause}
 use Rattle.ra_base.specs.declared.causes.Drawing.{Drawing}
@@ -26,7 +26,7 @@ cost_at w steps = objective (tables_of w) (start_of w) (applied (here_of w) step
 abbrev pub weighed_at : World → List Step → Weighed
 weighed_at w steps = weighed_of (tables_of w) (start_of w) (here_of w) steps
 
--- a cost where the move breaks nothing and costs less than a bound, and none where it breaks something or costs no less
+-- a cost if the move breaks nothing and costs less than a bound, and none if it breaks something or costs no less
 pub record IsMoveBelow (w : World) (steps : List Step) (bound : ℕ) (cost : Option ℕ) : Type 0 where
   pub free : (n : ℕ) → cost ≡ Some n → cause_at w steps ≡ None
   pub found : (n : ℕ) → cost ≡ Some n → n ≡ cost_at w steps

@@ -12,9 +12,9 @@ use ra_moves::Verdict;
 /// The best option so far.
 #[derive(Clone, Copy)]
 pub(crate) struct Best {
-    /// The cost after it, where there is one that is done.
+    /// The cost after it, if one is done.
     pub(crate) cost: Option<u128>,
-    /// Its number, and 0 where none is done.
+    /// Its number, and 0 if none is done.
     pub(crate) option: u32,
 }
 
@@ -43,7 +43,7 @@ impl Best {
         }
     }
 
-    /// Takes the next option, where a cost below the bound was found for it.
+    /// Takes the next option, if a cost below the bound was found for it.
     #[inline(always)]
     pub(crate) fn or_found(self, option: u32, found: Option<u128>) -> Best
         ensures best { (w : World) (x : List ℕ) (d : Drawing) (allowed p to : ℕ)
@@ -64,7 +64,7 @@ impl Best {
         }
     }
 
-    /// Takes the next option, with its verdict, where it is done at a lower cost.
+    /// Takes the next option, with its verdict, if it is done at a lower cost.
     #[inline(always)]
     pub(crate) fn consider(self, option: u32, verdict: &Verdict) -> Best
         ensures { (w : World) (x : List ℕ) (d : Drawing) (allowed : ℕ)
@@ -79,7 +79,7 @@ impl Best {
         }
     }
 
-    /// The option that is done at a cost, where that is lower, else the best so far.
+    /// The option that is done at a cost, if that is lower, else the best so far.
     #[inline(always)]
     fn or_done(self, option: u32, cost: u128) -> Best
         ensures { result ≡ (if is_better (Some cost) self.cost

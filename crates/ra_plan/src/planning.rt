@@ -28,7 +28,7 @@ struct Planned {
 }
 
 /// What the eight words of a proposal make of the assignment of a world: of the options that they name, the first of
-/// least cost among those that are judged Done, and option 0 where there is none; with its weighing, and with the
+/// least cost among those that are judged Done, and option 0 if there is none; with its weighing, and with the
 /// numbers `q`, how many entries of the journal the world has taken in, and `k`, that of the proposal among its
 /// worker's. No memory is taken, and requirements are read for the processes of the options alone.
 pub fn plan<L: Ledger>(
@@ -59,7 +59,7 @@ pub fn plan<L: Ledger>(
     Plan { q, k, mv, weighed }
 }
 
-/// The plan of words, where option 0 is at hand.
+/// The plan of words whose option 0 is at hand.
 fn planned_by<L: Ledger>(
     world: &World<'_>,
     first: &Move,
@@ -132,7 +132,7 @@ fn planned_move<L: Ledger>(
     }
 }
 
-/// An option, where option 0 is at hand.
+/// An option of words whose option 0 is at hand.
 fn move_of(world: &World<'_>, first: &Move, words: &[u64; 8], drawing: Drawing, option: u32) -> Move
     requires first { first.now ≡
         option_at (here_of world.now) words.now (machine_count (tables_of world.now)) drawing 0 }
@@ -148,7 +148,7 @@ fn move_of(world: &World<'_>, first: &Move, words: &[u64; 8], drawing: Drawing, 
     resolve(world.assignment(), words, machines, drawing, option)
 }
 
-/// The weighing of the move that is planned: of the best option, or of option 0 where none is done.
+/// The weighing of the move that is planned: of the best option, or of option 0 if none is done.
 fn weighing<L: Ledger>(world: &World<'_>, best: &Best, mv: &Move, steps: &mut Steps<L>) -> Weighed
     requires offered { IsOffered (tables_of world.now) (here_of world.now) mv.now.steps }
     requires best { (cost : ℕ) → best.now.cost ≡ Some cost → cause_at world.now mv.now.steps ≡ None }

@@ -17,7 +17,7 @@ use Rattle.ra_moves.specs.Touched.{service_in}
 pub record FindsNeeds (i : Tables) (b : List Machine) (s label : ℕ) : Type 0 where
   pub each : (k : ℕ) → k < dependency_count i s → 0 < in_neighbourhood i b (need_of i s k) label
 
--- where service s has no process in a neighbourhood, no service that needs it has one there
+-- if service s has no process in a neighbourhood, no service that needs it has one there
 pub record LeavesNone (i : Tables) (b : List Machine) (s label : ℕ) : Type 0 where
   pub each : in_neighbourhood i b s label ≡ 0 → (u : ℕ) → u < service_count i → depends i u s ≡ true
       → in_neighbourhood i b u label ≡ 0

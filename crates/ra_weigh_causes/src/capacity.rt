@@ -67,7 +67,7 @@ impl<'a, 'b> Trial<'a, 'b> {
         None
     }
 
-    /// The use of a resource of a machine, where it is above its capacity after the move.
+    /// The use of a resource of a machine, if it is above its capacity after the move.
     #[inline(always)]
     #[tactic(auto, using(crate::proofs::TestLemmas::capacities))]
     fn capacity_test(&self, m: Machine, r: Resource, kept: u64) -> Option<Cause>
@@ -91,7 +91,7 @@ impl<'a, 'b> Trial<'a, 'b> {
         }
     }
 
-    /// The transient use of a resource of a machine, where it is above its capacity after the move.
+    /// The transient use of a resource of a machine, if it is above its capacity after the move.
     #[inline(always)]
     #[tactic(auto, using(crate::proofs::TestLemmas::transients))]
     fn transient_test(&self, m: Machine, r: Resource, kept: u64) -> Option<Cause>

@@ -11,7 +11,7 @@ ghost use Rattle.ra_weigh_causes.specs.Trials.{tables_of, steps_of};
 use crate::trial::Trial;
 use ra_base::Service;
 
-/// A place where it is at or behind the lowest and before the next one so far, else that one.
+/// A place if it is at or behind the lowest and before the next one so far, else that one.
 #[inline(always)]
 fn nearer(low: u32, next: u32, place: u32) -> u32
     requires { low ≤ next }
@@ -27,7 +27,7 @@ fn nearer(low: u32, next: u32, place: u32) -> u32
 }
 
 impl<'a, 'b> Trial<'a, 'b> {
-    /// The next machine that a step leaves or enters, from a lowest one on; past the last machine where there is none.
+    /// The next machine that a step leaves or enters, from a lowest one on; past the last machine if there is none.
     pub(crate) fn next_end(&self, low: u32) -> u32
         requires { low ≤ machine_count (tables_of self.now) }
         ensures from { low ≤ result }
@@ -92,7 +92,7 @@ impl<'a, 'b> Trial<'a, 'b> {
         next
     }
 
-    /// The next dependant of a service, where it is before the next place so far.
+    /// The next dependant of a service, if it is before the next place so far.
     fn nearer_dependant(&self, s: Service, low: u32, next: u32) -> u32
         requires there { s.0 < service_count (tables_of self.now) }
         requires low { low ≤ next }
@@ -111,7 +111,7 @@ impl<'a, 'b> Trial<'a, 'b> {
     }
 }
 
-/// The first place whose service is the lowest or behind it, found by halving; their number where there is none.
+/// The first place whose service is the lowest or behind it, found by halving; their number if there is none.
 fn first_from(services: &[Service], low: u32) -> usize
     requires { Ascend services.now }
     ensures within { result ≤ length services.now }

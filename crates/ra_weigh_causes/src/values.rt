@@ -11,7 +11,7 @@ use crate::marks::Mark;
 use crate::trial::Trial;
 use ra_base::{Machine, Process, Resource, Service};
 
-/// An amount where a test holds, else nothing.
+/// An amount if a test holds, else nothing.
 #[inline(always)]
 pub(crate) fn amount_if(test: bool, amount: u32) -> u64
     ensures value { result ≡ if test then amount else 0 }
@@ -20,7 +20,7 @@ pub(crate) fn amount_if(test: bool, amount: u32) -> u64
     if test { u64::from(amount) } else { 0 }
 }
 
-/// An amount where one of two tests holds, else nothing.
+/// An amount if one of two tests holds, else nothing.
 #[inline(always)]
 pub(crate) fn amount_of_either(first: bool, second: bool, amount: u32) -> u64
     ensures value { result ≡ if first || second then amount else 0 }
@@ -32,7 +32,7 @@ pub(crate) fn amount_of_either(first: bool, second: bool, amount: u32) -> u64
     if second { u64::from(amount) } else { 0 }
 }
 
-/// 1 where two tests hold, else 0.
+/// 1 if two tests hold, else 0.
 #[inline(always)]
 fn one_if_both(first: bool, second: bool) -> u32
     ensures value { result ≡ one_if (first && second) }

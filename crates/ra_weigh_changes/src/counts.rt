@@ -127,7 +127,7 @@ fn moved_next(world: &World<'_>, mv: &Move, j: u32, s: Service, moved: u32) -> u
     moved + away(home, step.to) - away(home, step.from)
 }
 
-/// 1 where a machine isn't a process's initial one.
+/// 1 if a machine isn't a process's initial one.
 #[inline(always)]
 #[tactic(auto, unfolding(ra_cells::specs::Marks::away))]
 fn away(home: Machine, at: Machine) -> u32

@@ -40,7 +40,7 @@ pub(crate) fn change_at_ends(world: &World<'_>, mv: &Move, required: &[u32; 60])
     change
 }
 
-/// What the machine of one end adds to this change: nothing where an end before it has named it.
+/// What the machine of one end adds to this change: nothing if an end before it has named it.
 #[inline(always)]
 #[tactic(auto, using(ra_base::proofs::Named::names, crate::proofs::MoveLemmas::end_known))]
 fn change_at(world: &World<'_>, mv: &Move, required: &[u32; 60], j: u32) -> Change

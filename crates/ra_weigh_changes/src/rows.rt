@@ -62,7 +62,7 @@ fn follow_step(row: &mut [u64], m: Machine, step: Step, amounts: &[u32])
     leave_row(row, m, step.from, amounts);
 }
 
-/// Adds amounts that enter a machine, where the row is that machine's.
+/// Adds amounts that enter a machine, if the row is that machine's.
 #[inline(always)]
 #[tactic(auto, using(crate::proofs::RowLemmas::more_here, crate::proofs::RowLemmas::more_elsewhere))]
 fn enter_row(row: &mut [u64], m: Machine, at: Machine, amounts: &[u32])
@@ -75,7 +75,7 @@ fn enter_row(row: &mut [u64], m: Machine, at: Machine, amounts: &[u32])
     }
 }
 
-/// Takes amounts that leave a machine, where the row is that machine's.
+/// Takes amounts that leave a machine, if the row is that machine's.
 #[inline(always)]
 #[tactic(auto, using(crate::proofs::RowLemmas::more_here, crate::proofs::RowLemmas::more_elsewhere, crate::proofs::RowLemmas::enough_here))]
 fn leave_row(row: &mut [u64], m: Machine, at: Machine, amounts: &[u32])

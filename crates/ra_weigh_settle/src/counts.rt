@@ -13,7 +13,7 @@ use ra_base::MovedCount;
 use ra_cells::Greatest;
 use ra_moves::Weighed;
 
-/// Changes moved counts by the weighing of a move that breaks nothing: where they were those of the assignment that is
+/// Changes moved counts by the weighing of a move that breaks nothing: if they were those of the assignment that is
 /// moved, they are then those of the assignment after the move.
 pub fn change_counts(greatest: &mut Greatest, weighed: &Weighed)
     requires first { IfSome weighed.now.first (λ c. IsChange greatest.old c) }
@@ -29,7 +29,7 @@ pub fn change_counts(greatest: &mut Greatest, weighed: &Weighed)
     change_count(greatest, weighed.third);
 }
 
-/// Gives the service of a change its new count, where there is one.
+/// Gives the service of a change its new count, if there is one.
 fn change_count(greatest: &mut Greatest, change: Option<MovedCount>)
     requires { IfSome change (λ c. IsRoomFor greatest.old c) }
     ensures counts { (s : ℕ) → s < length greatest.old.counts → slice_index greatest.new.counts s
