@@ -1,4 +1,4 @@
-ghost use Rattle.std.specs.Prelude.{◌≡◌, ℕ, ◌≤◌, List, IfSome, IfOk, IfErr};
+ghost use Rattle.std.specs.Prelude.{◌≡◌, ℕ, ◌≤◌, List, IfOk, IfErr};
 ghost use Rattle.std.specs.Option.{option_copied};
 ghost use Rattle.ra_jobs.specs.Files.{ModelIs, InstanceIs};
 ghost use Rattle.ra_jobs.specs.Stages.{model_as, closed_as, ModelReason, ClosedReason, SourceReason, IsClosing};

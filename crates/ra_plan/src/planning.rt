@@ -5,8 +5,7 @@ ghost use Rattle.ra_moves.specs.declared.steps.MoveKind.TheVariants as kind;
 ghost use Rattle.ra_moves.specs.Options.{kind_of, plan_of, option_at, option_count};
 ghost use Rattle.ra_moves.specs.Moving.{IsOffered};
 ghost use Rattle.ra_moves.specs.Weighing.{weighed_of};
-ghost use Rattle.ra_world.specs.Worlds.{tables_of, start_of, here_of};
-ghost use Rattle.ra_plan.specs.Choosing.{IsBest};
+ghost use Rattle.ra_world.specs.Worlds.{tables_of, here_of};
 ghost use Rattle.ra_plan.specs.Deciding.{cause_at, weighed_at, IsPlanned};
 
 use crate::best::Best;

@@ -1,4 +1,3 @@
-ghost use Rattle.std.specs.Prelude.{◌≡◌};
 ghost use Rattle.ra_worker_core.specs.Replicas.{AreAt};
 
 use ra_journal::Journal;

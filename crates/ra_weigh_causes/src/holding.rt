@@ -1,9 +1,9 @@
-ghost use Rattle.std.specs.Prelude.{◌≡◌, ◌↔◌, ◌<◌, true, None, length};
-ghost use Rattle.ra_model.specs.Numbers.{machine_count, service_count, process_count, neighbourhood_of};
+ghost use Rattle.std.specs.Prelude.{◌≡◌, ◌↔◌, ◌<◌, true, None};
+ghost use Rattle.ra_model.specs.Numbers.{machine_count, service_count, neighbourhood_of};
 ghost use Rattle.ra_weigh_causes.specs.Holding.{FitsAll};
 ghost use Rattle.ra_weigh_causes.specs.Nearness.{FindsNeeds, LeavesNone};
 ghost use Rattle.ra_model.specs.Broken.{first_broken, broken_conflict, broken_spread, broken_dependency, broken_closed};
-ghost use Rattle.ra_weigh_causes.specs.Trials.{tables_of, initial_of, steps_of, after_of};
+ghost use Rattle.ra_weigh_causes.specs.Trials.{tables_of, initial_of, after_of};
 
 use crate::marks::Mark;
 use crate::trial::Trial;

@@ -1,4 +1,4 @@
-ghost use Rattle.std.specs.Prelude.{◌≡◌, ◌^◌, ◌<◌, ◌≤◌, nat_lt};
+ghost use Rattle.std.specs.Prelude.{◌≡◌, ◌<◌, ◌≤◌, nat_lt};
 ghost use Rattle.ra_base.specs.Sums.{is_named, fresh, one_if};
 ghost use Rattle.ra_model.specs.Numbers.{service_count};
 ghost use Rattle.ra_model.specs.Services.{locations_of};

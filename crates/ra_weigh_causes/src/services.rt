@@ -1,5 +1,5 @@
 ghost use Rattle.std.specs.Prelude.{◌≡◌, ◌<◌};
-ghost use Rattle.ra_model.specs.Numbers.{machine_count, service_count};
+ghost use Rattle.ra_model.specs.Numbers.{service_count};
 ghost use Rattle.ra_model.specs.Broken.{conflict_test, service_conflict, broken_conflict, spread_test, broken_spread};
 ghost use Rattle.ra_weigh_causes.specs.Trials.{tables_of, after_of};
 

@@ -3,9 +3,9 @@ ghost use Rattle.ra_base.specs.Sums.{one_if};
 ghost use Rattle.ra_model.specs.Numbers.{resource_count, machine_count, service_count, process_count};
 ghost use Rattle.ra_model.specs.Assignments.{machine_at};
 ghost use Rattle.ra_model.specs.Usage.{use_of, transient_of};
-ghost use Rattle.ra_model.specs.Services.{of_service, locations_of};
+ghost use Rattle.ra_model.specs.Services.{of_service};
 ghost use Rattle.ra_weigh_causes.specs.Marks.{mark_of, has_mark, marked};
-ghost use Rattle.ra_weigh_causes.specs.Trials.{tables_of, initial_of, steps_of, before_of, after_of};
+ghost use Rattle.ra_weigh_causes.specs.Trials.{tables_of, initial_of, before_of, after_of};
 
 use crate::marks::Mark;
 use crate::trial::Trial;

@@ -1,6 +1,6 @@
-ghost use Rattle.std.specs.Prelude.{◌≡◌, ℕ, ◌+◌, ◌*◌, ◌^◌, ◌<◌, ◌≤◌, length};
+ghost use Rattle.std.specs.Prelude.{◌≡◌, ◌+◌, ◌<◌, length};
 ghost use Rattle.ra_base.specs.Sums.{is_named};
-ghost use Rattle.ra_model.specs.Numbers.{service_count, process_count};
+ghost use Rattle.ra_model.specs.Numbers.{service_count};
 ghost use Rattle.ra_model.specs.Services.{moved_of};
 ghost use Rattle.ra_cells.specs.Marks.{away};
 ghost use Rattle.ra_moves.specs.Replacing.{after_steps};

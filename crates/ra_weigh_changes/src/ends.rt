@@ -1,4 +1,4 @@
-ghost use Rattle.std.specs.Prelude.{◌≡◌, ℕ, ◌+◌, ◌*◌, ◌^◌, ◌<◌, ◌≤◌, length};
+ghost use Rattle.std.specs.Prelude.{◌≡◌, ◌+◌, ◌*◌, ◌^◌, ◌<◌, ◌≤◌, length};
 ghost use Rattle.ra_base.specs.Sums.{total, is_named, fresh};
 ghost use Rattle.ra_model.specs.Numbers.{machine_count};
 ghost use Rattle.ra_moves.specs.Replacing.{applied};

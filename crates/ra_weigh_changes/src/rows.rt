@@ -1,6 +1,6 @@
 ghost use Rattle.std.specs.Prelude.{◌≡◌, ℕ, ◌+◌, ◌^◌, ◌<◌, ◌≤◌, length, slice_index};
 ghost use Rattle.ra_base.specs.Tables.{cell};
-ghost use Rattle.ra_model.specs.Numbers.{resource_count, machine_count};
+ghost use Rattle.ra_model.specs.Numbers.{resource_count};
 ghost use Rattle.ra_rows.specs.Rows.{IsUsageRow};
 ghost use Rattle.ra_moves.specs.Replacing.{applied};
 ghost use Rattle.ra_moves.specs.Moving.{IsMove};

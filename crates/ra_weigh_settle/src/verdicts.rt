@@ -1,4 +1,4 @@
-ghost use Rattle.std.specs.Prelude.{◌≡◌, ℕ, List};
+ghost use Rattle.std.specs.Prelude.{◌≡◌, List};
 ghost use Rattle.ra_base.specs.declared.ids.Machine.{Machine};
 ghost use Rattle.ra_moves.specs.declared.steps.Step.{Step};
 ghost use Rattle.ra_moves.specs.Judging.{judge};

@@ -1,9 +1,8 @@
-ghost use Rattle.std.specs.Prelude.{◌≡◌, ◌≢◌, ℕ, ◌+◌, ◌<◌, ◌≤◌, length, true, false};
+ghost use Rattle.std.specs.Prelude.{◌≡◌, ◌≢◌, ◌+◌, ◌<◌, ◌≤◌, length, true, false};
 ghost use Rattle.ra_base.specs.Sums.{one_if};
-ghost use Rattle.ra_model.specs.Numbers.{resource_count, machine_count, process_count, service_count, service_of, location_of, neighbourhood_of};
+ghost use Rattle.ra_model.specs.Numbers.{resource_count, process_count, service_count, service_of, location_of, neighbourhood_of};
 ghost use Rattle.ra_model.specs.Assignments.{machine_at};
 ghost use Rattle.ra_model.specs.Services.{in_neighbourhood};
-ghost use Rattle.ra_model.specs.Relations.{depends};
 ghost use Rattle.ra_cells.specs.Marks.{away};
 ghost use Rattle.ra_weigh_shift.specs.Conditions.{MayLeave};
 ghost use Rattle.ra_weigh_shift.specs.Sharing.{AreRequired, locations_without};

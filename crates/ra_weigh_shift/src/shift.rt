@@ -1,4 +1,4 @@
-ghost use Rattle.std.specs.Prelude.{◌≡◌, ◌≢◌, ℕ, ◌+◌, ◌*◌, ◌^◌, ◌<◌, ◌≤◌, ◌↔◌, ◌-◌, [], ◌∷◌, None, IfSome, true, false};
+ghost use Rattle.std.specs.Prelude.{◌≡◌, ◌≢◌, ◌+◌, ◌*◌, ◌^◌, ◌<◌, ◌≤◌, ◌↔◌, ◌-◌, [], ◌∷◌, None, IfSome, true, false};
 ghost use Rattle.ra_model.specs.Numbers.{resource_count, machine_count, process_count, service_of, neighbourhood_of, spread_of, closed_at, transient_at, capacity_of, service_count, process_weight_of, process_cost_of};
 ghost use Rattle.ra_weigh_shift.specs.Filter.{service_away};
 ghost use Rattle.ra_model.specs.Assignments.{machine_at};

@@ -1,5 +1,5 @@
 ghost use Rattle.std.specs.Prelude.{◌≡◌, ℕ, ◌+◌, ◌-◌, ◌*◌, ◌%◌, ◌^◌, ◌<◌, ◌≤◌, IfSome, min, length, slice_index};
-ghost use Rattle.ra_model.specs.Numbers.{machine_count, machine_weight_of, way_cost_of};
+ghost use Rattle.ra_model.specs.Numbers.{machine_count, way_cost_of};
 ghost use Rattle.ra_model.specs.Assignments.{machine_at};
 ghost use Rattle.ra_world.specs.Worlds.{tables_of, start_of};
 ghost use Rattle.ra_weigh_shift.specs.Lanes.{AreSums};

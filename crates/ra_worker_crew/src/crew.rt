@@ -1,4 +1,4 @@
-ghost use Rattle.std.specs.Prelude.{◌≡◌, ◌<◌, ◌≤◌, [], ◌++◌, length, map, vec_capacity, All, IfOk};
+ghost use Rattle.std.specs.Prelude.{◌≡◌, ◌<◌, ◌≤◌, [], length, map, vec_capacity, All, IfOk};
 ghost use Rattle.ra_journal.specs.Entries.{worker_count};
 ghost use Rattle.ra_journal.specs.Journals.{lots_in, entries_in};
 ghost use Rattle.ra_journal.specs.Legal.{Whole};

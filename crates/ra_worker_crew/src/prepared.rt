@@ -1,4 +1,4 @@
-ghost use Rattle.std.specs.Prelude.{◌≡◌, ◌<◌, None, IfOk};
+ghost use Rattle.std.specs.Prelude.{◌≡◌, ◌<◌, IfOk};
 ghost use Rattle.ra_model.specs.Costs.{parts_of};
 ghost use Rattle.ra_topology.specs.Starts.{IsFeasibleStart};
 ghost use Rattle.ra_journal.specs.Best.{best_of};

@@ -1,4 +1,3 @@
-ghost use Rattle.std.specs.Prelude.{All};
 ghost use Rattle.ra_worker_crew.specs.Running.{MayRun, HasRun};
 
 use crate::worker::Worker;
