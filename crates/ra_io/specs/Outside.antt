@@ -49,13 +49,15 @@ writing told old new = record {
   after = told.faults new;
 }
 
--- it took this text, or a front of it, or nothing
+-- it took this text
 abbrev pub Took : Writing → List ℕ → Type 0
 Took out text = Appends out.taken out.taken_after text
 
+-- it took a front of this text
 abbrev pub TookPart : Writing → List ℕ → Type 0
 TookPart out text = AppendsPart out.taken out.taken_after text
 
+-- it took nothing
 abbrev pub TookNothing : Writing → Type 0
 TookNothing out = Keeps out.taken out.taken_after
 
