@@ -9,9 +9,9 @@ use Rattle.ra_io.specs.Outside.{Reading, Took}
 use Rattle.ra_jobs.specs.Ends.{Does}
 use Rattle.ra_jobs.specs.Files.{Held, Names}
 use Rattle.ra_jobs.specs.Output.{Output}
-use Rattle.ra_jobs.specs.Outputs.{Printed, BoundPrinted}
+use Rattle.ra_jobs.specs.Outputs.{CheckPrinted, BoundPrinted}
 use Rattle.ra_run.specs.Commands.{UsageComes, command_of}
-use Rattle.ra_run.specs.Outputs.{Solved}
+use Rattle.ra_run.specs.Headline.{SolvePrinted}
 use Rattle.ra_jobs.specs.Statuses.{number_of}
 use Rattle.ra_run.specs.Trials.{TrialPrinted}
 use Rattle.ra_cases.specs.declared.endings.Ending.{Ending}
@@ -36,13 +36,13 @@ done_of status e = cc
 
 -- an output that was sent so far came further, if each text did
 
-printed_more : (held : Held) (names : Names) (sent more : List ℕ → Type 0) → ((text : List ℕ) → sent text → more text) → Printed held names sent → Printed held names more
+printed_more : (held : Held) (names : Names) (sent more : List ℕ → Type 0) → ((text : List ℕ) → sent text → more text) → CheckPrinted held names sent → CheckPrinted held names more
 printed_more held names sent more step p = record { tables = p.tables; a0 = p.a0; a = p.a; passes = p.passes; text = step _ p.text }
 
 bound_more : (held : Held) (names : Names) (sent more : List ℕ → Type 0) → ((text : List ℕ) → sent text → more text) → BoundPrinted held names sent → BoundPrinted held names more
 bound_more held names sent more step p = record { bound = p.bound; read = p.read; text = step _ p.text }
 
-solved_more : (held : Held) (names : Names) (l : Lots) (sent more : List ℕ → Type 0) → ((text : List ℕ) → sent text → more text) → Solved held names l sent → Solved held names l more
+solved_more : (held : Held) (names : Names) (l : Lots) (sent more : List ℕ → Type 0) → ((text : List ℕ) → sent text → more text) → SolvePrinted held names l sent → SolvePrinted held names l more
 solved_more held names l sent more step p = record {
   tables = p.tables;
   a0 = p.a0;

@@ -20,7 +20,7 @@ use Rattle.ra_jobs.specs.declared.status.Status.TheVariants.{Done, ReadFault, Ba
 use Rattle.ra_jobs.specs.Comes.{IsKnown, KnownTo, Comes, InfeasibleComes}
 use Rattle.ra_jobs.specs.Ends.{puts_first}
 use Rattle.ra_jobs.specs.Files.{Held, Faults, Names, name_of, file_of, ModelIs, InstanceIs, NamedListIs, Accepts, Passes, bound_names}
-use Rattle.ra_jobs.specs.Outputs.{Printed, BoundPrinted}
+use Rattle.ra_jobs.specs.Outputs.{CheckPrinted, BoundPrinted}
 use Rattle.ra_jobs.specs.Refusals.{Reason, Judges, OnlyWrites, ReadFailed, ModelRefused, ClosedRefused, InitialRefused, ChangedRefused, RoleRefused, InitialBreaks, ChangedBreaks, RoleBreaks}
 use Rattle.ra_jobs.specs.Statuses.{status_of}
 use Rattle.ra_jobs.proofs.CompleteLemmas.{is_done}
@@ -339,7 +339,7 @@ never_infeasible {held} {names} {before} {now} {output} {written} {tells} {out_s
 
 -- what was printed, whole or in part, is of files that were accepted, and of lists that are feasible
 
-pub printed_went : (held : Held) (names : Names) (sent : List ℕ → Type 0) → Printed held names sent → Went held names
+pub printed_went : (held : Held) (names : Names) (sent : List ℕ → Type 0) → CheckPrinted held names sent → Went held names
 printed_went held names sent p = passed_went held names p.tables p.a0 p.a p.passes
 
 pub bound_listed : (held : Held) (model : List ℕ) (closed initial : Option (List ℕ)) (sent : List ℕ → Type 0) → BoundPrinted held (bound_names model initial closed) sent → Listed held (bound_names model initial closed)

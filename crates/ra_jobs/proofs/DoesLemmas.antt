@@ -13,7 +13,7 @@ use Rattle.ra_jobs.specs.Ends.{Does, Refused, Tries, Finishes, Leaves, puts_firs
 use Rattle.ra_jobs.specs.Files.{Held, Faults, Names, bound_names}
 use Rattle.ra_jobs.specs.Lines.{refusal_line}
 use Rattle.ra_jobs.specs.Output.{Output, BrokeOff, Put}
-use Rattle.ra_jobs.specs.Outputs.{Printed, BoundPrinted, checked, bounded}
+use Rattle.ra_jobs.specs.Outputs.{CheckPrinted, BoundPrinted, checked, bounded}
 use Rattle.ra_jobs.specs.Refusals.{Reason}
 use Rattle.ra_jobs.proofs.CompleteLemmas.{complete, judges_none, writes_none}
 use Rattle.ra_jobs.proofs.ComesLemmas.{Listed, Went, comes, infeasible_comes, judges_listed, printed_went, bound_listed, writes_listed, never_infeasible}
@@ -63,7 +63,7 @@ judged_so names prints files out err ended status tries finishes went text =
     (left_so c files out err ended status tries finishes)
 
 pub check_so : (names : Names) (files : Reading) (out err : Output) (ended : Result (Unit {0}) Refusal) (status : Status) → Tries (over (checked names)) files out ended → Finishes names ended err status → Does (over (checked names)) files out err status
-check_so names files out err ended status tries finishes = judged_so names (λ held sent. Printed held names sent) files out err ended status tries finishes (λ sent p. printed_went files.held names sent p) (λ sent p. (_, p.text))
+check_so names files out err ended status tries finishes = judged_so names (λ held sent. CheckPrinted held names sent) files out err ended status tries finishes (λ sent p. printed_went files.held names sent p) (λ sent p. (_, p.text))
 
 pub bound_so : (model : List ℕ) (closed initial : Option (List ℕ)) (files : Reading) (out err : Output) (ended : Result (Unit {0}) Refusal) (status : Status) → Tries (over (bounded (bound_names model initial closed))) files out ended → Finishes (bound_names model initial closed) ended err status → Does (over (bounded (bound_names model initial closed))) files out err status
 bound_so model closed initial files out err ended status tries finishes =

@@ -35,7 +35,7 @@ use Rattle.ra_jobs.specs.Files.{Held, Faults, Names, name_of, Accepts, solve_nam
 use Rattle.ra_jobs.specs.Lines.{refusal_line}
 use Rattle.ra_jobs.specs.Refusals.{Reason, CanTell}
 use Rattle.ra_jobs.specs.Output.{Output, BrokeOff, Put}
-use Rattle.ra_jobs.specs.Repairing.{IsTried, Tried, RepairOwn, LeavesBroken, RepairComes, TryReason, repaired}
+use Rattle.ra_jobs.specs.Repairing.{IsTried, RepairPrinted, RepairOwn, LeavesBroken, RepairComes, TryReason, repaired}
 use Rattle.ra_jobs.specs.Stages.{IsStart}
 use Rattle.ra_jobs.specs.Statuses.{status_of}
 use Rattle.ra_jobs.proofs.CompleteLemmas.{is_done, complete_own, OwnRefused}
@@ -93,7 +93,7 @@ lot_alone l lot one is = subst IsLots (one_lot l lot one is) l.fitting
 
 -- what is said of the files
 
-pub tried_all : (held : Held) (names : Names) (l : Lots) (i : Tables) (a0 : List Machine) (lot : Lot) (broken : Option Cause) (sent : List ℕ → Type 0) → IsStart held names i a0 → l.lots.items ≡ lot ∷ [] → IsTried i a0 lot broken sent → Tried held names l broken sent
+pub tried_all : (held : Held) (names : Names) (l : Lots) (i : Tables) (a0 : List Machine) (lot : Lot) (broken : Option Cause) (sent : List ℕ → Type 0) → IsStart held names i a0 → l.lots.items ≡ lot ∷ [] → IsTried i a0 lot broken sent → RepairPrinted held names l broken sent
 tried_all held names l i a0 lot broken sent start one is = record { tables = i; a0 = a0; accepts = start.accepts; lot = lot; one = one; run = is }
 
 pub reason_try : (held : Held) (names : Names) (l : Lots) (i : Tables) (a0 : List Machine) (lot : Lot) (before now : Faults) (prints breaks : List ℕ → Type 0) → IsStart held names i a0 → l.lots.items ≡ lot ∷ [] → (refusal : Refusal) → TryReason i a0 lot prints breaks refusal → Reason held names before now (RepairOwn held names l prints breaks) refusal
@@ -102,7 +102,7 @@ reason_try held names l i a0 lot before now prints breaks start one Write reason
 reason_try held names l i a0 lot before now prints breaks start one Memory reason = tt
 reason_try held names l i a0 lot before now prints breaks start one refusal reason = absurd reason
 
-pub tried_listed : (held : Held) (names : Names) (l : Lots) (broken : Option Cause) (sent : List ℕ → Type 0) → Tried held names l broken sent → AreListed held names
+pub tried_listed : (held : Held) (names : Names) (l : Lots) (broken : Option Cause) (sent : List ℕ → Type 0) → RepairPrinted held names l broken sent → AreListed held names
 tried_listed held names l broken sent is = record { tables = is.tables; a0 = is.a0; a = is.a0; accepts = is.accepts }
 
 pub own_listed : (held : Held) (names : Names) (l : Lots) (prints breaks : List ℕ → Type 0) (r : Refusal) → RepairOwn held names l prints breaks r → AreListed held names
@@ -149,18 +149,18 @@ own_known held model closed initial before now own known i a0 accepts refusal re
 
 -- with the causes of its own statuses
 
-said : (held : Held) (names : Names) (l : Lots) (broken : Option Cause) (sent : List ℕ → Type 0) → Tried held names l broken sent → Tried held names l broken (λ text. Unit {0})
+said : (held : Held) (names : Names) (l : Lots) (broken : Option Cause) (sent : List ℕ → Type 0) → RepairPrinted held names l broken sent → RepairPrinted held names l broken (λ text. Unit {0})
 said held names l broken sent is = record { tables = is.tables; a0 = is.a0; accepts = is.accepts; lot = is.lot; one = is.one; run = record { is = is.run.is; feasible = is.run.feasible; tried = is.run.tried; text = tt } }
 
 -- what a run leaves broken is what a run from each instance that the files mean leaves
-broken_left : (held : Held) (model : List ℕ) (closed : Option (List ℕ)) (initial : List ℕ) (before now : Faults) (l : Lots) (left broken : Option Cause) (sent : List ℕ → Type 0) (i : Tables) (a0 : List Machine) → Accepts held (solve_names model initial closed) i a0 a0 → KnownTo held (solve_names model initial closed) before now file.Initial → Tried held (solve_names model initial closed) l broken sent → LeavesBroken i a0 l left → broken ≡ left
+broken_left : (held : Held) (model : List ℕ) (closed : Option (List ℕ)) (initial : List ℕ) (before now : Faults) (l : Lots) (left broken : Option Cause) (sent : List ℕ → Type 0) (i : Tables) (a0 : List Machine) → Accepts held (solve_names model initial closed) i a0 a0 → KnownTo held (solve_names model initial closed) before now file.Initial → RepairPrinted held (solve_names model initial closed) l broken sent → LeavesBroken i a0 l left → broken ≡ left
 unfolding name_of
 broken_left held model closed initial before now l left broken sent i a0 accepts known is leaves =
     let same = instances_same held model closed (known.0 tt).0 (told_of held closed _ known.1) is.tables i is.accepts.instance accepts.instance in
     let start : is.a0 ≡ a0 = lists_same held (Some initial) (told_of held (Some initial) _ known.2) refl is.tables i is.a0 a0 is.accepts.initial accepts.initial in
     sym is.run.is ∙ broken_same is.tables i is.a0 (repair_run is.tables is.a0 is.lot).assignment same ∙ rw (repaired_same is.tables i same is.a0 is.lot, start) (leaves is.lot is.one)
 
-own_case : (held : Held) (names : Names) (l : Lots) (prints breaks : List ℕ → Type 0) (status : Status) (refusal : Refusal) → status ≡ status_of refusal → RepairOwn held names l prints breaks refusal → ((cause : Cause) × Tried held names l (Some cause) prints × (status ≡ Unrepaired)) ⊎ ((status ≡ WriteFault) ⊎ (status ≡ NoMemory))
+own_case : (held : Held) (names : Names) (l : Lots) (prints breaks : List ℕ → Type 0) (status : Status) (refusal : Refusal) → status ≡ status_of refusal → RepairOwn held names l prints breaks refusal → ((cause : Cause) × RepairPrinted held names l (Some cause) prints × (status ≡ Unrepaired)) ⊎ ((status ≡ WriteFault) ⊎ (status ≡ NoMemory))
 unfolding status_of
 own_case held names l prints breaks status (Left cause) is reason = inl (cause, reason, is)
 own_case held names l prints breaks status Write is reason = inr (inl is)
@@ -171,19 +171,19 @@ unfolding status_of
 own_infeasible held names before now l prints breaks (Broken which cause) reason e = reason
 own_infeasible held names before now l prints breaks refusal reason e = absurd (let both : status_of refusal ≡ Infeasible = e in cc)
 
-own_unrepaired : (held : Held) (names : Names) (before now : Faults) (l : Lots) (prints breaks : List ℕ → Type 0) (refusal : Refusal) → Reason held names before now (RepairOwn held names l prints breaks) refusal → status_of refusal ≡ Unrepaired → (cause : Cause) × Tried held names l (Some cause) (λ text. Unit {0})
+own_unrepaired : (held : Held) (names : Names) (before now : Faults) (l : Lots) (prints breaks : List ℕ → Type 0) (refusal : Refusal) → Reason held names before now (RepairOwn held names l prints breaks) refusal → status_of refusal ≡ Unrepaired → (cause : Cause) × RepairPrinted held names l (Some cause) (λ text. Unit {0})
 unfolding status_of
 own_unrepaired held names before now l prints breaks (Left cause) reason e = (cause, said held names l (Some cause) prints reason)
 own_unrepaired held names before now l prints breaks refusal reason e = absurd (let both : status_of refusal ≡ Unrepaired = e in cc)
 
 -- a refusal of the job's own over known files: the last list broke a constraint, or a put failed
-own_ends : (held : Held) (names : Names) (l : Lots) (prints breaks : List ℕ → Type 0) (status : Status) (refusal : Refusal) → status ≡ status_of refusal → RepairOwn held names l prints breaks refusal ⊎ (status_of refusal ≡ NoMemory) → ((cause : Cause) × Tried held names l (Some cause) prints × (status ≡ Unrepaired)) ⊎ ((status ≡ WriteFault) ⊎ (status ≡ NoMemory))
+own_ends : (held : Held) (names : Names) (l : Lots) (prints breaks : List ℕ → Type 0) (status : Status) (refusal : Refusal) → status ≡ status_of refusal → RepairOwn held names l prints breaks refusal ⊎ (status_of refusal ≡ NoMemory) → ((cause : Cause) × RepairPrinted held names l (Some cause) prints × (status ≡ Unrepaired)) ⊎ ((status ≡ WriteFault) ⊎ (status ≡ NoMemory))
 own_ends held names l prints breaks status refusal is reason = ⊎_elim
     (λ (own : RepairOwn held names l prints breaks refusal). own_case held names l prints breaks status refusal is own)
     (λ (memory : status_of refusal ≡ NoMemory). inr (inr (is ∙ memory)))
     reason
 
-pub repair_comes : {held : Held} {model : List ℕ} {closed : Option (List ℕ)} {initial : List ℕ} {before now : Faults} {l : Lots} {prints breaks : List ℕ → Type 0} {tells : List ℕ → Type 0} {out_same err_same : Type 0} {status : Status} → Ends held (solve_names model initial closed) before now (Tried held (solve_names model initial closed) l None prints) (RepairOwn held (solve_names model initial closed) l prints breaks) tells out_same err_same status → RepairComes held (solve_names model initial closed) (λ k. k ≡ l) before now status
+pub repair_comes : {held : Held} {model : List ℕ} {closed : Option (List ℕ)} {initial : List ℕ} {before now : Faults} {l : Lots} {prints breaks : List ℕ → Type 0} {tells : List ℕ → Type 0} {out_same err_same : Type 0} {status : Status} → Ends held (solve_names model initial closed) before now (RepairPrinted held (solve_names model initial closed) l None prints) (RepairOwn held (solve_names model initial closed) l prints breaks) tells out_same err_same status → RepairComes held (solve_names model initial closed) (λ k. k ≡ l) before now status
 repair_comes {held} {model} {closed} {initial} {before} {now} {l} {prints} {breaks} {tells} {out_same} {err_same} {status} ends =
     let names = solve_names model initial closed in
     let own = RepairOwn held names l prints breaks in
@@ -195,7 +195,7 @@ repair_comes {held} {model} {closed} {initial} {before} {now} {l} {prints} {brea
           (λ (other : status ≢ Done).
           let refused = ends.refused other in
           ⊎_elim
-          (λ (left : (c : Cause) × Tried held names l (Some c) prints × (status ≡ Unrepaired)). inl left.2)
+          (λ (left : (c : Cause) × RepairPrinted held names l (Some c) prints × (status ≡ Unrepaired)). inl left.2)
           (λ (rest : (status ≡ WriteFault) ⊎ (status ≡ NoMemory)). inr rest)
           (own_ends held names l prints breaks status refused.refusal refused.is (own_known held model closed initial before now own known i a0 accepts refused.refusal refused.reason)))
           (is_done status);
@@ -204,7 +204,7 @@ repair_comes {held} {model} {closed} {initial} {before} {now} {l} {prints} {brea
           (λ (other : status ≢ Done).
           let refused = ends.refused other in
           ⊎_elim
-          (λ (left : (c : Cause) × Tried held names l (Some c) prints × (status ≡ Unrepaired)). absurd (let both = broken_left held model closed initial before now l None (Some left.0) prints i a0 accepts known left.1 (leaves l refl) in cc))
+          (λ (left : (c : Cause) × RepairPrinted held names l (Some c) prints × (status ≡ Unrepaired)). absurd (let both = broken_left held model closed initial before now l None (Some left.0) prints i a0 accepts known left.1 (leaves l refl) in cc))
           (λ (rest : (status ≡ WriteFault) ⊎ (status ≡ NoMemory)). inr rest)
           (own_ends held names l prints breaks status refused.refusal refused.is (own_known held model closed initial before now own known i a0 accepts refused.refusal refused.reason)))
           (is_done status);
@@ -223,8 +223,8 @@ repair_so model closed initial l files out err ended status tries finishes =
     let prints : List ℕ → Type 0 = Took out.sink in
     let breaks : List ℕ → Type 0 = BrokeOff out.sink in
     let ends : EndsOver c files out err status = finished c files out err ended status tries finishes in
-    let exact : Ends held names files.before files.after (Tried held names l None prints) (RepairOwn held names l prints breaks) (Put err.sink) out.same err.same status = record {
-      printed = λ done. of_these {P = λ k. Tried held names k None prints} l (ends.printed done);
+    let exact : Ends held names files.before files.after (RepairPrinted held names l None prints) (RepairOwn held names l prints breaks) (Put err.sink) out.same err.same status = record {
+      printed = λ done. of_these {P = λ k. RepairPrinted held names k None prints} l (ends.printed done);
       no_line = ends.no_line;
       refused = λ other. let r = ends.refused other in record {
         refusal = r.refusal;

@@ -22,7 +22,7 @@ use Rattle.ra_jobs.specs.declared.refusals.Refusal.TheVariants.{Read, Model, Clo
 use Rattle.ra_jobs.specs.declared.refusals.Role.{Role}
 use Rattle.ra_jobs.specs.declared.refusals.Role.TheVariants as role
 use Rattle.ra_jobs.specs.Files.{Held, Faults, Names, name_of, check_names, solve_names, bound_names, ModelIs, InstanceIs, Accepts}
-use Rattle.ra_jobs.specs.Outputs.{Printed, BoundIs, BoundRead}
+use Rattle.ra_jobs.specs.Outputs.{CheckPrinted, BoundIs, BoundRead}
 use Rattle.ra_jobs.specs.Refusals.{Reason, Judges, OnlyWrites, Nothing, CanTell, ReadFailed, RoleRefused}
 use Rattle.ra_jobs.specs.Stages.{model_as, closed_as, list_as, ModelReason, ClosedReason, SourceReason, NamedReason, ListReason, ListsReason, JudgeReason, StartReason, IsClosing, IsList, IsStart, ReadsLists, Passed, Judged}
 
@@ -141,7 +141,7 @@ pub passed_all : (held : Held) (names : Names) (i : Tables) (a0 a : List Machine
 passed_all held names i a0 a parts accepts judged = record { tables = i; a0 = a0; a = a; passes = record { accepts = accepts; initial = judged.initial; changed = judged.changed }; parts_are = judged.parts_are }
 
 -- the text of the parts was sent
-pub printed : (held : Held) (names : Names) (parts : Parts) (sent : List ℕ → Type 0) → Passed held names parts → sent (parts_text parts) → Printed held names sent
+pub printed : (held : Held) (names : Names) (parts : Parts) (sent : List ℕ → Type 0) → Passed held names parts → sent (parts_text parts) → CheckPrinted held names sent
 printed held names parts sent passed text = record { tables = passed.tables; a0 = passed.a0; a = passed.a; passes = passed.passes; text = rw (sym passed.parts_are) text }
 
 -- the initial list of a run

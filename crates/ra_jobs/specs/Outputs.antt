@@ -16,7 +16,7 @@ use Rattle.ra_jobs.specs.Files.{Held, Names, check_names, bound_names, InstanceI
 use Rattle.ra_jobs.specs.Refusals.{OnlyWrites}
 
 -- `check`: all files passed, and the six lines of the parts of the new list were sent
-pub record Printed (held : Held) (names : Names) (sent : List ℕ → Type 0) : Type 0 where
+pub record CheckPrinted (held : Held) (names : Names) (sent : List ℕ → Type 0) : Type 0 where
   pub tables : Tables
   pub a0 : List Machine
   pub a : List Machine
@@ -24,7 +24,7 @@ pub record Printed (held : Held) (names : Names) (sent : List ℕ → Type 0) : 
   pub text : sent (parts_text (parts_of tables a0 a))
 
 abbrev pub checked : Names → OverFiles
-checked names = judged names (λ held sent. Printed held names sent)
+checked names = judged names (λ held sent. CheckPrinted held names sent)
 
 abbrev pub check_command : List ℕ → List ℕ → List ℕ → Option (List ℕ) → Command
 check_command model initial changed closed =

@@ -29,7 +29,7 @@ pub record IsTried (i : Tables) (a0 : List Machine) (lot : Lot) (broken : Option
   pub text : sent (repair_lines broken (repair_run i a0 lot).assignment (repair_run i a0 lot).tries)
 
 -- the files are accepted, and so it is with the run of the one lot from the initial list
-pub record Tried (held : Held) (names : Names) (l : Lots) (broken : Option Cause)
+pub record RepairPrinted (held : Held) (names : Names) (l : Lots) (broken : Option Cause)
     (sent : List ℕ → Type 0) : Type 0 where
   pub tables : Tables
   pub a0 : List Machine
@@ -42,9 +42,9 @@ pub record Tried (held : Held) (names : Names) (l : Lots) (broken : Option Cause
 -- text
 abbrev pub RepairOwn : Held → Names → Lots → (List ℕ → Type 0) → (List ℕ → Type 0) → Refusal
     → Type 0
-RepairOwn held names l took broke_off (Left cause) = Tried held names l (Some cause) took
+RepairOwn held names l took broke_off (Left cause) = RepairPrinted held names l (Some cause) took
 RepairOwn held names l took broke_off Write =
-    (broken : Option Cause) × Tried held names l broken broke_off
+    (broken : Option Cause) × RepairPrinted held names l broken broke_off
 RepairOwn held names l took broke_off refusal = ⊥
 
 -- the last list of the run of the one lot breaks this constraint first, or none
@@ -59,7 +59,7 @@ pub record RepairComes (held : Held) (names : Names) (asked : Lots → Type 0) (
     (status : Status) : Type 0 where
   pub never_infeasible : status ≢ Infeasible
   pub unrepaired : status ≡ Unrepaired
-      → (l : Lots) × asked l × ((cause : Cause) × Tried held names l (Some cause) (λ text. Unit {0}))
+      → (l : Lots) × asked l × ((cause : Cause) × RepairPrinted held names l (Some cause) (λ text. Unit {0}))
   pub stays : (i : Tables) (a0 : List Machine) → Accepts held names i a0 a0
       → KnownTo held names before now file.Initial → (cause : Cause)
       → ((l : Lots) → asked l → LeavesBroken i a0 l (Some cause))
@@ -72,7 +72,7 @@ pub record RepairComes (held : Held) (names : Names) (asked : Lots → Type 0) (
 abbrev pub repaired : Names → (Lots → Type 0) → OverFiles
 repaired names asked = record {
   names = names;
-  prints = λ held sent. (l : Lots) × asked l × Tried held names l None sent;
+  prints = λ held sent. (l : Lots) × asked l × RepairPrinted held names l None sent;
   refuses = λ held took broke_off refusal.
       (l : Lots) × asked l × RepairOwn held names l took broke_off refusal;
   own_comes = λ files status. RepairComes files.held names asked files.before files.after status;

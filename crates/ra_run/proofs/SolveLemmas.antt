@@ -36,7 +36,7 @@ use Rattle.ra_jobs.specs.Stages.{IsStart}
 use Rattle.ra_jobs.proofs.ComesLemmas.{Went}
 use Rattle.ra_jobs.proofs.DoesLemmas.{does_more, judged_so, judged_memory}
 use Rattle.ra_jobs.proofs.StageLemmas.{judges_more, reason_more}
-use Rattle.ra_run.specs.Outputs.{IsFirstLeast, Solved, solving}
+use Rattle.ra_run.specs.Headline.{IsFirstLeast, SolvePrinted, solving}
 use Rattle.ra_run.specs.Solving.{IsReported, RunReason}
 
 -- the report of a run is that of its journal
@@ -74,7 +74,7 @@ first_least i a0 h =
       first = λ k before. omega (arith, cost, is.earliest k (cost_at i a0 h k) before refl);
     }
 
-unfoldable pub solved : (held : Held) (names : Names) (i : Tables) (a0 : List Machine) (l : Lots) (sent : List ℕ → Type 0) → WellFormed i → IsStart held names i a0 → IsReported i a0 l sent → Solved held names l sent
+unfoldable pub solved : (held : Held) (names : Names) (i : Tables) (a0 : List Machine) (l : Lots) (sent : List ℕ → Type 0) → WellFormed i → IsStart held names i a0 → IsReported i a0 l sent → SolvePrinted held names l sent
 unfolding report_text
 solved held names i a0 l sent limits start told =
     let h = told.journal in
@@ -100,19 +100,19 @@ solved held names i a0 l sent limits start told =
     }
 
 -- the reason of a refusal of a run, of the files
-pub reason_run : (held : Held) (names : Names) (i : Tables) (a0 : List Machine) (l : Lots) (first now : Faults) (sent : List ℕ → Type 0) → IsSome names.initial → WellFormed i → IsStart held names i a0 → (refusal : Refusal) → RunReason i a0 (IsReported i a0 l sent) refusal → Reason held names first now (Judges held names (Solved held names l sent)) refusal
+pub reason_run : (held : Held) (names : Names) (i : Tables) (a0 : List Machine) (l : Lots) (first now : Faults) (sent : List ℕ → Type 0) → IsSome names.initial → WellFormed i → IsStart held names i a0 → (refusal : Refusal) → RunReason i a0 (IsReported i a0 l sent) refusal → Reason held names first now (Judges held names (SolvePrinted held names l sent)) refusal
 reason_run held names i a0 l first now sent has_initial limits start (Broken role.Initial cause) reason = record { tables = i; a0 = a0; a = a0; named = has_initial; accepts = start.accepts; broken = reason }
 reason_run held names i a0 l first now sent has_initial limits start Write reason = solved held names i a0 l sent limits start reason
 reason_run held names i a0 l first now sent has_initial limits start Memory reason = tt
 reason_run held names i a0 l first now sent has_initial limits start refusal reason = absurd reason
 
 -- what was printed of a run, whole or in part, is of files that were accepted, and of a list that is feasible
-pub solved_went : (held : Held) (model : List ℕ) (closed : Option (List ℕ)) (initial : List ℕ) (l : Lots) (sent : List ℕ → Type 0) → Solved held (solve_names model initial closed) l sent → Went held (solve_names model initial closed)
+pub solved_went : (held : Held) (model : List ℕ) (closed : Option (List ℕ)) (initial : List ℕ) (l : Lots) (sent : List ℕ → Type 0) → SolvePrinted held (solve_names model initial closed) l sent → Went held (solve_names model initial closed)
 solved_went held model closed initial l sent p = record { listed = record { tables = p.tables; a0 = p.a0; a = p.a0; accepts = p.accepts }; initial = λ named. p.start; changed = λ named. absurd (cc) }
 
 -- the reason of a refusal of some lots, of these
-pub reason_these : (held : Held) (names : Names) (l : Lots) (before now : Faults) (sent : List ℕ → Type 0) (refusal : Refusal) → Reason held names before now (Judges held names (Solved held names l sent)) refusal → Reason held names before now (Judges held names ((k : Lots) × These l k × Solved held names k sent)) refusal
-reason_these held names l before now sent = reason_more held names before now (Judges held names (Solved held names l sent)) (Judges held names ((k : Lots) × These l k × Solved held names k sent)) (judges_more held names (Solved held names l sent) ((k : Lots) × These l k × Solved held names k sent) (λ s. (l, refl, s)))
+pub reason_these : (held : Held) (names : Names) (l : Lots) (before now : Faults) (sent : List ℕ → Type 0) (refusal : Refusal) → Reason held names before now (Judges held names (SolvePrinted held names l sent)) refusal → Reason held names before now (Judges held names ((k : Lots) × These l k × SolvePrinted held names k sent)) refusal
+reason_these held names l before now sent = reason_more held names before now (Judges held names (SolvePrinted held names l sent)) (Judges held names ((k : Lots) × These l k × SolvePrinted held names k sent)) (judges_more held names (SolvePrinted held names l sent) ((k : Lots) × These l k × SolvePrinted held names k sent) (λ s. (l, refl, s)))
 
 -- what the command does
 

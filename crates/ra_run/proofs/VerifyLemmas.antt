@@ -40,7 +40,7 @@ use Rattle.ra_jobs.proofs.EndLemmas.{Ends, EndsOver, finished, left_so}
 use Rattle.ra_jobs.proofs.RepairLemmas.{of_these}
 use Rattle.ra_jobs.proofs.MeaningLemmas.{no_model, no_closed, no_initial, no_initial_break, instances_same, lists_same}
 use Rattle.ra_jobs.proofs.StageLemmas.{can_tell, rose_later, reason_more}
-use Rattle.ra_run.specs.Verifying.{CountReason, IsCounted, IsRead, IsRightAt, IsRightReport, IsSolved, IsWrongAt, IsWrongReport, ReportWrong, VerdictComes, Verified, VerifyOwn, refused_by, verifying}
+use Rattle.ra_run.specs.Verifying.{CountReason, IsCounted, IsRead, IsRightAt, IsRightReport, IsSolved, IsWrongAt, IsWrongReport, ReportWrong, VerdictComes, VerifyPrinted, VerifyOwn, refused_by, verifying}
 use Rattle.ra_run.proofs.AlikeLemmas.{wrong_line_same, is_report_same}
 use Rattle.ra_run.proofs.SolveLemmas.{solved}
 
@@ -136,7 +136,7 @@ own_tells held names l written (WrongLine line) reason = tt
 own_tells held names l written Write reason = tt
 own_tells held names l written refusal reason = absurd reason
 
-pub verified_went : (held : Held) (names : Names) (l : Lots) (sent : List ℕ → Type 0) → Verified held names l sent → Went held names
+pub verified_went : (held : Held) (names : Names) (l : Lots) (sent : List ℕ → Type 0) → VerifyPrinted held names l sent → Went held names
 verified_went held names l sent v = passed_went held names v.read.tables v.read.a0 v.read.a0 v.read.passes
 
 pub own_listed : (held : Held) (names : Names) (l : Lots) (written : Type 0) → (written → Went held names) → (refusal : Refusal) → VerifyOwn held names l written refusal → Listed held names
@@ -235,7 +235,7 @@ wrong_not held names l line told right wrong = told_not (held (name_of names fil
     (λ bytes is report. is.no_report report.0 report.1) wrong.wrong (right wrong.tables wrong.a0 wrong.passes)
 
 wrong_own : (held : Held) (model : List ℕ) (closed : Option (List ℕ)) (initial report : List ℕ) (before now : Faults) (l : Lots) (sent : List ℕ → Type 0) (i : Tables) (a0 : List Machine) → Passes held (verify_names model initial report closed) i a0 a0 → KnownTo held (verify_names model initial report closed) before now file.Report → (line : ℕ) → AllWrong held (verify_names model initial report closed) l line
-    → (refusal : Refusal) → VerifyOwn held (verify_names model initial report closed) l (Verified held (verify_names model initial report closed) l sent) refusal → status_of refusal ≡ Wrong
+    → (refusal : Refusal) → VerifyOwn held (verify_names model initial report closed) l (VerifyPrinted held (verify_names model initial report closed) l sent) refusal → status_of refusal ≡ Wrong
 unfolding name_of status_of
 wrong_own held model closed initial report before now l sent i a0 passes known line wrong (Broken role.Initial cause) reason =
     absurd (no_initial_break held (verify_names model initial report closed) (known.0 tt).0 (told_of held closed _ known.1) (told_of held (Some initial) _ known.2) cause reason i a0 a0 passes.accepts passes.initial)
@@ -244,7 +244,7 @@ wrong_own held model closed initial report before now l sent i a0 passes known l
 wrong_own held model closed initial report before now l sent i a0 passes known line wrong refusal reason = absurd reason
 
 right_own : (held : Held) (model : List ℕ) (closed : Option (List ℕ)) (initial report : List ℕ) (before now : Faults) (l : Lots) (sent : List ℕ → Type 0) (i : Tables) (a0 : List Machine) → Passes held (verify_names model initial report closed) i a0 a0 → KnownTo held (verify_names model initial report closed) before now file.Report → AllRight held (verify_names model initial report closed) l
-    → (refusal : Refusal) → VerifyOwn held (verify_names model initial report closed) l (Verified held (verify_names model initial report closed) l sent) refusal → status_of refusal ≡ WriteFault
+    → (refusal : Refusal) → VerifyOwn held (verify_names model initial report closed) l (VerifyPrinted held (verify_names model initial report closed) l sent) refusal → status_of refusal ≡ WriteFault
 unfolding name_of status_of
 right_own held model closed initial report before now l sent i a0 passes known right (Broken role.Initial cause) reason =
     absurd (no_initial_break held (verify_names model initial report closed) (known.0 tt).0 (told_of held closed _ known.1) (told_of held (Some initial) _ known.2) cause reason i a0 a0 passes.accepts passes.initial)
@@ -253,16 +253,16 @@ right_own held model closed initial report before now l sent i a0 passes known r
 right_own held model closed initial report before now l sent i a0 passes known right refusal reason = absurd reason
 
 pub verify_verdict : {held : Held} {before now : Faults} {tells : List ℕ → Type 0} {out_same err_same : Type 0} {status : Status} (model : List ℕ) (closed : Option (List ℕ)) (initial report : List ℕ) (l : Lots) (asked : Lots → Type 0) (prints breaks : List ℕ → Type 0) → asked l
-    → Ends held (verify_names model initial report closed) before now (Verified held (verify_names model initial report closed) l prints) (VerifyOwn held (verify_names model initial report closed) l (Verified held (verify_names model initial report closed) l breaks)) tells out_same err_same status
+    → Ends held (verify_names model initial report closed) before now (VerifyPrinted held (verify_names model initial report closed) l prints) (VerifyOwn held (verify_names model initial report closed) l (VerifyPrinted held (verify_names model initial report closed) l breaks)) tells out_same err_same status
     → VerdictComes held (verify_names model initial report closed) asked before now status
 unfolding name_of
 verify_verdict {held} {before} {now} {tells} {out_same} {err_same} {status} model closed initial report l asked prints breaks is ends =
     let names = verify_names model initial report closed in
-    let own : Refusal → Type 0 = VerifyOwn held names l (Verified held names l breaks) in
+    let own : Refusal → Type 0 = VerifyOwn held names l (VerifyPrinted held names l breaks) in
     record {
       wrong = λ (told : status ≡ Wrong).
           let refused = ends.refused (λ (done : status ≡ Done). let e : Done ≡ Wrong = sym done ∙ told in cc) in
-          (l, is, own_wrong held names l (Verified held names l breaks) before now refused.refusal refused.reason (sym refused.is ∙ told));
+          (l, is, own_wrong held names l (VerifyPrinted held names l breaks) before now refused.refusal refused.reason (sym refused.is ∙ told));
       is_wrong = λ i a0 passes known line wrong. ⊎_elim
           (λ (done : status ≡ Done). let v = ends.printed done in absurd (read_not held names l line v.entries (known.3 refl).0 (all_wrong held model closed initial report before now i a0 passes known l line (wrong l is)) v.read))
           (λ (other : status ≢ Done).
@@ -328,8 +328,8 @@ verdict_not held names asked before now status is = record {
 -- what the command does
 
 -- a refusal of these lots, as one of some
-pub reason_these_lots : (held : Held) (names : Names) (l : Lots) (before now : Faults) (sent : List ℕ → Type 0) (refusal : Refusal) → Reason held names before now (VerifyOwn held names l (Verified held names l sent)) refusal → Reason held names before now ((verifying names (These l)).refuses held sent sent) refusal
-reason_these_lots held names l before now sent = reason_more held names before now (VerifyOwn held names l (Verified held names l sent)) ((verifying names (These l)).refuses held sent sent) (λ r own. (l, refl, own))
+pub reason_these_lots : (held : Held) (names : Names) (l : Lots) (before now : Faults) (sent : List ℕ → Type 0) (refusal : Refusal) → Reason held names before now (VerifyOwn held names l (VerifyPrinted held names l sent)) refusal → Reason held names before now ((verifying names (These l)).refuses held sent sent) refusal
+reason_these_lots held names l before now sent = reason_more held names before now (VerifyOwn held names l (VerifyPrinted held names l sent)) ((verifying names (These l)).refuses held sent sent) (λ r own. (l, refl, own))
 
 pub verify_so : (model : List ℕ) (closed : Option (List ℕ)) (initial report : List ℕ) (l : Lots) (files : Reading) (out err : Output) (ended : Result (Unit {0}) Refusal) (status : Status) → Tries (over (verifying (verify_names model initial report closed) (These l))) files out ended → Finishes (verify_names model initial report closed) ended err status → Does (over (verifying (verify_names model initial report closed) (These l))) files out err status
 verify_so model closed initial report l files out err ended status tries finishes =
@@ -338,14 +338,14 @@ verify_so model closed initial report l files out err ended status tries finishe
     let c = verifying names (These l) in
     let prints : List ℕ → Type 0 = Took out.sink in
     let breaks : List ℕ → Type 0 = BrokeOff out.sink in
-    let written = Verified held names l breaks in
+    let written = VerifyPrinted held names l breaks in
     let ends : EndsOver c files out err status = finished c files out err ended status tries finishes in
-    let exact : Ends held names files.before files.after (Verified held names l prints) (VerifyOwn held names l written) (Put err.sink) out.same err.same status = record {
-      printed = λ done. of_these {P = λ k. Verified held names k prints} l (ends.printed done);
+    let exact : Ends held names files.before files.after (VerifyPrinted held names l prints) (VerifyOwn held names l written) (Put err.sink) out.same err.same status = record {
+      printed = λ done. of_these {P = λ k. VerifyPrinted held names k prints} l (ends.printed done);
       no_line = ends.no_line;
       refused = λ other. let r = ends.refused other in record {
         refusal = r.refusal;
-        reason = reason_more held names files.before files.after (c.refuses held prints breaks) (VerifyOwn held names l written) (λ refusal reason. of_these {P = λ k. VerifyOwn held names k (Verified held names k breaks) refusal} l reason) r.refusal r.reason;
+        reason = reason_more held names files.before files.after (c.refuses held prints breaks) (VerifyOwn held names l written) (λ refusal reason. of_these {P = λ k. VerifyOwn held names k (VerifyPrinted held names k breaks) refusal} l reason) r.refusal r.reason;
         is = r.is;
         line = r.line;
         no_output = r.no_output;
@@ -353,7 +353,7 @@ verify_so model closed initial report l files out err ended status tries finishe
     } in
     does_so c files out err status ends
     (λ p. (verified_went held names p.0 prints p.2).listed)
-    (λ r p. own_listed held names p.0 (Verified held names p.0 breaks) (verified_went held names p.0 breaks) r p.2)
+    (λ r p. own_listed held names p.0 (VerifyPrinted held names p.0 breaks) (verified_went held names p.0 breaks) r p.2)
     (verify_infeasible exact (verified_went held names l prints) (verified_went held names l breaks), verify_verdict model closed initial report l (These l) prints breaks refl exact)
     (λ valid sound wrote. verify_complete held names l written status valid (λ broken. wrote broken.text.1) (complete_own exact valid.accepted sound))
     (left_so c files out err ended status tries finishes)

@@ -1,5 +1,5 @@
 pub mod Commands
-pub mod Outputs
+pub mod Headline
 pub mod Solving
 pub mod Trials
 pub mod Verifying

@@ -21,12 +21,12 @@ use Rattle.ra_jobs.specs.Commands.{Command, OverFiles, over}
 use Rattle.ra_jobs.specs.Complete.{AreValid}
 use Rattle.ra_jobs.specs.Files.{Held, Faults, Names, name_of, Passes, verify_names}
 use Rattle.ra_jobs.specs.Refusals.{InitialBreaks}
-use Rattle.ra_run.specs.Outputs.{Solved}
+use Rattle.ra_run.specs.Headline.{SolvePrinted}
 
 -- the bytes are a report of `solve`, the headline, whose journal has so many entries; none of its lines is wrong
 pub record IsSolved (held : Held) (names : Names) (l : Lots) (entries : ℕ) (bytes : List ℕ) : Type 0
   where
-    pub solved : Solved held names l (λ text. text ≡ bytes)
+    pub solved : SolvePrinted held names l (λ text. text ≡ bytes)
     pub number : length solved.journal ≡ entries
     pub none_wrong : IsWrongLine solved.tables solved.a0 l bytes None
 
@@ -38,7 +38,7 @@ pub record IsRead (held : Held) (names : Names) (l : Lots) (entries : ℕ) : Typ
   pub report : IfSome (held (name_of names file.Report)) (IsSolved held names l entries)
 
 -- it is accepted: the line with the number of its entries was sent
-pub record Verified (held : Held) (names : Names) (l : Lots) (sent : List ℕ → Type 0) : Type 0 where
+pub record VerifyPrinted (held : Held) (names : Names) (l : Lots) (sent : List ℕ → Type 0) : Type 0 where
   pub entries : ℕ
   pub read : IsRead held names l entries
   pub text : sent (accepted_line entries)
@@ -92,9 +92,9 @@ pub record VerdictComes (held : Held) (names : Names) (asked : Lots → Type 0) 
 abbrev pub verifying : Names → (Lots → Type 0) → OverFiles
 verifying names asked = record {
   names = names;
-  prints = λ held sent. (l : Lots) × asked l × Verified held names l sent;
+  prints = λ held sent. (l : Lots) × asked l × VerifyPrinted held names l sent;
   refuses = λ held took broke_off refusal.
-      (l : Lots) × asked l × VerifyOwn held names l (Verified held names l broke_off) refusal;
+      (l : Lots) × asked l × VerifyOwn held names l (VerifyPrinted held names l broke_off) refusal;
   own_comes = λ files status.
       InfeasibleComes files.held names files.before files.after status
       × VerdictComes files.held names asked files.before files.after status;

@@ -11,7 +11,7 @@ ghost use Rattle.ra_report.specs.JournalTexts.{best_state, text_of};
 ghost use Rattle.ra_jobs.specs.Commands.{These};
 ghost use Rattle.ra_jobs.specs.Ends.{Does, Tries};
 ghost use Rattle.ra_jobs.specs.Output.{output, BrokeOff};
-ghost use Rattle.ra_run.specs.Outputs.{solve_command};
+ghost use Rattle.ra_run.specs.Headline.{solve_command};
 ghost use Rattle.ra_run.specs.Solving.{IsReported, RunReason};
 
 use ra_base::{Assignment, Name, Parts};

@@ -21,7 +21,8 @@ use ra_verify::{VerifyFault, verify};
 use std::alloc::Global;
 
 /// Checks the report of a run of the lots from the list `initial` of a model: prints how many entries its journal has, or
-/// puts one line that says why not, as which line is wrong. It returns, and waits for nobody.
+/// puts one line that says why it was not accepted, for example which of its lines is wrong. It returns, and waits for
+/// nobody.
 pub fn verify_run<'n, F: Files, O: Sink, E: Sink>(
     alloc: Global,
     model: &'n Name,

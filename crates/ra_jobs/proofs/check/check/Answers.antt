@@ -3,7 +3,7 @@ use Rattle.std.specs.Option.{option_copied}
 use Rattle.ra_io.specs.Outside.{reading, writing, Took}
 use Rattle.ra_jobs.specs.Files.{check_names}
 use Rattle.ra_jobs.specs.Output.{output, BrokeOff}
-use Rattle.ra_jobs.specs.Outputs.{Printed, check_command}
+use Rattle.ra_jobs.specs.Outputs.{CheckPrinted, check_command}
 use Rattle.ra_jobs.proofs.DoesLemmas.{not_tried}
 use Rattle.ra_jobs.proofs.StageLemmas.{printed, reason_unwritten}
 use Rattle.ra_jobs.proofs.check.check.Goals as goal
@@ -32,5 +32,5 @@ returns-in_err-parts g c =
     let names = check_names c.args.model.now c.args.initial.now c.args.changed.now (option_copied c.args.closed) in
     let out = output g.O.Sink c.args.out.now c.args.out.now in
     not_tried (check_command c.args.model.now c.args.initial.now c.args.changed.now (option_copied c.args.closed)) (reading g.F.Files c.args.files.now c.read_parts.new.files) out _ _ c.from_residual.ensures
-    (reason_unwritten held names (g.F.Files.faults c.args.files.now) (g.F.Files.faults c.read_parts.new.files) (Printed held names (BrokeOff out.sink)) _ c.in_err-parts.ensures.refused)
+    (reason_unwritten held names (g.F.Files.faults c.args.files.now) (g.F.Files.faults c.read_parts.new.files) (CheckPrinted held names (BrokeOff out.sink)) _ c.in_err-parts.ensures.refused)
     refl (record { kept = c.read_parts.ensures.kept; never_fall = c.read_parts.ensures.never_fall }) (omega arith)

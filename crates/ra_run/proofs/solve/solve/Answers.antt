@@ -9,7 +9,7 @@ use Rattle.ra_jobs.proofs.DoesLemmas.{not_tried}
 use Rattle.ra_jobs.proofs.EndLemmas.{not_write}
 use Rattle.ra_jobs.proofs.ResultLemmas.{on_ok_then, if_err_then}
 use Rattle.ra_jobs.proofs.StageLemmas.{reason_anywhere}
-use Rattle.ra_run.specs.Outputs.{solving, solve_command}
+use Rattle.ra_run.specs.Headline.{solving, solve_command}
 use Rattle.ra_run.proofs.SolveLemmas.{solved, reason_run, reason_these}
 use Rattle.ra_run.proofs.solve.solve.Goals as goal
 

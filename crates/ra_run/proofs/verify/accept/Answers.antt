@@ -5,7 +5,7 @@ use Rattle.ra_jobs.specs.Commands.{These}
 use Rattle.ra_jobs.specs.Files.{verify_names}
 use Rattle.ra_jobs.specs.Output.{output, BrokeOff}
 use Rattle.ra_jobs.proofs.DoesLemmas.{not_tried}
-use Rattle.ra_run.specs.Verifying.{Verified, verify_command}
+use Rattle.ra_run.specs.Verifying.{VerifyPrinted, verify_command}
 use Rattle.ra_run.proofs.VerifyLemmas.{reason_these_lots, reason_unwritten_verdict}
 use Rattle.ra_run.proofs.verify.accept.Goals as goal
 
@@ -36,5 +36,5 @@ returns-in_err-entries g c =
     let now = g.F.Files.faults c.read_report.new.files in
     let out = output g.O.Sink c.args.out.now c.args.out.now in
     not_tried (verify_command c.args.model.now c.args.initial.now c.args.report.now (option_copied c.args.closed) (These lots)) (reading g.F.Files c.args.files.now c.read_report.new.files) out _ _ c.from_residual.ensures
-    (reason_these_lots held names lots before now (BrokeOff out.sink) _ (reason_unwritten_verdict held names before now lots (Verified held names lots (BrokeOff out.sink)) _ c.in_err-entries.ensures.refused))
+    (reason_these_lots held names lots before now (BrokeOff out.sink) _ (reason_unwritten_verdict held names before now lots (VerifyPrinted held names lots (BrokeOff out.sink)) _ c.in_err-entries.ensures.refused))
     refl (record { kept = c.read_report.ensures.kept; never_fall = c.read_report.ensures.never_fall }) (omega arith)

@@ -6,7 +6,7 @@ use Rattle.ra_jobs.specs.Files.{verify_names}
 use Rattle.ra_jobs.specs.Output.{output, BrokeOff}
 use Rattle.ra_jobs.proofs.ResultLemmas.{if_err_then}
 use Rattle.ra_jobs.proofs.StageLemmas.{can_tell}
-use Rattle.ra_run.specs.Verifying.{Verified, verifying}
+use Rattle.ra_run.specs.Verifying.{VerifyPrinted, verifying}
 use Rattle.ra_run.proofs.VerifyLemmas.{own_tells, verify_so}
 use Rattle.ra_run.proofs.verify.verify_run.Goals as goal
 
@@ -16,7 +16,7 @@ finish-requires g c =
     let names = verify_names c.args.model.now c.args.initial.now c.args.report.now (option_copied c.args.closed) in
     let out = writing g.O.Sink c.args.out.now c.accept-ended.new.out in
     let own = (verifying names (These c.args.lots.now)).refuses held (Took out) (BrokeOff out) in
-    if_err_then c.accept-ended.result _ _ (can_tell held names _ _ own (λ r reason. own_tells held names reason.0 (Verified held names reason.0 (BrokeOff out)) r reason.2)) c.accept-ended.ensures.refused
+    if_err_then c.accept-ended.result _ _ (can_tell held names _ _ own (λ r reason. own_tells held names reason.0 (VerifyPrinted held names reason.0 (BrokeOff out)) r reason.2)) c.accept-ended.ensures.refused
 
 pub returns : goal.returns
 returns g c = verify_so c.args.model.now (option_copied c.args.closed) c.args.initial.now c.args.report.now c.args.lots.now

@@ -27,7 +27,7 @@ pub record IsFirstLeast (i : Tables) (a0 : List Machine) (h : List Entry) (j : �
 -- once; every state in it meets all constraints, and its kept cost is the challenge's objective computed afresh; the
 -- printed assignment is the first of least cost among those states, its parts are exact, and no feasible assignment
 -- costs less than the printed bound
-pub record Solved (held : Held) (names : Names) (l : Lots) (sent : List ℕ → Type 0) : Type 0 where
+pub record SolvePrinted (held : Held) (names : Names) (l : Lots) (sent : List ℕ → Type 0) : Type 0 where
   pub tables : Tables
   pub a0 : List Machine
   pub journal : List Entry
@@ -60,7 +60,7 @@ pub record Solved (held : Held) (names : Names) (l : Lots) (sent : List ℕ → 
 
 -- of the lots that were asked for
 abbrev pub solving : Names → (Lots → Type 0) → OverFiles
-solving names asked = judged names (λ held sent. (l : Lots) × asked l × Solved held names l sent)
+solving names asked = judged names (λ held sent. (l : Lots) × asked l × SolvePrinted held names l sent)
 
 abbrev pub solve_command : List ℕ → List ℕ → Option (List ℕ) → (Lots → Type 0) → Command
 solve_command model initial closed asked = over (solving (solve_names model initial closed) asked)
