@@ -14,7 +14,7 @@ use Rattle.ra_turn.specs.declared.sight.Stage.TheVariants.{Idle, InTurn, Counted
 use Rattle.ra_turn.specs.Notes.{by, HoldsAll}
 use Rattle.ra_turn.specs.Law.{AtTicket, Scene, Kept, Ruled, Fits, Knows}
 use Rattle.ra_turn.specs.Stages.{IsPass, IsServed, HasSlot, counted_by}
-use Rattle.ra_turn.specs.Steps.{with_stage, with_seen, served, noted}
+use Rattle.ra_turn.specs.Steps.{with_stage, with_seen, served, noted, HasOneMore, IsInTurnAt}
 use Rattle.ra_turn.proofs.Lists.{stands_at, prefix_self, prefix_longer, at_below, all_one, all_map, by_other}
 use Rattle.ra_turn.proofs.Stages.{slot_served, served_ticket, ticket_pass, pass_live, counted_most}
 use Rattle.ra_turn.proofs.Keeps.{moved, waits_stay}
@@ -43,10 +43,10 @@ module _ {V N O : Type 0} (opening : V → O) (notes : V → List N) (author : N
       k.slot
 
   -- a note is counted
-  pub notes_one : (slots i : ℕ) (m : Me (Option V) (Sight N O)) (old : ℕ) (said : Option V) (x : V) (n : N) → passes * turns < 2 ^ 62 → m.0.stage ≡ InTurn → length m.0.joined ≡ 0 → length m.0.own.seen ≡ old → said ≡ Some x
-      → notes x ≡ m.0.own.seen ++ n ∷ [] → author n ≡ m.0.own.number → m.0.opened ≡ Some (opening x) → HoldsAll touches (opening x) m.0.grips n
+  pub notes_one : (slots i : ℕ) (m : Me (Option V) (Sight N O)) (old : ℕ) (said : Option V) (x : V) → passes * turns < 2 ^ 62 → IsInTurnAt m.0 old → said ≡ Some x → HasOneMore opening notes author touches m.0 x
       → Allows Rule slots i m 2 (λ f. either (f == old) (old + 1) f) (noted notes author (step slots 2 old (old + 1) (some said)) m)
-  notes_one slots i m old said x n small stage alone count saying added mine_is opened holding s r len at fits =
+  notes_one slots i m old said x small in_turn saying one_more s r len at fits =
+      let n : N = one_more.note in let stage = in_turn.stage in let mine_is = one_more.own in
       let k = r.kept in let c = r.scene in let v = m.0 in let kv = k.each i v at in
       let has : HasSlot v.stage = subst HasSlot (sym stage) tt in
       let sv : IsServed v.stage = slot_served v.stage has in
@@ -54,11 +54,11 @@ module _ {V N O : Type 0} (opening : V → O) (notes : V → List N) (author : N
       let c' : Scene N = record c { history = notes x } in
       let w : Sight N O = with_seen author v Counted (notes x) in
       let whole : v.own.seen ≡ c.history = kv.whole has in
-      let one_opening : opening x ≡ o = (let e = sym opened ∙ kv.opened (pass_live v.stage pass) in cc e) in
-      let holds : HoldsAll touches o v.grips n = subst (λ (z : O). HoldsAll touches z v.grips n) one_opening holding in
-      let longer : notes x ≡ c.history ++ n ∷ [] = added ∙ ap (λ (xs : List N). xs ++ n ∷ []) whole in
-      let one_more : length (notes x) ≡ length c.history + 1 = ap length longer ∙ length-append c.history (n ∷ []) in
-      let hit : (length c.history == old) ≡ true = eq-eqb (length c.history) old (ap length (sym whole) ∙ count) in
+      let one_opening : opening x ≡ o = (let e = sym one_more.opened ∙ kv.opened (pass_live v.stage pass) in cc e) in
+      let holds : HoldsAll touches o v.grips n = subst (λ (z : O). HoldsAll touches z v.grips n) one_opening one_more.held in
+      let longer : notes x ≡ c.history ++ n ∷ [] = one_more.added ∙ ap (λ (xs : List N). xs ++ n ∷ []) whole in
+      let longer_by_one : length (notes x) ≡ length c.history + 1 = ap length longer ∙ length-append c.history (n ∷ []) in
+      let hit : (length c.history == old) ≡ true = eq-eqb (length c.history) old (ap length (sym whole) ∙ in_turn.count) in
       let raised : either (length c.history == old) (old + 1) (length c.history) ≡ length (notes x) =
       ap (λ (b : Bool). either b (old + 1) (length c.history)) hit ∙ (let e = ap length whole in omega arith) in
       let few : length c.history ≤ c.serving + counted_by v.stage = out_with c r.guard_words s i v k at has in
@@ -74,7 +74,7 @@ module _ {V N O : Type 0} (opening : V → O) (notes : V → List N) (author : N
       let mine : Known c' s.homes i w = record {
         maker = λ t e. absurd (cc e);
         opened = λ z. kv.opened (pass_live v.stage pass);
-        parts = λ z. all_one (Fits author (notes x) c.given c.owner i) w.own v.joined alone own;
+        parts = λ z. all_one (Fits author (notes x) c.given c.owner i) w.own v.joined in_turn.alone own;
         ticket = λ z. kv.ticket (served_ticket v.stage sv);
         served = λ z. kv.served sv;
         whole = λ z. refl;

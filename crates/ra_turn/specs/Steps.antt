@@ -8,7 +8,7 @@ use Rattle.ra_turn.specs.declared.sight.Sight.{Sight}
 use Rattle.ra_turn.specs.declared.sight.Stage.{Stage}
 use Rattle.ra_turn.specs.declared.sight.Stage.TheVariants.{Maker, Spent, Idle, Drawn, Called, InTurn, Counted}
 use Rattle.ra_turn.specs.declared.sight.Grip.{Grip}
-use Rattle.ra_turn.specs.Notes.{by, grip, without, touching, IsVersion, IsNews, ShutBy}
+use Rattle.ra_turn.specs.Notes.{by, grip, without, touching, IsVersion, IsNews, HoldsAll, ShutBy}
 use Rattle.ra_turn.specs.Law.{nothing}
 
 -- how many turns the maker's seat gives to each pass
@@ -46,6 +46,12 @@ module _ {N O : Type 0} where
 
   abbrev pub with_news : Sight N O → List Grip → Sight N O
   with_news v ks = record v { news = ks }
+
+  -- the pass is in its turn, no other was joined to it, and it has seen so many notes
+  pub record IsInTurnAt (v : Sight N O) (seen : ℕ) : Type 0 where
+    pub stage : v.stage ≡ InTurn
+    pub alone : length v.joined ≡ 0
+    pub count : length v.own.seen ≡ seen
 
   -- of the guards that the view holds, no other's note that it has seen touches one
   abbrev pub IsShut : (N → ℕ) → (O → N → ℕ → Bool) → Sight N O → Type 0
@@ -168,6 +174,15 @@ module _ {V N O : Type 0} (opening : V → O) (notes : V → List N) (author : N
 
 module _ {V N O : Type 0} (opening : V → O) (notes : V → List N) (author : N → ℕ)
     (touches : O → N → ℕ → Bool) where
+  -- the value has one note more than the pass has seen, which is the pass's own, and the pass holds each guard that it
+  -- touches
+  pub record HasOneMore (m : Sight N O) (x : V) : Type 0 where
+    pub note : N
+    pub added : notes x ≡ m.own.seen ++ note ∷ []
+    pub own : author note ≡ m.own.number
+    pub opened : m.opened ≡ Some (opening x)
+    pub held : HoldsAll touches (opening x) m.grips note
+
   -- the history is that of the value in the slot, which the pass has then
   abbrev pub saw : Step (Option V) → Me (Option V) (Sight N O) → ℕ → Me (Option V) (Sight N O)
       → Type 0
@@ -177,11 +192,14 @@ module _ {V N O : Type 0} (opening : V → O) (notes : V → List N) (author : N
       × IsShut author touches (view m') × IsTold touches (view m')
 
 module _ {V N O : Type 0} (notes : V → List N) (author : N → ℕ) where
+  -- the seat has seen the value's notes, and counted its own
+  abbrev pub HasCounted : Me (Option V) (Sight N O) → Me (Option V) (Sight N O) → V → Type 0
+  HasCounted m m' x =
+      (m' ≡ (with_seen author (view m) Counted (notes x), slots m)) × (length (notes x) < 2 ^ 62)
+
   -- the announced value's notes are the history, and all notes that the pass had made were among those that it had seen
   abbrev pub noted : Step (Option V) → Me (Option V) (Sight N O) → ℕ → Me (Option V) (Sight N O)
       → Type 0
   noted s m n m' =
       (by author (view m).own.number (view m).own.seen ≡ (view m).own.mine)
-      × ((x : V) → s.said ≡ some (Some x)
-      → (m' ≡ (with_seen author (view m) Counted (notes x), slots m))
-      × (length (notes x) < 2 ^ 62))
+      × ((x : V) → s.said ≡ some (Some x) → HasCounted m m' x)

@@ -1,11 +1,11 @@
 //! The steps of one turn, each on one word of the table.
 ghost use Rattle.std.specs.Prelude.{◌≡◌, ℕ, ◌+◌, ◌<◌, ◌^◌, [], ◌∷◌, ◌++◌, length, MatchBool, Some, None};
 ghost use Rattle.ra_turn.specs.Views.{view, slots};
-ghost use Rattle.ra_turn.specs.declared.sight.Stage.TheVariants.{Idle, Drawn, Called, InTurn, Counted};
+ghost use Rattle.ra_turn.specs.declared.sight.Stage.TheVariants.{Idle, Drawn, Called, InTurn};
 ghost use Rattle.ra_turn.specs.Stages.{HasSlot};
-ghost use Rattle.ra_turn.specs.Notes.{by, HoldsAll};
+ghost use Rattle.ra_turn.specs.Notes.{by};
 ghost use Rattle.ra_turn.specs.Seats.{IsSized, IsSameSeat};
-ghost use Rattle.ra_turn.specs.Steps.{with_stage, with_seen, with_ticket, Shows, IsShut, IsTold};
+ghost use Rattle.ra_turn.specs.Steps.{with_stage, with_seen, with_ticket, Shows, HasOneMore, HasCounted, IsInTurnAt, IsShut, IsTold};
 
 use crate::law::{Desk, Place};
 use crate::patience::Patience;
@@ -111,20 +111,12 @@ fn note<V: Story>(desk: &Desk<V>, seat: &mut Place<V>, seen: u64, value: &Option
     requires table { (seat.old.table_id ≡ desk.now.table_id) ×
         IsSized desk.now.table_id desk.now.key }
     requires small { seen + 1 < 2 ^ 64 }
-    requires holding { ((view seat.old.me).stage ≡ InTurn) ×
-        (length (view seat.old.me).joined ≡ 0) × (length (view seat.old.me).own.seen ≡ seen) }
-    requires one_more { (x : V) × (n : V.Note) × (value.now ≡ Some x) ×
-        (V.notes x ≡ (view seat.old.me).own.seen ++ n ∷ []) ×
-        (V.author n ≡ (view seat.old.me).own.number) ×
-        ((view seat.old.me).opened ≡ Some (V.opening x)) ×
-        HoldsAll V.touches (V.opening x) (view seat.old.me).grips n }
+    requires holding { IsInTurnAt (view seat.old.me) seen }
+    requires one_more { (x : V) × (value.now ≡ Some x) ×
+        HasOneMore V.opening V.notes V.author V.touches (view seat.old.me) x }
     ensures same { IsSameSeat seat.old seat.new }
     ensures view { (x : V) → value.now ≡ Some x →
-        (seat.new.me ≡ (
-          with_seen V.author (view seat.old.me) Counted
-              (V.notes x),
-          slots seat.old.me,
-        )) × (length (V.notes x) < 2 ^ 62) }
+        HasCounted V.notes V.author seat.old.me seat.new.me x }
     ensures made { by V.author (view seat.old.me).own.number (view seat.old.me).own.seen ≡
         (view seat.old.me).own.mine }
 {
@@ -166,13 +158,8 @@ pub(crate) fn hand_on<V: Story>(desk: &Desk<V>, seat: &mut Place<V>, seen: u64, 
     requires table { (seat.old.table_id ≡ desk.now.table_id) ×
         IsSized desk.now.table_id desk.now.key }
     requires small { seen + 1 < 2 ^ 64 }
-    requires holding { ((view seat.old.me).stage ≡ InTurn) ×
-        (length (view seat.old.me).joined ≡ 0) × (length (view seat.old.me).own.seen ≡ seen) ×
-        (slots seat.old.me ≡ (0, None) ∷ []) }
-    requires one_more { (n : V.Note) × (V.notes value ≡ (view seat.old.me).own.seen ++ n ∷ []) ×
-        (V.author n ≡ (view seat.old.me).own.number) ×
-        HoldsAll V.touches (V.opening value) (view seat.old.me).grips n }
-    requires opened { (view seat.old.me).opened ≡ Some (V.opening value) }
+    requires holding { IsInTurnAt (view seat.old.me) seen × (slots seat.old.me ≡ (0, None) ∷ []) }
+    requires one_more { HasOneMore V.opening V.notes V.author V.touches (view seat.old.me) value }
     ensures same { IsSameSeat seat.old seat.new }
     ensures view { seat.new.me ≡ (with_seen V.author (view seat.old.me) Idle (V.notes value), []) }
     ensures guards { IsShut V.author V.touches (view seat.new.me) }
