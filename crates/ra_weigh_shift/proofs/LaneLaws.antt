@@ -1,29 +1,27 @@
 -- The sum of the lanes is the filter's sum.
-use Rattle.std.proofs.Common.{◌≡◌, ◌≢◌, ◌↔◌, ℕ, ◌+◌, ◌-◌, ◌*◌, ◌%◌, ◌^◌, ◌<◌, ◌≤◌, min, Option, Some, None, cond, ltb, List, length, get_or, set, refl, ap, ap₂, sym, ◌∙◌, ⊎_elim, arith, get_or-set_same, get_or-set_other, mul-le-mul_left}
+use Rattle.std.proofs.Common.{◌≡◌, ◌≢◌, ◌↔◌, ℕ, ◌+◌, ◌-◌, ◌*◌, ◌%◌, ◌^◌, ◌<◌, ◌≤◌, min, None, ltb, List, length, get_or, refl, ap, ap₂, sym, ◌∙◌, ⊎_elim, arith, mul-le-mul_left}
 use Rattle.std.specs.Int.{bit_at}
 use Rattle.std.specs.List.{All}
-use Rattle.std.proofs.lemmas.Bool.{cases_eq, cases_lt, cond-true, cond-false, lt-ltb, le-ltb}
+use Rattle.std.proofs.lemmas.Bool.{cases_lt, cond-true, cond-false, lt-ltb, le-ltb}
 use Rattle.std.proofs.lemmas.List.Elements.{All-weaker}
 use Rattle.std.proofs.lemmas.Nat.Bits.{bit_at-zero}
 use Rattle.ra_base.specs.Sums.{total}
 use Rattle.ra_base.specs.Tables.{cell}
 use Rattle.ra_base.specs.declared.ids.Machine.{Machine}
 use Rattle.ra_base.proofs.Sums.{total_of_sum, total_same, total_split, total_term}
-use Rattle.ra_weigh_lanes.specs.Windows.{lacking, amounts, total as lanes_total}
+use Rattle.ra_weigh_lanes.specs.Windows.{lacking, amounts, IsRingPart, total as lanes_total}
 use Rattle.ra_weigh_lanes.specs.declared.windows.Term.{Term}
-use Rattle.ra_weigh_lanes.proofs.RingLemmas.{place_on, place_at_end}
 use Rattle.ra_weigh_lanes.proofs.SumLemmas.{lacking_within}
 use Rattle.ra_model.specs.declared.raw.Tables.{Tables}
 use Rattle.ra_model.specs.Numbers.{resource_count, machine_count, process_count, balance_count, machine_weight_of, way_cost_of}
 use Rattle.ra_model.specs.Assignments.{machine_at}
 use Rattle.ra_rows.specs.FilterRows.{load_asked, load_row, first_asked, first_row, second_asked, second_row}
-use Rattle.ra_world.specs.FilterTables.{filter_row_count, filter_width, filter_row, capped_row, IsRowTable}
+use Rattle.ra_world.specs.FilterTables.{filter_row_count, filter_width, filter_row, IsRowTable}
 use Rattle.ra_world.specs.Worlds.{tables_of, start_of, here_of}
 use Rattle.ra_world.specs.declared.world.World.{World}
 use Rattle.ra_weigh_shift.specs.Arriving.{cost_added, cost_taken, sum_at, IsCostBelow}
 use Rattle.ra_weigh_shift.specs.Filter.{load_above, balance_above, filter_sum}
 use Rattle.ra_weigh_shift.specs.Lanes.{filter_asked, AreInRows, AreTerms, AreSums, AreMarked, machine_in}
-use Rattle.ra_weigh_shift.proofs.ReadLaws.{filled_more}
 use Rattle.ra_weigh_shift.proofs.FilterLaws.{dear_cost, sum_none}
 
 -- what is asked of each kind of row, and what a machine has there
@@ -126,12 +124,10 @@ window_sums w p first limit marks weight table ways sums terms each ways_small s
   small = λ k below. omega (arith, each k below, ways_small k below, small, lacking_within table terms (first + k));
 }
 
--- the next machine of a ring
-pub next_before : (m n machines : ℕ) → m + 1 < machines → m ≡ n % machines → m + 1 ≡ (n + 1) % machines
-next_before m n machines within is = sym (place_on n 1 m machines (sym is) within)
-
-pub next_at_end : (m n machines : ℕ) → m < machines → machines ≤ m + 1 → m ≡ n % machines → 0 ≡ (n + 1) % machines
-next_at_end m n machines within past is = sym (place_at_end n 1 m machines (sym is) (omega arith) (omega arith))
+-- the ways of a window, cut out of the ring of all ways from a machine
+pub ways_in_ring : (i : Tables) (home first : ℕ) (ring part : List ℕ) → first < machine_count i → length ring ≡ machine_count i → ((to : ℕ) → to < machine_count i → get_or ring to 0 ≡ way_cost_of i home to) → IsRingPart ring first 64 part → (k : ℕ) → k < 64 → get_or part k 0 ≡ way_cost_of i home ((first + k) % machine_count i)
+ways_in_ring i home first ring part some many each are k below =
+    are.each k below ∙ ap (λ n. get_or ring ((first + k) % n) 0) many ∙ each ((first + k) % machine_count i) (omega (arith, some))
 
 -- what is above the limit of a room isn't below the room
 above_limit : (room limit sum : ℕ) → 0 < room → limit ≡ min (room - 1) (2 ^ 32 - 1) → sum ≤ 2 ^ 31 → limit < sum → room ≤ sum
@@ -162,16 +158,6 @@ none_marked w p first bound taken added room sums known taken_is added_is room_i
   where
     zero_unset : (k : ℕ) → bit_at 0 k ≡ 1 → ⊥
     zero_unset k set = absurd (omega (arith, set, bit_at-zero k))
-
--- one way more in a list of ways, and the greatest of them
-pub ways_more : (ways : List ℕ) (f : ℕ → ℕ) (k way : ℕ) → ((j : ℕ) → j < k → get_or ways j 0 ≡ f j) → k < length ways → way ≡ f k → (j : ℕ) → j < k + 1 → get_or (set ways k way) j 0 ≡ f j
-ways_more ways f k way so_far within is j below = filled_more ways f k way so_far within is j below
-
-pub ways_most : (ways : List ℕ) (k way before most : ℕ) → ((j : ℕ) → j < k → get_or ways j 0 ≤ before) → k < length ways → before ≤ most → way ≤ most → (j : ℕ) → j < k + 1 → get_or (set ways k way) j 0 ≤ most
-ways_most ways k way before most so_far within old new j below = ⊎_elim
-    (λ (here : j ≡ k). omega (arith, ap (λ n. get_or (set ways k way) n 0) here, get_or-set_same ways k way 0 within, new))
-    (λ (other : j ≢ k). omega (arith, get_or-set_other ways k j way 0 other, so_far j (omega (arith, other)), old))
-    (cases_eq j k)
 
 -- a window is within each row
 pub rows_within : (i : Tables) (a : List Machine) (first : ℕ) (table : List ℕ) (terms : List Term) → IsRowTable i a table → AreInRows i terms → first < machine_count i → All (λ (t : Term). t.row + first + 64 ≤ length table) terms

@@ -1,5 +1,5 @@
-ghost use Rattle.std.specs.Prelude.{◌≡◌, ℕ, ◌+◌, ◌-◌, ◌*◌, ◌%◌, ◌^◌, ◌<◌, ◌≤◌, IfSome, min, length, slice_index};
-ghost use Rattle.ra_model.specs.Numbers.{machine_count, way_cost_of};
+ghost use Rattle.std.specs.Prelude.{◌≡◌, ℕ, ◌-◌, ◌^◌, ◌<◌, ◌≤◌, IfSome, min, length, slice_index};
+ghost use Rattle.ra_model.specs.Numbers.{machine_count};
 ghost use Rattle.ra_model.specs.Assignments.{machine_at};
 ghost use Rattle.ra_world.specs.Worlds.{tables_of, start_of};
 ghost use Rattle.ra_weigh_shift.specs.Lanes.{AreSums};
@@ -8,8 +8,7 @@ ghost use Rattle.ra_weigh_shift.specs.Sharing.{AreRequired};
 use crate::terms::find_terms;
 use arrayvec::ArrayVec;
 use ra_base::Machine;
-use ra_model::Instance;
-use ra_weigh_lanes::window;
+use ra_weigh_lanes::{ring_part, window};
 use ra_world::World;
 
 /// How much a way may cost with its weight, so that sums fit lanes.
@@ -37,8 +36,9 @@ pub(crate) fn sums_of(
     if !find_terms(inst, required, &mut terms) {
         return None;
     }
-    let mut ways = [0; 64];
-    let most = find_ways(inst, home, first, &mut ways);
+    let mut copy = [0; 64];
+    let ways = ring_part(inst.ways_from(home), first as usize, &mut copy);
+    let most = greatest_of(ways);
     if u64::from(weight) * u64::from(most) > MOST {
         return None;
     }
@@ -47,29 +47,21 @@ pub(crate) fn sums_of(
         rows,
         terms.as_slice(),
         first as usize,
-        &ways,
+        ways,
         weight,
         limit,
         sums,
     ))
 }
 
-/// Finds what the ways from a machine to sixty-four others cost, from one on, and tells the greatest.
-fn find_ways(inst: &Instance, from: Machine, first: u32, ways: &mut [u32; 64]) -> u32
-    requires from { from.0 < machine_count inst.now.tables }
-    requires first { first < machine_count inst.now.tables }
-    ensures each { (k : ℕ) → k < 64 → slice_index ways.new k ≡
-        way_cost_of inst.now.tables from.0 ((first + k) % machine_count inst.now.tables) }
-    ensures most { (k : ℕ) → k < 64 → slice_index ways.new k ≤ result }
+/// A number that is at least each number of a list.
+#[inline(always)]
+fn greatest_of(numbers: &[u32]) -> u32
+    ensures { (k : ℕ) → k < length numbers.now → slice_index numbers.now k ≤ result }
 {
-    let machines = inst.machines();
     let mut most = 0;
-    let mut to = first;
-    for k in 0..64 {
-        let way = inst.move_cost(from, Machine(to));
-        ways[k] = way;
-        most = greater(most, way);
-        to = next_of(to, machines);
+    for number in numbers {
+        most = greater(most, *number);
     }
     most
 }
@@ -81,16 +73,6 @@ fn greater(left: u32, right: u32) -> u32
     ensures right { right ≤ result }
 {
     if left < right { right } else { left }
-}
-
-/// The machine after one, and after the last the first.
-#[inline(always)]
-fn next_of(m: u32, machines: u32) -> u32
-    requires { m < machines }
-    ensures within { result < machines }
-    ensures next { (n : ℕ) → m ≡ n % machines → result ≡ (n + 1) % machines }
-{
-    if m + 1 < machines { m + 1 } else { 0 }
 }
 
 /// A bound as a limit of sums: they are all below 2^32.
