@@ -1,13 +1,13 @@
 -- The filter's sum is the change of the cost.
-use Rattle.std.proofs.Common.{◌≡◌, ◌≢◌, ℕ, Bool, ◌+◌, ◌-◌, ◌*◌, ◌^◌, ◌<◌, ◌≤◌, Option, Some, None, true, false, cond, eqb, not, List, refl, ap, ap₂, sym, ◌∙◌, ⊎_elim, arith, eq-eqb, ne_eqb, mul-le-mul_left}
+use Rattle.std.proofs.Common.{◌≡◌, ◌≢◌, ℕ, ◌+◌, ◌-◌, ◌*◌, ◌<◌, ◌≤◌, Option, Some, None, eqb, not, List, refl, ap, ap₂, sym, ◌∙◌, ⊎_elim, arith, eq-eqb, ne_eqb, mul-le-mul_left}
 use Rattle.std.proofs.Math.Nat.{mul-sub}
 use Rattle.std.proofs.lemmas.Bool.{cases_eq, cond-true, cond-false}
-use Rattle.ra_base.specs.Sums.{one_if, total, greatest}
+use Rattle.ra_base.specs.Sums.{one_if}
 use Rattle.ra_base.specs.declared.ids.Machine.{Machine}
 use Rattle.ra_base.proofs.Sums.{total_balance, total_of_sum, total_same}
 use Rattle.ra_base.proofs.Greatest.{greatest_same}
 use Rattle.ra_model.specs.declared.raw.Tables.{Tables}
-use Rattle.ra_model.specs.Numbers.{resource_count, machine_count, service_count, process_count, balance_count, service_of, requirement_of, capacity_of, safety_of, first_of, second_of, target_of, load_weight_of, balance_weight_of, process_weight_of, process_cost_of, machine_weight_of, way_cost_of, service_weight_of}
+use Rattle.ra_model.specs.Numbers.{resource_count, machine_count, service_count, process_count, balance_count, service_of, requirement_of, safety_of, first_of, second_of, target_of, load_weight_of, balance_weight_of, process_weight_of, process_cost_of, machine_weight_of, way_cost_of, service_weight_of}
 use Rattle.ra_model.specs.Limits.{WellFormed}
 use Rattle.ra_model.specs.Assignments.{IsAssignment, machine_at}
 use Rattle.ra_model.specs.Usage.{use_of}
@@ -24,7 +24,7 @@ use Rattle.ra_weigh_shift.specs.Conditions.{shifted, HasRoom}
 use Rattle.ra_weigh_shift.specs.Sharing.{use_without, use_with, row_cost, cost_of, way_cost}
 use Rattle.ra_weigh_shift.specs.Filter.{load_above, balance_above, saved, filter_sum, moved_away, service_away, base_added, base_taken, IsFiltered}
 use Rattle.ra_weigh_shift.proofs.RoomLaws.{IsStart}
-use Rattle.ra_weigh_shift.proofs.MemberLaws.{members_mine, members_other}
+use Rattle.ra_weigh_shift.proofs.MemberLaws.{members_other}
 use Rattle.ra_weigh_shift.proofs.AllowLaws.{at_of, start_of, allowed, applied_one, apart_after}
 use Rattle.ra_weigh_shift.proofs.ChangeLaws.{cost_changes, cost_entered, cost_left, moved_mine}
 

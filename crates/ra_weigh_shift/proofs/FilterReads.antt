@@ -5,7 +5,7 @@ use Rattle.std.proofs.Math.Nat.{mul-sub}
 use Rattle.ra_base.specs.declared.ids.Machine.{Machine}
 use Rattle.ra_model.specs.declared.raw.BalanceRow.{BalanceRow}
 use Rattle.ra_model.specs.declared.raw.Tables.{Tables}
-use Rattle.ra_model.specs.Numbers.{resource_count, balance_count, balance_row, requirement_of, load_weight_of, safety_of, first_of, second_of, target_of, balance_weight_of}
+use Rattle.ra_model.specs.Numbers.{balance_count, balance_row, requirement_of, load_weight_of, safety_of, first_of, second_of, target_of, balance_weight_of}
 use Rattle.ra_model.specs.Limits.{WellFormed}
 use Rattle.ra_model.specs.Usage.{use_of}
 use Rattle.ra_model.specs.Costs.{available}

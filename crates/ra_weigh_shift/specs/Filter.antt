@@ -1,6 +1,6 @@
 -- The change of the cost where process p goes to a machine other than its initial one: what is the same for all of them,
 -- and what each of them adds (this project's). With ℕ's minus `a - b` is max(0, a - b).
-use Rattle.std.specs.Prelude.{◌≡◌, ◌≢◌, ℕ, ◌+◌, ◌-◌, ◌*◌, ◌==◌, List, if◌then◌else◌}
+use Rattle.std.specs.Prelude.{◌≡◌, ℕ, ◌+◌, ◌-◌, ◌*◌, ◌==◌, List, if◌then◌else◌}
 use Rattle.ra_base.specs.Sums.{total, greatest}
 use Rattle.ra_base.specs.declared.ids.Machine.{Machine}
 use Rattle.ra_model.specs.declared.raw.Tables.{Tables}
@@ -10,7 +10,7 @@ use Rattle.ra_model.specs.Services.{moved_of}
 use Rattle.ra_model.specs.Costs.{service_cost, objective}
 use Rattle.ra_cells.specs.Marks.{away}
 use Rattle.ra_rows.specs.FilterRows.{load_asked, load_row, first_asked, first_row, second_asked, second_row}
-use Rattle.ra_weigh_shift.specs.Conditions.{shifted, HasRoom}
+use Rattle.ra_weigh_shift.specs.Conditions.{shifted}
 use Rattle.ra_weigh_shift.specs.Sharing.{use_without, row_cost, cost_of, way_cost}
 
 -- what p adds to the load cost of machine m: for each resource what it asks above what may still come there

@@ -1,10 +1,10 @@
 -- One more term.
-use Rattle.std.proofs.Common.{◌≡◌, ◌∙◌, ℕ, ◌+◌, ◌-◌, ◌<◌, slice_index, ap, sym, arith}
+use Rattle.std.proofs.Common.{◌≡◌, ◌∙◌, ◌+◌, ◌-◌, ap, sym, arith}
 use Rattle.ra_base.specs.Sums.{total}
 use Rattle.ra_base.proofs.Sums.{total_none}
 use Rattle.ra_model.specs.Numbers.{balance_count}
 use Rattle.ra_model.specs.declared.numbers.Instance.{Instance}
-use Rattle.ra_rows.specs.FilterRows.{load_asked, load_row, first_asked, first_row, second_asked, second_row}
+use Rattle.ra_rows.specs.FilterRows.{first_asked, first_row, second_asked, second_row}
 use Rattle.ra_weigh_shift.specs.Filter.{balance_above}
 use Rattle.ra_weigh_shift.proofs.FilterReads.{more_sum, row_in}
 use Rattle.ra_weigh_shift.proofs.filter.balance_above.Goals as goal

@@ -1,7 +1,7 @@
 -- The sum so far, and its bound.
 use Rattle.std.proofs.Common.{◌≡◌, ℕ, ◌+◌, ◌-◌, ◌*◌, ◌^◌, ◌≤◌}
 use Rattle.ra_base.specs.Sums.{total}
-use Rattle.ra_rows.specs.FilterRows.{load_asked, load_row, first_asked, first_row, second_asked, second_row}
+use Rattle.ra_rows.specs.FilterRows.{first_asked, first_row, second_asked, second_row}
 use Rattle.ra_weigh_shift.specs.Sharing.{AreRequired}
 use Rattle.ra_weigh_shift.proofs.filter.balance_above.Given as goal
 

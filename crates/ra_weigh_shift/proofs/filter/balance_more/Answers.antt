@@ -1,5 +1,5 @@
 -- The two resources, the target and the weight are those of the objective.
-use Rattle.std.proofs.Common.{◌∙◌, ◌*◌, ◌+◌, ◌-◌, ℕ, ap, arith}
+use Rattle.std.proofs.Common.{◌∙◌, ◌*◌, ℕ, ap, arith}
 use Rattle.ra_model.specs.Costs.{available}
 use Rattle.ra_model.proofs.InstanceLemmas.{first_read, second_read}
 use Rattle.ra_world.proofs.CostLaws.{first_within, second_within}

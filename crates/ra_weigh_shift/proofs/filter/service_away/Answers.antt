@@ -1,5 +1,5 @@
 -- The moved count of the service with the process away.
-use Rattle.std.proofs.Common.{◌≡◌, ◌∙◌, ◌+◌, ◌-◌, ap, ap₂, refl, sym, arith}
+use Rattle.std.proofs.Common.{◌∙◌, ◌+◌, ◌-◌, ap, ap₂, refl, sym, arith}
 use Rattle.ra_model.specs.Services.{moved_of}
 use Rattle.ra_cells.specs.Marks.{away}
 use Rattle.ra_weigh_shift.specs.Filter.{moved_away, service_away}

@@ -1,5 +1,5 @@
 -- The greatest count with that of one service replaced.
-use Rattle.std.proofs.Common.{◌≡◌, ◌∙◌, ◌*◌, Some, None, ap, ap₂}
+use Rattle.std.proofs.Common.{◌∙◌, ◌*◌, Some, None, ap, ap₂}
 use Rattle.ra_base.specs.declared.costs.MovedCount.{MovedCount}
 use Rattle.ra_model.specs.Numbers.{service_count, service_weight_of}
 use Rattle.ra_model.specs.declared.numbers.Instance.{Instance}

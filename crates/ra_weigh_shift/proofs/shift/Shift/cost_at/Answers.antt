@@ -1,5 +1,5 @@
 -- What is added and taken away by the way, and the service cost with the new count.
-use Rattle.std.proofs.Common.{◌≡◌, ◌≢◌, ◌∙◌, ◌+◌, ◌<◌, ℕ, ap, ap₂, sym, arith}
+use Rattle.std.proofs.Common.{◌≢◌, ◌∙◌, ◌+◌, ◌<◌, ℕ, ap, ap₂, sym, arith}
 use Rattle.ra_model.specs.Numbers.{service_count}
 use Rattle.ra_model.specs.Services.{moved_of}
 use Rattle.ra_model.specs.Costs.{service_cost}

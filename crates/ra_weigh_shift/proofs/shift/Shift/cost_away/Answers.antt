@@ -1,6 +1,6 @@
 -- The cost is the cost with what is added, and the sum, less what is taken away.
-use Rattle.std.proofs.Common.{◌∙◌, None, sym, arith}
-use Rattle.ra_weigh_shift.proofs.FilterLaws.{dear_cost, broken_cost, summed_cost}
+use Rattle.std.proofs.Common.{◌∙◌, sym}
+use Rattle.ra_weigh_shift.proofs.FilterLaws.{dear_cost, summed_cost}
 use Rattle.ra_weigh_shift.proofs.shift.Shift.cost_away.Goals as goal
 
 pub returns-in_err-sum : goal.returns-in_err-sum

@@ -1,7 +1,7 @@
 -- The sum of a machine, and what it may be below.
 use Rattle.std.proofs.Common.{◌≡◌, ◌+◌, ◌-◌, None, Some, refl, arith}
-use Rattle.ra_weigh_shift.specs.Arriving.{cost_added, cost_taken, sum_at}
-use Rattle.ra_weigh_shift.proofs.FilterLaws.{dear_cost, broken_cost, summed_cost, sum_none, sum_some}
+use Rattle.ra_weigh_shift.specs.Arriving.{cost_added, cost_taken}
+use Rattle.ra_weigh_shift.proofs.FilterLaws.{dear_cost, summed_cost, sum_none, sum_some}
 use Rattle.ra_weigh_shift.proofs.shift.Shift.cost_away_summed.Goals as goal
 
 pub returns-then-sum-room : goal.returns-then-sum-room

@@ -1,5 +1,5 @@
 -- Marks of the sums that are at most the limit.
-use Rattle.std.proofs.Common.{arith, refl, sym}
+use Rattle.std.proofs.Common.{arith, refl}
 use Rattle.std.proofs.lemmas.Option.{IfSome_then}
 use Rattle.ra_weigh_shift.specs.Arriving.{cost_added, cost_taken}
 use Rattle.ra_weigh_shift.proofs.LaneLaws.{marked, none_marked}

@@ -1,5 +1,5 @@
 -- The count before, and what the process changes.
-use Rattle.std.proofs.Common.{◌≡◌, ◌∙◌, ap, ap₂, arith}
+use Rattle.std.proofs.Common.{◌∙◌, ap, ap₂, arith}
 use Rattle.ra_model.specs.Services.{moved_of}
 use Rattle.ra_model.proofs.BoundLemmas.{moved_within}
 use Rattle.ra_cells.specs.Marks.{away}

@@ -1,5 +1,5 @@
 -- The parts of the sum, and a part that is too much already.
-use Rattle.std.proofs.Common.{◌∙◌, ◌+◌, ap, ap₂, arith}
+use Rattle.std.proofs.Common.{◌∙◌, ◌+◌, ap, arith}
 use Rattle.ra_model.specs.Numbers.{machine_weight_of, way_cost_of}
 use Rattle.ra_model.specs.declared.numbers.Instance.{Instance}
 use Rattle.ra_weigh_shift.proofs.FilterLaws.{sum_none, sum_some, sum_part, sum_parts}
