@@ -12,7 +12,7 @@ use Rattle.ra_model.specs.Assignments.{IsAssignment}
 use Rattle.ra_model.specs.Broken.{first_broken}
 use Rattle.ra_model.specs.Costs.{parts_of}
 use Rattle.ra_model.specs.Feasible.{Feasible}
-use Rattle.ra_model.proofs.BrokenLemmas.{feasible_from_unbroken}
+use Rattle.ra_model.proofs.BrokenLemmas.{feasible_from_unbroken, unbroken_from_feasible}
 use Rattle.ra_edit_read.specs.declared.edits.Edit.{Edit}
 use Rattle.ra_edit_read.specs.declared.edits.Edit.TheVariants.{Add, Retire, Resize}
 use Rattle.ra_edit_read.specs.EditLists.{EditLists, edit_at, row_of, AreEditsFor}
@@ -113,6 +113,10 @@ kept_feasible d parts h = feasible_from_unbroken (instance_of d) d.initial d.cur
 pub built_feasible : (d : Drafted) (parts : Parts) (j : Tables) → IsKept d parts → AreSameLists (instance_of d) j → Feasible j d.initial d.current
 unfolding broken_in
 built_feasible d parts j h same = feasible_from_unbroken j d.initial d.current (same_well (instance_of d) j same.lists h.sound.well_formed) (same_fits (instance_of d) j d.current same.lists h.sound.current) (same_broken (instance_of d) j d.initial d.current same h.sound.current ∙ h.unbroken)
+
+-- and in one with the same lists
+pub same_feasible : (d : Drafted) (j : Tables) → IsSound d → Feasible (instance_of d) d.initial d.current → AreSameLists (instance_of d) j → Feasible j d.initial d.current
+same_feasible d j sound feasible same = feasible_from_unbroken j d.initial d.current (same_well (instance_of d) j same.lists sound.well_formed) (same_fits (instance_of d) j d.current same.lists sound.current) (same_broken (instance_of d) j d.initial d.current same sound.current ∙ unbroken_from_feasible (instance_of d) d.initial d.current feasible)
 
 pub built_parts : (d : Drafted) (j : Tables) → AreSameLists (instance_of d) j → parts_of j d.initial d.current ≡ parts_of (instance_of d) d.initial d.current
 built_parts d j same = same_parts (instance_of d) j d.initial d.current same.lists

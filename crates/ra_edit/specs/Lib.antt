@@ -10,3 +10,4 @@ pub mod Seen
 pub mod MachineCosts
 pub mod Locality
 pub mod Kinds
+pub mod Leaving

@@ -6,10 +6,13 @@ ghost use Rattle.ra_model.specs.Feasible.{Feasible};
 ghost use Rattle.ra_model.specs.Limits.{Small, WellFormed};
 ghost use Rattle.ra_edit_read.specs.EditLists.{AreEditsFor};
 ghost use Rattle.ra_edit.specs.Drafts.{draft_of, instance_of};
+ghost use Rattle.ra_edit.specs.Keeping.{IsSound};
+ghost use Rattle.ra_edit.specs.Leaving.{left_in};
 ghost use Rattle.ra_edit.specs.Replies.{barred, edit_answer, after_edit};
 ghost use Rattle.ra_edit.specs.SameLists.{AreSameLists};
 
 use crate::building::build;
+use crate::edited::{Edited, Left};
 use crate::lists::Lists;
 use crate::replies::EditReply;
 use crate::scanning::small;
@@ -42,14 +45,6 @@ impl<'a> Model for Draft<'a> {
     ghost view = { λ d. drafted d.inst.now.tables d.lists };
 
     ghost invariant = { λ d. IsKept (drafted d.inst.now.tables d.lists) d.parts };
-}
-
-/// What is left of a draft: the edited instance and its two lists. The machines that were closed are closed.
-#[derive(Drop)]
-pub struct Edited {
-    pub instance: Instance,
-    pub initial: Assignment,
-    pub current: Assignment,
 }
 
 impl<'a> Draft<'a> {
@@ -120,6 +115,30 @@ impl<'a> Draft<'a> {
         ensures { result ≡ length self.now.rows }
     {
         self.lists.rows.len() as u32
+    }
+
+    /// The lists of the draft, which gives its instance back. The edited instance is within the limits, and all its numbers are
+    /// small.
+    pub fn leave(self) -> Left
+        ensures lists { left_in self.entry.origin result ≡ self.entry }
+        ensures sound { IsSound self.entry }
+        ensures small { Small (instance_of self.entry) }
+        ensures feasible { Feasible (instance_of self.entry) self.entry.initial
+            self.entry.current }
+    {
+        let Draft {
+            inst,
+            lists,
+            parts: _,
+        } = self;
+        small(inst, &lists);
+        let (rows, requirements, initial, current) = lists.apart();
+        Left {
+            rows,
+            requirements,
+            initial,
+            current,
+        }
     }
 
     /// The edited instance and its two lists. It is within the limits, so its text is one of a model.

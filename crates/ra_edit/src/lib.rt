@@ -6,6 +6,7 @@ mod base;
 mod building;
 mod costs;
 mod draft;
+mod edited;
 mod judging;
 mod laws;
 mod lists;
@@ -17,6 +18,7 @@ mod scanning;
 mod tables;
 mod verdicts;
 
-pub use draft::{Draft, Edited};
+pub use draft::Draft;
+pub use edited::{Edited, Left};
 pub use laws::edits_are_local;
 pub use replies::EditReply;

@@ -172,7 +172,7 @@ pub(crate) fn small(inst: &Instance, lists: &Lists)
 }
 
 /// The numbers of a table, each below 2^32 by its type.
-fn numbers_in(table: &Fixed<u32>) -> &[u32]
+pub(crate) fn numbers_in(table: &Fixed<u32>) -> &[u32]
     ensures same { result.now ≡ table.now.items }
     ensures small { (k : ℕ) → slice_index table.now.items k < 2 ^ 32 }
 {
