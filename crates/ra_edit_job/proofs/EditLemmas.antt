@@ -4,6 +4,8 @@ use Rattle.ra_base.specs.declared.causes.Cause.{Cause}
 use Rattle.ra_base.specs.declared.ids.Machine.{Machine}
 use Rattle.ra_base.specs.Searches.{first}
 use Rattle.ra_edit.specs.Drafts.{Drafted, draft_of, instance_of}
+use Rattle.ra_edit.specs.Keeping.{IsSound}
+use Rattle.ra_edit.specs.Leaving.{left_in}
 use Rattle.ra_edit.specs.Replies.{after_edits, replies_to}
 use Rattle.ra_edit.specs.SameLists.{HasLists, AreSameLists}
 use Rattle.ra_edit.specs.declared.replies.EditReply.{EditReply}
@@ -53,7 +55,9 @@ use Rattle.ra_jobs.proofs.EndLemmas.{Ends, EndsOver, finished, left_so}
 use Rattle.ra_jobs.proofs.MeaningLemmas.{no_model, no_closed, no_initial, no_changed, no_initial_break, no_changed_break, instances_same}
 use Rattle.ra_jobs.proofs.RowLemmas.{raw_of, bare_raw, raw_same}
 use Rattle.ra_jobs.proofs.StageLemmas.{rose_later, can_tell, reason_more}
+use Rattle.ra_edit_job.specs.declared.edit.Outcome.{Outcome}
 use Rattle.ra_edit_job.specs.EditedTexts.{model_part, edited_lines, edited_text}
+use Rattle.ra_edit_job.specs.Outcomes.{IsOutcome, outcome_text}
 use Rattle.ra_edit_job.specs.Editing.{left_of, text_left, edits_output, IsEdited, IsTaken, Edited, EditsRefused, EditsAccepted, EditOwn, EditComes, AreEditable, edits_as, EditsReason, HasEdits, EditReason, OverReason, editing}
 
 -- ---- the text of instances with the same lists
@@ -78,20 +82,40 @@ unfolding edited_text edited_lines model_part
 left_text d i a0 a replies same first second parts = rw (parts, text_same (instance_of d) i same.lists, first, second) refl
 
 -- the run of edits of an instance and two lists
-pub edited : (i : Tables) (a0 a : List Machine) (e : EditLists) (made d : Drafted) (instance : Tables) (first second : List Machine) (replies : List EditReply) (sent : List ℕ → Type 0) → Feasible i a0 a0 → Feasible i a0 a → made ≡ draft_of i a0 a → d ≡ after_edits made e (length e.edits) → replies ≡ replies_to made e (length e.edits) → WellFormed (instance_of d) → Small (instance_of d) → Feasible (instance_of d) d.initial d.current → AreSameLists (instance_of d) instance → first ≡ d.initial → second ≡ d.current → parts_of instance first second ≡ parts_of (instance_of d) d.initial d.current
-    → sent (edited_text instance first second replies) → IsEdited i a0 a e sent
-unfolding left_of text_left edits_output
-edited i a0 a e made d instance first second replies sent start current from run answers limits small feasible same first_is second_is parts text =
-    let left : d ≡ left_of i a0 a e = rw from at run in
-    let told : replies ≡ replies_to (draft_of i a0 a) e (length e.edits) = rw from at answers in
+pub outcome_edited : (i : Tables) (a0 a : List Machine) (e : EditLists) (o : Outcome) (sent : List ℕ → Type 0) → IsOutcome i a0 a e o → sent (outcome_text i o) → IsEdited i a0 a e sent
+unfolding left_of text_left edits_output outcome_text
+outcome_edited i a0 a e o sent h text =
+    let d : Drafted = left_in i o.left in
+    record {
+      start = h.start;
+      current = h.current;
+      limits = subst (λ (x : Drafted). WellFormed (instance_of x)) h.left h.writable.sound.well_formed;
+      accepted = subst (λ (x : Drafted). model_refusal (model_text (instance_of x)) ≡ None) h.left (text_accepted_whole (instance_of d) h.writable.sound.well_formed h.writable.small);
+      left = subst (λ (x : Drafted). Feasible (instance_of x) x.initial x.current) h.left h.writable.feasible;
+      text = subst (λ (x : Drafted). sent (text_left (draft_of i a0 a) x e)) h.left (subst (λ (r : List EditReply). sent (edited_text (instance_of d) d.initial d.current r)) h.replies text);
+    }
+
+pub outcome_is : (i : Tables) (a0 a : List Machine) (e : EditLists) (made d : Drafted) (o : Outcome) → Feasible i a0 a0 → Feasible i a0 a → made ≡ draft_of i a0 a → d ≡ after_edits made e (length e.edits) → d.origin ≡ made.origin → left_in d.origin o.left ≡ d → o.replies.items ≡ replies_to made e (length e.edits) → IsSound d → Small (instance_of d) → Feasible (instance_of d) d.initial d.current → o.parts ≡ parts_of (instance_of d) d.initial d.current → IsOutcome i a0 a e o
+unfolding left_of
+outcome_is i a0 a e made d o start current from run origin lists answers sound small feasible parts =
+    let same : d.origin ≡ i = origin ∙ ap (λ (x : Drafted). x.origin) from in
+    let left : left_in i o.left ≡ d = subst (λ (j : Tables). left_in j o.left ≡ d) same lists in
     record {
       start = start;
       current = current;
-      limits = subst (λ (x : Drafted). WellFormed (instance_of x)) left limits;
-      accepted = subst (λ (x : Drafted). model_refusal (model_text (instance_of x)) ≡ None) left (text_accepted_whole (instance_of d) limits small);
-      left = subst (λ (x : Drafted). Feasible (instance_of x) x.initial x.current) left feasible;
-      text = subst (λ (x : Drafted). sent (text_left (draft_of i a0 a) x e)) left (rw (sym told) (rw (left_text d instance first second replies same first_is second_is parts) at text));
+      left = left ∙ (run ∙ ap (λ (x : Drafted). after_edits x e (length e.edits)) from);
+      replies = answers ∙ ap (λ (x : Drafted). replies_to x e (length e.edits)) from;
+      writable = record {
+        sound = subst IsSound (sym left) sound;
+        small = subst (λ (x : Drafted). Small (instance_of x)) (sym left) small;
+        feasible = subst (λ (x : Drafted). Feasible (instance_of x) x.initial x.current) (sym left) feasible;
+        parts = subst (λ (x : Drafted). o.parts ≡ parts_of (instance_of x) x.initial x.current) (sym left) parts;
+      };
     }
+
+pub outcome_written : (i j : Tables) (o : Outcome) (a0 a : List Machine) (sent : List ℕ → Type 0) → AreSameLists (instance_of (left_in i o.left)) j → a0 ≡ o.left.initial.items → a ≡ o.left.current.items → parts_of j a0 a ≡ parts_of (instance_of (left_in i o.left)) o.left.initial.items o.left.current.items → sent (edited_text j a0 a o.replies.items) → sent (outcome_text i o)
+unfolding outcome_text
+outcome_written i j o a0 a sent same first second parts text = subst sent (left_text (left_in i o.left) j a0 a o.replies.items same first second parts) text
 
 -- ---- the stages
 
@@ -160,10 +184,17 @@ judge_reason i a0 a written (Broken role.Changed cause) reason = reason
 judge_reason i a0 a written Memory reason = tt
 judge_reason i a0 a written refusal reason = absurd reason
 
-pub over_reason : (i : Tables) (a0 a : List Machine) (written : Type 0) (refusal : Refusal) → OverReason written refusal → EditReason i a0 a written refusal
-over_reason i a0 a written Write reason = reason
-over_reason i a0 a written Memory reason = tt
-over_reason i a0 a written refusal reason = absurd reason
+pub outcome_reason : (i : Tables) (a0 a : List Machine) (written : Type 0) (refusal : Refusal) → EditReason i a0 a ⊥ refusal → EditReason i a0 a written refusal
+outcome_reason i a0 a written (Broken role.Initial cause) reason = reason
+outcome_reason i a0 a written (Broken role.Changed cause) reason = reason
+outcome_reason i a0 a written Write reason = absurd reason
+outcome_reason i a0 a written Memory reason = tt
+outcome_reason i a0 a written refusal reason = absurd reason
+
+pub over_more : (i : Tables) (a0 a : List Machine) (broke written : Type 0) (step : broke → written) (refusal : Refusal) → OverReason broke refusal → EditReason i a0 a written refusal
+over_more i a0 a broke written step Write reason = step reason
+over_more i a0 a broke written step Memory reason = tt
+over_more i a0 a broke written step refusal reason = absurd reason
 
 own_more : (held : Held) (names : Names) (written more : Type 0) → (written → more) → (r : Refusal) → EditOwn held names written r → EditOwn held names more r
 own_more held names written more step (Edits fault) reason = reason

@@ -1,2 +1,3 @@
 pub mod EditedTexts
 pub mod Editing
+pub mod Outcomes

@@ -3,17 +3,17 @@ ghost use Rattle.std.specs.Option.{option_copied};
 ghost use Rattle.ra_edit_read.specs.EditLists.{AreEditsFor};
 ghost use Rattle.ra_io.specs.Outside.{reading, writing, Took};
 ghost use Rattle.ra_model.specs.Assignments.{IsAssignment};
-ghost use Rattle.ra_model.specs.Costs.{parts_of};
-ghost use Rattle.ra_model.specs.Feasible.{Feasible};
 ghost use Rattle.ra_jobs.specs.Ends.{Does, Tries};
 ghost use Rattle.ra_jobs.specs.Files.{edit_names};
 ghost use Rattle.ra_jobs.specs.Output.{output, BrokeOff};
 ghost use Rattle.ra_jobs.specs.Refusals.{Reason};
+ghost use Rattle.ra_jobs.specs.Stages.{Judged};
 ghost use Rattle.ra_edit_job.specs.Editing.{EditOwn, EditReason, EditsReason, HasEdits, IsEdited, IsTaken, OverReason, edits_as, edit_command};
+ghost use Rattle.ra_edit_job.specs.Outcomes.{IsOutcome, IsWritable, outcome_text};
 
 use crate::edited::write_edited;
-use ra_base::{Assignment, Name, Parts};
-use ra_edit::Draft;
+use ra_base::{Fixed, Name, NoMemory, Parts};
+use ra_edit::{Draft, EditReply, Edited, Left};
 use ra_edit_read::{Edits, EditsFault, read_edits};
 use ra_io::{Files, Sink};
 use ra_jobs::{File, JobFiles, Lists, Refusal, Status, finish, judge, read_instance, read_lists};
@@ -68,16 +68,7 @@ fn edit<F: Files, O: Sink>(
         (reading F.Files files.old files.new) (output O.Sink out.old out.new) result }
 {
     let taken = read_taken(alloc, model, initial, current, edits, closed, files)?;
-    let ended = edit_from(
-        alloc,
-        &taken.inst,
-        &taken.lists.initial,
-        &taken.lists.changed,
-        &taken.edits,
-        out,
-    );
-    drop(taken);
-    ended
+    edit_from(alloc, taken, out)
 }
 
 /// What the files of edits mean.
@@ -145,70 +136,103 @@ fn edits_refused(fault: EditsFault) -> Refusal
     }
 }
 
-/// The edits and their text, if both lists are feasible.
-fn edit_from<O: Sink>(
-    alloc: Global,
-    inst: &Instance,
-    initial: &Assignment,
-    current: &Assignment,
-    edits: &Edits,
-    out: &mut O,
-) -> Result<(), Refusal>
-    requires a0_fits { IsAssignment inst.now.tables initial.now.items }
-    requires fits { IsAssignment inst.now.tables current.now.items }
-    requires edits { AreEditsFor inst.now.tables edits.now }
-    ensures printed { OnOk result (IsEdited inst.now.tables initial.now.items current.now.items
-        edits.now (Took (writing O.Sink out.old out.new))) }
-    ensures refused { IfErr result (EditReason inst.now.tables initial.now.items current.now.items
-        (IsEdited inst.now.tables initial.now.items current.now.items edits.now
+/// The edits and their text, if both lists are feasible. The instance isn't copied: the processes that the edits leave take
+/// the place of its own.
+fn edit_from<O: Sink>(alloc: Global, taken: Taken, out: &mut O) -> Result<(), Refusal>
+    requires a0_fits { IsAssignment taken.inst.tables taken.lists.initial.items }
+    requires fits { IsAssignment taken.inst.tables taken.lists.changed.items }
+    requires edits { AreEditsFor taken.inst.tables taken.edits }
+    ensures printed { OnOk result (IsEdited taken.inst.tables taken.lists.initial.items
+        taken.lists.changed.items taken.edits (Took (writing O.Sink out.old out.new))) }
+    ensures refused { IfErr result (EditReason taken.inst.tables taken.lists.initial.items
+        taken.lists.changed.items
+        (IsEdited taken.inst.tables taken.lists.initial.items taken.lists.changed.items taken.edits
         (BrokeOff (writing O.Sink out.old out.new)))) }
     ensures no_output { IfErr result (λ refusal. refusal ≢ Refusal.Write → out.new ≡ out.old) }
     ensures out_never_falls { O.faults out.old ≤ O.faults out.new }
 {
-    let start = judge(alloc, inst, initial, current)?;
+    let Taken { inst, lists, edits } = taken;
+    let outcome = outcome_of(alloc, &inst, &lists, &edits)?;
+    drop(lists);
+    drop(edits);
+    write_outcome(inst, outcome, out)
+}
+
+/// What edits leave: what the current list costs, the lists, and the answer to each edit.
+#[derive(Drop)]
+struct Outcome {
+    parts: Parts,
+    left: Left,
+    replies: Fixed<EditReply>,
+}
+
+/// What the edits leave, if both lists are feasible.
+fn outcome_of(
+    alloc: Global,
+    inst: &Instance,
+    lists: &Lists,
+    edits: &Edits,
+) -> Result<Outcome, Refusal>
+    requires a0_fits { IsAssignment inst.now.tables lists.now.initial.items }
+    requires fits { IsAssignment inst.now.tables lists.now.changed.items }
+    requires edits { AreEditsFor inst.now.tables edits.now }
+    ensures done { IfOk result (IsOutcome inst.now.tables lists.now.initial.items
+        lists.now.changed.items edits.now) }
+    ensures refused { IfErr result (EditReason inst.now.tables lists.now.initial.items
+        lists.now.changed.items ⊥) }
+{
+    let start = judge(alloc, inst, &lists.initial, &lists.changed)?;
     let Ok(topo) = Topology::make(alloc, inst) else {
         return Err(Refusal::Memory);
     };
-    let ended = edit_over(alloc, inst, &topo, initial, current, start, edits, out);
-    drop(topo);
-    ended
+    match outcome_over(alloc, inst, &topo, lists, start, edits) {
+        Ok(outcome) => Ok(outcome),
+        Err(NoMemory) => Err(Refusal::Memory),
+    }
 }
 
 /// The same over the topology of the instance. The current list is feasible, and its cost has these parts.
-fn edit_over<O: Sink>(
+fn outcome_over(
     alloc: Global,
     inst: &Instance,
     topo: &Topology,
-    initial: &Assignment,
-    current: &Assignment,
+    lists: &Lists,
     start: Parts,
     edits: &Edits,
-    out: &mut O,
-) -> Result<(), Refusal>
-    requires a0_fits { IsAssignment inst.now.tables initial.now.items }
-    requires fits { IsAssignment inst.now.tables current.now.items }
+) -> Result<Outcome, NoMemory>
+    requires a0_fits { IsAssignment inst.now.tables lists.now.initial.items }
+    requires fits { IsAssignment inst.now.tables lists.now.changed.items }
     requires edits { AreEditsFor inst.now.tables edits.now }
-    requires start { Feasible inst.now.tables initial.now.items initial.now.items }
-    requires feasible { Feasible inst.now.tables initial.now.items current.now.items }
-    requires parts { start ≡ parts_of inst.now.tables initial.now.items current.now.items }
-    ensures printed { OnOk result (IsEdited inst.now.tables initial.now.items current.now.items
-        edits.now (Took (writing O.Sink out.old out.new))) }
-    ensures refused { IfErr result (OverReason
-        (IsEdited inst.now.tables initial.now.items current.now.items edits.now
-        (BrokeOff (writing O.Sink out.old out.new)))) }
+    requires judged { Judged inst.now.tables lists.now.initial.items lists.now.changed.items start }
+    ensures { IfOk result (IsOutcome inst.now.tables lists.now.initial.items
+        lists.now.changed.items edits.now) }
+{
+    let mut draft = Draft::make(alloc, inst, topo, &lists.initial, &lists.changed, start)?;
+    let replies = draft.edit_all(alloc, edits)?;
+    let parts = draft.parts();
+    Ok(Outcome {
+        parts,
+        left: draft.leave(),
+        replies,
+    })
+}
+
+/// Writes what edits leave of an instance and its lists.
+fn write_outcome<O: Sink>(inst: Instance, outcome: Outcome, out: &mut O) -> Result<(), Refusal>
+    requires { IsWritable inst.tables outcome }
+    ensures printed { OnOk result (Took (writing O.Sink out.old out.new)
+        (outcome_text inst.tables outcome)) }
+    ensures refused { IfErr result (OverReason (BrokeOff (writing O.Sink out.old out.new)
+        (outcome_text inst.tables outcome))) }
     ensures no_output { IfErr result (λ refusal. refusal ≢ Refusal.Write → out.new ≡ out.old) }
     ensures out_never_falls { O.faults out.old ≤ O.faults out.new }
 {
-    let Ok(mut draft) = Draft::make(alloc, inst, topo, initial, current, start) else {
-        return Err(Refusal::Memory);
-    };
-    let Ok(replies) = draft.edit_all(alloc, edits) else {
-        return Err(Refusal::Memory);
-    };
-    let parts = draft.parts();
-    let Ok(edited) = draft.finish(alloc) else {
-        return Err(Refusal::Memory);
-    };
+    let Outcome {
+        parts,
+        left,
+        replies,
+    } = outcome;
+    let edited = Edited::of(inst, left);
     let ended = write_edited(out, &parts, &edited, &replies);
     drop(edited);
     drop(replies);

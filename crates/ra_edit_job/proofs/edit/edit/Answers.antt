@@ -15,13 +15,13 @@ returns g c =
     let held = g.F.Files.held c.args.files.now in
     let names = edit_names c.args.model.now c.args.initial.now c.args.current.now c.args.edits.now (option_copied c.args.closed) in
     let t = c.in_ok-taken.taken in
-    let out = writing g.O.Sink c.args.out.now c.edit_from-ended.new.out in
+    let out = writing g.O.Sink c.args.out.now c.edit_from.new.out in
     record {
-      printed = on_ok_then c.edit_from-ended.result _ _ (edited_all held names t.inst.tables t.lists.initial.items t.lists.changed.items t.edits (Took out) c.in_ok-taken.ensures.read) c.edit_from-ended.ensures.printed;
-      refused = if_err_then c.edit_from-ended.result _ _ (reason_run held names t.inst.tables t.lists.initial.items t.lists.changed.items t.edits (g.F.Files.faults c.args.files.now) (g.F.Files.faults c.read_taken.new.files) (BrokeOff out) refl refl c.in_ok-taken.ensures.read) c.edit_from-ended.ensures.refused;
-      no_output = if_err_then c.edit_from-ended.result _ _ (λ r same first. same (not_write r first)) c.edit_from-ended.ensures.no_output;
+      printed = on_ok_then c.edit_from.result _ _ (edited_all held names t.inst.tables t.lists.initial.items t.lists.changed.items t.edits (Took out) c.in_ok-taken.ensures.read) c.edit_from.ensures.printed;
+      refused = if_err_then c.edit_from.result _ _ (reason_run held names t.inst.tables t.lists.initial.items t.lists.changed.items t.edits (g.F.Files.faults c.args.files.now) (g.F.Files.faults c.read_taken.new.files) (BrokeOff out) refl refl c.in_ok-taken.ensures.read) c.edit_from.ensures.refused;
+      no_output = if_err_then c.edit_from.result _ _ (λ r same first. same (not_write r first)) c.edit_from.ensures.no_output;
       leaves = record { kept = c.read_taken.ensures.kept; never_fall = c.read_taken.ensures.never_fall };
-      never_falls = c.edit_from-ended.ensures.out_never_falls;
+      never_falls = c.edit_from.ensures.out_never_falls;
     }
 
 pub returns-in_err-taken : goal.returns-in_err-taken
