@@ -1,5 +1,5 @@
 -- What the values after a move say of each test.
-use Rattle.std.proofs.Common.{◌≡◌, ◌≢◌, ℕ, ◌<◌, ◌≤◌, Bool, true, false, eqb, ◌&&◌, List, Some, None, sym, ap, ◌∙◌, arith, lt-ltb, le-ltb, ne_eqb, eq-eqb}
+use Rattle.std.proofs.Common.{◌≡◌, ◌≢◌, ℕ, ◌<◌, ◌≤◌, Bool, true, false, eqb, ◌&&◌, List, Some, None, sym, ap, ap₂, ◌∙◌, arith, lt-ltb, le-ltb, ne_eqb, eq-eqb}
 use Rattle.std.proofs.lemmas.Bool.{cond-true, cond-false, and_from, and_left, and_right, not_from_true, not_from_false}
 use Rattle.ra_base.specs.declared.ids.Machine.{Machine}
 use Rattle.ra_base.specs.declared.causes.Cause.{Cause}
@@ -76,9 +76,17 @@ pub neighbourhood_marked : (i : Tables) (mark : Mark) (b : List Machine) (s x n 
 unfolding marked in_neighbourhood has_mark mark_of
 neighbourhood_marked i mark b s x n is count = rw is count
 
-pub of_read : (i : Tables) (s : ℕ) (mark : Mark) (x p at u k n : ℕ) → u ≡ service_of i p → k ≡ mark_of i mark at → n ≡ one_if (eqb u s && eqb k x) → n ≡ of_service i s (has_mark i mark x) p at
+pub of_other : (i : Tables) (s : ℕ) (mark : Mark) (x p at u : ℕ) → u ≡ service_of i p → u ≢ s → 0 ≡ of_service i s (has_mark i mark x) p at
 unfolding of_service is_of has_mark
-of_read i s mark x p at u k n u_is k_is value = value ∙ ap (λ v. one_if (eqb v s && eqb k x)) u_is ∙ ap (λ v. one_if (eqb (service_of i p) s && eqb v x)) k_is
+of_other i s mark x p at u u_is other = sym (ap (λ v. one_if (v && eqb (mark_of i mark at) x)) (ne_eqb (service_of i p) s (λ same. other (u_is ∙ same))))
+
+pub of_here : (i : Tables) (s : ℕ) (mark : Mark) (x p at u k : ℕ) → u ≡ service_of i p → u ≡ s → k ≡ mark_of i mark at → k ≡ x → 1 ≡ of_service i s (has_mark i mark x) p at
+unfolding of_service is_of has_mark
+of_here i s mark x p at u k u_is same k_is here = sym (ap₂ (λ v w. one_if (v && w)) (eq-eqb (service_of i p) s (sym u_is ∙ same)) (eq-eqb (mark_of i mark at) x (sym k_is ∙ here)))
+
+pub of_elsewhere : (i : Tables) (s : ℕ) (mark : Mark) (x p at u k : ℕ) → u ≡ service_of i p → u ≡ s → k ≡ mark_of i mark at → k ≢ x → 0 ≡ of_service i s (has_mark i mark x) p at
+unfolding of_service is_of has_mark
+of_elsewhere i s mark x p at u k u_is same k_is apart = sym (ap₂ (λ v w. one_if (v && w)) (eq-eqb (service_of i p) s (sym u_is ∙ same)) (ne_eqb (mark_of i mark at) x (λ here. apart (k_is ∙ here))))
 
 -- spread
 
@@ -123,6 +131,8 @@ closed_open i a0 b p m m_is free = rw (← m_is) (held_if _ _ (and_left _ _ free
 pub closed_home : (i : Tables) (a0 b : List Machine) (p home m : ℕ) → home ≡ machine_at a0 p → m ≡ machine_at b p → home ≡ m → None ≡ closed_test i a0 b p
 unfolding closed_test
 closed_home i a0 b p home m home_is m_is same = rw (← home_is, ← m_is) (held_if _ _ (and_right _ _ (not_from_true _ (eq-eqb home m same))))
+
+pub ruleset owns = (of_other, of_here, of_elsewhere)
 
 pub ruleset capacities = (capacity_over, capacity_within)
 

@@ -1,5 +1,4 @@
-ghost use Rattle.std.specs.Prelude.{◌≡◌, ◌^◌, ◌<◌, ◌≤◌, if◌then◌else◌, ◌||◌, ◌&&◌};
-ghost use Rattle.ra_base.specs.Sums.{one_if};
+ghost use Rattle.std.specs.Prelude.{◌≡◌, ◌^◌, ◌<◌, ◌≤◌, if◌then◌else◌, ◌||◌};
 ghost use Rattle.ra_model.specs.Numbers.{resource_count, machine_count, service_count, process_count};
 ghost use Rattle.ra_model.specs.Assignments.{machine_at};
 ghost use Rattle.ra_model.specs.Usage.{use_of, transient_of};
@@ -30,18 +29,6 @@ pub(crate) fn amount_of_either(first: bool, second: bool, amount: u32) -> u64
         return u64::from(amount);
     }
     if second { u64::from(amount) } else { 0 }
-}
-
-/// 1 if two tests hold, else 0.
-#[inline(always)]
-fn one_if_both(first: bool, second: bool) -> u32
-    ensures value { result ≡ one_if (first && second) }
-    ensures few { result ≤ 1 }
-{
-    if !first {
-        return 0;
-    }
-    if second { 1 } else { 0 }
 }
 
 impl<'a, 'b> Trial<'a, 'b> {
@@ -157,7 +144,7 @@ impl<'a, 'b> Trial<'a, 'b> {
 
     /// 1 for a process of a service that is on a machine with a mark.
     #[inline(always)]
-    #[tactic(auto, using(crate::proofs::TestLemmas::of_read))]
+    #[tactic(auto, using(crate::proofs::TestLemmas::owns))]
     pub(crate) fn one_at(&self, s: Service, mark: Mark, x: u32, p: Process, at: Machine) -> u32
         requires process { p.0 < process_count (tables_of self.now) }
         requires machine { at.0 < machine_count (tables_of self.now) }
@@ -165,9 +152,10 @@ impl<'a, 'b> Trial<'a, 'b> {
             of_service (tables_of self.now) s.0 (has_mark (tables_of self.now) mark x) p.0 at.0 }
         ensures few { result ≤ 1 }
     {
-        let own = self.inst.service_of(p).0 == s.0;
-        let there = self.mark_of(mark, at) == x;
-        one_if_both(own, there)
+        if self.inst.service_of(p).0 != s.0 {
+            return 0;
+        }
+        if self.mark_of(mark, at) == x { 1 } else { 0 }
     }
 
     /// The machine of a process after the move.
