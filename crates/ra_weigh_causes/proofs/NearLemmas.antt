@@ -31,7 +31,7 @@ use Rattle.ra_weigh_causes.specs.Marks.{marked}
 use Rattle.ra_weigh_causes.proofs.TestLemmas.{held_if, near_is}
 use Rattle.ra_weigh_causes.proofs.StepLemmas.{need_there}
 use Rattle.ra_weigh_causes.proofs.NextLemmas.{dependant_place, dependant_at}
-use Rattle.ra_weigh_causes.specs.Nearness.{FindsNeeds, LeavesNone, KeepNear, FindsOne, LeavesOne, StaysNear}
+use Rattle.ra_weigh_causes.specs.Nearness.{FindsNeeds, LeavesNone, KeepNear, FindsOne, LeavesOne, KeepsEach, StaysNear}
 
 -- the services on which a service depends, as they are listed
 
@@ -51,21 +51,6 @@ listed_there i s x u list limits are there within is =
     let at = listed_need i s x list are within in
     need_there i s at.0 u limits there at.1 (is ∙ sym at.2)
 
--- service s stays near each of the first n services of a list
-pub record AllStay (i : Tables) (b : List Machine) (steps : List Step) (s : ℕ) (list : List Service) (n : ℕ) : Type 0 where
-  pub each : (x : ℕ) → x < n → StaysNear i b steps s (service_at list x) (length steps)
-
-pub all_stay_none : (i : Tables) (b : List Machine) (steps : List Step) (s : ℕ) (list : List Service) → AllStay i b steps s list 0
-all_stay_none i b steps s list = record { each = λ x before. absurd (omega arith) }
-
-pub all_stay_next : (i : Tables) (b : List Machine) (steps : List Step) (s : ℕ) (list : List Service) (n u : ℕ) → AllStay i b steps s list n → u ≡ service_at list n → StaysNear i b steps s u (length steps) → AllStay i b steps s list (n + 1)
-all_stay_next i b steps s list n u so_far is stays = record {
-  each = λ x below. ⊎_elim
-      (λ (before : x < n). so_far.each x before)
-      (λ (after : n ≤ x). let same : u ≡ service_at list x = is ∙ ap (service_at list) (omega arith) in subst (λ v. StaysNear i b steps s v (length steps)) same stays)
-      (cases_lt x n);
-}
-
 -- what the counts at one step say
 
 pub one_there : (i : Tables) (b : List Machine) (s u t label x near : ℕ) → x ≡ label → near ≡ marked i InNeighbourhood b u x → near ≢ 0 → FindsOne i b s u t label
@@ -84,6 +69,29 @@ pub one_behind : (i : Tables) (b : List Machine) (s u t label x left near : ℕ)
 one_behind i b s u t label x left near same is left_is empty near_count some leaves =
     let gone : in_neighbourhood i b u label ≡ 0 = omega (arith, near_is i b u x left left_is, ap (in_neighbourhood i b u) is) in
     absurd (omega (arith, leaves.each same gone, near_is i b s x near near_count, ap (in_neighbourhood i b s) is))
+
+-- one service after another
+
+pub keeps_none : (i : Tables) (b : List Machine) (s : ℕ) (needs : List Service) (t to from : ℕ) → KeepsEach i b s needs t to from 0
+keeps_none i b s needs t to from = record { finds = λ x before. absurd (omega arith); leaves = λ x before. absurd (omega arith) }
+
+pub keeps_next : (i : Tables) (b : List Machine) (s : ℕ) (needs : List Service) (t to from n u : ℕ) → KeepsEach i b s needs t to from n → u ≡ service_at needs n → FindsOne i b s u t to → LeavesOne i b s u t from → KeepsEach i b s needs t to from (n + 1)
+keeps_next i b s needs t to from n u so_far is finds leaves = record {
+  finds = λ x below. ⊎_elim
+      (λ (before : x < n). so_far.finds x before)
+      (λ (after : n ≤ x). let same : u ≡ service_at needs x = is ∙ ap (service_at needs) (omega arith) in subst (λ v. FindsOne i b s v t to) same finds)
+      (cases_lt x n);
+  leaves = λ x below. ⊎_elim
+      (λ (before : x < n). so_far.leaves x before)
+      (λ (after : n ≤ x). let same : u ≡ service_at needs x = is ∙ ap (service_at needs) (omega arith) in subst (λ v. LeavesOne i b s v t from) same leaves)
+      (cases_lt x n);
+}
+
+pub keeps_finds : (i : Tables) (b : List Machine) (s : ℕ) (needs : List Service) (t to from n x u : ℕ) → KeepsEach i b s needs t to from n → x < n → u ≡ service_at needs x → FindsOne i b s u t to
+keeps_finds i b s needs t to from n x u keeps within is = subst (λ v. FindsOne i b s v t to) (sym is) (keeps.finds x within)
+
+pub keeps_leaves : (i : Tables) (b : List Machine) (s : ℕ) (needs : List Service) (t to from n x u : ℕ) → KeepsEach i b s needs t to from n → x < n → u ≡ service_at needs x → LeavesOne i b s u t from
+keeps_leaves i b s needs t to from n x u keeps within is = subst (λ v. LeavesOne i b s v t from) (sym is) (keeps.leaves x within)
 
 -- one step after another
 
@@ -110,6 +118,18 @@ stays_found i b steps s u n j t to stays within t_is to_is = rw (t_is, to_is) at
 
 pub stays_left : (i : Tables) (b : List Machine) (steps : List Step) (s u n j t from : ℕ) → StaysNear i b steps s u n → j < n → service_in i steps j ≡ t → neighbourhood_of i (from_in steps j) ≡ from → LeavesOne i b s u t from
 stays_left i b steps s u n j t from stays within t_is from_is = rw (t_is, from_is) at (stays.leaves j within)
+
+-- the first n steps keep service s near each service of a list
+pub record AllNear (i : Tables) (b : List Machine) (steps : List Step) (s : ℕ) (list : List Service) (n : ℕ) : Type 0 where
+  pub each : (x : ℕ) → x < length list → StaysNear i b steps s (service_at list x) n
+
+pub all_near_start : (i : Tables) (b : List Machine) (steps : List Step) (s : ℕ) (list : List Service) → AllNear i b steps s list 0
+all_near_start i b steps s list = record { each = λ x within. stays_start i b steps s (service_at list x) }
+
+pub all_near_next : (i : Tables) (b : List Machine) (steps : List Step) (s : ℕ) (list : List Service) (n t to from : ℕ) → AllNear i b steps s list n → service_in i steps n ≡ t → neighbourhood_of i (to_in steps n) ≡ to → neighbourhood_of i (from_in steps n) ≡ from → KeepsEach i b s list t to from (length list) → AllNear i b steps s list (n + 1)
+all_near_next i b steps s list n t to from so_far t_is to_is from_is keeps = record {
+  each = λ x within. stays_next i b steps s (service_at list x) n t to from (so_far.each x within) t_is to_is from_is (keeps.finds x within) (keeps.leaves x within);
+}
 
 -- none of what is needed would be near a process of the service
 
@@ -201,12 +221,13 @@ pair_stays i a0 a steps s k move fine s_in k_in stays = first_none_from (process
     (λ (other : is_of i s p ≡ false). cond-false (is_of i s p) (far_test i (applied a steps) s k p) None other)
     (cases_Bool (is_of i s p)))
 
--- nor from any, where it stays near the distinct ones
-pub needs_stay : (i : Tables) (a0 a : List Machine) (steps : List Step) (s : ℕ) (needs : List Service) (n : ℕ) → IsMove i a steps → Fine i a0 a → s < service_count i → AreDistinctNeedsOf i s needs → n ≡ length needs → AllStay i (applied a steps) steps s needs n → service_dependency i (applied a steps) s ≡ None
+-- nor from any, where all steps keep it near the distinct ones
+pub needs_stay : (i : Tables) (a0 a : List Machine) (steps : List Step) (s : ℕ) (needs : List Service) (n : ℕ) → IsMove i a steps → Fine i a0 a → s < service_count i → AreDistinctNeedsOf i s needs → n ≡ length steps → AllNear i (applied a steps) steps s needs n → service_dependency i (applied a steps) s ≡ None
 unfolding service_dependency
-needs_stay i a0 a steps s needs n move fine s_in are all stay = first_none_from (dependency_count i s) _ (λ k k_in.
+needs_stay i a0 a steps s needs n move fine s_in are all near = first_none_from (dependency_count i s) _ (λ k k_in.
     let at = need_listed i s k needs are k_in in
-    pair_stays i a0 a steps s k move fine s_in k_in (subst (λ u. StaysNear i (applied a steps) steps s u (length steps)) at.2 (stay.each at.0 (omega (arith, at.1)))))
+    let stays : StaysNear i (applied a steps) steps s (service_at needs at.0) (length steps) = subst (λ m. StaysNear i (applied a steps) steps s (service_at needs at.0) m) all (near.each at.0 at.1) in
+    pair_stays i a0 a steps s k move fine s_in k_in (subst (λ u. StaysNear i (applied a steps) steps s u (length steps)) at.2 stays))
 
 -- and where none is far, the service stays near
 
@@ -246,6 +267,13 @@ listed_stays i a steps s x u needs move are within is none =
     let at = listed_need i s x needs are within in
     let met : pair_dependency i (applied a steps) s at.0 ≡ None = first_none_at at.0 (dependency_count i s) (pair_dependency i (applied a steps) s) at.1 none in
     subst (λ v. StaysNear i (applied a steps) steps s v (length steps)) (at.2 ∙ sym is) (stays_met i a steps s at.0 move (λ j j_in. omega (arith, move.stands.known j j_in, move.fits.one_each)) met)
+
+-- and each step keeps it near all of them
+pub each_kept : (i : Tables) (a : List Machine) (steps : List Step) (s : ℕ) (needs : List Service) (j t to from : ℕ) → IsMove i a steps → AreDistinctNeedsOf i s needs → j < length steps → service_in i steps j ≡ t → neighbourhood_of i (to_in steps j) ≡ to → neighbourhood_of i (from_in steps j) ≡ from → service_dependency i (applied a steps) s ≡ None → KeepsEach i (applied a steps) s needs t to from (length needs)
+each_kept i a steps s needs j t to from move are j_in t_is to_is from_is none = record {
+  finds = λ x within. stays_found i (applied a steps) steps s (service_at needs x) (length steps) j t to (listed_stays i a steps s x (service_at needs x) needs move are within refl none) j_in t_is to_is;
+  leaves = λ x within. stays_left i (applied a steps) steps s (service_at needs x) (length steps) j t from (listed_stays i a steps s x (service_at needs x) needs move are within refl none) j_in t_is from_is;
+}
 
 pub near_all : (i : Tables) (a0 a : List Machine) (steps : List Step) (n : ℕ) → IsMove i a steps → Fine i a0 a → n ≡ length steps → KeepNear i (applied a steps) steps n → broken_dependency i (applied a steps) ≡ None
 near_all i a0 a steps n move fine all keeps =

@@ -1,12 +1,14 @@
-ghost use Rattle.std.specs.Prelude.{◌≡◌, ◌↔◌, ◌<◌, true, None, length};
+ghost use Rattle.std.specs.Prelude.{◌≡◌, ◌↔◌, ℕ, ◌<◌, true, None, length};
 ghost use Rattle.ra_model.specs.Numbers.{machine_count, service_count, process_count, dependency_count, need_of, neighbourhood_of};
 ghost use Rattle.ra_model.specs.Broken.{far_test, pair_dependency, service_dependency, broken_dependency};
-ghost use Rattle.ra_weigh_causes.specs.Nearness.{FindsOne, LeavesOne, StaysNear};
+ghost use Rattle.ra_topology.specs.Lists.{service_at};
+ghost use Rattle.ra_weigh_causes.specs.Nearness.{FindsOne, LeavesOne, KeepsEach, StaysNear};
 ghost use Rattle.ra_weigh_causes.specs.Trials.{tables_of, steps_of, after_of};
 
 use crate::marks::Mark;
 use crate::trial::Trial;
 use ra_base::{Cause, Machine, Process, Service};
+use ra_moves::Step;
 
 impl<'a, 'b> Trial<'a, 'b> {
     /// The first process in whose neighbourhood a service that its service needs has none after the move, by service,
@@ -83,16 +85,39 @@ impl<'a, 'b> Trial<'a, 'b> {
         }
     }
 
-    /// Whether none of a service's dependencies is broken, by counts alone: it stays near each service that it needs.
-    #[tactic(auto, using(crate::proofs::StepLemmas::known))]
+    /// Whether none of a service's dependencies is broken, by counts alone: each step keeps it near all that it needs.
     fn keeps_needs(&self, s: Service) -> bool
         requires { s.0 < service_count (tables_of self.now) }
         ensures { (result ≡ true) ↔
             (service_dependency (tables_of self.now) (after_of self.now) s.0 ≡ None) }
     {
         let needs = self.topo.distinct_needs(s);
+        for j in 0..self.mv.steps() {
+            let step = self.mv.step(j);
+            let own = self.inst.service_of(step.process);
+            if !self.step_keeps(s, needs, own, step) {
+                return false;
+            }
+        }
+        true
+    }
+
+    /// Whether a step of a process of one service keeps a service near each of some that it needs.
+    fn step_keeps(&self, s: Service, needs: &[Service], own: Service, step: Step) -> bool
+        requires service { s.0 < service_count (tables_of self.now) }
+        requires needs { (x : ℕ) → x < length needs.now →
+            service_at needs.now x < service_count (tables_of self.now) }
+        requires to { step.to.0 < machine_count (tables_of self.now) }
+        requires from { step.from.0 < machine_count (tables_of self.now) }
+        ensures { (result ≡ true) ↔ KeepsEach (tables_of self.now) (after_of self.now)
+            s.0 needs.now own.0 (neighbourhood_of (tables_of self.now) step.to.0)
+            (neighbourhood_of (tables_of self.now) step.from.0) (length needs.now) }
+    {
         for k in 0..needs.len() {
-            if !self.stays_near(s, needs[k]) {
+            if !self.finds_one(s, needs[k], own, step.to) {
+                return false;
+            }
+            if !self.leaves_one(s, needs[k], own, step.from) {
                 return false;
             }
         }
@@ -120,6 +145,7 @@ impl<'a, 'b> Trial<'a, 'b> {
     }
 
     /// Whether a process that enters a machine finds one of the service needed there, if it is of the service that needs.
+    #[inline(always)]
     fn finds_one(&self, s: Service, need: Service, own: Service, to: Machine) -> bool
         requires need { need.0 < service_count (tables_of self.now) }
         requires to { to.0 < machine_count (tables_of self.now) }
@@ -139,6 +165,7 @@ impl<'a, 'b> Trial<'a, 'b> {
 
     /// Whether a process that leaves a machine leaves another one of its service or none that needs it there, if it is of
     /// the service needed.
+    #[inline(always)]
     fn leaves_one(&self, s: Service, need: Service, own: Service, from: Machine) -> bool
         requires service { s.0 < service_count (tables_of self.now) }
         requires need { need.0 < service_count (tables_of self.now) }
