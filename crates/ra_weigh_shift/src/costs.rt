@@ -18,35 +18,37 @@ pub(crate) fn cost_of_row(inst: &Instance, m: Machine, row: &[u64; 20]) -> u128
     row_load(inst, m, used) + row_balance(inst, m, used)
 }
 
-/// The use of a machine and what a process requires, together.
-fn row_with(world: &World<'_>, p: Process, required: &[u32; 20], to: Machine) -> [u64; 20]
+/// Makes a row the use of a machine and what a process requires, together.
+fn fill_with(world: &World<'_>, p: Process, required: &[u32; 20], to: Machine, row: &mut [u64; 20])
     requires machine { to.0 < machine_count world.now.inst.now.tables }
     requires required { AreRequired world.now.inst.now.tables p.0 required.now }
-    ensures { (r : ℕ) → r < resource_count world.now.inst.now.tables → slice_index result r ≡
+    ensures { (r : ℕ) → r < resource_count world.now.inst.now.tables → slice_index row.new r ≡
         use_with world.now.inst.now.tables world.now.kept.assignment.items p.0 to.0 r }
 {
     let used = world.rows().usage_row(to);
-    let mut row = [0; 20];
     for r in 0..world.instance().resources() as usize {
         row[r] = used[r] + u64::from(required[r]);
     }
-    row
 }
 
-/// The use of the machine of a process without what that requires.
-fn row_without(world: &World<'_>, p: Process, required: &[u32; 20], from: Machine) -> [u64; 20]
+/// Makes a row the use of the machine of a process without what that requires.
+fn fill_without(
+    world: &World<'_>,
+    p: Process,
+    required: &[u32; 20],
+    from: Machine,
+    row: &mut [u64; 20],
+)
     requires process { p.0 < process_count world.now.inst.now.tables }
     requires from { from.0 ≡ machine_at world.now.kept.assignment.items p.0 }
     requires required { AreRequired world.now.inst.now.tables p.0 required.now }
-    ensures { (r : ℕ) → r < resource_count world.now.inst.now.tables → slice_index result r ≡
+    ensures { (r : ℕ) → r < resource_count world.now.inst.now.tables → slice_index row.new r ≡
         use_without world.now.inst.now.tables world.now.kept.assignment.items p.0 r }
 {
     let used = world.rows().usage_row(from);
-    let mut row = [0; 20];
     for r in 0..world.instance().resources() as usize {
         row[r] = used[r] - u64::from(required[r]);
     }
-    row
 }
 
 /// The cost of a machine with a process more.
@@ -57,7 +59,8 @@ pub(crate) fn cost_with(world: &World<'_>, p: Process, required: &[u32; 20], to:
         (use_with world.now.inst.now.tables world.now.kept.assignment.items p.0 to.0) }
     ensures bound { result ≤ 30 * 2 ^ 96 }
 {
-    let row = row_with(world, p, required, to);
+    let mut row = [0; 20];
+    fill_with(world, p, required, to, &mut row);
     cost_of_row(world.instance(), to, &row)
 }
 
@@ -75,7 +78,8 @@ pub(crate) fn cost_without(
         (use_without world.now.inst.now.tables world.now.kept.assignment.items p.0) }
     ensures bound { result ≤ 30 * 2 ^ 96 }
 {
-    let row = row_without(world, p, required, from);
+    let mut row = [0; 20];
+    fill_without(world, p, required, from, &mut row);
     cost_of_row(world.instance(), from, &row)
 }
 

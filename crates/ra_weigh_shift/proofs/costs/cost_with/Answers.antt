@@ -9,5 +9,5 @@ pub returns-clause-value : goal.returns-clause-value
 returns-clause-value c =
     let i = c.args.world.now.inst.now.tables in
     c.cost_of_row.ensures.value
-    ∙ ap (λ (j : Instance). row_cost j.tables c.args.to.0 (slice_index c.row_with-row.result)) c.instance.ensures
-    ∙ row_cost_same i c.args.to.0 (slice_index c.row_with-row.result) (use_with i c.args.world.now.kept.assignment.items c.args.p.0 c.args.to.0) c.args.world.now.inst.now.well_formed c.row_with-row.ensures
+    ∙ ap (λ (j : Instance). row_cost j.tables c.args.to.0 (slice_index c.fill_with.new.row)) c.instance.ensures
+    ∙ row_cost_same i c.args.to.0 (slice_index c.fill_with.new.row) (use_with i c.args.world.now.kept.assignment.items c.args.p.0 c.args.to.0) c.args.world.now.inst.now.well_formed c.fill_with.ensures

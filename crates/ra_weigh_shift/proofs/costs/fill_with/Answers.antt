@@ -1,9 +1,12 @@
 -- One more number, and what the numbers are.
-use Rattle.std.proofs.Common.{◌∙◌, ◌+◌, ap, length-set, slice_index, arith}
+use Rattle.std.proofs.Common.{◌∙◌, ◌+◌, ap, length-set, slice_index, arith, rules}
 use Rattle.ra_model.specs.Numbers.{resource_count}
 use Rattle.ra_model.specs.declared.numbers.Instance.{Instance}
 use Rattle.ra_weigh_shift.proofs.ReadLaws.{filled_more, used_with}
-use Rattle.ra_weigh_shift.proofs.costs.row_with.Goals as goal
+use Rattle.ra_weigh_shift.proofs.costs.fill_with.Goals as goal
+
+pub loop-r-init : goal.loop-r-init
+loop-r-init c = record { size = search rules; so_far = λ k before. absurd (omega arith) }
 
 pub loop-r-preserved : goal.loop-r-preserved
 loop-r-preserved c =
