@@ -1,5 +1,7 @@
+mod alone;
 mod running;
 
+use alone::run_alone;
 use ra_base::{Cause, Machine, Process, Resource, Service};
 use ra_io::{NoGate, PairGate};
 use ra_journal::Entry;
@@ -128,9 +130,49 @@ fn sixteen_workers_are_legal<R: Abort + Threads + Wait + Sync>(
     }
 }
 
+/// By hand: process 1 goes from machine 3 to 2, back, and there again. The start costs 4200, and with process 1 on
+/// machine 2 it is 3510. Of 3 proposals with slack 2070 the second may raise the cost by 690, a third of that.
+const THERE_AND_BACK: &[&str] = &[
+    "solve",
+    "m",
+    "i",
+    "--slack",
+    "2070",
+    "--draws",
+    "1",
+    "w:0,1,2,1,0,3,0,0,0,1,3,3,3,3,0,0,0,1,2,2,2,2,0,0",
+];
+
+/// What one worker makes of `THERE_AND_BACK`.
+fn there_and_back() -> [Entry; 3] {
+    let there = Verdict::Done { cost: 3510 };
+    let first = first_of(0, 0, 1, 3, 2, there);
+    let mut second = first_of(0, 1, 1, 2, 3, Verdict::Done { cost: 4200 });
+    second.k = 1;
+    let mut third = first_of(0, 2, 1, 3, 2, there);
+    third.k = 2;
+    [first, second, third]
+}
+
+/// A worker whose run is called by itself makes the same as one that is run as the program runs it.
+fn one_worker_makes_the_same_alone<R: Abort + Threads + Wait + Sync>(
+    rt: &R,
+    alloc: Global,
+    inst: &Instance,
+) {
+    let alone = run_alone(rt, alloc, inst, &[0, 3, 0], THERE_AND_BACK);
+    let made = run_words(rt, alloc, inst, &[0, 3, 0], THERE_AND_BACK, &NoGate);
+    let wanted = there_and_back();
+    assert_eq!(rt; alone.entries.as_slice(), wanted.as_slice());
+    assert_eq!(rt; made.entries.as_slice(), wanted.as_slice());
+    assert!(rt; alone.best_at == 1 && alone.best_cost == 3510);
+    assert!(rt; made.legal && made.best_at == 1 && made.total == 3510);
+}
+
 #[test]
 fn runs_on_the_sample(rt: HostRuntime) {
     let inst = sample(rt.alloc()).expect(&rt, "no instance");
+    one_worker_makes_the_same_alone(&rt, rt.alloc(), &inst);
     two_workers_go_one_of_three_ways(&rt, rt.alloc(), &inst);
     let spread = refused(Cause::Spread {
         service: Service(0),

@@ -35,7 +35,7 @@ pub(super) struct Made {
 }
 
 /// The lots of a run's words.
-fn lots_of(alloc: Global, words: &[String]) -> Option<Lots> {
+pub(super) fn lots_of(alloc: Global, words: &[String]) -> Option<Lots> {
     match read_words(alloc, words) {
         Ok(Job::Solve { lots, .. }) => Some(lots),
         _ => None,
@@ -43,7 +43,7 @@ fn lots_of(alloc: Global, words: &[String]) -> Option<Lots> {
 }
 
 /// The parts of a start, which breaks nothing.
-fn start_parts(rt: &impl Abort, alloc: Global, inst: &Instance, a0: &Assignment) -> Parts
+pub(super) fn start_parts(rt: &impl Abort, alloc: Global, inst: &Instance, a0: &Assignment) -> Parts
     requires { IsAssignment inst.now.tables a0.now.items }
     ensures parts { result ≡ parts_of inst.now.tables a0.now.items a0.now.items }
     ensures unbroken { first_broken inst.now.tables a0.now.items a0.now.items ≡ None }
@@ -55,7 +55,7 @@ fn start_parts(rt: &impl Abort, alloc: Global, inst: &Instance, a0: &Assignment)
 }
 
 /// The entries of a journal.
-fn entries_of(alloc: Global, journal: &Journal<'_>) -> Result<Fixed<Entry>, NoMemory> {
+pub(super) fn entries_of(alloc: Global, journal: &Journal<'_>) -> Result<Fixed<Entry>, NoMemory> {
     let mut entries = Fixed::make(alloc, journal.len() as usize)?;
     for at in 0..journal.len() {
         if entries.len() < entries.room() {
