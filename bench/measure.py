@@ -14,15 +14,18 @@ from statistics import median
 
 ROUNDS = os.environ.get("ROUNDS", "15")
 PROPOSALS = 40_000
+REPAIR_TRIES = 10_000
 
 
 class Command:
-    """A row of the table. `beside` is the row by whose time its own is divided. Where it makes proposals, the time is by
-    the clock, without that of `idle`: the same words with no proposal."""
+    """A row of the table. `beside` is the row by whose time its own is divided. If it makes proposals, the time is by
+    the clock, without that of `idle`: the same words with no proposal. `status` is the one that it ends with. An `own` row is
+    measured of the program alone, since others needn't have its command."""
 
-    def __init__(self, name, instance, words, beside=None, proposals=0, idle=None):
+    def __init__(self, name, instance, words, beside=None, proposals=0, idle=None, status=0, own=False):
         self.name, self.instance, self.words = name, instance, words
         self.beside, self.proposals, self.idle = beside, proposals, idle
+        self.status, self.own = status, own
 
 
 def commands_of(folder):
@@ -39,6 +42,18 @@ def commands_of(folder):
         yield Command("bound from the start", shape, ["bound", model, initial], alone)
         if os.path.exists(closed):
             yield Command("bound, all but one closed", shape, ["bound", model, initial, "--closed", closed], alone)
+    model, initial = files("3000", "model", "initial")
+    check = Command("check", "3000", ["check", model, initial, initial])
+    yield check
+    for kind in ("add", "retire", "resize"):
+        yield Command(f"edit, 300 that {kind}", "3000", ["edit", model, initial, initial, *files("3000", kind)], check,
+                      own=True)
+    of_four = None
+    for shape in ("repair-4", "repair-12000"):
+        tries = lambda budget: ["repair", *files(shape, "model", "initial"), f"7:{budget}"]
+        command = Command("repair", shape, tries(REPAIR_TRIES), of_four, REPAIR_TRIES, tries(0), 11, own=True)
+        of_four = of_four or command
+        yield command
     for shape, counts in (("100-skewed", [1]), ("1000-skewed", [1, 2, 4])):
         start, one = ["solve", *files(shape, "model", "initial")], None
         for workers in counts:
@@ -49,10 +64,11 @@ def commands_of(folder):
             yield command
 
 
-def run_once(folder, words):
+def run_once(folder, words, status=0):
     """Seconds of processor time, seconds by the clock, and the peak of memory in KB."""
-    ran = subprocess.run([os.path.join(folder, "once"), *words], stdout=subprocess.PIPE, text=True)
-    if ran.returncode != 0:
+    error_line = subprocess.DEVNULL if status else None
+    ran = subprocess.run([os.path.join(folder, "once"), *words], stdout=subprocess.PIPE, stderr=error_line, text=True)
+    if ran.returncode != status:
         sys.exit(f"{' '.join(words)}: status {ran.returncode}")
     return tuple(map(float, ran.stdout.split()))
 
@@ -63,10 +79,10 @@ def time_of(folder, program, command):
         words = [os.path.join(folder, "numbers"), os.path.join(folder, command.instance, "model")]
     else:
         words = [program, *command.words]
-    processor, clock, peak = run_once(folder, words)
+    processor, clock, peak = run_once(folder, words, command.status)
     if not command.proposals:
         return processor, processor, peak
-    _, idle, _ = run_once(folder, [program, *command.idle])
+    _, idle, _ = run_once(folder, [program, *command.idle], command.status)
     return max(clock - idle, 0.001), processor, peak
 
 
@@ -78,23 +94,24 @@ def main():
         sys.exit(2)
     folder, *programs = sys.argv[1:]
     commands = list(commands_of(folder))
-    runs = {(command, program): [] for command in commands for program in programs}
+    runs = {(command, program): [] for command in commands for program in (programs[:1] if command.own else programs)}
     for _ in range(int(ROUNDS)):
         for (command, program), times in runs.items():
             times.append(time_of(folder, program, command))
     print("processor: median seconds of processor time; beside: its time divided by that of the plain loop, of `bound` of the")
-    print("model alone, or, by the clock and without reading, of one worker; other: divided by that of the other program\n")
+    print("model alone, of `check` of the model that is edited, or, by the clock and without reading, of one worker or of the")
+    print("repair above; other: divided by that of the other program\n")
     print("| command | instance | processor | MB | beside | proposals a second |" + " other | MB of the other |" * (len(programs) - 1))
     print("|" + "---|" * (6 + 2 * (len(programs) - 1)))
     for command in commands:
-        own, *others = [runs[command, program] for program in programs]
+        own, *others = [runs.get((command, program)) for program in programs]
         ratio = lambda times: f"{median(a[0] / max(b[0], 0.001) for a, b in zip(own, times)):.2f}"
         mega = lambda times: f"{max(peak for _, _, peak in times) / 1024:.1f}"
         rate = f"{command.proposals / median(net for net, _, _ in own):,.0f}" if command.proposals else ""
         cells = [command.name, command.instance, f"{median(processor for _, processor, _ in own):.3f}", mega(own),
                  ratio(runs[command.beside, programs[0]]) if command.beside else "", rate]
         for times in others:
-            cells += [ratio(times), mega(times)] if command.words else ["", ""]
+            cells += [ratio(times), mega(times)] if command.words and times else ["", ""]
         print("| " + " | ".join(cells) + " |")
 
 
