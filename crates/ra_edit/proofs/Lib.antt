@@ -11,6 +11,7 @@ pub mod OneMoreLaws
 pub mod ShareLaws
 pub mod BrokenLaws
 pub mod ScanLaws
+pub mod RowsLaws
 pub mod TestLaws
 pub mod SeenLaws
 pub mod VerdictLaws

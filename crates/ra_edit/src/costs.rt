@@ -1,15 +1,14 @@
 //! What the lists cost after an edit, by what it touches.
-ghost use Rattle.std.specs.Prelude.{◌≡◌, ℕ, ◌+◌, ◌*◌, ◌^◌, ◌<◌, ◌≤◌, length, slice_index, IfOk};
+ghost use Rattle.std.specs.Prelude.{◌≡◌, ◌+◌, ◌*◌, ◌^◌, ◌<◌, ◌≤◌, length, IfOk};
 ghost use Rattle.ra_model.specs.Assignments.{machine_at};
 ghost use Rattle.ra_model.specs.Costs.{process_share};
-ghost use Rattle.ra_model.specs.Numbers.{resource_count, machine_count, way_cost_of, process_weight_of, machine_weight_of};
-ghost use Rattle.ra_model.specs.Usage.{use_of};
+ghost use Rattle.ra_model.specs.Numbers.{machine_count, way_cost_of, process_weight_of, machine_weight_of};
 ghost use Rattle.ra_edit.specs.Keeping.{drafted, tables_with, IsSound};
 ghost use Rattle.ra_edit.specs.MachineCosts.{AreCostsOn};
 
 use crate::lists::Lists;
-use crate::scanning::use_at;
-use ra_base::{Fixed, Machine, NoMemory, Parts, Process, Resource};
+use crate::rows::use_row;
+use ra_base::{Machine, NoMemory, Parts, Process};
 use ra_model::{Instance, machine_of};
 use ra_world::{row_balance, row_load};
 use std::alloc::Global;
@@ -37,26 +36,6 @@ pub(crate) fn costs_on(
         load: row_load(inst, m, row.as_slice()),
         balance: row_balance(inst, m, row.as_slice()),
     })
-}
-
-/// The use of each resource of a machine.
-fn use_row(
-    alloc: Global,
-    inst: &Instance,
-    lists: &Lists,
-    m: Machine,
-) -> Result<Fixed<u64>, NoMemory>
-    requires sound { IsSound (drafted inst.now.tables lists.now) }
-    ensures one_each { IfOk result (λ row. length row.items ≡ resource_count inst.now.tables) }
-    ensures each { IfOk result (λ row. (r : ℕ) → r < resource_count inst.now.tables →
-        slice_index row.items r ≡
-        use_of (tables_with inst.now.tables lists.now) lists.now.current.items m.0 r) }
-{
-    let mut row = Fixed::make(alloc, inst.resources() as usize)?;
-    for r in 0..inst.resources() {
-        row.push(use_at(inst, lists, m, Resource(r)));
-    }
-    Ok(row)
 }
 
 /// What a process adds to the process cost.

@@ -4,36 +4,45 @@ ghost use Rattle.ra_base.specs.Searches.{or_else, first};
 ghost use Rattle.ra_model.specs.Numbers.{resource_count, machine_count, service_count, dependency_count, need_of, neighbourhood_of};
 ghost use Rattle.ra_model.specs.Broken.{capacity_test, row_capacity, transient_test, row_transient, conflict_test, spread_test};
 ghost use Rattle.ra_model.specs.Relations.{depends};
+ghost use Rattle.ra_model.specs.Usage.{use_of, transient_of};
 ghost use Rattle.ra_model.specs.Services.{in_neighbourhood};
 ghost use Rattle.ra_edit.specs.Keeping.{drafted, tables_with, IsSound};
+ghost use Rattle.ra_edit.specs.declared.lists.Lists.{Lists};
 ghost use Rattle.ra_edit.specs.Touched.{far_from, added_breaks, left_alone, left_by, retired_breaks, resized_breaks};
 
 use crate::lists::Lists;
 use crate::locations::locations;
-use crate::scanning::{Spot, members, transient_at, use_at};
+use crate::rows::{transient_row, use_row};
+use crate::scanning::{Spot, members};
 use ra_base::{Cause, Machine, NoMemory, Resource, Service};
 use ra_model::Instance;
 use std::alloc::Global;
 
 /// What a process more breaks, which stands on its initial machine.
 #[tactic(auto, using(ra_base::proofs::Searches::choices), unfolding(crate::specs::Touched::added_breaks))]
-pub(crate) fn added_breaks(inst: &Instance, lists: &Lists, s: Service, m: Machine) -> Option<Cause>
+pub(crate) fn added_breaks(
+    alloc: Global,
+    inst: &Instance,
+    lists: &Lists,
+    s: Service,
+    m: Machine,
+) -> Result<Option<Cause>, NoMemory>
     requires sound { IsSound (drafted inst.now.tables lists.now) }
     requires service { s.0 < service_count inst.now.tables }
     requires machine { m.0 < machine_count inst.now.tables }
-    ensures { result ≡ added_breaks (tables_with inst.now.tables lists.now)
-        lists.now.initial.items lists.now.current.items s.0 m.0 }
+    ensures { IfOk result (λ cause. cause ≡ added_breaks (tables_with inst.now.tables lists.now)
+        lists.now.initial.items lists.now.current.items s.0 m.0) }
 {
-    if let Some(cause) = row_capacity(inst, lists, m) {
-        return Some(cause);
+    if let Some(cause) = row_capacity(alloc, inst, lists, m)? {
+        return Ok(Some(cause));
     }
-    if let Some(cause) = row_transient(inst, lists, m) {
-        return Some(cause);
+    if let Some(cause) = row_transient(alloc, inst, lists, m)? {
+        return Ok(Some(cause));
     }
     if let Some(cause) = conflict_test(inst, lists, s, m) {
-        return Some(cause);
+        return Ok(Some(cause));
     }
-    far_needs(inst, lists, s, m)
+    Ok(far_needs(inst, lists, s, m))
 }
 
 /// What a process less breaks, which was one of a service in a neighbourhood.
@@ -59,71 +68,82 @@ pub(crate) fn retired_breaks(
 /// What other requirements of a process on a machine break.
 #[tactic(auto, using(ra_base::proofs::Searches::choices), unfolding(crate::specs::Touched::resized_breaks))]
 pub(crate) fn resized_breaks(
+    alloc: Global,
     inst: &Instance,
     lists: &Lists,
     home: Machine,
     here: Machine,
-) -> Option<Cause>
+) -> Result<Option<Cause>, NoMemory>
     requires sound { IsSound (drafted inst.now.tables lists.now) }
     requires home { home.0 < machine_count inst.now.tables }
     requires here { here.0 < machine_count inst.now.tables }
-    ensures { result ≡ resized_breaks (tables_with inst.now.tables lists.now)
-        lists.now.initial.items lists.now.current.items home.0 here.0 }
+    ensures { IfOk result (λ cause. cause ≡ resized_breaks (tables_with inst.now.tables lists.now)
+        lists.now.initial.items lists.now.current.items home.0 here.0) }
 {
-    if let Some(cause) = row_capacity(inst, lists, here) {
-        return Some(cause);
+    if let Some(cause) = row_capacity(alloc, inst, lists, here)? {
+        return Ok(Some(cause));
     }
     if home.0 < here.0 {
-        two_transients(inst, lists, home, here)
+        two_transients(alloc, inst, lists, home, here)
     } else {
-        two_transients(inst, lists, here, home)
+        two_transients(alloc, inst, lists, here, home)
     }
 }
 
 /// The first transient use above a capacity at one machine, then at another.
 #[tactic(auto, using(ra_base::proofs::Searches::choices))]
-fn two_transients(inst: &Instance, lists: &Lists, m: Machine, n: Machine) -> Option<Cause>
+fn two_transients(
+    alloc: Global,
+    inst: &Instance,
+    lists: &Lists,
+    m: Machine,
+    n: Machine,
+) -> Result<Option<Cause>, NoMemory>
     requires sound { IsSound (drafted inst.now.tables lists.now) }
     requires first { m.0 < machine_count inst.now.tables }
     requires second { n.0 < machine_count inst.now.tables }
-    ensures { result ≡ or_else
+    ensures { IfOk result (λ cause. cause ≡ or_else
         (row_transient (tables_with inst.now.tables lists.now) lists.now.initial.items
         lists.now.current.items m.0)
         (row_transient (tables_with inst.now.tables lists.now) lists.now.initial.items
-        lists.now.current.items n.0) }
+        lists.now.current.items n.0)) }
 {
-    if let Some(cause) = row_transient(inst, lists, m) {
-        return Some(cause);
+    if let Some(cause) = row_transient(alloc, inst, lists, m)? {
+        return Ok(Some(cause));
     }
-    row_transient(inst, lists, n)
+    row_transient(alloc, inst, lists, n)
 }
 
 /// The first use on a machine that is above its capacity.
 #[tactic(auto, using(ra_base::proofs::Searches::searches))]
-fn row_capacity(inst: &Instance, lists: &Lists, m: Machine) -> Option<Cause>
+fn row_capacity(
+    alloc: Global,
+    inst: &Instance,
+    lists: &Lists,
+    m: Machine,
+) -> Result<Option<Cause>, NoMemory>
     requires sound { IsSound (drafted inst.now.tables lists.now) }
     requires machine { m.0 < machine_count inst.now.tables }
-    ensures { result ≡
-        row_capacity (tables_with inst.now.tables lists.now) lists.now.current.items m.0 }
+    ensures { IfOk result (λ cause. cause ≡
+        row_capacity (tables_with inst.now.tables lists.now) lists.now.current.items m.0) }
 {
+    let row = use_row(alloc, inst, lists, m)?;
     for r in 0..inst.resources() {
-        if let Some(cause) = capacity_test(inst, lists, m, Resource(r)) {
-            return Some(cause);
+        if let Some(cause) = capacity_test(inst, m, Resource(r), row.get(r as usize)) {
+            return Ok(Some(cause));
         }
     }
-    None
+    Ok(None)
 }
 
 /// The use of a resource of a machine, if it is above its capacity.
 #[tactic(auto, using(crate::proofs::TestLaws::capacities))]
-fn capacity_test(inst: &Instance, lists: &Lists, m: Machine, r: Resource) -> Option<Cause>
-    requires sound { IsSound (drafted inst.now.tables lists.now) }
+fn capacity_test(inst: &Instance, m: Machine, r: Resource, used: u64) -> Option<Cause>
     requires machine { m.0 < machine_count inst.now.tables }
     requires resource { r.0 < resource_count inst.now.tables }
-    ensures { result ≡
-        capacity_test (tables_with inst.now.tables lists.now) lists.now.current.items m.0 r.0 }
+    ensures { (l : Lists) → used ≡ use_of (tables_with inst.now.tables l) l.current.items m.0 r.0
+        → result ≡ capacity_test (tables_with inst.now.tables l) l.current.items m.0 r.0 }
 {
-    let used = use_at(inst, lists, m, r);
     let cap = inst.capacity(m, r);
     if u64::from(cap) < used {
         Some(Cause::Capacity {
@@ -139,33 +159,39 @@ fn capacity_test(inst: &Instance, lists: &Lists, m: Machine, r: Resource) -> Opt
 
 /// The first transient use on a machine that is above its capacity.
 #[tactic(auto, using(ra_base::proofs::Searches::searches))]
-fn row_transient(inst: &Instance, lists: &Lists, m: Machine) -> Option<Cause>
+fn row_transient(
+    alloc: Global,
+    inst: &Instance,
+    lists: &Lists,
+    m: Machine,
+) -> Result<Option<Cause>, NoMemory>
     requires sound { IsSound (drafted inst.now.tables lists.now) }
     requires machine { m.0 < machine_count inst.now.tables }
-    ensures { result ≡ row_transient (tables_with inst.now.tables lists.now)
-        lists.now.initial.items lists.now.current.items m.0 }
+    ensures { IfOk result (λ cause. cause ≡ row_transient (tables_with inst.now.tables lists.now)
+        lists.now.initial.items lists.now.current.items m.0) }
 {
+    let row = transient_row(alloc, inst, lists, m)?;
     for r in 0..inst.resources() {
-        if let Some(cause) = transient_test(inst, lists, m, Resource(r)) {
-            return Some(cause);
+        if let Some(cause) = transient_test(inst, m, Resource(r), row.get(r as usize)) {
+            return Ok(Some(cause));
         }
     }
-    None
+    Ok(None)
 }
 
 /// The transient use of a resource of a machine, if it is above its capacity.
 #[tactic(auto, using(crate::proofs::TestLaws::transients))]
-fn transient_test(inst: &Instance, lists: &Lists, m: Machine, r: Resource) -> Option<Cause>
-    requires sound { IsSound (drafted inst.now.tables lists.now) }
+fn transient_test(inst: &Instance, m: Machine, r: Resource, used: u64) -> Option<Cause>
     requires machine { m.0 < machine_count inst.now.tables }
     requires resource { r.0 < resource_count inst.now.tables }
-    ensures { result ≡ transient_test (tables_with inst.now.tables lists.now)
-        lists.now.initial.items lists.now.current.items m.0 r.0 }
+    ensures { (l : Lists) → used ≡ transient_of (tables_with inst.now.tables l) l.initial.items
+        l.current.items m.0 r.0
+        → result ≡ transient_test (tables_with inst.now.tables l) l.initial.items l.current.items
+        m.0 r.0 }
 {
     if !inst.transient(r) {
         return None;
     }
-    let used = transient_at(inst, lists, m, r);
     let cap = inst.capacity(m, r);
     if u64::from(cap) < used {
         Some(Cause::Transient {

@@ -13,6 +13,7 @@ mod lists;
 mod locations;
 mod moved;
 mod replies;
+mod rows;
 mod running;
 mod scanning;
 mod tables;

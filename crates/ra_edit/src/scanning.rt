@@ -4,7 +4,6 @@ ghost use Rattle.ra_model.specs.Assignments.{machine_at, tally};
 ghost use Rattle.ra_model.specs.Limits.{Small};
 ghost use Rattle.ra_model.specs.Numbers.{resource_count, machine_count, service_of, requirement_of};
 ghost use Rattle.ra_model.specs.Services.{of_service, members_at};
-ghost use Rattle.ra_model.specs.Usage.{use_share, use_of, transient_share, transient_of};
 ghost use Rattle.ra_edit.specs.Keeping.{drafted, tables_with, IsSound};
 ghost use Rattle.ra_edit.specs.Spots.{is_there};
 
@@ -41,71 +40,6 @@ pub(crate) fn requirement(inst: &Instance, lists: &Lists, p: Process, r: Resourc
     let _within = lists.requirements.len();
     let place = p.0 as usize * inst.resources() as usize + r.0 as usize;
     lists.requirements.get(place)
-}
-
-/// The use of a resource of a machine.
-#[tactic(auto, using(ra_base::proofs::Sums::sums), unfolding(ra_model::specs::Assignments::tally))]
-pub(crate) fn use_at(inst: &Instance, lists: &Lists, m: Machine, r: Resource) -> u64
-    requires sound { IsSound (drafted inst.now.tables lists.now) }
-    requires resource { r.0 < resource_count inst.now.tables }
-    ensures value { result ≡
-        use_of (tables_with inst.now.tables lists.now) lists.now.current.items m.0 r.0 }
-    ensures bound { result < 2 ^ 48 }
-{
-    let mut sum: u64 = 0;
-    for p in 0..processes(inst, lists) {
-        sum += u64::from(use_share(inst, lists, Process(p), m, r));
-    }
-    sum
-}
-
-/// What a process uses of a resource of a machine.
-fn use_share(inst: &Instance, lists: &Lists, p: Process, m: Machine, r: Resource) -> u32
-    requires sound { IsSound (drafted inst.now.tables lists.now) }
-    requires process { p.0 < length lists.now.rows.items }
-    requires resource { r.0 < resource_count inst.now.tables }
-    ensures { result ≡ use_share (tables_with inst.now.tables lists.now) m.0 r.0 p.0
-        (machine_at lists.now.current.items p.0) }
-{
-    if machine_of(&lists.current, p).0 == m.0 {
-        requirement(inst, lists, p, r)
-    } else {
-        0
-    }
-}
-
-/// The transient use of a resource of a machine.
-#[tactic(auto, using(ra_base::proofs::Sums::sums), unfolding(ra_model::specs::Assignments::tally))]
-pub(crate) fn transient_at(inst: &Instance, lists: &Lists, m: Machine, r: Resource) -> u64
-    requires sound { IsSound (drafted inst.now.tables lists.now) }
-    requires resource { r.0 < resource_count inst.now.tables }
-    ensures value { result ≡ transient_of (tables_with inst.now.tables lists.now)
-        lists.now.initial.items lists.now.current.items m.0 r.0 }
-    ensures bound { result < 2 ^ 48 }
-{
-    let mut sum: u64 = 0;
-    for p in 0..processes(inst, lists) {
-        sum += u64::from(transient_share(inst, lists, Process(p), m, r));
-    }
-    sum
-}
-
-/// What a process uses of a resource of a machine in between.
-fn transient_share(inst: &Instance, lists: &Lists, p: Process, m: Machine, r: Resource) -> u32
-    requires sound { IsSound (drafted inst.now.tables lists.now) }
-    requires process { p.0 < length lists.now.rows.items }
-    requires resource { r.0 < resource_count inst.now.tables }
-    ensures { result ≡ transient_share (tables_with inst.now.tables lists.now)
-        lists.now.initial.items m.0 r.0 p.0 (machine_at lists.now.current.items p.0) }
-{
-    if machine_of(&lists.initial, p).0 == m.0 {
-        return requirement(inst, lists, p, r);
-    }
-    if machine_of(&lists.current, p).0 == m.0 {
-        requirement(inst, lists, p, r)
-    } else {
-        0
-    }
 }
 
 /// How many processes of a service are at a spot.

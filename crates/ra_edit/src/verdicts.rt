@@ -70,7 +70,7 @@ fn judge_added(
         s.0 m.0 }
     ensures { IfOk result (IsJudged (drafted inst.now.tables next.now)) }
 {
-    if let Some(cause) = added_breaks(inst, next, s, m) {
+    if let Some(cause) = added_breaks(alloc, inst, next, s, m)? {
         return Ok(Judged::Refused(cause));
     }
     small(inst, lists);
@@ -107,7 +107,7 @@ fn judge_resized(
 {
     let home = machine_of(&lists.initial, p);
     let here = machine_of(&lists.current, p);
-    if let Some(cause) = resized_breaks(inst, next, home, here) {
+    if let Some(cause) = resized_breaks(alloc, inst, next, home, here)? {
         return Ok(Judged::Refused(cause));
     }
     small(inst, lists);

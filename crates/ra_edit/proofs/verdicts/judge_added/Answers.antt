@@ -5,7 +5,7 @@ use Rattle.ra_edit.proofs.VerdictLaws.{HasParts, parts_told, come_broken, come_p
 use Rattle.ra_edit.proofs.verdicts.judge_added.Goals as goal
 
 pub returns-in-Some : goal.returns-in-Some
-returns-in-Some c = come_broken (drafted c.args.inst.now.tables c.args.lists.now) (drafted c.args.inst.now.tables c.args.next.now) c.args.cost c.args.s.0 c.args.m.0 c.requires.kept c.requires.come ∙ sym c.added_breaks.ensures ∙ c.in-Some.is
+returns-in-Some c = come_broken (drafted c.args.inst.now.tables c.args.lists.now) (drafted c.args.inst.now.tables c.args.next.now) c.args.cost c.args.s.0 c.args.m.0 c.requires.kept c.requires.come ∙ sym c.in_ok-cause.ensures ∙ c.in-Some.is
 
 pub replaced-load-requires : goal.replaced-load-requires
 replaced-load-requires c =
@@ -47,6 +47,6 @@ returns c =
     let d = drafted c.args.inst.now.tables c.args.lists.now in
     let e = drafted c.args.inst.now.tables c.args.next.now in
     let has : HasParts d c.args.cost = parts_told d c.args.cost c.requires.kept c.small.ensures in (
-      come_broken d e c.args.cost c.args.s.0 c.args.m.0 c.requires.kept c.requires.come ∙ sym c.added_breaks.ensures ∙ c.in_default.is,
+      come_broken d e c.args.cost c.args.s.0 c.args.m.0 c.requires.kept c.requires.come ∙ sym c.in_ok-cause.ensures ∙ c.in_default.is,
       c.summed-cost.ensures ∙ come_parts d e c.args.cost c.args.s.0 c.args.m.0 c.replaced-load.result c.replaced-balance.result (c.from.result * c.from-2.result) c.in_ok-before.before c.in_ok-after.after c.args.inst.now.well_formed has c.requires.come c.in_ok-before.ensures c.in_ok-after.ensures c.replaced-load.ensures c.replaced-balance.ensures (ap₂ (λ x y. x * y) (c.from.ensures ∙ c.machine_weight.ensures) (c.from-2.ensures ∙ c.move_cost.ensures)),
     )

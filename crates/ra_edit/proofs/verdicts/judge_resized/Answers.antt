@@ -22,7 +22,7 @@ resized_breaks-requires c =
     }
 
 pub returns-in-Some : goal.returns-in-Some
-returns-in-Some c = other_broken (drafted c.args.inst.now.tables c.args.lists.now) (drafted c.args.inst.now.tables c.args.next.now) c.args.cost c.args.p.0 c.machine_of-home.result.0 c.machine_of-here.result.0 c.requires.kept c.requires.other c.machine_of-home.ensures c.machine_of-here.ensures ∙ sym c.resized_breaks.ensures ∙ c.in-Some.is
+returns-in-Some c = other_broken (drafted c.args.inst.now.tables c.args.lists.now) (drafted c.args.inst.now.tables c.args.next.now) c.args.cost c.args.p.0 c.machine_of-home.result.0 c.machine_of-here.result.0 c.requires.kept c.requires.other c.machine_of-home.ensures c.machine_of-here.ensures ∙ sym c.in_ok-cause.ensures ∙ c.in-Some.is
 
 pub costs_on-requires-clause-machine : goal.costs_on-requires-clause-machine
 costs_on-requires-clause-machine c = omega (arith, c.machine_of-here.ensures, here_in (drafted c.args.inst.now.tables c.args.lists.now) c.args.p.0 c.requires.kept.sound c.requires.other.there)
@@ -68,6 +68,6 @@ returns c =
     let e = drafted c.args.inst.now.tables c.args.next.now in
     let has : HasParts d c.args.cost = parts_told d c.args.cost c.requires.kept c.small.ensures in
     let within : c.machine_of-here.result.0 < machine_count c.args.inst.now.tables = omega (arith, c.machine_of-here.ensures, here_in d c.args.p.0 c.requires.kept.sound c.requires.other.there) in (
-      other_broken d e c.args.cost c.args.p.0 c.machine_of-home.result.0 c.machine_of-here.result.0 c.requires.kept c.requires.other c.machine_of-home.ensures c.machine_of-here.ensures ∙ sym c.resized_breaks.ensures ∙ c.in_default.is,
+      other_broken d e c.args.cost c.args.p.0 c.machine_of-home.result.0 c.machine_of-here.result.0 c.requires.kept c.requires.other c.machine_of-home.ensures c.machine_of-here.ensures ∙ sym c.in_ok-cause.ensures ∙ c.in_default.is,
       c.summed-cost.ensures ∙ other_parts d e c.args.cost c.args.p.0 c.machine_of-here.result.0 c.replaced-load.result c.replaced-balance.result c.in_ok-before.before c.in_ok-after.after c.args.inst.now.well_formed within c.machine_of-here.ensures has c.requires.other c.in_ok-before.ensures c.in_ok-after.ensures c.replaced-load.ensures c.replaced-balance.ensures,
     )

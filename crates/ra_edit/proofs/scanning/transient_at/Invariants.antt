@@ -1,9 +1,0 @@
--- The sum so far, and its bound.
-use Rattle.std.proofs.Common.{◌≡◌, ◌*◌, ◌^◌, ◌≤◌}
-use Rattle.ra_model.specs.Assignments.{tally}
-use Rattle.ra_model.specs.Usage.{transient_share}
-use Rattle.ra_edit.specs.Keeping.{tables_with}
-use Rattle.ra_edit.proofs.scanning.transient_at.Given as goal
-
-abbrev pub invariant-loop-p : goal.invariant-loop-p
-invariant-loop-p l = record { value : l.sum ≡ tally l.p (transient_share (tables_with l.inst.tables l.lists) l.lists.initial.items l.m.0 l.r.0) l.lists.current.items; bound : l.sum ≤ l.p * 2 ^ 32 }
