@@ -10,7 +10,7 @@ use Rattle.ra_journal.specs.Best.{best_place, best_of}
 use Rattle.ra_journal.specs.States.{cost_at}
 use Rattle.ra_journal.proofs.Places.{SameBelow, same_fewer, same_added, same_state}
 
--- the least place is one of those searched, and gives the least answer where all answers are there
+-- the least place is one of those searched, and gives the least answer if all answers are there
 
 one_or_less : (better : Bool) (n p : ℕ) → p < suc n → cond better n p < suc n
 one_or_less true n p within = omega arith
@@ -47,7 +47,7 @@ pub same_best : (i : Tables) (a0 : List Machine) (h g : List Entry) (n : ℕ) �
 unfolding best_place
 same_best i a0 h g n same = (least_same (suc n) (λ j. Some (cost_at i a0 h j)) (λ j. Some (cost_at i a0 g j)) (λ k before. ap (λ x. Some x) (same_cost i a0 h g n k same (omega arith)))).1
 
--- one state more: it is the best where it costs less than the best so far
+-- one state more: it is the best if it costs less than the best so far
 pub best_more : (i : Tables) (a0 : List Machine) (h : List Entry) (n : ℕ) → best_place i a0 h (suc n) ≡ cond (ltb (cost_at i a0 h (suc n)) (cost_at i a0 h (best_place i a0 h n))) (suc n) (best_place i a0 h n)
 unfolding best_place least_place
 best_more i a0 h n =

@@ -79,7 +79,7 @@ are_sound i a0 l h n start legal within = record {
   unbroken = λ j few. subst (λ a. first_broken i a0 a ≡ None) (state_is_made a0 h j) (unbroken_at i a0 l h j start legal (omega arith));
 }
 
--- what was right of a move at place q is right at place n, where its guards were not touched
+-- what was right of a move at place q is right at place n, if its guards were not touched
 record IsRightAt (i : Tables) (a0 : List Machine) (h : List Entry) (q n : ℕ) (steps : List Step) : Type 0 where
   offered : IsOffered i (state a0 h n) steps
   weighed : weighed_of i a0 (state a0 h q) steps ≡ weighed_of i a0 (state a0 h n) steps

@@ -22,7 +22,7 @@ pub newer_same : (i : Tables) (h : List Entry) (q : ℕ) (steps : List Step) (v 
 unfolding newer_since
 newer_same i h q steps v are = newest_is_right.in_table i (made_in h) (length h) steps v q are
 
--- where no write guard is newer, by the guards that aren't write guards
+-- if no write guard is newer, by the guards that aren't write guards
 pub newer_read_same : (i : Tables) (h : List Entry) (q : ℕ) (steps : List Step) (v : VersionTable) → AreVersions i (made_in h) (length h) v → AreHeld i h q steps → first_newer_read i steps (version_in v) q ≡ newer_since i h q steps
 unfolding newer_since
 newer_read_same i h q steps v are held = newest_is_right.read_in_table i (made_in h) (length h) steps v q are ∙ sym (newest_is_right.held i steps (version i (made_in h) (length h)) q held.each)

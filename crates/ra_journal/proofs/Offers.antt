@@ -1,4 +1,4 @@
--- What is planned at an assignment is offered there, and stays offered where its guards keep their residents.
+-- What is planned at an assignment is offered there, and stays offered if its guards keep their residents.
 use Rattle.std.proofs.Common.{◌≡◌, ℕ, ◌<◌, ◌≤◌, true, List, length, sym, refl, ◌∙◌, arith, eq-eqb}
 use Rattle.std.proofs.lemmas.Bool.{or_left, eqb-true}
 use Rattle.ra_base.specs.declared.causes.Drawing.{Drawing}

@@ -35,7 +35,7 @@ unfolding verdict_of or_else
 refused_for None rise cause cost is = absurd (cc is)
 refused_for (Some found) rise cause cost is = ap Refused (let same : found ≡ cause = cc is in same)
 
--- the verdict on it at the end, where no guard of its move was touched since it was planned
+-- the verdict on it at the end, if no guard of its move was touched since it was planned
 pub broken_is_refused : (i : Tables) (a0 : List Machine) (l : Lots) (h : List Entry) (w : ℕ) (plan : Plan) (cause : Cause) → IsStart i a0 → Legal i a0 l h → IsCommit i a0 l h w plan
     → newer_since i h plan.q plan.mv.steps ≡ None → plan.weighed.broken ≡ Some cause → (next_entry i a0 l h w plan.q).verdict ≡ Refused cause
 unfolding next_entry judge

@@ -113,7 +113,7 @@ alone_legal i a0 l h n one few alone j before =
     let workers = alone_workers i a0 l h n alone in
     subst (IsLegalAt i a0 l h j) (sym (alone.each j before)) (solo_entry_legal i a0 l h j (omega arith) (omega arith) (record { each = λ k earlier. workers.each k (omega arith) }))
 
--- and whole, where it has as many entries as the budget asks for
+-- and whole, if it has as many entries as the budget asks for
 alone_whole : (l : Lots) (h : List Entry) → worker_count l ≡ 1 → length h ≡ budget l 0 → IsOneWorkers h (length h) → Whole l h
 alone_whole l h one long workers = record {
   each = λ w exists. let first : 0 ≡ w = omega arith in subst (λ v. entries_of h (length h) v ≡ budget l v) first (one_workers_count h (length h) workers ∙ long);

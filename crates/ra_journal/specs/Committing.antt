@@ -52,7 +52,7 @@ pub record Committed : Type 0 where
   pub journal : List Entry
   pub reply : Reply
 
--- stale where a guard is newer, and nothing changes; else the entry is added at the end
+-- stale if a guard is newer, and nothing changes; else the entry is added at the end
 unfoldable pub committed_by : Option Newer → List Entry → Entry → Committed
 committed_by (Some newer) h e = record { journal = h; reply = Stale newer.guard newer.at }
 committed_by None h e = record { journal = h ++ e ∷ []; reply = Recorded (length h) e.verdict }

@@ -22,7 +22,7 @@ entry_at h j =
       verdict = Refused (Repeat (record { 0 = 0 }));
     })
 
--- the steps that a verdict makes of a move: all where it is done, and none where it is refused
+-- the steps that a verdict makes of a move: all if it is done, and none if it is refused
 unfoldable pub steps_made : Verdict → List Step → Option (List Step)
 steps_made (Done cost) steps = Some steps
 steps_made (Refused cause) steps = None

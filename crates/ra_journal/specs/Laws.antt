@@ -21,7 +21,7 @@ pub record IsSound (i : Tables) (a0 : List Machine) (h : List Entry) (j : ℕ) :
   pub feasible : Feasible i a0 (state a0 h j)
   pub kept : kept_cost i a0 h j ≡ cost_at i a0 h j
 
--- where the start is feasible and the journal legal, every state is feasible, and the kept cost is its objective
+-- if the start is feasible and the journal legal, every state is feasible, and the kept cost is its objective
 abbrev pub LegalIsSound : Type 0
 LegalIsSound =
     (i : Tables) (a0 : List Machine) (l : Lots) (h : List Entry) → WellFormed i → IsAssignment i a0

@@ -63,7 +63,7 @@ pub record AreChangesOf (moved : MovedCounts) (weighed : Weighed) : Type 0 where
   pub second : IfSome weighed.second (λ c. IsChange moved c)
   pub third : IfSome weighed.third (λ c. IsChange moved c)
 
--- where these steps break nothing in an assignment that has the moved counts, those after the steps are the assignment's
+-- if these steps break nothing in an assignment that has the moved counts, those after the steps are the assignment's
 -- after them
 pub record AreChangedBy (i : Tables) (steps : List Step) (weighed : Weighed)
     (before after : MovedCounts) : Type 0 where
@@ -93,7 +93,7 @@ pub record IsTakenIn (i : Tables) (steps : List Step) (weighed : Weighed) (verdi
   pub best_at : after.best_at ≡ before.best_at
   pub best_cost : after.best_cost ≡ before.best_cost
 
--- the state after all entries is the best one where it costs less than the best so far
+-- the state after all entries is the best one if it costs less than the best so far
 pub record IsBestKept (before after : Book) : Type 0 where
   pub entries : after.entries ≡ before.entries
   pub made : after.made ≡ before.made

@@ -25,7 +25,7 @@ unfoldable pub cost_then : ℕ → Verdict → ℕ
 cost_then cost (Done after) = after
 cost_then cost (Refused cause) = cost
 
--- the kept cost at place j: that of the last entry that is done, among the first j, and the objective of a0 where none is
+-- the kept cost at place j: that of the last entry that is done, among the first j, and the objective of a0 if none is
 unfoldable pub kept_cost : Tables → List Machine → List Entry → ℕ → ℕ
 kept_cost i a0 h zero = objective i a0 a0
 kept_cost i a0 h (suc j) = cost_then (kept_cost i a0 h j) (entry_at h j).verdict

@@ -5,7 +5,7 @@ ghost use Rattle.ra_journal.specs.Packing.{verdict_in};
 use ra_base::{Cause, Machine, Process, Resource, Service};
 use ra_moves::Verdict;
 
-/// What became of a proposal: a verdict whose causes stand beside Done, which takes 48 bytes where a verdict takes 64.
+/// What became of a proposal: a verdict whose causes stand beside Done, which takes 48 bytes, and a verdict 64.
 #[derive(Clone, Copy)]
 pub(crate) enum Outcome {
     /// It is done, and the cost is then this.
