@@ -71,7 +71,7 @@ unfolding Moves
 ended_part a b f g w text m = m
 
 module _ {O : Type 0} (taken : O → Option (List ℕ)) (faults : O → ℕ) where
-  -- from nothing waiting to nothing waiting: the sink took the text, or a front of it where a put failed
+  -- from nothing waiting to nothing waiting: the sink took the text, or a front of it if a put failed
   pub put_whole : {T E : Type 0} (old new : O) (a b c : Gathered O) (text : List ℕ) (r : Result T E) → a.to.now ≡ old → new ≡ c.to.now → a.failed ≡ false → a.waiting ≡ []
       → Adds taken faults a b text → Adds taken faults b c [] → c.waiting ≡ [] → OnOk r (c.failed ≡ false) → OnOk r (Appends (taken old) (taken new) text)
   put_whole old new a b c text r from to sound none first last empty =

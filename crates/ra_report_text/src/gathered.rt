@@ -80,7 +80,7 @@ impl<'a, O: Sink> Gathered<'a, O> {
         self.waiting.clear();
     }
 
-    /// Puts a piece, where nothing waits.
+    /// Puts a piece, if nothing waits.
     fn put(&mut self, piece: &[u8])
         requires { self.old.waiting ≡ [] }
         ensures { Adds O.taken O.faults self.old self.new piece.now }
