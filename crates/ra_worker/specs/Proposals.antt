@@ -5,7 +5,7 @@ use Rattle.ra_draws.specs.Drawn.{Drawn}
 use Rattle.ra_draws.specs.Lots.{lot_at}
 use Rattle.ra_journal.specs.Entries.{worker_count, budget, words}
 
--- worker w has made k proposals; where it has some budget left, x are the words of the next, and no later ones are drawn
+-- worker w has made k proposals; if it has some budget left, x are the words of the next, and no later ones are drawn
 pub record AreDrawn (l : Lots) (w : ℕ) (drawn : Drawn) (k : ℕ) (x : List ℕ) : Type 0 where
   pub worker : w < worker_count l
   pub within : k ≤ budget l w

@@ -60,7 +60,7 @@ impl<'a> Proposals<'a> {
     }
 }
 
-/// The words of a proposal, where it is one of the budget; the words before it are drawn already.
+/// The words of a proposal, if it is one of the budget; the words before it are drawn already.
 fn draw(draws: &mut Draws<'_>, lot: &Lot, number: u64) -> [u64; 8]
     requires lot { draws.old.lot ≡ lot.now }
     requires drawn { number < lot.now.budget → draws.old.made ≡ number }

@@ -161,7 +161,7 @@ impl<'a> Replica<'a> {
     }
 }
 
-/// Counts an entry of a worker, where that is the worker of these proposals.
+/// Counts an entry of a worker, if that is the worker of these proposals.
 fn count_own(proposals: &mut Proposals<'_>, worker: u32)
     requires left { worker ≡ proposals.old.worker →
         proposals.old.number < budget proposals.old.lots.now proposals.old.worker }
