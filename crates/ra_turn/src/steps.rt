@@ -1,5 +1,5 @@
 //! The steps of one turn, each on one word of the table.
-ghost use Rattle.std.specs.Prelude.{◌≡◌, ℕ, ◌+◌, ◌<◌, ◌^◌, [], ◌∷◌, ◌++◌, length, MatchBool, Some, None};
+ghost use Rattle.std.specs.Prelude.{◌≡◌, ℕ, ◌+◌, ◌<◌, ◌^◌, [], ◌∷◌, length, MatchBool, Some, None};
 ghost use Rattle.ra_turn.specs.Views.{view, slots};
 ghost use Rattle.ra_turn.specs.declared.sight.Stage.TheVariants.{Idle, Drawn, Called, InTurn};
 ghost use Rattle.ra_turn.specs.Stages.{HasSlot};
