@@ -18,7 +18,7 @@ use Rattle.ra_worker.proofs.FollowingLemmas.{entry_judged}
 pub here_judged : (i : Tables) (a0 : List Machine) (l : Lots) (h : List Entry) (r : Replica) (e : Entry) → WellFormed i → IsAssignment i a0 → Legal i a0 l h → IsAt i a0 l h r → r.place < length h → e ≡ entry_at h r.place → IsJudged r.world.inst.now.tables r.world.start.now.items r.world.kept.assignment.items e.mv.steps e.verdict
 here_judged i a0 l h r e limits fits legal at within e_is = rw (at.instance, at.initial) (entry_judged i a0 r.world.kept.assignment.items l h r.place e limits fits legal within e_is at.state)
 
--- where that entry is of its worker, the worker has some budget left
+-- if that entry is of its worker, the worker has some budget left
 pub here_left : (i : Tables) (a0 : List Machine) (l : Lots) (h : List Entry) (r : Replica) (e : Entry) → Legal i a0 l h → IsAt i a0 l h r → r.place < length h → e ≡ entry_at h r.place → e.worker ≡ r.proposals.worker → r.proposals.number < budget r.proposals.lots.now r.proposals.worker
 here_left i a0 l h r e legal at within e_is own =
     let numbered = (legal.each r.place within).numbered in
