@@ -34,7 +34,7 @@ some_below w steps bound cost free is low = record {
   none = λ none there. absurd (cc);
 }
 
--- where nothing is broken, there is room
+-- if nothing is broken, there is room
 pub room_free : (i : Tables) (a0 a : List Machine) (steps : List Step) → IsMove i a steps → broken_by i a0 a steps ≡ None → HaveRoom i (applied a steps) steps (length steps)
 unfolding broken_by
 room_free i a0 a steps move none =
@@ -42,7 +42,7 @@ room_free i a0 a steps move none =
     let fine = fine_from_unbroken i a0 (applied a steps) (right_none (same_of steps) (first_broken i a0 (applied a steps)) rest) in
     room_kept i a steps move fine.capacity
 
--- a test that fails though it holds where nothing is broken
+-- a test that fails though it holds if nothing is broken
 pub unfit_below : {Fits : Type 0} (w : World) (steps : List Step) (bound : ℕ) (fits : Bool) → (fits ≡ true) ↔ Fits → fits ≡ false → (cause_at w steps ≡ None → Fits) → IsMoveBelow w steps bound None
 unfit_below w steps bound fits (gives, back) unfit holds = none_below w steps bound (λ none. absurd (both_ways fits unfit (back (holds none))))
 

@@ -46,7 +46,7 @@ few_steps Chain = omega arith
 pub option_few : (a : List Machine) (x : List ℕ) (m : ℕ) (d : Drawing) (i : ℕ) → length (option_at a x m d i).steps ≤ 3
 option_few a x m d i = omega (arith, option_length a x m d i, few_steps (kind_of x))
 
--- what is read for all options of a swap or a chain but one, where two numbers are read for each step and each of r
+-- what is read for all options of a swap or a chain but one, if two numbers are read for each step and each of r
 -- resources
 rest_reads_of : (k : MoveKind) (d : Drawing) (m r : ℕ) → k ≢ Shift → count_of k d m * (2 * (step_count k * r)) ≤ 12 * r + 2 * (step_count k * r)
 unfolding count_of step_count
@@ -92,7 +92,7 @@ pub drawn_below : (a : List Machine) (x : List ℕ) (j : ℕ) → 0 < length a �
 unfolding drawn
 drawn_below a x j some = omega arith
 
--- the first place of the least answer is below n, where there is a place
+-- the first place of the least answer is below n, if there is a place
 pub least_place_below : (n : ℕ) (f : ℕ → Option ℕ) → 0 < n → least_place n f < n
 unfolding least_place
 least_place_below zero f some = absurd (omega arith)

@@ -130,7 +130,7 @@ cut_numbers j e line rest small long same =
 abbrev pub front_is : ℕ → ℕ → Front
 front_is w q = record { worker = w; q = q }
 
--- where three numbers were passed, the second and the fourth stand behind
+-- if three numbers were passed, the second and the fourth stand behind
 pub numbers_there : (line : List ℕ) (j w k q : ℕ) (rest : List ℕ) (r s t : Option ℕ) (a b c : ℕ)
     → ((n : ℕ) (x : List ℕ) → drop 0 line ≡ number_text n ++ 32 ∷ x → IsBehind line x r) → r ≡ Some a
     → ((n : ℕ) (x : List ℕ) → drop a line ≡ number_text n ++ 32 ∷ x → IsBehind line x s) → s ≡ Some b

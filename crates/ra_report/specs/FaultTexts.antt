@@ -189,7 +189,7 @@ IsInList fault = (fault ≢ assign.ReadFault) × (fault ≢ assign.NoMemory)
 abbrev pub IsInEdits : EditsFault → Type 0
 IsInEdits fault = (fault ≢ edits.ReadFault) × (fault ≢ edits.NoMemory)
 
--- a fault can be told: where a reader refused a file, that stands in the file
+-- a fault can be told: if a reader refused a file, that stands in the file
 abbrev pub CanBeTold : Fault → Type 0
 CanBeTold (Model fault) = IsInModel fault
 CanBeTold (Closed name fault) = IsInClosed fault

@@ -135,12 +135,12 @@ bound_text b =
     number_line (codes "bound") b.total ++ number_line (codes "load") b.load
     ++ number_line (codes "balance") b.balance
 
--- what comes behind the first line, where there is a line
+-- what comes behind the first line, if there is a line
 unfoldable pub after_line : List ℕ → Option (List ℕ)
 after_line [] = None
 after_line (byte ∷ bytes) = if byte == 10 then Some bytes else after_line bytes
 
--- what comes behind the first n lines, where there are so many
+-- what comes behind the first n lines, if there are so many
 unfoldable pub lines_left : ℕ → Option (List ℕ) → Option (List ℕ)
 lines_left n None = None
 lines_left zero (Some bytes) = Some bytes

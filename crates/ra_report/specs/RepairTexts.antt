@@ -52,7 +52,7 @@ unfoldable pub repair_lines : Option Cause → List Machine → List Try → Lis
 repair_lines broken a tries =
     state_line broken ++ (assignment_line a ++ tries_text tries (length tries))
 
--- the first broken constraint of the last assignment of a repair, where one is broken
+-- the first broken constraint of the last assignment of a repair, if one is broken
 abbrev pub broken_after : Repair → Option Cause
 broken_after r =
     first_broken r.inst.now.tables r.start.now.items r.kept.assignment.items

@@ -25,7 +25,7 @@ pub fn is_entry_line(line: &[u8], at: u64, entry: &Entry) -> bool
 }
 
 /// The number of the first line, counted from 0, at which some bytes differ from the ten lines of a report before its
-/// entries, or one of them has none; none where they are the same. `best`, `parts` and `bound` are as in `write_report`.
+/// entries, or one of them has none; none if they are the same. `best`, `parts` and `bound` are as in `write_report`.
 pub fn unlike_head(
     bytes: &[u8],
     best: &Assignment,

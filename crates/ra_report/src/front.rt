@@ -75,7 +75,7 @@ fn digits_length(bytes: &[u8]) -> usize
     bytes.len()
 }
 
-/// The number that the digits in front are worth, where it is below 2 ^ 64.
+/// The number that the digits in front are worth, if it is below 2 ^ 64.
 fn number_at(bytes: &[u8]) -> Option<u64>
     ensures { told 0 bytes.now < 2 ^ 64 → result ≡ Some (told 0 bytes.now) }
 {
@@ -89,7 +89,7 @@ fn number_at(bytes: &[u8]) -> Option<u64>
     Some(value)
 }
 
-/// A number with one digit more, where it is below 2 ^ 64.
+/// A number with one digit more, if it is below 2 ^ 64.
 fn one_more(value: u64, digit: u64) -> Option<u64>
     requires { digit ≤ 9 }
     ensures { result ≡ (if nat_lt (10 * value + digit) (2 ^ 64) then Some (10 * value + digit)

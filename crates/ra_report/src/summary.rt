@@ -39,7 +39,7 @@ fn count_done(entries: &Entries) -> u64
     done
 }
 
-/// 1 where a verdict is done, else 0.
+/// 1 if a verdict is done, else 0.
 fn one_if_done(verdict: &Verdict) -> u64
     ensures value { result ≡ cond (is_done verdict.now) 1 0 }
     ensures one { result ≤ 1 }

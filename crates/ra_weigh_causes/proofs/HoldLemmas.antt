@@ -1,4 +1,4 @@
--- What a move can't break holds where each step keeps it: capacity on machines that are entered, conflict of a process
+-- What a move can't break holds if each step keeps it: capacity on machines that are entered, conflict of a process
 -- that enters a machine, spread of services that move, and closed machines of processes that move.
 use Rattle.std.proofs.Common.{◌≡◌, ◌≢◌, ◌↔◌, ℕ, ◌+◌, ◌<◌, ◌≤◌, true, false, eqb, ltb, nat_le, ◌&&◌, ◌||◌, List, Option, Some, None, length, sym, refl, ap, ◌∙◌, ⊎_elim, arith, ne_eqb, le-ltb}
 use Rattle.std.proofs.lemmas.Bool.{cases_Bool, cases_lt, cond-false, and_left, and_right, and_parts, or_from, ltb-false, eqb-true, both_ways, leb-true, le-leb}
@@ -42,7 +42,7 @@ none_more f e n x so_far is here = record {
       (cases_lt j n);
 }
 
--- so nothing is found at all, where something is found at names alone
+-- so nothing is found at all, if something is found at names alone
 pub none_all : (m n k : ℕ) (f : ℕ → Option Cause) (e : ℕ → ℕ) → OnlyWhere m (is_named n e) f → k ≡ n → NoneAt f e k → first m f ≡ None
 none_all m n k f e only all none = first_none_from m f (λ x within. ⊎_elim
     (λ (named : is_named n e x ≡ true). let found = is_named_from n e x named in ap f (sym found.2) ∙ none.each found.0 (omega (arith, found.1)))

@@ -1,4 +1,4 @@
--- Dependencies hold after a move where each process finds what its service needs in the neighbourhood that it enters, and
+-- Dependencies hold after a move if each process finds what its service needs in the neighbourhood that it enters, and
 -- leaves none of a service that needs it alone in the one that it leaves.
 use Rattle.std.proofs.Common.{◌≡◌, ◌≢◌, ℕ, ◌+◌, ◌<◌, ◌≤◌, true, false, List, None, length, sym, refl, ap, ◌∙◌, ⊎_elim, subst, arith, eq-eqb}
 use Rattle.std.proofs.lemmas.Bool.{cases_Bool, cases_lt, cond-true, cond-false, eqb-true, eqb-false, ne_eqb}
@@ -180,7 +180,7 @@ near_always i a0 a steps s k p move fine keeps s_in k_in p_in of = ⊎_elim
     (λ (other : is_named (length steps) (process_in steps) p ≡ false). near_stayed i a0 a steps s k p move fine keeps s_in k_in p_in of other)
     (cases_Bool (is_named (length steps) (process_in steps) p))
 
--- where each keeps near what it needs, each service stays near each one that it needs
+-- if each keeps near what it needs, each service stays near each one that it needs
 stays_all : (i : Tables) (b : List Machine) (steps : List Step) (s k : ℕ) → KeepNear i b steps (length steps) → s < service_count i → k < dependency_count i s → StaysNear i b steps s (need_of i s k) (length steps)
 unfolding depends
 stays_all i b steps s k keeps s_in k_in = record {
@@ -221,7 +221,7 @@ pair_stays i a0 a steps s k move fine s_in k_in stays = first_none_from (process
     (λ (other : is_of i s p ≡ false). cond-false (is_of i s p) (far_test i (applied a steps) s k p) None other)
     (cases_Bool (is_of i s p)))
 
--- nor from any, where all steps keep it near the distinct ones
+-- nor from any, if all steps keep it near the distinct ones
 pub needs_stay : (i : Tables) (a0 a : List Machine) (steps : List Step) (s : ℕ) (needs : List Service) (n : ℕ) → IsMove i a steps → Fine i a0 a → s < service_count i → AreDistinctNeedsOf i s needs → n ≡ length steps → AllNear i (applied a steps) steps s needs n → service_dependency i (applied a steps) s ≡ None
 unfolding service_dependency
 needs_stay i a0 a steps s needs n move fine s_in are all near = first_none_from (dependency_count i s) _ (λ k k_in.
@@ -229,7 +229,7 @@ needs_stay i a0 a steps s needs n move fine s_in are all near = first_none_from 
     let stays : StaysNear i (applied a steps) steps s (service_at needs at.0) (length steps) = subst (λ m. StaysNear i (applied a steps) steps s (service_at needs at.0) m) all (near.each at.0 at.1) in
     pair_stays i a0 a steps s k move fine s_in k_in (subst (λ u. StaysNear i (applied a steps) steps s u (length steps)) at.2 stays))
 
--- and where none is far, the service stays near
+-- and if none is far, the service stays near
 
 pair_met : (i : Tables) (b : List Machine) (s k p : ℕ) → pair_dependency i b s k ≡ None → p < process_count i → service_of i p ≡ s → HasNear i b (need_of i s k) (neighbourhood_of i (machine_at b p))
 unfolding pair_dependency dependency_test is_of
@@ -280,7 +280,7 @@ near_all i a0 a steps n move fine all keeps =
     let every : KeepNear i (applied a steps) steps (length steps) = rw all at keeps in
     dependency_unbroken i (applied a steps) (λ s k p s_in k_in p_in of. near_always i a0 a steps s k p move fine (stays_all i (applied a steps) steps s k every s_in k_in) s_in k_in p_in of)
 
--- where no dependency is broken each process finds what its service needs
+-- if no dependency is broken each process finds what its service needs
 
 pub needs_found : (i : Tables) (b : List Machine) (s p label : ℕ) → broken_dependency i b ≡ None → s < service_count i → p < process_count i → service_of i p ≡ s → neighbourhood_of i (machine_at b p) ≡ label → FindsNeeds i b s label
 needs_found i b s p label none s_in p_in of at = record {

@@ -118,7 +118,7 @@ dependant_clear i s low next new found list are within near below above there pa
       (cases_lt at.0 found));
 }
 
--- nor is there any, where none is found
+-- nor is there any, if none is found
 pub dependant_past : (i : Tables) (s low next found : ℕ) (list : List Service) → AreDependantsOf i s list → next ≤ service_count i → ((k : ℕ) → k < found → service_at list k < low) → length list ≤ found → ClearTo (is_dependant i s) low next
 dependant_past i s low next found list are within below past = record {
   between = λ u from until. false_from_ne_true (is_dependant i s u) (λ needs.

@@ -26,7 +26,7 @@ use Rattle.ra_moves.proofs.MovedServices.{services_none, services_new, services_
 use Rattle.ra_weigh_changes.specs.CountLists.{AreCountsOf}
 use Rattle.ra_weigh_changes.proofs.MoveLemmas.{tally_next}
 
--- a process of the service is counted where it isn't at home
+-- a process of the service is counted if it isn't at home
 away_is : (b : Bool) → one_if (cond b false true) ≡ one_if (not b)
 away_is true = refl
 away_is false = refl

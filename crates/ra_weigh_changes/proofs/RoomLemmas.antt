@@ -61,6 +61,6 @@ room_more i b steps n to so_far is here = record {
 pub no_room : (i : Tables) (b : List Machine) (steps : List Step) (n j to : ℕ) → j < n → to ≡ to_in steps j → (AreWithin i to (use_of i b to) (resource_count i) → ⊥) → HaveRoom i b steps n → ⊥
 no_room i b steps n j to below is fails all = fails (rw is (all.each j below))
 
--- where no capacity is broken there is room
+-- if no capacity is broken there is room
 pub room_kept : (i : Tables) (a : List Machine) (steps : List Step) → IsMove i a steps → broken_capacity i (applied a steps) ≡ None → HaveRoom i (applied a steps) steps (length steps)
 room_kept i a steps move none = record { each = λ j below. record { each = λ r r_in. capacity_met i (applied a steps) none (to_in steps j) r (move.reaches j below) r_in } }

@@ -1,4 +1,4 @@
--- A machine's row of use where processes come and go.
+-- A machine's row of use as processes come and go.
 use Rattle.std.specs.Prelude.{◌≡◌, ℕ, ◌+◌, ◌<◌, ◌≤◌, ◌^◌, List, length, slice_index, if◌then◌else◌, ◌==◌}
 
 -- an amount at one machine
@@ -11,7 +11,7 @@ pub record HasMore (old new amounts : List ℕ) : Type 0 where
   pub each : (r : ℕ) → r < length old
       → slice_index new r ≡ slice_index old r + slice_index amounts r
 
--- or is so where the row is that of one machine
+-- or is so if the row is that of one machine
 pub record HasMoreAt (at m : ℕ) (old new amounts : List ℕ) : Type 0 where
   pub same_length : length new ≡ length old
   pub each : (r : ℕ) → r < length old

@@ -81,7 +81,7 @@ pub mask_below : (v : List ℕ) (limit : ℕ) → length v ≡ 16 → mask_l (ma
 mask_below v limit long =
     subst (λ n. mask_l (map (λ x. leb x limit) v) < 2 ^ n) (length-map v (λ x. leb x limit) ∙ long) (mask_l-lt (map (λ x. leb x limit) v))
 
--- where no lane is at most a limit, the mask is empty
+-- if no lane is at most a limit, the mask is empty
 none_by : (b : Bool) (x limit m : ℕ) → leb x limit ≡ b → cond b 1 0 + 2 * m ≡ 0 → (limit < x) × (m ≡ 0)
 none_by true x limit m e z = absurd (omega arith)
 none_by false x limit m e z = (leb-false x limit e, omega arith)
@@ -113,7 +113,7 @@ lesser_lane a b n k p q l =
     ∙ ap (λ t. cond t (get_or a k 0) (get_or b k 0)) (get_or-zip2 ltb a b k 0 0 false (omega arith) (omega arith))
     ∙ lesser_by _ _ _ refl
 
--- the lesser of each two that stand eight apart is above a limit where all sixteen are
+-- the lesser of each two that stand eight apart is above a limit if all sixteen are
 abbrev AreAbove : List ℕ → ℕ → ℕ → Type 0
 AreAbove v n limit = (k : ℕ) → k < n → limit < get_or v k 0
 

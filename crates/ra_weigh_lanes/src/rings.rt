@@ -4,7 +4,7 @@ ghost use Rattle.ra_weigh_lanes.specs.Windows.{IsRingPart};
 /// How many numbers a window has.
 const WINDOW: usize = 64;
 
-/// Sixty-four numbers of a ring from a place on: a part of the ring, or a copy where they go on at its beginning.
+/// Sixty-four numbers of a ring from a place on: a part of the ring, or a copy if they go on at its beginning.
 pub fn ring_part<'a>(ring: &'a [u32], start: usize, copy: &'a mut [u32]) -> &'a [u32]
     requires start { start < length ring.now }
     requires copy { length copy.old ≡ 64 }

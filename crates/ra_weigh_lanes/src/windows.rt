@@ -14,7 +14,7 @@ pub struct Term {
     pub amount: u32,
 }
 
-/// The sums of sixteen machines, or numbers above the limit where all of them are.
+/// The sums of sixteen machines, or numbers above the limit if all of them are.
 #[inline(always)]
 fn block(rows: &[u32], terms: &[Term], at: usize, first: u32x16, limit: u32) -> u32x16
     requires in_rows { All (λ t. t.row + at + 16 ≤ length rows.now) terms.now }

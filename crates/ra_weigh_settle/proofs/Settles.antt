@@ -1,4 +1,4 @@
--- What settling a weighed move gives: the cost after it where nothing is broken, and else the cost before it.
+-- What settling a weighed move gives: the cost after it if nothing is broken, and else the cost before it.
 use Rattle.std.proofs.Common.{◌≡◌, ℕ, ◌*◌, ◌^◌, ◌<◌, pos, List, length, get_or, Option, Some, None, refl, sym, ap, ap₂, ◌∙◌, arith}
 use Rattle.std.specs.Prelude.{IfSome, ◌-ℤ◌}
 use Rattle.std.proofs.lemmas.Int.{ints}
@@ -41,7 +41,7 @@ unbroken_move : (i : Tables) (a0 a : List Machine) (steps : List Step) (moved : 
 unfolding broken_by
 unbroken_move i a0 a steps moved kept weighed settling none = settling.moves (left_none (repeat_of steps) _ none)
 
--- a weighing where nothing is broken, and one where a cause is
+-- a weighing in which nothing is broken, and one that has a cause
 pub whole_is : (i : Tables) (a0 a : List Machine) (steps : List Step) → broken_by i a0 a steps ≡ None → weighed_of i a0 a steps ≡ record { broken = None; local = local_change i a0 a steps; first = changed_count i a0 a steps 0; second = changed_count i a0 a steps 1; third = changed_count i a0 a steps 2 }
 unfolding weighed_of weighed_by
 whole_is i a0 a steps none = rw none refl

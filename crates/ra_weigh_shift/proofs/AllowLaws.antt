@@ -1,4 +1,4 @@
--- A shift is refused for no cause exactly where its conditions are met.
+-- A shift is refused for no cause exactly if its conditions are met.
 use Rattle.std.proofs.Common.{◌≡◌, ◌≢◌, ◌↔◌, ℕ, ◌<◌, true, false, List, [], ◌∷◌, None, eqb, sym, refl, ap, ◌∙◌, arith, eq-eqb, ne_eqb}
 use Rattle.std.proofs.lemmas.Bool.{both_ways, false≢true}
 use Rattle.ra_base.specs.Searches.{or_else, first}
@@ -115,6 +115,6 @@ at_of w p to known reach = record {
   reach = reach;
 }
 
--- a test that is false where a shift breaks something
+-- a test that is false if a shift breaks something
 pub refused : {B : Type 0} → (B → ⊥) → (false ≡ true) ↔ B
 refused lacks = (λ e. absurd (false≢true e), λ b. absurd (lacks b))

@@ -94,7 +94,7 @@ way_away : (i : Tables) (a0 : List Machine) (p to : ℕ) → machine_at a0 p ≢
 unfolding way_cost process_share way_share
 way_away i a0 p to apart = ap (λ x. process_weight_of i * x + machine_weight_of i * way_cost_of i (machine_at a0 p) to) (cond-false (eqb to (machine_at a0 p)) 0 (process_cost_of i p) (ne_eqb to (machine_at a0 p) (λ same. apart (sym same))))
 
--- moved counts where p is away from home
+-- moved counts if p is away from home
 counts_away : (home to : ℕ) → home ≢ to → away home to ≡ 1
 unfolding away
 counts_away home to apart = ap (λ t. one_if (not t)) (ne_eqb home to apart)
@@ -161,7 +161,7 @@ filtered_at w p to known reach free apart =
     let law = filtered i a0 a p to (start_of i a0 a p to at allows.apart) allows.room apart in
     ap (λ b. objective i a0 b + base_taken i a0 a p) (applied_one a p to) ∙ law.cost
 
--- and where p comes home
+-- and if p comes home
 pub home_change : (i : Tables) (a0 a : List Machine) (p to : ℕ) → IsStart i a0 a p to → objective i a0 (shifted a p to) + (cost_of i a (machine_at a p) + way_cost i a0 p (machine_at a p) + cost_of i a to + service_cost i a0 a) ≡ objective i a0 a + (row_cost i (machine_at a p) (use_without i a p) + row_cost i to (use_with i a p to) + way_cost i a0 p to + service_cost i a0 (shifted a p to))
 home_change i a0 a p to h = omega (
   arith,
@@ -195,7 +195,7 @@ dear_cost w p to bound taken added room sum cost known reach apart taken_is adde
   none = λ _ free. omega (arith, filtered_at w p to known reach free apart, taken_is, added_is, room_is, sums.none sum_none);
 })
 
--- nor has one where the shift breaks something
+-- nor has one if the shift breaks something
 pub broken_cost : (w : World) (p to bound : ℕ) → (BreaksNothing w p to → ⊥) → IsCostBelow w p to bound None
 broken_cost w p to bound broken = record {
   free = λ n is. absurd (cc);
@@ -219,7 +219,7 @@ summed_cost w p to bound taken added room n sum known reach apart taken_is added
       },
     )
 
--- the sum of a machine, where its parts are found
+-- the sum of a machine, if its parts are found
 pub sum_none : (w : World) (p to bound part : ℕ) → bound ≤ part → part ≤ sum_at w p to → IsSumBelow w p to bound None
 sum_none w p to bound part above within = record {
   found = λ n is. absurd (cc);

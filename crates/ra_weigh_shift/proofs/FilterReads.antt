@@ -27,7 +27,7 @@ more_sum n s x f so_far here = ap₂ (λ u v. u + v) so_far here ∙ sym (total_
 pub row_in : (i j : Tables) (a : List Machine) (m : ℕ) (used : List ℕ) → j ≡ i → IsUsageRow j a m used → IsUsageRow i a m used
 row_in i j a m used same row = rw same at row
 
--- the greatest moved count where that of one service is another
+-- the greatest moved count if that of one service is another
 pub with_one : (counts : List ℕ) (c : MovedCount) (n : ℕ) (f : ℕ → ℕ) → length counts ≡ n → ((k : ℕ) → k < n → k ≢ c.service.0 → slice_index counts k ≡ f k) → c.after ≡ f c.service.0 → greatest_with counts (Some c) None None ≡ greatest n f
 unfolding greatest_with counted_after
 with_one counts c n f long others here = ap (λ k. greatest k (λ s. cond (eqb s c.service.0) c.after (slice_index counts s))) long ∙ greatest_same n _ f (λ k within. ⊎_elim

@@ -149,7 +149,7 @@ marked w p first bound taken added room limit marks sums known taken_is added_is
   each = λ k below set apart. are.each k below set;
 }
 
--- where there is no room, nothing is marked
+-- if there is no room, nothing is marked
 pub none_marked : (w : World) (p first bound taken added room : ℕ) (sums : List ℕ) → p < process_count (tables_of w) → taken ≡ cost_taken w p → added ≡ cost_added w p → room ≡ bound + taken - added → room ≡ 0 → AreMarked w p first bound 0 sums
 none_marked w p first bound taken added room sums known taken_is added_is room_is none = record {
   dear = λ k below unset apart. dear_at w p (machine_in w first k) bound taken added room known (in_machines w first k) apart taken_is added_is room_is (omega arith);

@@ -1,4 +1,4 @@
--- Where one process goes to another machine: what its service needs there, and who needs it where it was.
+-- If one process goes to another machine: what its service needs there, and who needs it where it was.
 use Rattle.std.proofs.Common.{◌≡◌, ◌≢◌, ℕ, ◌<◌, ◌≤◌, List, true, eqb, refl, ap, sym, ◌∙◌, ⊎_elim, arith, eq-eqb, ne_eqb}
 use Rattle.std.proofs.lemmas.Bool.{cases_eq, cases_lt}
 use Rattle.ra_base.specs.Sums.{one_if}
@@ -37,7 +37,7 @@ needs_from i a0 a p to h after = record {
       omega (arith, counted, there, near_other i a p to u (neighbourhood_of i to) h.fits h.known (λ e. other (sym e)));
 }
 
--- where p was the last of its service in a neighbourhood that it leaves, none is left
+-- if p was the last of its service in a neighbourhood that it leaves, none is left
 gone_from : (i : Tables) (a0 a : List Machine) (p to : ℕ) → IsStart i a0 a p to → neighbourhood_of i (machine_at a p) ≢ neighbourhood_of i to → in_neighbourhood i a (service_of i p) (neighbourhood_of i (machine_at a p)) ≤ 1 → in_neighbourhood i (shifted a p to) (service_of i p) (neighbourhood_of i (machine_at a p)) ≡ 0
 gone_from i a0 a p to h leaves last =
     let label = neighbourhood_of i (machine_at a p) in

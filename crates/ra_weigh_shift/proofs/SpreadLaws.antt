@@ -13,14 +13,14 @@ use Rattle.ra_weigh_shift.specs.Conditions.{shifted}
 use Rattle.ra_weigh_shift.specs.Sharing.{locations_without}
 use Rattle.ra_weigh_shift.proofs.MemberLaws.{location_mine, location_some}
 
--- a label counts where it is held
+-- a label counts if it is held
 pub label_counts : (n : ℕ) → 0 < n → one_if (ltb 0 n) ≡ 1
 label_counts n some = one_if_true _ (lt-ltb 0 n some)
 
 label_idle : (n : ℕ) → n ≡ 0 → one_if (ltb 0 n) ≡ 0
 label_idle n none = one_if_false _ (le-ltb 0 n (omega arith))
 
--- how one label's count changes where one is taken away and where one comes
+-- how one label's count changes if one is taken away and if one comes
 taken_away : (before after : ℕ) → after + 1 ≡ before → one_if (ltb 0 after) + one_if (eqb before 1) ≡ one_if (ltb 0 before)
 taken_away before after less = ⊎_elim
     (λ (last : before ≡ 1). omega (arith, one_if_true _ (eq-eqb before 1 last), label_idle after (omega arith), label_counts before (omega arith)))
@@ -60,7 +60,7 @@ some_location i a p small within =
     let some = count_some (2 ^ 32) (location_of i (machine_at a p)) (λ label. ltb 0 (in_location i a (service_of i p) label)) (small.locations (machine_at a p)) (lt-ltb 0 _ (location_some i a p within)) in
     omega (arith, some, one_if_le (eqb (in_location i a (service_of i p) (location_of i (machine_at a p))) 1))
 
--- the locations with p on `to`: those of the other processes, and that of `to` where none of them is there
+-- the locations with p on `to`: those of the other processes, and that of `to` if none of them is there
 pub spread_is : (i : Tables) (a : List Machine) (p to : ℕ) → Small i → IsAssignment i a → p < process_count i → locations_of i (shifted a p to) (service_of i p) ≡ locations_without i a p + one_if (eqb (in_location i a (service_of i p) (location_of i to)) (one_if (eqb (location_of i (machine_at a p)) (location_of i to))))
 unfolding locations_without
 spread_is i a p to small fits within = ⊎_elim

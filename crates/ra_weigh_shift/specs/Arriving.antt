@@ -39,14 +39,14 @@ cost_taken w p = base_taken w.inst.now.tables w.start.now.items w.kept.assignmen
 abbrev pub sum_at : World → ℕ → ℕ → ℕ
 sum_at w p to = filter_sum w.inst.now.tables w.start.now.items w.kept.assignment.items p to
 
--- a cost where the shift breaks nothing and costs less than a bound, and none where it breaks something or costs more
+-- a cost if the shift breaks nothing and costs less than a bound, and none if it breaks something or costs more
 pub record IsCostBelow (w : World) (p to bound : ℕ) (cost : Option ℕ) : Type 0 where
   pub free : (n : ℕ) → cost ≡ Some n → BreaksNothing w p to
   pub found : (n : ℕ) → cost ≡ Some n → n ≡ cost_after w p to
   pub below : (n : ℕ) → cost ≡ Some n → n < bound
   pub none : cost ≡ None → BreaksNothing w p to → bound ≤ cost_after w p to
 
--- the sum of a machine where that is below a bound
+-- the sum of a machine if that is below a bound
 pub record IsSumBelow (w : World) (p to bound : ℕ) (sum : Option ℕ) : Type 0 where
   pub found : (n : ℕ) → sum ≡ Some n → n ≡ sum_at w p to
   pub below : (n : ℕ) → sum ≡ Some n → n < bound

@@ -23,7 +23,7 @@ pub record HasRoomBetween (i : Tables) (a0 a : List Machine) (p to : ℕ) : Type
   pub each : (r : ℕ) → r < resource_count i → IsTrue (transient_at i r) → machine_at a0 p ≢ to
       → transient_of i a0 a to r + requirement_of i p r ≤ capacity_of i to r
 
--- each service that p's service needs is in the neighbourhood of `to`, where p brings its own
+-- each service that p's service needs is in the neighbourhood of `to`, into which p brings its own
 pub record FindsNeeds (i : Tables) (a : List Machine) (p to : ℕ) : Type 0 where
   pub each : (k : ℕ) → k < dependency_count i (service_of i p)
       → need_of i (service_of i p) k ≢ service_of i p

@@ -1,4 +1,4 @@
--- The change of the cost where process p goes to a machine other than its initial one: what is the same for all of them,
+-- The change of the cost if process p goes to a machine other than its initial one: what is the same for all of them,
 -- and what each of them adds (this project's). With ℕ's minus `a - b` is max(0, a - b).
 use Rattle.std.specs.Prelude.{◌≡◌, ℕ, ◌+◌, ◌-◌, ◌*◌, ◌==◌, List, if◌then◌else◌}
 use Rattle.ra_base.specs.Sums.{total, greatest}

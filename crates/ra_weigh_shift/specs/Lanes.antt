@@ -23,7 +23,7 @@ filter_asked i p j =
     then first_asked i p (j - resource_count i)
     else second_asked i p (j - resource_count i - balance_count i)
 
--- the same, where a number above 2^30 counts as the first above it
+-- the same, but a number above 2^30 counts as the first above it
 unfoldable pub capped_asked : Tables → ℕ → ℕ → ℕ
 capped_asked i p j = min (filter_asked i p j) (2 ^ 30 + 1)
 
@@ -59,7 +59,7 @@ pub record AreSums (w : World) (p first limit marks : ℕ) (sums : List ℕ) : T
 
 -- a bit for each of sixty-four machines to which a shift may cost less than a bound, and what each adds
 pub record AreMarked (w : World) (p first bound marks : ℕ) (sums : List ℕ) : Type 0 where
-  -- where there is no bit, it costs that much or breaks something, unless p comes home
+  -- if there is no bit, it costs that much or breaks something, unless p comes home
   pub dear : (k : ℕ) → k < 64 → bit_at marks k ≢ 1
       → machine_at (start_of w) p ≢ machine_in w first k
       → IsCostBelow w p (machine_in w first k) bound None

@@ -86,7 +86,7 @@ fn balance_more(inst: &Instance, m: Machine, used: &[u64], required: &[u32; 20],
     u128::from(objective.weight) * u128::from(lack_more(wanted, second, asked, taken))
 }
 
-/// How much what is wanted lacks more of what is left, and how much is saved, where one is lowered by what is asked and
+/// How much what is wanted lacks more of what is left, and how much is saved, if one is lowered by what is asked and
 /// the other by what is taken.
 #[inline(always)]
 fn lack_more(wanted: u64, left: u64, asked: u64, taken: u64) -> u64

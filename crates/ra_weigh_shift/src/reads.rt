@@ -95,7 +95,7 @@ fn is_other_there(world: &World<'_>, d: Service, s: Service, neighbourhood: u32)
     world.cells().in_neighbourhood(d, neighbourhood) > 0
 }
 
-/// 1 where a test holds, and else 0.
+/// 1 if a test holds, and else 0.
 #[inline(always)]
 pub(crate) fn one_when(test: bool) -> u32
     ensures value { result ≡ one_if test }

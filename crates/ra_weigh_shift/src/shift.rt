@@ -185,7 +185,7 @@ impl<'w, 'a> Shift<'w, 'a> {
         Some(self.added + sum - self.taken)
     }
 
-    /// The same, where what the machine adds is known already, unless it is the initial one.
+    /// The same, if what the machine adds is known already, unless it is the initial one.
     #[inline(always)]
     pub fn cost_summed(&self, to: Machine, sum: u32, bound: u128) -> Option<u128>
         requires machine { to.0 < machine_count (tables_of self.now.world.now) }
@@ -231,7 +231,7 @@ impl<'w, 'a> Shift<'w, 'a> {
     }
 
     /// Marks those of sixty-four machines from one on to which the shift may cost less than a bound, the initial one
-    /// left out of account, with what each adds; or none where the numbers are too great to be added side by side.
+    /// left out of account, with what each adds; or none if the numbers are too great to be added side by side.
     pub fn marks(&self, first: u32, bound: u128, sums: &mut [u32; 64]) -> Option<u64>
         requires first { first < machine_count (tables_of self.now.world.now) }
         requires bound { bound ≤ 2 ^ 120 }

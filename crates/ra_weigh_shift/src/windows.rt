@@ -15,7 +15,7 @@ use ra_world::World;
 const MOST: u64 = 1 << 30;
 
 /// What each of sixty-four machines from one on adds for a process with this initial machine, if that is at most a
-/// limit: a bit for each where it is, or none where the numbers are too great for lanes.
+/// limit. The answer has a bit for each such machine; there is no answer if the numbers are too great for lanes.
 pub(crate) fn sums_of(
     world: &World<'_>,
     required: &[u32; 20],

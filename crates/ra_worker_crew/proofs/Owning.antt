@@ -29,7 +29,7 @@ one_left (x ∷ y ∷ rest) e long is = absurd (omega (arith, long))
 entry_is : (e : Entry) (w : ℕ) (plan : Plan) (verdict : Verdict) → e.worker ≡ w → e.k ≡ plan.k → e.q ≡ plan.q → e.mv ≡ plan.mv → e.verdict ≡ verdict → e ≡ entry_of w plan verdict
 entry_is e w plan verdict worker k q mv judged = rw (← worker, ← k, ← q, ← mv, ← judged) refl
 
--- where a plan is recorded at a place, the entries from there on are its own entry alone
+-- if a plan is recorded at a place, the entries from there on are its own entry alone
 recorded_next : (w place : ℕ) (plan : Plan) (mine seen' mine' : List Entry) (j : ℕ) (verdict : Verdict) → IsRecorded w plan mine seen' mine' j verdict → j ≡ place → batch_from seen' place ≡ entry_of w plan verdict ∷ []
 recorded_next w place plan mine seen' mine' j verdict is same =
     let long : length (batch_from seen' place) ≡ 1 = omega (arith, batch_long seen' place, is.last, same) in

@@ -107,7 +107,7 @@ all_ready s i a0 l ws inst initial lots long new fresh = record {
   each = λ n d within. ready_as s i a0 l (get_or ws n d) n inst initial lots (fresh n d within) (has_each (λ (w : Worker). w.pass) (IsNew s) ws new n d within);
 }
 
--- all have run where each has
+-- all have run if each has
 pub all_run : (s : Shared) (before after : List Worker) → AreReady s before → length after ≡ length before → ((n : ℕ) (d : Worker) → n < length before → HasRun s (get_or before n d) (get_or after n d)) → HaveRun s after
 all_run s before after ready long each = record {
   one_each = long ∙ ready.one_each;

@@ -39,7 +39,7 @@ pub struct Prepared<'a> {
 
 impl<'a> Prepared<'a> {
     /// Takes all memory of a run from an initial assignment that is feasible, whose cost has these parts. It is refused
-    /// where there is too little of it.
+    /// if there is too little of it.
     pub fn make(
         alloc: Global,
         inst: &'a Instance,

@@ -19,8 +19,8 @@ impl<'s, 'a, G: Gate> Labour<Desk<'s, 'a, G>> for Worker<'a> {
 
     ghost done = { λ desk before after. HasRun desk.shared.now before after };
 
-    // It plans each proposal, passes the gate, and hands the plan in, again where that was stale, until its budget is
-    // used. No turn is taken while it plans, since the plan is made before it is handed in.
+    // Until its budget is used it plans a proposal, passes the gate, and hands the plan in. If that is stale the proposal
+    // is still the next one, so it is planned again. No turn is taken while it plans.
     fn labour<R: Wait>(&mut self, rt: &R, with: &Desk<'s, 'a, G>) {
         'proposals: while self.has_left() {
             let plan = self.plan_next();
@@ -31,8 +31,8 @@ impl<'s, 'a, G: Gate> Labour<Desk<'s, 'a, G>> for Worker<'a> {
 }
 
 impl<'a> Worker<'a> {
-    /// Makes all proposals of its budget: it plans each, passes the gate, and hands the plan in, again where that was
-    /// stale. It may wait.
+    /// Makes all proposals of its budget: it plans each, passes the gate, and hands the plan in, and plans it again if
+    /// that was stale. It may wait.
     pub fn run<R: Wait, G: Gate>(&mut self, rt: &R, shared: &Shared<'a>, gate: &G)
         requires { MayRun shared.now self.old }
         ensures { HasRun shared.now self.old self.new }

@@ -123,7 +123,7 @@ impl<'a> Worker<'a> {
         take_one::<Brand>(&mut self.replica, &entry, Blank::new(1));
     }
 
-    /// Catches up past an entry that it has seen, where all that it has made stands at that place or before.
+    /// Catches up past an entry that it has seen, if all that it has made stands at that place or before.
     fn catch_up_past<R: Wait>(&mut self, rt: &R, shared: &Shared<'a>, shown: u64)
         requires work { IsAtWork shared.now self.old }
         requires behind { IsBehind shown self.old }

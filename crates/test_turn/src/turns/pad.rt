@@ -89,7 +89,7 @@ fn version_of(lines: &[Line], guard: u32) -> u64
     version
 }
 
-// Takes a turn, writes a line in it where a number is given, and says what it had found.
+// Takes a turn, writes a line in it if a number is given, and says what it had found.
 pub fn take_turn<R: Wait>(
     rt: &R,
     alloc: Global,

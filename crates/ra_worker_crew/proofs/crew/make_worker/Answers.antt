@@ -5,7 +5,7 @@ use Rattle.ra_worker_crew.specs.declared.worker.Worker.{Worker}
 use Rattle.ra_worker_crew.specs.Crews.{IsFresh}
 use Rattle.ra_worker_crew.proofs.crew.make_worker.Goals as goal
 
--- what follows from two facts of a value, where there is one
+-- what follows from two facts of a value, if there is one
 from_both : {T E : Type 0} {P Q R : T → Type 0} (made : Result T E) → IfOk made P → IfOk made Q → ((x : T) → P x → Q x → R x) → IfOk made R
 from_both (Ok x) p q follows = follows x p q
 from_both (Err e) p q follows = tt

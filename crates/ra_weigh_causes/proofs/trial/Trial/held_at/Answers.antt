@@ -1,4 +1,4 @@
--- An end whose location is new counts where that holds the service.
+-- An end whose location is new counts if that holds the service.
 use Rattle.std.proofs.Common.{sym, ◌∙◌}
 use Rattle.ra_weigh_causes.specs.Marks.{held_in, end_location}
 use Rattle.ra_weigh_causes.specs.Trials.{tables_of, steps_of, before_of, after_of}

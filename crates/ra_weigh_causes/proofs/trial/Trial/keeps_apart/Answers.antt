@@ -1,4 +1,4 @@
--- Two processes of a service are on one machine only where one of them enters it.
+-- Two processes of a service are on one machine only if one of them enters it.
 use Rattle.std.proofs.Common.{◌≡◌, length, sym, arith}
 use Rattle.ra_weigh_causes.specs.Trials.{tables_of, initial_of, steps_of, before_of, after_of}
 use Rattle.ra_weigh_causes.proofs.StepLemmas.{step_process, step_to, to_read, service_read, service_there}
