@@ -15,15 +15,27 @@ use Rattle.ra_moves.proofs.Repeats.{distinct_from_none}
 use Rattle.ra_moves.specs.Judging.{repeat_of, same_of, broken_by, rise_test, verdict_of, judge}
 
 -- a flaw of the steps
-pub judge_flaw : (i : Tables) (a0 a : List Machine) (steps : List Step) (allowed : ℕ) (cause : Cause) → or_else (repeat_of steps) (same_of steps) ≡ Some cause → Refused cause ≡ judge i a0 a steps allowed
+pub judge_flaw : (i : Tables) (a0 a : List Machine) (steps : List Step) (allowed : ℕ) (cause : Cause) →
+    or_else (repeat_of steps) (same_of steps) ≡ Some cause → Refused cause ≡ judge i a0 a steps allowed
 unfolding judge broken_by verdict_of
-judge_flaw i a0 a steps allowed cause found = rw (← or_else_assoc (repeat_of steps) (same_of steps) (first_broken i a0 (applied a steps)), found, or_else_some, or_else_some) refl
+judge_flaw i a0 a steps allowed cause found =
+    rw (
+      ← or_else_assoc (repeat_of steps) (same_of steps) (first_broken i a0 (applied a steps)),
+      found,
+      or_else_some,
+      or_else_some,
+    ) refl
 
 -- no process is named twice in steps without a flaw
 pub flawless_distinct : (steps : List Step) → or_else (repeat_of steps) (same_of steps) ≡ None → Distinct steps
 flawless_distinct steps none = distinct_from_none steps (left_none (repeat_of steps) (same_of steps) none)
 
 -- else the verdict by what the move makes of the assignment
-pub judge_outcome : (i : Tables) (a0 a after : List Machine) (steps : List Step) (before allowed : ℕ) → or_else (repeat_of steps) (same_of steps) ≡ None → after ≡ applied a steps → before ≡ objective i a0 a → verdict_of (or_else (first_broken i a0 after) (rise_test before (objective i a0 after) allowed)) (objective i a0 after) ≡ judge i a0 a steps allowed
+pub judge_outcome : (i : Tables) (a0 a after : List Machine) (steps : List Step) (before allowed : ℕ) →
+    or_else (repeat_of steps) (same_of steps) ≡ None → after ≡ applied a steps → before ≡ objective i a0 a →
+    verdict_of (or_else (first_broken i a0 after) (rise_test before (objective i a0 after) allowed))
+    (objective i a0 after) ≡ judge i a0 a steps allowed
 unfolding judge broken_by or_else
-judge_outcome i a0 a after steps before allowed none made cost = rw (left_none (repeat_of steps) (same_of steps) none, right_none (repeat_of steps) (same_of steps) none, made, cost) refl
+judge_outcome i a0 a after steps before allowed none made cost =
+    rw (left_none (repeat_of steps) (same_of steps) none, right_none (repeat_of steps) (same_of steps) none, made, cost)
+    refl

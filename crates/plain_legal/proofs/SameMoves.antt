@@ -16,4 +16,5 @@ unfolding step_at
 same_steps xs ys n long all same = ext_get_or _ xs ys long (λ j within. same.each j (omega arith))
 
 pub one_move : (a b : MoveSteps) → a.kind ≡ b.kind → a.steps ≡ b.steps → a ≡ b
-one_move a b kind steps = let as_move : MoveKind → List Step → MoveSteps = λ k x. record { kind = k; steps = x } in ap₂ as_move kind steps
+one_move a b kind steps =
+    let as_move : MoveKind → List Step → MoveSteps = λ k x. record { kind = k; steps = x } in ap₂ as_move kind steps

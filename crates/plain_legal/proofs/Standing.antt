@@ -1,6 +1,7 @@
 -- In a legal journal each move finds its processes where it takes them from, though it was planned at an earlier place:
 -- what was made since is apart from it, so it moved none of them.
-use Rattle.std.proofs.Common.{◌≡◌, ℕ, zero, suc, ◌<◌, ◌≤◌, List, length, Option, Some, None, sym, refl, ap, ◌∙◌, ⊎_elim, subst, arith}
+use Rattle.std.proofs.Common.{◌≡◌, ℕ, zero, suc, ◌<◌, ◌≤◌, List, length, Option, Some, None, sym, refl, ap, ◌∙◌, ⊎_elim}
+use Rattle.std.proofs.Common.{subst, arith}
 use Rattle.std.proofs.lemmas.Bool.{cases_lt, or_left, both_ways}
 use Rattle.ra_base.specs.Sums.{is_named}
 use Rattle.ra_base.specs.declared.causes.Cause.{Cause}
@@ -40,34 +41,49 @@ use Rattle.plain_legal.specs.Benches.{CanReplay}
 use Rattle.plain_legal.specs.Touching.{IsApartFrom}
 
 -- a move that is apart from another keeps its processes where they are, since it would touch the service of one
-unmoved : (i : Tables) (steps others : List Step) (a : List Machine) (j : ℕ) → Apart i steps others → j < length steps → machine_at (applied a others) (process_in steps j) ≡ machine_at a (process_in steps j)
+unmoved : (i : Tables) (steps others : List Step) (a : List Machine) (j : ℕ) → Apart i steps others → j < length steps →
+    machine_at (applied a others) (process_in steps j) ≡ machine_at a (process_in steps j)
 unfolding applied is_guard writes moves_service service_in
 unmoved i steps others a j apart within =
     let s = service_of i (process_in steps j) in
-    let free = apart.each (guard.Service (record { 0 = s })) (or_left _ _ (is_named_at (length steps) j (service_in i steps) s within refl)) in
+    let free = apart.each (guard.Service (record { 0 = s }))
+    (or_left _ _ (is_named_at (length steps) j (service_in i steps) s within refl)) in
     after_stayed a others (length others) (process_in steps j) (λ k there same.
-    both_ways (is_named (length others) (service_in i others) s) free (is_named_at (length others) k (service_in i others) s there (ap (service_of i) same)))
+    both_ways (is_named (length others) (service_in i others) s) free
+    (is_named_at (length others) k (service_in i others) s there (ap (service_of i) same)))
 
-unmoved_made : (i : Tables) (steps : List Step) (a : List Machine) (j : ℕ) (made : Option (List Step)) → IsApartFrom i steps made → j < length steps → machine_at (after_made a made) (process_in steps j) ≡ machine_at a (process_in steps j)
+unmoved_made : (i : Tables) (steps : List Step) (a : List Machine) (j : ℕ) (made : Option (List Step)) →
+    IsApartFrom i steps made → j < length steps → machine_at (after_made a made) (process_in steps j) ≡
+    machine_at a (process_in steps j)
 unfolding after_made
 unmoved_made i steps a j None apart within = refl
 unmoved_made i steps a j (Some others) apart within = unmoved i steps others a j (apart others refl) within
 
 -- from place q on
-unmoved_since : (i : Tables) (a0 : List Machine) (h : List Entry) (q n : ℕ) (steps : List Step) (j : ℕ) → ApartSince i (made_in h) q n steps → q ≤ n → j < length steps → machine_at (state a0 h n) (process_in steps j) ≡ machine_at (state a0 h q) (process_in steps j)
+unmoved_since : (i : Tables) (a0 : List Machine) (h : List Entry) (q n : ℕ) (steps : List Step) (j : ℕ) →
+    ApartSince i (made_in h) q n steps → q ≤ n → j < length steps → machine_at (state a0 h n) (process_in steps j) ≡
+    machine_at (state a0 h q) (process_in steps j)
 unfolding state
-unmoved_since i a0 h q zero steps j apart since within = let here : 0 ≡ q = omega arith in ap (λ n. machine_at (state a0 h n) (process_in steps j)) here
+unmoved_since i a0 h q zero steps j apart since within =
+    let here : 0 ≡ q = omega arith in ap (λ n. machine_at (state a0 h n) (process_in steps j)) here
 unmoved_since i a0 h q (suc n) steps j apart since within = ⊎_elim
-    (λ (here : n < q). let same : suc n ≡ q = omega arith in ap (λ n. machine_at (state a0 h n) (process_in steps j)) same)
+    (λ (here : n < q). let same : suc n ≡ q = omega arith in
+    ap (λ n. machine_at (state a0 h n) (process_in steps j)) same)
     (λ (before : q ≤ n).
-    let fewer : ApartSince i (made_in h) q n steps = record { each = λ k others from below is. apart.each k others from (omega arith) is } in
-    unmoved_made i steps (state a0 h n) j (made_by (entry_at h n)) (λ others is. apart.each n others before (omega arith) (made_place h n ∙ is)) within ∙ unmoved_since i a0 h q n steps j fewer before within)
+    let fewer : ApartSince i (made_in h) q n steps = record {
+      each = λ k others from below is. apart.each k others from (omega arith) is;
+    } in
+    unmoved_made i steps (state a0 h n) j (made_by (entry_at h n))
+    (λ others is. apart.each n others before (omega arith) (made_place h n ∙ is)) within
+    ∙ unmoved_since i a0 h q n steps j fewer before within)
     (cases_lt n q)
 
 -- a plan's processes are in their places where it was planned
-plan_stands : (i : Tables) (a0 a : List Machine) (x : List ℕ) (d : Drawing) (rise : ℕ) → WellFormed i → IsAssignment i a → StandsAt from_in (plan_of i a0 a x d rise).steps a
+plan_stands : (i : Tables) (a0 a : List Machine) (x : List ℕ) (d : Drawing) (rise : ℕ) → WellFormed i →
+    IsAssignment i a → StandsAt from_in (plan_of i a0 a x d rise).steps a
 unfolding plan_of
-plan_stands i a0 a x d rise limits fits = option_stands a x (machine_count i) d (plan_place i a0 a x d rise) (omega (arith, fits.one_each, limits.some_process)) (omega (arith, limits.some_machine))
+plan_stands i a0 a x d rise limits fits = option_stands a x (machine_count i) d (plan_place i a0 a x d rise)
+    (omega (arith, fits.one_each, limits.some_process)) (omega (arith, limits.some_machine))
 
 -- what is known of an entry's move: its processes and the machines that it enters exist, and its processes are in their
 -- places where it was planned
@@ -76,7 +92,8 @@ pub record IsPlanAt (i : Tables) (a : List Machine) (steps : List Step) : Type 0
   pub reaches : Reaches (machine_count i) steps
   pub stands : StandsAt from_in steps a
 
-pub plan_at : (i : Tables) (a0 a : List Machine) (x : List ℕ) (d : Drawing) (rise : ℕ) (mv : MoveSteps) → WellFormed i → IsAssignment i a → mv ≡ plan_of i a0 a x d rise → IsPlanAt i a mv.steps
+pub plan_at : (i : Tables) (a0 a : List Machine) (x : List ℕ) (d : Drawing) (rise : ℕ) (mv : MoveSteps) → WellFormed i →
+    IsAssignment i a → mv ≡ plan_of i a0 a x d rise → IsPlanAt i a mv.steps
 plan_at i a0 a x d rise mv limits fits is = subst (λ (m : MoveSteps). IsPlanAt i a m.steps) (sym is) (record {
   known = plan_known i a0 a x d rise limits fits;
   reaches = plan_reaches i a0 a x d rise limits fits;
@@ -84,7 +101,9 @@ plan_at i a0 a x d rise mv limits fits is = subst (λ (m : MoveSteps). IsPlanAt 
 })
 
 -- they are still in their places at a later place, if no guard was touched since
-pub stands_later : (i : Tables) (a0 : List Machine) (h : List Entry) (q n : ℕ) (steps : List Step) → IsAssignment i (state a0 h q) → IsAssignment i (state a0 h n) → ApartSince i (made_in h) q n steps → q ≤ n → StandsAt from_in steps (state a0 h q) → StandsAt from_in steps (state a0 h n)
+pub stands_later : (i : Tables) (a0 : List Machine) (h : List Entry) (q n : ℕ) (steps : List Step) →
+    IsAssignment i (state a0 h q) → IsAssignment i (state a0 h n) → ApartSince i (made_in h) q n steps → q ≤ n →
+    StandsAt from_in steps (state a0 h q) → StandsAt from_in steps (state a0 h n)
 stands_later i a0 h q n steps then_fits fits apart since stood = record {
   known = λ j within. omega (arith, stood.known j within, then_fits.one_each, fits.one_each);
   at = λ j within. unmoved_since i a0 h q n steps j apart since within ∙ stood.at j within;
@@ -92,42 +111,58 @@ stands_later i a0 h q n steps then_fits fits apart since stood = record {
 
 -- the states of a legal journal are assignments
 
-made_fits : (i : Tables) (a : List Machine) (steps : List Step) (verdict : Verdict) → IsAssignment i a → Reaches (machine_count i) steps → IsAssignment i (after_made a (steps_made verdict steps))
+made_fits : (i : Tables) (a : List Machine) (steps : List Step) (verdict : Verdict) → IsAssignment i a →
+    Reaches (machine_count i) steps → IsAssignment i (after_made a (steps_made verdict steps))
 unfolding steps_made after_made
 made_fits i a steps (Done cost) fits reaches = applied_fits i a steps reaches fits
 made_fits i a steps (Refused cause) fits reaches = fits
 
-pub legal_fewer : (i : Tables) (a0 : List Machine) (l : Lots) (h : List Entry) (m n : ℕ) → m ≤ n → IsLegal i a0 l h n → IsLegal i a0 l h m
+pub legal_fewer : (i : Tables) (a0 : List Machine) (l : Lots) (h : List Entry) (m n : ℕ) → m ≤ n → IsLegal i a0 l h n →
+    IsLegal i a0 l h m
 legal_fewer i a0 l h m n few legal = record { each = λ j before. legal.each j (omega arith) }
 
-pub states_fit : (i : Tables) (a0 : List Machine) (l : Lots) (h : List Entry) → WellFormed i → IsAssignment i a0 → (n : ℕ) → IsLegal i a0 l h n → (k : ℕ) → k ≤ n → IsAssignment i (state a0 h k)
+pub states_fit : (i : Tables) (a0 : List Machine) (l : Lots) (h : List Entry) → WellFormed i → IsAssignment i a0 →
+    (n : ℕ) → IsLegal i a0 l h n → (k : ℕ) → k ≤ n → IsAssignment i (state a0 h k)
 unfolding state made_by
-states_fit i a0 l h limits fits zero legal k below = let start : 0 ≡ k = omega arith in subst (λ n. IsAssignment i (state a0 h n)) start fits
+states_fit i a0 l h limits fits zero legal k below =
+    let start : 0 ≡ k = omega arith in subst (λ n. IsAssignment i (state a0 h n)) start fits
 states_fit i a0 l h limits fits (suc n) legal k below = ⊎_elim
-    (λ (before : k < suc n). states_fit i a0 l h limits fits n (legal_fewer i a0 l h n (suc n) (omega arith) legal) k (omega arith))
+    (λ (before : k < suc n). states_fit i a0 l h limits fits n (legal_fewer i a0 l h n (suc n) (omega arith) legal) k
+    (omega arith))
     (λ (after : suc n ≤ k).
     let here : suc n ≡ k = omega arith in
     let e = entry_at h n in
     let next = legal.each n (omega arith) in
     let earlier = states_fit i a0 l h limits fits n (legal_fewer i a0 l h n (suc n) (omega arith) legal) in
-    let planned = plan_at i a0 (state a0 h e.q) (words l e.worker e.k) l.drawing (allowed l e.worker e.k) e.mv limits (earlier e.q next.placed.place) next.planned in
-    subst (λ m. IsAssignment i (state a0 h m)) here (made_fits i (state a0 h n) e.mv.steps e.verdict (earlier n (omega arith)) planned.reaches))
+    let planned = plan_at i a0 (state a0 h e.q) (words l e.worker e.k) l.drawing (allowed l e.worker e.k) e.mv limits
+    (earlier e.q next.placed.place) next.planned in
+    subst (λ m. IsAssignment i (state a0 h m)) here
+    (made_fits i (state a0 h n) e.mv.steps e.verdict (earlier n (omega arith)) planned.reaches))
     (cases_lt k (suc n))
 
 -- what is known of an entry's move at its own place j, by the clauses before its verdict
-pub move_at : (i : Tables) (a0 : List Machine) (l : Lots) (h : List Entry) (j : ℕ) (e : Entry) → WellFormed i → IsAssignment i a0 → IsLegal i a0 l h j → e.q ≤ j → e.mv ≡ plan_of i a0 (state a0 h e.q) (words l e.worker e.k) l.drawing (allowed l e.worker e.k) → IsPlanAt i (state a0 h e.q) e.mv.steps
-move_at i a0 l h j e limits fits legal place planned = plan_at i a0 (state a0 h e.q) (words l e.worker e.k) l.drawing (allowed l e.worker e.k) e.mv limits (states_fit i a0 l h limits fits j legal e.q place) planned
+pub move_at : (i : Tables) (a0 : List Machine) (l : Lots) (h : List Entry) (j : ℕ) (e : Entry) → WellFormed i →
+    IsAssignment i a0 → IsLegal i a0 l h j → e.q ≤ j →
+    e.mv ≡ plan_of i a0 (state a0 h e.q) (words l e.worker e.k) l.drawing (allowed l e.worker e.k) →
+    IsPlanAt i (state a0 h e.q) e.mv.steps
+move_at i a0 l h j e limits fits legal place planned = plan_at i a0 (state a0 h e.q) (words l e.worker e.k) l.drawing
+    (allowed l e.worker e.k) e.mv limits (states_fit i a0 l h limits fits j legal e.q place) planned
 
-pub stands_at : (i : Tables) (a0 : List Machine) (l : Lots) (h : List Entry) (j : ℕ) (e : Entry) → WellFormed i → IsAssignment i a0 → IsLegal i a0 l h j → e.q ≤ j → Untouched i (made_in h) e.q j e.mv.steps → StandsAt from_in e.mv.steps (state a0 h e.q) → StandsAt from_in e.mv.steps (state a0 h j)
+pub stands_at : (i : Tables) (a0 : List Machine) (l : Lots) (h : List Entry) (j : ℕ) (e : Entry) → WellFormed i →
+    IsAssignment i a0 → IsLegal i a0 l h j → e.q ≤ j → Untouched i (made_in h) e.q j e.mv.steps →
+    StandsAt from_in e.mv.steps (state a0 h e.q) → StandsAt from_in e.mv.steps (state a0 h j)
 stands_at i a0 l h j e limits fits legal place untouched stood =
     let fit = states_fit i a0 l h limits fits j legal in
-    stands_later i a0 h e.q j e.mv.steps (fit e.q place) (fit j (omega arith)) (apart_from_untouched i (made_in h) e.q j e.mv.steps untouched) place stood
+    stands_later i a0 h e.q j e.mv.steps (fit e.q place) (fit j (omega arith))
+    (apart_from_untouched i (made_in h) e.q j e.mv.steps untouched) place stood
 
 -- the move of entry j, at the place where it was planned
-pub entry_planned : (i : Tables) (a0 : List Machine) (l : Lots) (h : List Entry) (n j : ℕ) → WellFormed i → IsAssignment i a0 → IsLegal i a0 l h n → j < n → IsPlanAt i (state a0 h (entry_at h j).q) (entry_at h j).mv.steps
+pub entry_planned : (i : Tables) (a0 : List Machine) (l : Lots) (h : List Entry) (n j : ℕ) → WellFormed i →
+    IsAssignment i a0 → IsLegal i a0 l h n → j < n → IsPlanAt i (state a0 h (entry_at h j).q) (entry_at h j).mv.steps
 entry_planned i a0 l h n j limits fits legal before =
     let here = legal.each j before in
-    move_at i a0 l h j (entry_at h j) limits fits (legal_fewer i a0 l h j n (omega arith) legal) here.placed.place here.planned
+    move_at i a0 l h j (entry_at h j) limits fits (legal_fewer i a0 l h j n (omega arith) legal) here.placed.place
+    here.planned
 
 -- a move that is done isn't refused as Repeat
 done_none : (found : Option Cause) (x cost : ℕ) → verdict_of found x ≡ Done cost → found ≡ None
@@ -135,15 +170,20 @@ unfolding verdict_of
 done_none None x cost is = refl
 done_none (Some cause) x cost is = absurd (cc)
 
-done_distinct : (i : Tables) (a0 a : List Machine) (steps : List Step) (rise cost : ℕ) (verdict : Verdict) → verdict ≡ judge i a0 a steps rise → verdict ≡ Done cost → Distinct steps
+done_distinct : (i : Tables) (a0 a : List Machine) (steps : List Step) (rise cost : ℕ) (verdict : Verdict) →
+    verdict ≡ judge i a0 a steps rise → verdict ≡ Done cost → Distinct steps
 unfolding judge broken_by
-done_distinct i a0 a steps rise cost verdict is done = distinct_from_none steps (left_none (repeat_of steps) _ (left_none _ _ (done_none _ _ cost (sym is ∙ done))))
+done_distinct i a0 a steps rise cost verdict is done =
+    distinct_from_none steps (left_none (repeat_of steps) _ (left_none _ _ (done_none _ _ cost (sym is ∙ done))))
 
 -- so the first n entries can be replayed
-pub can_replay : (i : Tables) (a0 : List Machine) (l : Lots) (h : List Entry) (n : ℕ) → WellFormed i → IsAssignment i a0 → IsLegal i a0 l h n → CanReplay a0 h n
+pub can_replay : (i : Tables) (a0 : List Machine) (l : Lots) (h : List Entry) (n : ℕ) → WellFormed i →
+    IsAssignment i a0 → IsLegal i a0 l h n → CanReplay a0 h n
 can_replay i a0 l h n limits fits legal = record {
   stands = λ j before.
       let here = legal.each j before in
-      stands_at i a0 l h j (entry_at h j) limits fits (legal_fewer i a0 l h j n (omega arith) legal) here.placed.place here.untouched (entry_planned i a0 l h n j limits fits legal before).stands;
-  distinct = λ j before cost done. done_distinct i a0 (state a0 h j) (entry_at h j).mv.steps _ cost (entry_at h j).verdict (legal.each j before).judged done;
+      stands_at i a0 l h j (entry_at h j) limits fits (legal_fewer i a0 l h j n (omega arith) legal) here.placed.place
+      here.untouched (entry_planned i a0 l h n j limits fits legal before).stands;
+  distinct = λ j before cost done. done_distinct i a0 (state a0 h j) (entry_at h j).mv.steps _ cost
+      (entry_at h j).verdict (legal.each j before).judged done;
 }

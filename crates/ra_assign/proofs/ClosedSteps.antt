@@ -1,5 +1,6 @@
 -- One step of reading a closed list.
-use Rattle.std.proofs.Common.{◌≡◌, ℕ, ◌+◌, ◌<◌, ◌≤◌, List, Bool, false, length, set, true, Some, refl, sym, ap, ◌∙◌, subst, arith}
+use Rattle.std.proofs.Common.{◌≡◌, ℕ, ◌+◌, ◌<◌, ◌≤◌, List, Bool, false, length, set, true, Some, refl, sym, ap, ◌∙◌}
+use Rattle.std.proofs.Common.{subst, arith}
 use Rattle.std.specs.Prelude.{replicate}
 use Rattle.ra_base.specs.declared.ids.Machine.{Machine}
 use Rattle.ra_token.specs.declared.answers.Token.{Token}
@@ -17,7 +18,8 @@ use Rattle.ra_assign.specs.ClosedLists.{closed_fault, closed_refusal}
 use Rattle.ra_assign.specs.Answers.{ClosedSays, IsClosedRefusal}
 use Rattle.ra_token.specs.Moments.{HasNext, HasFault}
 use Rattle.ra_assign.specs.Reading.{TakesClosed, HasFlaggedFirst, ClosedStop}
-use Rattle.ra_assign.proofs.ClosedLemmas.{token_inside, token_outside, closed_refused_at, closed_refused_end, few_tokens, flagged_more, flagged_none}
+use Rattle.ra_assign.proofs.ClosedLemmas.{token_inside, token_outside, closed_refused_at, closed_refused_end}
+use Rattle.ra_assign.proofs.ClosedLemmas.{few_tokens, flagged_more, flagged_none}
 
 -- only a failed fetch is told as one
 pub fault_read : (fault : TokenFault) → closed_fault fault ≡ ReadFault → fault ≡ told.ReadFault
@@ -29,13 +31,18 @@ fault_read told.TooLong e = cc
 fault_read told.NoMemory e = cc
 
 -- where a machine or the end is due: a fault, a number that is no machine's, and a machine
-pub stopped : (bytes : List ℕ) (i : Tables) (x : ℕ) (fault : ClosedFault) → HasFault closed_fault bytes x fault → ClosedStop bytes i x fault
-stopped bytes i x fault h flags flagged = subst (λ (f : ClosedFault). ClosedSays (closed_refusal bytes i) f) (sym h.same) (closed_refused_end bytes i x flags h.token_fault flagged h.answer)
+pub stopped : (bytes : List ℕ) (i : Tables) (x : ℕ) (fault : ClosedFault) → HasFault closed_fault bytes x fault →
+    ClosedStop bytes i x fault
+stopped bytes i x fault h flags flagged = subst (λ (f : ClosedFault). ClosedSays (closed_refusal bytes i) f)
+    (sym h.same) (closed_refused_end bytes i x flags h.token_fault flagged h.answer)
 
-pub outside : (bytes : List ℕ) (i : Tables) (x y : ℕ) (t : Token) → HasNext bytes x y (Some t) → machine_count i ≤ t.value → ClosedStop bytes i x (NoMachine t.at t.value)
-outside bytes i x y t h past flags flagged = closed_refused_at bytes i x flags t flagged h.answer (token_outside bytes i (tokens_before bytes x) t h.answer past)
+pub outside : (bytes : List ℕ) (i : Tables) (x y : ℕ) (t : Token) → HasNext bytes x y (Some t) →
+    machine_count i ≤ t.value → ClosedStop bytes i x (NoMachine t.at t.value)
+outside bytes i x y t h past flags flagged =
+    closed_refused_at bytes i x flags t flagged h.answer (token_outside bytes i (tokens_before bytes x) t h.answer past)
 
-pub takes : (bytes : List ℕ) (i : Tables) (x y : ℕ) (t : Token) → HasNext bytes x y (Some t) → t.value < machine_count i → TakesClosed bytes i x y (record { 0 = t.value })
+pub takes : (bytes : List ℕ) (i : Tables) (x y : ℕ) (t : Token) → HasNext bytes x y (Some t) →
+    t.value < machine_count i → TakesClosed bytes i x y (record { 0 = t.value })
 takes bytes i x y t h within = record {
   token = t;
   found = h.answer;
@@ -45,16 +52,25 @@ takes bytes i x y t h within = record {
 }
 
 -- at the start nothing was flagged
-pub first_none : (bytes : List ℕ) (i : Tables) (place : ℕ) (flags : List Bool) → tokens_before bytes place ≡ 0 → flags ≡ replicate (machine_count i) false → HasFlaggedFirst bytes i place 0 flags
-first_none bytes i place flags start empty = record { flagged = rw empty (flagged_none bytes i place start); given = start }
+pub first_none : (bytes : List ℕ) (i : Tables) (place : ℕ) (flags : List Bool) → tokens_before bytes place ≡ 0 →
+    flags ≡ replicate (machine_count i) false → HasFlaggedFirst bytes i place 0 flags
+first_none bytes i place flags start empty = record {
+  flagged = rw empty (flagged_none bytes i place start);
+  given = start;
+}
 
 -- one more machine
-pub first_more : (bytes : List ℕ) (i : Tables) (x y n : ℕ) (flags after : List Bool) (m : Machine) → HasFlaggedFirst bytes i x n flags → TakesClosed bytes i x y m → m.0 < length flags → after ≡ set flags m.0 true → HasFlaggedFirst bytes i y (n + 1) after
+pub first_more : (bytes : List ℕ) (i : Tables) (x y n : ℕ) (flags after : List Bool) (m : Machine) →
+    HasFlaggedFirst bytes i x n flags → TakesClosed bytes i x y m → m.0 < length flags → after ≡ set flags m.0 true →
+    HasFlaggedFirst bytes i y (n + 1) after
 first_more bytes i x y n flags after m before one within e = record {
   flagged = rw e (flagged_more bytes i x y flags m before.flagged one within);
   given = one.next ∙ ap (λ (k : ℕ). k + 1) before.given;
 }
 
 -- a reader cannot be behind more tokens than a file can have
-pub too_many : (bytes : List ℕ) (i : Tables) (n : ℕ) (flags : List Bool) (reader : Standing) → HasFlaggedFirst bytes i reader.place n flags → StandsIn bytes reader → PLACE_LIMIT < n → IsClosedRefusal bytes i TooLong
-too_many bytes i n flags reader first stands many = absurd (omega (arith, few_tokens bytes reader.place stands.between, first.given, many))
+pub too_many : (bytes : List ℕ) (i : Tables) (n : ℕ) (flags : List Bool) (reader : Standing) →
+    HasFlaggedFirst bytes i reader.place n flags → StandsIn bytes reader → PLACE_LIMIT < n →
+    IsClosedRefusal bytes i TooLong
+too_many bytes i n flags reader first stands many =
+    absurd (omega (arith, few_tokens bytes reader.place stands.between, first.given, many))

@@ -1,5 +1,6 @@
 -- The text of an assignment, one machine after another.
-use Rattle.std.proofs.Common.{◌≡◌, ℕ, zero, suc, ◌+◌, ◌<◌, ◌≤◌, List, [], ◌∷◌, ◌++◌, length, refl, sym, ap, ◌∙◌, get_or, arith, add-one}
+use Rattle.std.proofs.Common.{◌≡◌, ℕ, zero, suc, ◌+◌, ◌<◌, ◌≤◌, List, [], ◌∷◌, ◌++◌, length, refl, sym, ap, ◌∙◌, get_or}
+use Rattle.std.proofs.Common.{arith, add-one}
 use Rattle.std.proofs.lemmas.List.{drop_all, append_assoc}
 use Rattle.std.proofs.Math.Seq.{drop-cons}
 use Rattle.std.specs.Prelude.{drop, decimal}
@@ -18,29 +19,37 @@ unfolding text_from
 none_written a = refl
 
 -- behind the last machine
-pub all_written : (p : ℕ) (text : List ℕ) (a : List Machine) → text ++ text_from p [] ≡ assignment_bytes a → text ++ 10 ∷ [] ≡ assignment_bytes a
+pub all_written : (p : ℕ) (text : List ℕ) (a : List Machine) → text ++ text_from p [] ≡ assignment_bytes a →
+    text ++ 10 ∷ [] ≡ assignment_bytes a
 unfolding text_from assignment_bytes more_text
 all_written zero text a e = e
 all_written (suc p) text a e = e
 
 -- one more machine
-pub more_written : (p : ℕ) (text after : List ℕ) (a : List Machine) (m d : Machine) → p < length a → text ++ text_from p (drop p a) ≡ assignment_bytes a → m ≡ get_or a p d → after ≡ text ++ machine_text p m → after ++ text_from (p + 1) (drop (p + 1) a) ≡ assignment_bytes a
+pub more_written : (p : ℕ) (text after : List ℕ) (a : List Machine) (m d : Machine) → p < length a →
+    text ++ text_from p (drop p a) ≡ assignment_bytes a → m ≡ get_or a p d → after ≡ text ++ machine_text p m →
+    after ++ text_from (p + 1) (drop (p + 1) a) ≡ assignment_bytes a
 more_written p text after a m d within before read e =
     rw (add-one, e, read) (append_assoc text (machine_text p (get_or a p d)) (text_from (suc p) (drop (suc p) a))
     ∙ (ap (λ (r : List ℕ). text ++ r) (sym (text_step p (get_or a p d) (drop (suc p) a)))
     ∙ (ap (λ (r : List Machine). text ++ text_from p r) (sym (drop-cons a p d within)) ∙ before)))
 
 -- the end of the loop
-pub written : (p : ℕ) (text after : List ℕ) (a : List Machine) → length a ≤ p → text ++ text_from p (drop p a) ≡ assignment_bytes a → after ≡ text ++ 10 ∷ [] → after ≡ assignment_bytes a
-written p text after a past before e = e ∙ all_written p text a (ap (λ (r : List Machine). text ++ text_from p r) (sym (drop_all p a past)) ∙ before)
+pub written : (p : ℕ) (text after : List ℕ) (a : List Machine) → length a ≤ p →
+    text ++ text_from p (drop p a) ≡ assignment_bytes a → after ≡ text ++ 10 ∷ [] → after ≡ assignment_bytes a
+written p text after a past before e =
+    e ∙ all_written p text a (ap (λ (r : List Machine). text ++ text_from p r) (sym (drop_all p a past)) ∙ before)
 
 -- a machine behind others, and the first
-pub pushed_later : (p : ℕ) (m : Machine) (before between after : List ℕ) → 0 < p → between ≡ before ++ 32 ∷ [] → after ≡ between ++ decimal m.0 → after ≡ before ++ machine_text p m
+pub pushed_later : (p : ℕ) (m : Machine) (before between after : List ℕ) → 0 < p → between ≡ before ++ 32 ∷ [] →
+    after ≡ between ++ decimal m.0 → after ≡ before ++ machine_text p m
 unfolding machine_text
 pushed_later zero m before between after later space e = absurd (omega (arith, later))
-pushed_later (suc p) m before between after later space e = e ∙ (ap (λ (t : List ℕ). t ++ decimal m.0) space ∙ append_assoc before (32 ∷ []) (decimal m.0))
+pushed_later (suc p) m before between after later space e =
+    e ∙ (ap (λ (t : List ℕ). t ++ decimal m.0) space ∙ append_assoc before (32 ∷ []) (decimal m.0))
 
-pub pushed_first : (p : ℕ) (m : Machine) (before between after : List ℕ) → p ≤ 0 → between ≡ before → after ≡ between ++ decimal m.0 → after ≡ before ++ machine_text p m
+pub pushed_first : (p : ℕ) (m : Machine) (before between after : List ℕ) → p ≤ 0 → between ≡ before →
+    after ≡ between ++ decimal m.0 → after ≡ before ++ machine_text p m
 unfolding machine_text
 pushed_first zero m before between after start same e = e ∙ ap (λ (t : List ℕ). t ++ decimal m.0) same
 pushed_first (suc p) m before between after start same e = absurd (omega (arith, start))

@@ -1,5 +1,6 @@
 -- Closed lists: any number of tokens, each the number of a machine.
-use Rattle.std.specs.Prelude.{◌≡◌, ℕ, ◌<◌, List, length, nat_lt, ◌==◌, if◌then◌else◌, slice_get, slice_index_or, Bool, false, Option, Some, None}
+use Rattle.std.specs.Prelude.{◌≡◌, ℕ, ◌<◌, List, length, nat_lt, ◌==◌, if◌then◌else◌, slice_get, slice_index_or, Bool}
+use Rattle.std.specs.Prelude.{false, Option, Some, None}
 use Rattle.std.specs.List.{list_any}
 use Rattle.ra_base.specs.Searches.{or_else, first}
 use Rattle.ra_token.specs.declared.answers.Token.{Token}
@@ -11,7 +12,8 @@ use Rattle.ra_model.specs.declared.raw.Tables.{Tables}
 use Rattle.ra_model.specs.Numbers.{machine_count}
 use Rattle.ra_assign.specs.Lists.{AllExist}
 use Rattle.ra_assign.specs.declared.faults.ClosedFault.{ClosedFault}
-use Rattle.ra_assign.specs.declared.faults.ClosedFault.TheVariants.{ReadFault, BadByte, TooLarge, TooLong, NoMachine, NoMemory}
+use Rattle.ra_assign.specs.declared.faults.ClosedFault.TheVariants.{ReadFault, BadByte, TooLarge, TooLong, NoMachine}
+use Rattle.ra_assign.specs.declared.faults.ClosedFault.TheVariants.{NoMemory}
 
 -- a token's fault, as one of a closed list
 unfoldable pub closed_fault : TokenFault → ClosedFault

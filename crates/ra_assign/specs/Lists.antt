@@ -1,5 +1,6 @@
 -- Assignment files: one token for each process, in their order, the number of its machine.
-use Rattle.std.specs.Prelude.{◌≡◌, ℕ, zero, suc, ◌<◌, List, [], ◌∷◌, ◌++◌, length, map, nat_lt, if◌then◌else◌, slice_get, Option, Some, None}
+use Rattle.std.specs.Prelude.{◌≡◌, ℕ, zero, suc, ◌<◌, List, [], ◌∷◌, ◌++◌, length, map, nat_lt, if◌then◌else◌}
+use Rattle.std.specs.Prelude.{slice_get, Option, Some, None}
 use Rattle.std.specs.List.{All}
 use Rattle.std.specs.Fmt.{decimal}
 use Rattle.ra_base.specs.Searches.{or_else, first}
@@ -12,7 +13,8 @@ use Rattle.ra_token.specs.Faults.{first_fault}
 use Rattle.ra_model.specs.declared.raw.Tables.{Tables}
 use Rattle.ra_model.specs.Numbers.{machine_count, process_count}
 use Rattle.ra_assign.specs.declared.faults.AssignFault.{AssignFault}
-use Rattle.ra_assign.specs.declared.faults.AssignFault.TheVariants.{ReadFault, BadByte, TooLarge, TooLong, Missing, NoMachine, Extra, NoMemory}
+use Rattle.ra_assign.specs.declared.faults.AssignFault.TheVariants.{ReadFault, BadByte, TooLarge, TooLong, Missing}
+use Rattle.ra_assign.specs.declared.faults.AssignFault.TheVariants.{NoMachine, Extra, NoMemory}
 
 -- a token's fault, as one of an assignment
 unfoldable pub assign_fault : TokenFault → AssignFault

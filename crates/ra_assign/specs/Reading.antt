@@ -1,5 +1,6 @@
 -- What is known on the way through a list.
-use Rattle.std.specs.Prelude.{◌≡◌, ℕ, ◌+◌, ◌<◌, List, map, take, slice_get, slice_index_or, Bool, false, Option, Some, None, Ok}
+use Rattle.std.specs.Prelude.{◌≡◌, ℕ, ◌+◌, ◌<◌, List, map, take, slice_get, slice_index_or, Bool, false, Option, Some}
+use Rattle.std.specs.Prelude.{None, Ok}
 use Rattle.ra_base.specs.Searches.{first}
 use Rattle.ra_base.specs.declared.ids.Machine.{Machine}
 use Rattle.ra_token.specs.declared.answers.Token.{Token}

@@ -2,7 +2,9 @@
 use Rattle.std.proofs.Common.{◌≡◌, ℕ, ◌+◌, ◌<◌, ◌≤◌, ◌≢◌, Bool, true, false, not, refl, ap, ⊎_elim, arith}
 use Rattle.std.proofs.lemmas.Bool.{cases_lt}
 use Rattle.ra_base.specs.Sums.{one_if, count}
-use Rattle.ra_base.proofs.Sums.{total_none, total_more, total_same, total_zero, total_zero_at, total_constant, total_le, total_term, total_terms, total_positive, total_at_most_one, total_change, total_change_two, total_of_sum, total_grows, total_bound}
+use Rattle.ra_base.proofs.Sums.{total_none, total_more, total_same, total_zero, total_zero_at, total_constant, total_le}
+use Rattle.ra_base.proofs.Sums.{total_term, total_terms, total_positive, total_at_most_one, total_change}
+use Rattle.ra_base.proofs.Sums.{total_change_two, total_of_sum, total_grows, total_bound}
 
 pub one_if_true : (t : Bool) → t ≡ true → one_if t ≡ 1
 one_if_true t is = ap one_if is
@@ -59,40 +61,73 @@ pub count_zero_at : (n i : ℕ) (test : ℕ → Bool) → count n test ≡ 0 →
 count_zero_at n i test nones within = one_if_zero (test i) (total_zero_at n i (λ k. one_if (test k)) nones within)
 
 pub count_all : (n : ℕ) (test : ℕ → Bool) → ((k : ℕ) → k < n → test k ≡ true) → count n test ≡ n
-count_all n test each = omega (arith, total_same n (λ k. one_if (test k)) (λ k. 1) (λ k h. one_if_true (test k) (each k h)), total_constant n 1)
+count_all n test each =
+    omega (
+      arith,
+      total_same n (λ k. one_if (test k)) (λ k. 1) (λ k h. one_if_true (test k) (each k h)),
+      total_constant n 1,
+    )
 
 -- one that passes
 pub count_some : (n i : ℕ) (test : ℕ → Bool) → i < n → test i ≡ true → 0 < count n test
-count_some n i test within passes = omega (arith, total_term n i (λ k. one_if (test k)) within, one_if_true (test i) passes)
+count_some n i test within passes =
+    omega (arith, total_term n i (λ k. one_if (test k)) within, one_if_true (test i) passes)
 
 pub count_positive : (n : ℕ) (test : ℕ → Bool) → 0 < count n test → (k : ℕ) × (k < n) × (test k ≡ true)
-count_positive n test positive = let found = total_positive n (λ k. one_if (test k)) positive in (found.0, found.1, one_if_positive (test found.0) found.2)
+count_positive n test positive = let found = total_positive n (λ k. one_if (test k)) positive in
+    (found.0, found.1, one_if_positive (test found.0) found.2)
 
 -- two different ones that pass
 pub count_two : (n i j : ℕ) (test : ℕ → Bool) → i < n → j < n → i ≢ j → test i ≡ true → test j ≡ true → 1 < count n test
 count_two n i j test i_within j_within apart i_yes j_yes = ⊎_elim
-    (λ (before : i < j). omega (arith, total_terms n i j (λ k. one_if (test k)) before j_within, one_if_true (test i) i_yes, one_if_true (test j) j_yes))
-    (λ (after : j ≤ i). omega (arith, total_terms n j i (λ k. one_if (test k)) (omega arith) i_within, one_if_true (test i) i_yes, one_if_true (test j) j_yes))
+    (λ (before : i < j).
+    omega (
+      arith,
+      total_terms n i j (λ k. one_if (test k)) before j_within,
+      one_if_true (test i) i_yes,
+      one_if_true (test j) j_yes,
+    ))
+    (λ (after : j ≤ i). omega (
+      arith,
+      total_terms n j i (λ k. one_if (test k)) (omega arith) i_within,
+      one_if_true (test i) i_yes,
+      one_if_true (test j) j_yes,
+    ))
     (cases_lt i j)
 
 -- if any two that pass are one, at most one passes
-pub count_at_most_one : (n : ℕ) (test : ℕ → Bool) → ((i j : ℕ) → i < n → j < n → test i ≡ true → test j ≡ true → i ≡ j) → count n test ≤ 1
-count_at_most_one n test one = total_at_most_one n 1 (λ k. one_if (test k)) (λ k h. one_if_le (test k)) (λ i j i_within j_within i_more j_more. one i j i_within j_within (one_if_positive (test i) i_more) (one_if_positive (test j) j_more))
+pub count_at_most_one : (n : ℕ) (test : ℕ → Bool) →
+    ((i j : ℕ) → i < n → j < n → test i ≡ true → test j ≡ true → i ≡ j) → count n test ≤ 1
+count_at_most_one n test one = total_at_most_one n 1 (λ k. one_if (test k)) (λ k h. one_if_le (test k))
+    (λ i j i_within j_within i_more j_more. one i j i_within j_within (one_if_positive (test i) i_more)
+    (one_if_positive (test j) j_more))
 
 pub count_order : (n : ℕ) (s t : ℕ → Bool) → ((k : ℕ) → k < n → s k ≡ true → t k ≡ true) → count n s ≤ count n t
 count_order n s t each = total_le n (λ k. one_if (s k)) (λ k. one_if (t k)) (λ k h. one_if_order (s k) (t k) (each k h))
 
 -- s and t differ at i alone
-pub count_change : (n i : ℕ) (s t : ℕ → Bool) → i < n → ((k : ℕ) → k < n → k ≢ i → s k ≡ t k) → count n s + one_if (t i) ≡ count n t + one_if (s i)
-count_change n i s t within same = total_change n i (λ k. one_if (s k)) (λ k. one_if (t k)) within (λ k h d. ap one_if (same k h d))
+pub count_change : (n i : ℕ) (s t : ℕ → Bool) → i < n → ((k : ℕ) → k < n → k ≢ i → s k ≡ t k) →
+    count n s + one_if (t i) ≡ count n t + one_if (s i)
+count_change n i s t within same =
+    total_change n i (λ k. one_if (s k)) (λ k. one_if (t k)) within (λ k h d. ap one_if (same k h d))
 
 -- s and t differ at i and at j alone
-pub count_change_two : (n i j : ℕ) (s t : ℕ → Bool) → i < n → j < n → i ≢ j → ((k : ℕ) → k < n → k ≢ i → k ≢ j → s k ≡ t k) → count n s + (one_if (t i) + one_if (t j)) ≡ count n t + (one_if (s i) + one_if (s j))
-count_change_two n i j s t i_within j_within apart same = total_change_two n i j (λ k. one_if (s k)) (λ k. one_if (t k)) i_within j_within apart (λ k h d e. ap one_if (same k h d e))
+pub count_change_two : (n i j : ℕ) (s t : ℕ → Bool) → i < n → j < n → i ≢ j →
+    ((k : ℕ) → k < n → k ≢ i → k ≢ j → s k ≡ t k) → count n s + (one_if (t i) + one_if (t j)) ≡ count n t
+    + (one_if (s i) + one_if (s j))
+count_change_two n i j s t i_within j_within apart same =
+    total_change_two n i j (λ k. one_if (s k)) (λ k. one_if (t k)) i_within j_within apart
+    (λ k h d e. ap one_if (same k h d e))
 
 -- those that pass and those that fail
 pub count_parts : (n : ℕ) (test : ℕ → Bool) → count n test + count n (λ k. not (test k)) ≡ n
-count_parts n test = omega (arith, total_of_sum n (λ k. one_if (test k)) (λ k. one_if (not (test k))), total_same n (λ k. one_if (test k) + one_if (not (test k))) (λ k. 1) (λ k h. one_if_parts (test k)), total_constant n 1)
+count_parts n test =
+    omega (
+      arith,
+      total_of_sum n (λ k. one_if (test k)) (λ k. one_if (not (test k))),
+      total_same n (λ k. one_if (test k) + one_if (not (test k))) (λ k. 1) (λ k h. one_if_parts (test k)),
+      total_constant n 1,
+    )
 
 -- what a loop that counts needs
 pub ruleset counts = (count_none, count_yes, count_no)

@@ -1,5 +1,6 @@
 -- Laws of `or_else` and `first`, the search for the first answer over the numbers below n.
-use Rattle.std.proofs.Common.{◌≡◌, ℕ, zero, suc, ◌+◌, ◌*◌, ◌<◌, ◌≤◌, ◌⊎◌, Option, Some, None, option_map, sym, refl, ap, ◌∙◌, inl, inr, ⊎_elim, add-one, add-suc, add-zero, zero-mul, suc-mul, arith}
+use Rattle.std.proofs.Common.{◌≡◌, ℕ, zero, suc, ◌+◌, ◌*◌, ◌<◌, ◌≤◌, ◌⊎◌, Option, Some, None, option_map, sym, refl, ap}
+use Rattle.std.proofs.Common.{◌∙◌, inl, inr, ⊎_elim, add-one, add-suc, add-zero, zero-mul, suc-mul, arith}
 use Rattle.std.proofs.lemmas.Bool.{cases_lt}
 use Rattle.ra_base.specs.Searches.{or_else, first}
 
@@ -36,7 +37,8 @@ right_none None b none = none
 right_none (Some x) b none = cc
 
 -- what is found is the one, or the other if the one is not there
-pub or_else_cases : {X : Type 0} → (a b : Option X) (x : X) → or_else a b ≡ Some x → (a ≡ Some x) ⊎ ((a ≡ None) × (b ≡ Some x))
+pub or_else_cases : {X : Type 0} → (a b : Option X) (x : X) → or_else a b ≡ Some x → (a ≡ Some x)
+    ⊎ ((a ≡ None) × (b ≡ Some x))
 unfolding or_else
 or_else_cases None b x found = inr (refl, found)
 or_else_cases (Some y) b x found = inl found
@@ -68,13 +70,16 @@ module _ {X : Type 0} where
   unfolding first
   first_grows i zero f x below found = let none : i ≡ 0 = omega arith in rw none at found
   first_grows i (suc n) f x below found = ⊎_elim
-      (λ before. ap (λ (a : Option X). or_else a (f n)) (first_grows i n f x (omega arith) found) ∙ or_else_some x (f n))
+      (λ before. ap (λ (a : Option X). or_else a (f n)) (first_grows i n f x (omega arith) found)
+      ∙ or_else_some x (f n))
       (λ after. let all : i ≡ suc n = omega arith in rw all at found)
       (cases_lt i (suc n))
 
   -- nothing before i, and an answer at i
   pub first_found : (i n : ℕ) (f : ℕ → Option X) (x : X) → i < n → first i f ≡ None → f i ≡ Some x → first n f ≡ Some x
-  first_found i n f x within before here = first_grows (suc i) n f x within (first_suc i f ∙ ap (λ (a : Option X). or_else a (f i)) before ∙ or_else_none (f i) ∙ here)
+  first_found i n f x within before here =
+      first_grows (suc i) n f x within (first_suc i f ∙ ap (λ (a : Option X). or_else a (f i)) before
+      ∙ or_else_none (f i) ∙ here)
 
   pub first_none_at : (i n : ℕ) (f : ℕ → Option X) → i < n → first n f ≡ None → f i ≡ None
   unfolding first
@@ -87,7 +92,8 @@ module _ {X : Type 0} where
   pub first_none_from : (n : ℕ) (f : ℕ → Option X) → ((k : ℕ) → k < n → f k ≡ None) → first n f ≡ None
   unfolding first
   first_none_from zero f nones = refl
-  first_none_from (suc n) f nones = both_none (first n f) (f n) (first_none_from n f (λ k h. nones k (omega arith))) (nones n (omega arith))
+  first_none_from (suc n) f nones =
+      both_none (first n f) (f n) (first_none_from n f (λ k h. nones k (omega arith))) (nones n (omega arith))
 
   pub first_same : (n : ℕ) (f g : ℕ → Option X) → ((k : ℕ) → k < n → f k ≡ g k) → first n f ≡ first n g
   unfolding first
@@ -99,12 +105,14 @@ module _ {X : Type 0} where
   unfolding first
   first_skip i zero f below nones = let none : i ≡ 0 = omega arith in rw none refl
   first_skip i (suc n) f below nones = ⊎_elim
-      (λ before. ap (or_else (first n f)) (nones n (omega arith) (omega arith)) ∙ or_else_none_right (first n f) ∙ first_skip i n f (omega arith) (λ k low h. nones k low (omega arith)))
+      (λ before. ap (or_else (first n f)) (nones n (omega arith) (omega arith)) ∙ or_else_none_right (first n f)
+      ∙ first_skip i n f (omega arith) (λ k low h. nones k low (omega arith)))
       (λ after. let all : i ≡ suc n = omega arith in rw all refl)
       (cases_lt i (suc n))
 
   -- the place of what is found: the answer there, and none before
-  pub first_some_at : (n : ℕ) (f : ℕ → Option X) (x : X) → first n f ≡ Some x → (i : ℕ) × (i < n) × (f i ≡ Some x) × (first i f ≡ None)
+  pub first_some_at : (n : ℕ) (f : ℕ → Option X) (x : X) → first n f ≡ Some x → (i : ℕ) × (i < n) × (f i ≡ Some x)
+      × (first i f ≡ None)
   unfolding first
   first_some_at zero f x found = absurd (cc)
   first_some_at (suc n) f x found = ⊎_elim
@@ -116,21 +124,27 @@ module _ {X : Type 0} where
   pub first_split : (m n : ℕ) (f : ℕ → Option X) → first (m + n) f ≡ or_else (first m f) (first n (λ k. f (m + k)))
   unfolding first
   first_split m zero f = rw add-zero (sym (or_else_none_right (first m f)))
-  first_split m (suc n) f = rw add-suc (ap (λ (a : Option X). or_else a (f (m + n))) (first_split m n f) ∙ or_else_assoc (first m f) (first n (λ k. f (m + k))) (f (m + n)))
+  first_split m (suc n) f =
+      rw add-suc (ap (λ (a : Option X). or_else a (f (m + n))) (first_split m n f)
+      ∙ or_else_assoc (first m f) (first n (λ k. f (m + k))) (f (m + n)))
 
 -- rows of n places each, one after another
-pub first_rows : {X : Type 0} → (m n : ℕ) (f : ℕ → Option X) → first (m * n) f ≡ first m (λ i. first n (λ j. f (i * n + j)))
+pub first_rows : {X : Type 0} → (m n : ℕ) (f : ℕ → Option X) →
+    first (m * n) f ≡ first m (λ i. first n (λ j. f (i * n + j)))
 unfolding first
 first_rows zero n f = ap (λ k. first k f) (zero-mul n)
-first_rows (suc m) n f = ap (λ k. first k f) (suc-mul m n) ∙ first_split (m * n) n f ∙ ap (λ a. or_else a (first n (λ j. f (m * n + j)))) (first_rows m n f)
+first_rows (suc m) n f = ap (λ k. first k f) (suc-mul m n) ∙ first_split (m * n) n f
+    ∙ ap (λ a. or_else a (first n (λ j. f (m * n + j)))) (first_rows m n f)
 
 -- what is found is passed on through h
-or_else_map : {X Y : Type 0} → (h : X → Y) (a b : Option X) → or_else (option_map h a) (option_map h b) ≡ option_map h (or_else a b)
+or_else_map : {X Y : Type 0} → (h : X → Y) (a b : Option X) → or_else (option_map h a) (option_map h b) ≡
+    option_map h (or_else a b)
 unfolding or_else
 or_else_map h None b = refl
 or_else_map h (Some x) b = refl
 
-pub first_map : {X Y : Type 0} → (n : ℕ) (h : X → Y) (f : ℕ → Option X) → first n (λ k. option_map h (f k)) ≡ option_map h (first n f)
+pub first_map : {X Y : Type 0} → (n : ℕ) (h : X → Y) (f : ℕ → Option X) → first n (λ k. option_map h (f k)) ≡
+    option_map h (first n f)
 unfolding first
 first_map zero h f = refl
 first_map (suc n) h f = ap (λ a. or_else a (option_map h (f n))) (first_map n h f) ∙ or_else_map h (first n f) (f n)

@@ -1,5 +1,7 @@
 -- Laws of `total`, the sum of a function over the numbers below n.
-use Rattle.std.proofs.Common.{◌≡◌, ℕ, zero, suc, ◌+◌, ◌-◌, ◌*◌, ◌<◌, ◌≤◌, ◌≢◌, Bool, true, false, cond, eqb, sym, refl, ap, ◌∙◌, ⊎_elim, add-one, add-suc, add-zero, zero-mul, suc-mul, arith, eq-eqb, ne_eqb, le_trans, le_refl, mul-le-mul_right}
+use Rattle.std.proofs.Common.{◌≡◌, ℕ, zero, suc, ◌+◌, ◌-◌, ◌*◌, ◌<◌, ◌≤◌, ◌≢◌, Bool, true, false, cond, eqb, sym, refl}
+use Rattle.std.proofs.Common.{ap, ◌∙◌, ⊎_elim, add-one, add-suc, add-zero, zero-mul, suc-mul, arith, eq-eqb, ne_eqb}
+use Rattle.std.proofs.Common.{le_trans, le_refl, mul-le-mul_right}
 use Rattle.std.proofs.lemmas.Bool.{cases_lt, cases_eq, cond-true, cond-false}
 use Rattle.ra_base.specs.Sums.{total}
 
@@ -27,10 +29,12 @@ total_zero zero f zeros = refl
 total_zero (suc n) f zeros = omega (arith, total_zero n f (λ k h. zeros k (omega arith)), zeros n (omega arith))
 
 -- f + u and g + v agree at each place, so their sums do
-pub total_balance : (n : ℕ) (f u g v : ℕ → ℕ) → ((k : ℕ) → k < n → f k + u k ≡ g k + v k) → total n f + total n u ≡ total n g + total n v
+pub total_balance : (n : ℕ) (f u g v : ℕ → ℕ) → ((k : ℕ) → k < n → f k + u k ≡ g k + v k) →
+    total n f + total n u ≡ total n g + total n v
 unfolding total
 total_balance zero f u g v each = refl
-total_balance (suc n) f u g v each = omega (arith, total_balance n f u g v (λ k h. each k (omega arith)), each n (omega arith))
+total_balance (suc n) f u g v each =
+    omega (arith, total_balance n f u g v (λ k h. each k (omega arith)), each n (omega arith))
 
 pub total_le : (n : ℕ) (f g : ℕ → ℕ) → ((k : ℕ) → k < n → f k ≤ g k) → total n f ≤ total n g
 unfolding total
@@ -43,22 +47,32 @@ total_bound zero b f each = omega arith
 total_bound (suc n) b f each = omega (arith, total_bound n b f (λ k h. each k (omega arith)), each n (omega arith))
 
 -- f and g differ at i alone
-pub total_change : (n i : ℕ) (f g : ℕ → ℕ) → i < n → ((k : ℕ) → k < n → k ≢ i → f k ≡ g k) → total n f + g i ≡ total n g + f i
+pub total_change : (n i : ℕ) (f g : ℕ → ℕ) → i < n → ((k : ℕ) → k < n → k ≢ i → f k ≡ g k) →
+    total n f + g i ≡ total n g + f i
 unfolding total
 total_change zero i f g within same = omega arith
 total_change (suc n) i f g within same = ⊎_elim
-    (λ before. omega (arith, total_change n i f g before (λ k h d. same k (omega arith) d), same n (omega arith) (omega arith)))
-    (λ after. let here : i ≡ n = omega arith in omega (arith, ap f here, ap g here, total_same n f g (λ k h. same k (omega arith) (omega arith))))
+    (λ before. omega (
+      arith,
+      total_change n i f g before (λ k h d. same k (omega arith) d),
+      same n (omega arith) (omega arith),
+    ))
+    (λ after. let here : i ≡ n = omega arith in
+    omega (arith, ap f here, ap g here, total_same n f g (λ k h. same k (omega arith) (omega arith))))
     (cases_lt i n)
 
 -- f and g differ at i and at j alone
-pub total_change_two : (n i j : ℕ) (f g : ℕ → ℕ) → i < n → j < n → i ≢ j → ((k : ℕ) → k < n → k ≢ i → k ≢ j → f k ≡ g k) → total n f + (g i + g j) ≡ total n g + (f i + f j)
+pub total_change_two : (n i j : ℕ) (f g : ℕ → ℕ) → i < n → j < n → i ≢ j →
+    ((k : ℕ) → k < n → k ≢ i → k ≢ j → f k ≡ g k) → total n f + (g i + g j) ≡ total n g + (f i + f j)
 total_change_two n i j f g i_within j_within apart same =
     let h = λ (k : ℕ). cond (eqb k i) (g k) (f k) in
     let h_i : h i ≡ g i = cond-true (eqb i i) (g i) (f i) (eq-eqb i i refl) in
     let h_other = λ (k : ℕ) (d : k ≢ i). cond-false (eqb k i) (g k) (f k) (ne_eqb k i d) in
     let first = total_change n i f h i_within (λ k w d. sym (h_other k d)) in
-    let second = total_change n j h g j_within (λ k w d. ⊎_elim (λ (e : k ≡ i). cond-true (eqb k i) (g k) (f k) (eq-eqb k i e)) (λ (e : k ≢ i). h_other k e ∙ same k w e d) (cases_eq k i)) in
+    let second =
+    total_change n j h g j_within
+    (λ k w d. ⊎_elim (λ (e : k ≡ i). cond-true (eqb k i) (g k) (f k) (eq-eqb k i e))
+    (λ (e : k ≢ i). h_other k e ∙ same k w e d) (cases_eq k i)) in
     omega (arith, first, second, h_i, h_other j (λ e. apart (sym e)))
 
 pub total_of_sum : (n : ℕ) (f g : ℕ → ℕ) → total n (λ k. f k + g k) ≡ total n f + total n g
@@ -94,7 +108,8 @@ total_term n i f within = omega (arith, total_grows (suc i) n f within, total_su
 
 -- two terms
 pub total_terms : (n i j : ℕ) (f : ℕ → ℕ) → i < j → j < n → f i + f j ≤ total n f
-total_terms n i j f before within = omega (arith, total_grows (suc j) n f within, total_suc j f, total_term j i f before)
+total_terms n i j f before within =
+    omega (arith, total_grows (suc j) n f within, total_suc j f, total_term j i f before)
 
 -- if the sum is zero, each term is
 pub total_zero_at : (n i : ℕ) (f : ℕ → ℕ) → total n f ≡ 0 → i < n → f i ≡ 0
@@ -111,14 +126,22 @@ total_positive (suc n) f positive = ⊎_elim
 
 -- all terms but that at i are zero
 pub total_only : (n i : ℕ) (f : ℕ → ℕ) → i < n → ((k : ℕ) → k < n → k ≢ i → f k ≡ 0) → total n f ≡ f i
-total_only n i f within zeros = omega (arith, total_change n i f (λ k. 0) within zeros, total_zero n (λ k. 0) (λ k h. refl))
+total_only n i f within zeros =
+    omega (arith, total_change n i f (λ k. 0) within zeros, total_zero n (λ k. 0) (λ k h. refl))
 
 -- at most one term is above zero
-pub total_at_most_one : (n b : ℕ) (f : ℕ → ℕ) → ((k : ℕ) → k < n → f k ≤ b) → ((i j : ℕ) → i < n → j < n → 0 < f i → 0 < f j → i ≡ j) → total n f ≤ b
+pub total_at_most_one : (n b : ℕ) (f : ℕ → ℕ) → ((k : ℕ) → k < n → f k ≤ b) →
+    ((i j : ℕ) → i < n → j < n → 0 < f i → 0 < f j → i ≡ j) → total n f ≤ b
 total_at_most_one n b f each one = ⊎_elim
     (λ positive.
     let found = total_positive n f positive in
-    omega (arith, each found.0 found.1, total_only n found.0 f found.1 (λ k h d. ⊎_elim (λ (more : 0 < f k). absurd (d (one k found.0 h found.1 more found.2))) (λ (none : f k ≤ 0). omega arith) (cases_lt 0 (f k)))))
+    omega (
+      arith,
+      each found.0 found.1,
+      total_only n found.0 f found.1
+          (λ k h d. ⊎_elim (λ (more : 0 < f k). absurd (d (one k found.0 h found.1 more found.2)))
+          (λ (none : f k ≤ 0). omega arith) (cases_lt 0 (f k))),
+    ))
     (λ none. omega arith)
     (cases_lt 0 (total n f))
 
@@ -160,16 +183,22 @@ total_times_right zero c f = omega arith
 total_times_right (suc n) c f = omega (arith, total_times_right n c f)
 
 -- weighed sums of rows, by columns
-pub total_times_swap : (m n : ℕ) (w : ℕ → ℕ) (f : ℕ → ℕ → ℕ) → total m (λ i. w i * total n (f i)) ≡ total n (λ j. total m (λ i. w i * f i j))
-total_times_swap m n w f = total_same m (λ i. w i * total n (f i)) (λ i. total n (λ j. w i * f i j)) (λ i h. sym (total_times n (w i) (f i))) ∙ total_swap m n (λ i j. w i * f i j)
+pub total_times_swap : (m n : ℕ) (w : ℕ → ℕ) (f : ℕ → ℕ → ℕ) → total m (λ i. w i * total n (f i)) ≡
+    total n (λ j. total m (λ i. w i * f i j))
+total_times_swap m n w f = total_same m (λ i. w i * total n (f i)) (λ i. total n (λ j. w i * f i j))
+    (λ i h. sym (total_times n (w i) (f i))) ∙ total_swap m n (λ i j. w i * f i j)
 
 -- the term at i alone
 pub total_point : (n i : ℕ) (f : ℕ → ℕ) → i < n → total n (λ k. cond (eqb k i) (f k) 0) ≡ f i
-total_point n i f within = total_only n i (λ k. cond (eqb k i) (f k) 0) within (λ k h d. cond-false (eqb k i) (f k) 0 (ne_eqb k i d)) ∙ cond-true (eqb i i) (f i) 0 (eq-eqb i i refl)
+total_point n i f within =
+    total_only n i (λ k. cond (eqb k i) (f k) 0) within (λ k h d. cond-false (eqb k i) (f k) 0 (ne_eqb k i d))
+    ∙ cond-true (eqb i i) (f i) 0 (eq-eqb i i refl)
 
 -- the terms that pass and those that fail
-pub total_parts : (n : ℕ) (test : ℕ → Bool) (f : ℕ → ℕ) → total n f ≡ total n (λ k. cond (test k) (f k) 0) + total n (λ k. cond (test k) 0 (f k))
-total_parts n test f = total_same n f (λ k. cond (test k) (f k) 0 + cond (test k) 0 (f k)) (λ k h. both_parts (test k) (f k)) ∙ total_of_sum n (λ k. cond (test k) (f k) 0) (λ k. cond (test k) 0 (f k))
+pub total_parts : (n : ℕ) (test : ℕ → Bool) (f : ℕ → ℕ) → total n f ≡ total n (λ k. cond (test k) (f k) 0)
+    + total n (λ k. cond (test k) 0 (f k))
+total_parts n test f = total_same n f (λ k. cond (test k) (f k) 0 + cond (test k) 0 (f k))
+    (λ k h. both_parts (test k) (f k)) ∙ total_of_sum n (λ k. cond (test k) (f k) 0) (λ k. cond (test k) 0 (f k))
   where
     both_parts : (t : Bool) (x : ℕ) → x ≡ cond t x 0 + cond t 0 x
     both_parts true x = omega arith
@@ -180,16 +209,22 @@ pub total_lt : (n i : ℕ) (f g : ℕ → ℕ) → i < n → f i < g i → ((k :
 unfolding total
 total_lt zero i f g within less each = absurd (omega arith)
 total_lt (suc n) i f g within less each = ⊎_elim
-    (λ (before : i < n). omega (arith, total_lt n i f g before less (λ k h. each k (omega arith)), each n (omega arith)))
-    (λ (after : n ≤ i). let here : i ≡ n = omega arith in omega (arith, total_le n f g (λ k h. each k (omega arith)), ap f here, ap g here))
+    (λ (before : i < n).
+    omega (arith, total_lt n i f g before less (λ k h. each k (omega arith)), each n (omega arith)))
+    (λ (after : n ≤ i). let here : i ≡ n = omega arith in
+    omega (arith, total_le n f g (λ k h. each k (omega arith)), ap f here, ap g here))
     (cases_lt i n)
 
 -- a sum by groups: each place is in the group that g gives it
-pub total_grouped : (m n : ℕ) (g f : ℕ → ℕ) → ((k : ℕ) → k < n → g k < m) → total m (λ i. total n (λ k. cond (eqb (g k) i) (f k) 0)) ≡ total n f
-total_grouped m n g f within = total_swap m n (λ i k. cond (eqb (g k) i) (f k) 0) ∙ total_same n (λ k. total m (λ i. cond (eqb (g k) i) (f k) 0)) f (λ k h. one_group k h)
+pub total_grouped : (m n : ℕ) (g f : ℕ → ℕ) → ((k : ℕ) → k < n → g k < m) →
+    total m (λ i. total n (λ k. cond (eqb (g k) i) (f k) 0)) ≡ total n f
+total_grouped m n g f within = total_swap m n (λ i k. cond (eqb (g k) i) (f k) 0)
+    ∙ total_same n (λ k. total m (λ i. cond (eqb (g k) i) (f k) 0)) f (λ k h. one_group k h)
   where
     one_group : (k : ℕ) → k < n → total m (λ i. cond (eqb (g k) i) (f k) 0) ≡ f k
-    one_group k h = total_only m (g k) (λ i. cond (eqb (g k) i) (f k) 0) (within k h) (λ i i_within apart. cond-false (eqb (g k) i) (f k) 0 (ne_eqb (g k) i (λ same. apart (sym same)))) ∙ cond-true (eqb (g k) (g k)) (f k) 0 (eq-eqb (g k) (g k) refl)
+    one_group k h = total_only m (g k) (λ i. cond (eqb (g k) i) (f k) 0) (within k h)
+        (λ i i_within apart. cond-false (eqb (g k) i) (f k) 0 (ne_eqb (g k) i (λ same. apart (sym same))))
+        ∙ cond-true (eqb (g k) (g k)) (f k) 0 (eq-eqb (g k) (g k) refl)
 
 -- a place below the sum lies within one term, after the terms before it
 pub total_region : (n x : ℕ) (f : ℕ → ℕ) → x < total n f → (i : ℕ) × (i < n) × (total i f ≤ x) × (x < total i f + f i)
@@ -204,7 +239,8 @@ total_region (suc n) x f below = ⊎_elim
 pub total_rows : (m n : ℕ) (f : ℕ → ℕ) → total (m * n) f ≡ total m (λ i. total n (λ j. f (i * n + j)))
 unfolding total
 total_rows zero n f = ap (λ k. total k f) (zero-mul n)
-total_rows (suc m) n f = ap (λ k. total k f) (suc-mul m n) ∙ total_split (m * n) n f ∙ ap (λ a. a + total n (λ j. f (m * n + j))) (total_rows m n f)
+total_rows (suc m) n f = ap (λ k. total k f) (suc-mul m n) ∙ total_split (m * n) n f
+    ∙ ap (λ a. a + total n (λ j. f (m * n + j))) (total_rows m n f)
 
 -- the sum of no term, and of one more: what a loop needs
 pub ruleset sums = (total_none, total_more)

@@ -3,7 +3,9 @@ use Rattle.std.specs.Prelude.{ℕ, ◌+◌, ◌-◌, ◌*◌, ℤ, pos, ◌-ℤ�
 use Rattle.ra_base.specs.Sums.{total}
 use Rattle.ra_base.specs.Whole.{above_zero}
 use Rattle.ra_model.specs.declared.raw.Tables.{Tables}
-use Rattle.ra_model.specs.Numbers.{resource_count, machine_count, process_count, balance_count, load_weight_of, capacity_of, safety_of, requirement_of, first_of, second_of, target_of, balance_weight_of}
+use Rattle.ra_model.specs.Numbers.{resource_count, machine_count, process_count, balance_count, load_weight_of}
+use Rattle.ra_model.specs.Numbers.{capacity_of, safety_of, requirement_of, first_of, second_of, target_of}
+use Rattle.ra_model.specs.Numbers.{balance_weight_of}
 use Rattle.ra_bounds.specs.declared.costs.Bound.{Bound}
 
 -- the sum of R(p, r) over the processes p

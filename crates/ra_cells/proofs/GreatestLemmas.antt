@@ -1,5 +1,7 @@
 -- The greatest of the counts, from how many services have each, if up to three counts change.
-use Rattle.std.proofs.Common.{◌≡◌, ℕ, ◌+◌, ◌-◌, ◌<◌, ◌≤◌, ◌≢◌, max, true, false, eqb, List, length, get_or, set, Option, Some, None, sym, refl, ap, ◌∙◌, ⊎_elim, arith, eq-eqb, ne_eqb, length-set, get_or-set_other, get_or-set_same}
+use Rattle.std.proofs.Common.{◌≡◌, ℕ, ◌+◌, ◌-◌, ◌<◌, ◌≤◌, ◌≢◌, max, true, false, eqb, List, length, get_or, set, Option}
+use Rattle.std.proofs.Common.{Some, None, sym, refl, ap, ◌∙◌, ⊎_elim, arith, eq-eqb, ne_eqb, length-set}
+use Rattle.std.proofs.Common.{get_or-set_other, get_or-set_same}
 use Rattle.std.specs.Prelude.{IfSome}
 use Rattle.std.proofs.Math.ListN.{replicate}
 use Rattle.std.proofs.lemmas.List.{get_or_read, length-replicate, get_or-replicate}
@@ -9,7 +11,8 @@ use Rattle.ra_base.specs.declared.costs.MovedCount.{MovedCount}
 use Rattle.ra_base.proofs.Counts.{count_change, count_some, count_le, count_zero, count_all, one_if_true, one_if_false}
 use Rattle.ra_base.proofs.Greatest.{greatest_at, greatest_least, greatest_by_counts}
 use Rattle.ra_cells.specs.MovedCounts.{MovedCounts}
-use Rattle.ra_cells.specs.Replaced.{counted_after, greatest_with, IsChange, AreApart, lost_at, gained_at, after_in, is_free}
+use Rattle.ra_cells.specs.Replaced.{counted_after, greatest_with, IsChange, AreApart, lost_at, gained_at, after_in}
+use Rattle.ra_cells.specs.Replaced.{is_free}
 use Rattle.ra_cells.specs.Counted.{AreTallied, AreCounted, AreRetallied}
 
 -- what a change of a count asks of counts that are a function
@@ -17,10 +20,12 @@ pub record Changes (n : ℕ) (f : ℕ → ℕ) (c : MovedCount) : Type 0 where
   pub there : c.service.0 < n
   pub before : f c.service.0 ≡ c.before
 
-counted_other : (o : Option MovedCount) (f : ℕ → ℕ) (s : ℕ) → IfSome o (λ c. c.service.0 ≢ s) → counted_after o f s ≡ f s
+counted_other : (o : Option MovedCount) (f : ℕ → ℕ) (s : ℕ) → IfSome o (λ c. c.service.0 ≢ s) →
+    counted_after o f s ≡ f s
 unfolding counted_after
 counted_other None f s apart = refl
-counted_other (Some c) f s apart = cond-false (eqb s c.service.0) c.after (f s) (ne_eqb s c.service.0 (λ e. apart (sym e)))
+counted_other (Some c) f s apart =
+    cond-false (eqb s c.service.0) c.after (f s) (ne_eqb s c.service.0 (λ e. apart (sym e)))
 
 counted_here : (c : MovedCount) (f : ℕ → ℕ) → counted_after (Some c) f c.service.0 ≡ c.after
 unfolding counted_after
@@ -32,42 +37,63 @@ unfolding counted_after after_in
 counted_le None f s = omega arith
 counted_le (Some c) f s = ⊎_elim
     (λ (here : s ≡ c.service.0). omega (arith, cond-true (eqb s c.service.0) c.after (f s) (eq-eqb s c.service.0 here)))
-    (λ (apart : s ≢ c.service.0). omega (arith, cond-false (eqb s c.service.0) c.after (f s) (ne_eqb s c.service.0 apart)))
+    (λ (apart : s ≢ c.service.0).
+    omega (arith, cond-false (eqb s c.service.0) c.after (f s) (ne_eqb s c.service.0 apart)))
     (cases_eq s c.service.0)
 
 -- how many counts are v before and after a change
-counted_tally : (o : Option MovedCount) (n : ℕ) (f : ℕ → ℕ) (v : ℕ) → IfSome o (λ c. Changes n f c) → count n (λ s. eqb (counted_after o f s) v) + lost_at o v ≡ count n (λ s. eqb (f s) v) + gained_at o v
+counted_tally : (o : Option MovedCount) (n : ℕ) (f : ℕ → ℕ) (v : ℕ) → IfSome o (λ c. Changes n f c) →
+    count n (λ s. eqb (counted_after o f s) v) + lost_at o v ≡ count n (λ s. eqb (f s) v) + gained_at o v
 unfolding counted_after lost_at gained_at
 counted_tally None n f v h = refl
 counted_tally (Some c) n f v h =
-    let change = count_change n c.service.0 (λ s. eqb (counted_after (Some c) f s) v) (λ s. eqb (f s) v) h.there (λ k within apart. ap (λ y. eqb y v) (counted_other (Some c) f k (λ e. apart (sym e)))) in
+    let change = count_change n c.service.0 (λ s. eqb (counted_after (Some c) f s) v) (λ s. eqb (f s) v) h.there
+    (λ k within apart. ap (λ y. eqb y v) (counted_other (Some c) f k (λ e. apart (sym e)))) in
     omega (arith, change, ap (λ y. one_if (eqb y v)) h.before, ap (λ y. one_if (eqb y v)) (counted_here c f))
 
 -- a change that is still one after another service's count has changed
-still_change : (o : Option MovedCount) (n : ℕ) (f : ℕ → ℕ) (c : MovedCount) → Changes n f c → IfSome o (λ d. d.service.0 ≢ c.service.0) → Changes n (counted_after o f) c
+still_change : (o : Option MovedCount) (n : ℕ) (f : ℕ → ℕ) (c : MovedCount) → Changes n f c →
+    IfSome o (λ d. d.service.0 ≢ c.service.0) → Changes n (counted_after o f) c
 still_change o n f c h apart = record { there = h.there; before = counted_other o f c.service.0 apart ∙ h.before }
 
-still : (o p : Option MovedCount) (n : ℕ) (f : ℕ → ℕ) → IfSome p (λ c. Changes n f c) → AreApart o p → IfSome p (λ c. Changes n (counted_after o f) c)
+still : (o p : Option MovedCount) (n : ℕ) (f : ℕ → ℕ) → IfSome p (λ c. Changes n f c) → AreApart o p →
+    IfSome p (λ c. Changes n (counted_after o f) c)
 still o None n f h apart = h
 still None (Some c) n f h apart = still_change None n f c h apart
 still (Some d) (Some c) n f h apart = still_change (Some d) n f c h apart
 
-changes_of : (moved : MovedCounts) (o : Option MovedCount) → IfSome o (λ c. IsChange moved c) → IfSome o (λ c. Changes (length moved.counts) (λ s. get_or moved.counts s 0) c)
+changes_of : (moved : MovedCounts) (o : Option MovedCount) → IfSome o (λ c. IsChange moved c) →
+    IfSome o (λ c. Changes (length moved.counts) (λ s. get_or moved.counts s 0) c)
 changes_of moved None h = h
 changes_of moved (Some c) h = record { there = h.there; before = h.before }
 
 -- the least of what no count passes, once up to three counts have changed
-bounded : (counts tallies : List ℕ) (limit most top : ℕ) (first second third : Option MovedCount) → AreCounted counts tallies limit most → most ≤ top → after_in first ≤ top → after_in second ≤ top → after_in third ≤ top → greatest_with counts first second third ≤ top
+bounded : (counts tallies : List ℕ) (limit most top : ℕ) (first second third : Option MovedCount) →
+    AreCounted counts tallies limit most → most ≤ top → after_in first ≤ top → after_in second ≤ top →
+    after_in third ≤ top → greatest_with counts first second third ≤ top
 unfolding greatest_with
 bounded counts tallies limit most top first second third counted most_within first_within second_within third_within =
     let f = λ (s : ℕ). get_or counts s 0 in
     let g = counted_after first f in
     let h = counted_after second g in
-    greatest_least (length counts) top (counted_after third h) (λ k within. omega (arith, counted_le third h k, counted_le second g k, counted_le first f k, greatest_at (length counts) k f within, counted.greatest_is))
+    greatest_least (length counts) top (counted_after third h)
+    (λ k within. omega (
+      arith,
+      counted_le third h k,
+      counted_le second g k,
+      counted_le first f k,
+      greatest_at (length counts) k f within,
+      counted.greatest_is,
+    ))
 
 -- how many services have count v once up to three counts have changed
-tally_after : (moved : MovedCounts) (first second third : Option MovedCount) (v : ℕ) → IfSome first (λ c. IsChange moved c) → IfSome second (λ c. IsChange moved c) → IfSome third (λ c. IsChange moved c) → AreApart first second → AreApart first third → AreApart second third →
-    count (length moved.counts) (λ s. eqb (counted_after third (counted_after second (counted_after first (λ k. get_or moved.counts k 0))) s) v) + (lost_at first v + lost_at second v + lost_at third v) ≡ count (length moved.counts) (λ s. eqb (get_or moved.counts s 0) v) + (gained_at first v + gained_at second v + gained_at third v)
+tally_after : (moved : MovedCounts) (first second third : Option MovedCount) (v : ℕ) →
+    IfSome first (λ c. IsChange moved c) → IfSome second (λ c. IsChange moved c) →
+    IfSome third (λ c. IsChange moved c) → AreApart first second → AreApart first third → AreApart second third →
+    count (length moved.counts)
+    (λ s. eqb (counted_after third (counted_after second (counted_after first (λ k. get_or moved.counts k 0))) s) v)
+    + (lost_at first v + lost_at second v + lost_at third v) ≡ count (length moved.counts)
+    (λ s. eqb (get_or moved.counts s 0) v) + (gained_at first v + gained_at second v + gained_at third v)
 tally_after moved first second third v one two three one_two one_three two_three =
     let n = length moved.counts in
     let f = λ (s : ℕ). get_or moved.counts s 0 in
@@ -75,58 +101,110 @@ tally_after moved first second third v one two three one_two one_three two_three
     let h = counted_after second g in
     let by_first = counted_tally first n f v (changes_of moved first one) in
     let by_second = counted_tally second n g v (still first second n f (changes_of moved second two) one_two) in
-    let by_third = counted_tally third n h v (still second third n g (still first third n f (changes_of moved third three) one_three) two_three) in
+    let by_third =
+    counted_tally third n h v
+    (still second third n g (still first third n f (changes_of moved third three) one_three) two_three) in
     omega (arith, by_first, by_second, by_third)
 
 -- a number that is free is no service's count, and one that isn't free is
-free_means : (tallies : List ℕ) (first second third : Option MovedCount) (v : ℕ) → is_free tallies first second third v ≡ true → get_or tallies v 0 + (gained_at first v + gained_at second v + gained_at third v) ≡ lost_at first v + lost_at second v + lost_at third v
+free_means : (tallies : List ℕ) (first second third : Option MovedCount) (v : ℕ) →
+    is_free tallies first second third v ≡ true →
+    get_or tallies v 0 + (gained_at first v + gained_at second v + gained_at third v) ≡ lost_at first v
+    + lost_at second v + lost_at third v
 unfolding is_free
 free_means tallies first second third v free = eqb-true _ _ free
 
-taken_means : (tallies : List ℕ) (first second third : Option MovedCount) (v : ℕ) → is_free tallies first second third v ≡ false → get_or tallies v 0 + (gained_at first v + gained_at second v + gained_at third v) ≢ lost_at first v + lost_at second v + lost_at third v
+taken_means : (tallies : List ℕ) (first second third : Option MovedCount) (v : ℕ) →
+    is_free tallies first second third v ≡ false →
+    get_or tallies v 0 + (gained_at first v + gained_at second v + gained_at third v) ≢ lost_at first v
+    + lost_at second v + lost_at third v
 unfolding is_free
 taken_means tallies first second third v taken same = both_ways _ taken (eq-eqb _ _ same)
 
 -- the highest number that isn't free is the greatest of the counts
-pub highest_is : (moved : MovedCounts) (tallies : List ℕ) (top b : ℕ) (first second third : Option MovedCount) → AreTallied moved.counts tallies moved.limit → greatest_with moved.counts first second third ≤ top → top ≤ moved.limit → b ≤ top →
-    IfSome first (λ c. IsChange moved c) → IfSome second (λ c. IsChange moved c) → IfSome third (λ c. IsChange moved c) → AreApart first second → AreApart first third → AreApart second third →
-    ((v : ℕ) → b < v → v ≤ top → is_free tallies first second third v ≡ true) → (0 < b → is_free tallies first second third b ≡ false) → greatest_with moved.counts first second third ≡ b
+pub highest_is : (moved : MovedCounts) (tallies : List ℕ) (top b : ℕ) (first second third : Option MovedCount) →
+    AreTallied moved.counts tallies moved.limit → greatest_with moved.counts first second third ≤ top →
+    top ≤ moved.limit → b ≤ top →
+    IfSome first (λ c. IsChange moved c) → IfSome second (λ c. IsChange moved c) →
+    IfSome third (λ c. IsChange moved c) → AreApart first second → AreApart first third → AreApart second third →
+    ((v : ℕ) → b < v → v ≤ top → is_free tallies first second third v ≡ true) →
+    (0 < b → is_free tallies first second third b ≡ false) → greatest_with moved.counts first second third ≡ b
 unfolding greatest_with
-highest_is moved tallies top b first second third tallied bound within below one two three one_two one_three two_three none some =
+highest_is moved tallies top b first second third tallied bound within below one two three one_two one_three two_three
+    none some =
     let after = λ (v : ℕ). tally_after moved first second third v one two three one_two one_three two_three in
-    greatest_by_counts (length moved.counts) b top (counted_after third (counted_after second (counted_after first (λ s. get_or moved.counts s 0)))) bound
-    (λ v above up. omega (arith, after v, tallied.each v (omega arith), free_means tallies first second third v (none v above up)))
-    (λ positive. omega (arith, after b, tallied.each b (omega arith), taken_means tallies first second third b (some positive)))
+    greatest_by_counts (length moved.counts) b top
+    (counted_after third (counted_after second (counted_after first (λ s. get_or moved.counts s 0)))) bound
+    (λ v above up.
+    omega (
+      arith,
+      after v,
+      tallied.each v (omega arith),
+      free_means tallies first second third v (none v above up),
+    ))
+    (λ positive.
+    omega (
+      arith,
+      after b,
+      tallied.each b (omega arith),
+      taken_means tallies first second third b (some positive),
+    ))
 
 -- after up to three changes: within the greatest of the most and the new counts
-pub after_is : (moved : MovedCounts) (tallies : List ℕ) (most top b : ℕ) (first second third : Option MovedCount) → AreCounted moved.counts tallies moved.limit most → most ≤ top → after_in first ≤ top → after_in second ≤ top → after_in third ≤ top → top ≤ moved.limit → b ≤ top →
-    IfSome first (λ c. IsChange moved c) → IfSome second (λ c. IsChange moved c) → IfSome third (λ c. IsChange moved c) → AreApart first second → AreApart first third → AreApart second third →
-    ((v : ℕ) → b < v → v ≤ top → is_free tallies first second third v ≡ true) → (0 < b → is_free tallies first second third b ≡ false) → b ≡ greatest_with moved.counts first second third
-after_is moved tallies most top b first second third counted most_in first_in second_in third_in within below one two three one_two one_three two_three none some =
-    sym (highest_is moved tallies top b first second third counted.tallied (bounded moved.counts tallies moved.limit most top first second third counted most_in first_in second_in third_in) within below one two three one_two one_three two_three none some)
+pub after_is : (moved : MovedCounts) (tallies : List ℕ) (most top b : ℕ) (first second third : Option MovedCount) →
+    AreCounted moved.counts tallies moved.limit most → most ≤ top → after_in first ≤ top → after_in second ≤ top →
+    after_in third ≤ top → top ≤ moved.limit → b ≤ top →
+    IfSome first (λ c. IsChange moved c) → IfSome second (λ c. IsChange moved c) →
+    IfSome third (λ c. IsChange moved c) → AreApart first second → AreApart first third → AreApart second third →
+    ((v : ℕ) → b < v → v ≤ top → is_free tallies first second third v ≡ true) →
+    (0 < b → is_free tallies first second third b ≡ false) → b ≡ greatest_with moved.counts first second third
+after_is moved tallies most top b first second third counted most_in first_in second_in third_in within below one two
+    three one_two one_three two_three none some =
+    sym (highest_is moved tallies top b first second third counted.tallied
+    (bounded moved.counts tallies moved.limit most top first second third counted most_in first_in second_in
+    third_in) within below one two three one_two one_three two_three none some)
 
-pub after_within : (moved : MovedCounts) (o : Option MovedCount) → IfSome o (λ c. IsChange moved c) → after_in o ≤ moved.limit
+pub after_within : (moved : MovedCounts) (o : Option MovedCount) → IfSome o (λ c. IsChange moved c) →
+    after_in o ≤ moved.limit
 unfolding after_in
 after_within moved None h = omega arith
 after_within moved (Some c) h = h.within
 
 -- the most is within the limit
 pub most_within : (counts tallies : List ℕ) (limit most : ℕ) → AreCounted counts tallies limit most → most ≤ limit
-most_within counts tallies limit most counted = omega (arith, counted.greatest_is, greatest_least (length counts) limit (λ s. get_or counts s 0) (λ s within. counted.tallied.within s within))
+most_within counts tallies limit most counted =
+    omega (
+      arith,
+      counted.greatest_is,
+      greatest_least (length counts) limit (λ s. get_or counts s 0)
+          (λ s within. counted.tallied.within s within),
+    )
 
 -- a count read is within the limit, and some service has it
-pub count_within : (counts tallies : List ℕ) (limit s x : ℕ) → AreTallied counts tallies limit → s < length counts → x ≡ get_or counts s x → x ≤ limit
-count_within counts tallies limit s x tallied there read = omega (arith, get_or_read counts s x there read 0, tallied.within s there)
+pub count_within : (counts tallies : List ℕ) (limit s x : ℕ) → AreTallied counts tallies limit → s < length counts →
+    x ≡ get_or counts s x → x ≤ limit
+count_within counts tallies limit s x tallied there read =
+    omega (arith, get_or_read counts s x there read 0, tallied.within s there)
 
-pub count_held : (counts tallies : List ℕ) (limit s x : ℕ) → AreTallied counts tallies limit → s < length counts → x ≡ get_or counts s x → 0 < get_or tallies x 0
+pub count_held : (counts tallies : List ℕ) (limit s x : ℕ) → AreTallied counts tallies limit → s < length counts →
+    x ≡ get_or counts s x → 0 < get_or tallies x 0
 count_held counts tallies limit s x tallied there read =
-    omega (arith, tallied.each x (count_within counts tallies limit s x tallied there read), count_some (length counts) s (λ k. eqb (get_or counts k 0) x) there (eq-eqb (get_or counts s 0) x (sym (get_or_read counts s x there read 0))))
+    omega (
+      arith,
+      tallied.each x (count_within counts tallies limit s x tallied there read),
+      count_some (length counts) s (λ k. eqb (get_or counts k 0) x) there
+          (eq-eqb (get_or counts s 0) x (sym (get_or_read counts s x there read 0))),
+    )
 
-pub tally_few : (counts tallies : List ℕ) (limit v : ℕ) → AreTallied counts tallies limit → v ≤ limit → get_or tallies v 0 ≤ 50000
-tally_few counts tallies limit v tallied within = omega (arith, tallied.few, tallied.each v within, count_le (length counts) (λ k. eqb (get_or counts k 0) v))
+pub tally_few : (counts tallies : List ℕ) (limit v : ℕ) → AreTallied counts tallies limit → v ≤ limit →
+    get_or tallies v 0 ≤ 50000
+tally_few counts tallies limit v tallied within =
+    omega (arith, tallied.few, tallied.each v within, count_le (length counts) (λ k. eqb (get_or counts k 0) v))
 
 -- one count less at a place and one more at another
-pub retallied : (old mid new : List ℕ) (left come x y : ℕ) → left < length old → come < length old → x ≡ get_or old left x → 0 < get_or old left 0 → mid ≡ set old left (x - 1) → y ≡ get_or mid come y → new ≡ set mid come (y + 1) → AreRetallied old new left come
+pub retallied : (old mid new : List ℕ) (left come x y : ℕ) → left < length old → come < length old →
+    x ≡ get_or old left x → 0 < get_or old left 0 → mid ≡ set old left (x - 1) → y ≡ get_or mid come y →
+    new ≡ set mid come (y + 1) → AreRetallied old new left come
 retallied old mid new left come x y left_in come_in x_read some mid_is y_read new_is = record {
   same_length = ap length new_is ∙ length-set mid come (y + 1) ∙ ap length mid_is ∙ length-set old left (x - 1);
   changed = λ v. omega (arith, first v, second v);
@@ -143,76 +221,167 @@ retallied old mid new left come x y left_in come_in x_read some mid_is y_read ne
 
     first : (v : ℕ) → get_or mid v 0 + one_if (eqb left v) ≡ get_or old v 0
     first v = ⊎_elim
-        (λ (here : left ≡ v). omega (arith, ap (λ xs. get_or xs v 0) mid_is, ap (λ k. get_or (set old k (x - 1)) v 0) here, get_or-set_same old v (x - 1) 0 (omega arith), one_if_true (eqb left v) (eq-eqb left v here), ap (λ k. get_or old k 0) here, x_is))
-        (λ (apart : left ≢ v). omega (arith, ap (λ xs. get_or xs v 0) mid_is, get_or-set_other old left v (x - 1) 0 (λ e. apart (sym e)), one_if_false (eqb left v) (ne_eqb left v apart)))
+        (λ (here : left ≡ v).
+        omega (
+          arith,
+          ap (λ xs. get_or xs v 0) mid_is,
+          ap (λ k. get_or (set old k (x - 1)) v 0) here,
+          get_or-set_same old v (x - 1) 0 (omega arith),
+          one_if_true (eqb left v) (eq-eqb left v here),
+          ap (λ k. get_or old k 0) here,
+          x_is,
+        ))
+        (λ (apart : left ≢ v).
+        omega (
+          arith,
+          ap (λ xs. get_or xs v 0) mid_is,
+          get_or-set_other old left v (x - 1) 0 (λ e. apart (sym e)),
+          one_if_false (eqb left v) (ne_eqb left v apart),
+        ))
         (cases_eq left v)
 
     second : (v : ℕ) → get_or new v 0 ≡ get_or mid v 0 + one_if (eqb come v)
     second v = ⊎_elim
-        (λ (here : come ≡ v). omega (arith, ap (λ xs. get_or xs v 0) new_is, ap (λ k. get_or (set mid k (y + 1)) v 0) here, get_or-set_same mid v (y + 1) 0 (omega (arith, mid_length)), one_if_true (eqb come v) (eq-eqb come v here), ap (λ k. get_or mid k 0) here, y_is))
-        (λ (apart : come ≢ v). omega (arith, ap (λ xs. get_or xs v 0) new_is, get_or-set_other mid come v (y + 1) 0 (λ e. apart (sym e)), one_if_false (eqb come v) (ne_eqb come v apart)))
+        (λ (here : come ≡ v).
+        omega (
+          arith,
+          ap (λ xs. get_or xs v 0) new_is,
+          ap (λ k. get_or (set mid k (y + 1)) v 0) here,
+          get_or-set_same mid v (y + 1) 0 (omega (arith, mid_length)),
+          one_if_true (eqb come v) (eq-eqb come v here),
+          ap (λ k. get_or mid k 0) here,
+          y_is,
+        ))
+        (λ (apart : come ≢ v).
+        omega (
+          arith,
+          ap (λ xs. get_or xs v 0) new_is,
+          get_or-set_other mid come v (y + 1) 0 (λ e. apart (sym e)),
+          one_if_false (eqb come v) (ne_eqb come v apart),
+        ))
         (cases_eq come v)
 
 -- what was one less at a place is at most what it was
-pub lowered_few : (old mid : List ℕ) (left come x y : ℕ) → left < length old → come < length old → x ≡ get_or old left x → get_or old come 0 ≤ 50000 → mid ≡ set old left (x - 1) → y ≡ get_or mid come y → y ≤ 50000
+pub lowered_few : (old mid : List ℕ) (left come x y : ℕ) → left < length old → come < length old →
+    x ≡ get_or old left x → get_or old come 0 ≤ 50000 → mid ≡ set old left (x - 1) → y ≡ get_or mid come y → y ≤ 50000
 lowered_few old mid left come x y left_in come_in x_read few mid_is y_read =
     let same_length : length mid ≡ length old = ap length mid_is ∙ length-set old left (x - 1) in
     let y_is = get_or_read mid come y (omega (arith, same_length)) y_read 0 in
     let x_is = get_or_read old left x left_in x_read 0 in
     ⊎_elim
-    (λ (here : come ≡ left). omega (arith, y_is, ap (λ xs. get_or xs come 0) mid_is, ap (λ k. get_or (set old left (x - 1)) k 0) here, get_or-set_same old left (x - 1) 0 left_in, ap (λ k. get_or old k 0) here, x_is))
-    (λ (apart : come ≢ left). omega (arith, y_is, ap (λ xs. get_or xs come 0) mid_is, get_or-set_other old left come (x - 1) 0 apart))
+    (λ (here : come ≡ left).
+    omega (
+      arith,
+      y_is,
+      ap (λ xs. get_or xs come 0) mid_is,
+      ap (λ k. get_or (set old left (x - 1)) k 0) here,
+      get_or-set_same old left (x - 1) 0 left_in,
+      ap (λ k. get_or old k 0) here,
+      x_is,
+    ))
+    (λ (apart : come ≢ left).
+    omega (arith, y_is, ap (λ xs. get_or xs come 0) mid_is, get_or-set_other old left come (x - 1) 0 apart))
     (cases_eq come left)
 
-pub left_positive : (old : List ℕ) (left x : ℕ) → left < length old → x ≡ get_or old left x → 0 < get_or old left 0 → 0 < x
+pub left_positive : (old : List ℕ) (left x : ℕ) → left < length old → x ≡ get_or old left x → 0 < get_or old left 0 →
+    0 < x
 left_positive old left x left_in x_read some = omega (arith, get_or_read old left x left_in x_read 0)
 
 pub ruleset retallying = (retallied, lowered_few, left_positive)
 
 -- the counts with that of one service changed
-pub tallied_set : (counts tallies new : List ℕ) (limit s x after : ℕ) → AreTallied counts tallies limit → s < length counts → x ≡ get_or counts s x → after ≤ limit → AreRetallied tallies new x after → AreTallied (set counts s after) new limit
+pub tallied_set : (counts tallies new : List ℕ) (limit s x after : ℕ) → AreTallied counts tallies limit →
+    s < length counts → x ≡ get_or counts s x → after ≤ limit → AreRetallied tallies new x after →
+    AreTallied (set counts s after) new limit
 tallied_set counts tallies new limit s x after tallied there read within changed = record {
   few = omega (arith, length-set counts s after, tallied.few);
   one_each = changed.same_length ∙ tallied.one_each;
   within = λ k inside. ⊎_elim
-      (λ (here : k ≡ s). omega (arith, ap (λ j. get_or (set counts s after) j 0) here, get_or-set_same counts s after 0 there))
-      (λ (apart : k ≢ s). omega (arith, get_or-set_other counts s k after 0 apart, tallied.within k (omega (arith, length-set counts s after))))
+      (λ (here : k ≡ s).
+      omega (arith, ap (λ j. get_or (set counts s after) j 0) here, get_or-set_same counts s after 0 there))
+      (λ (apart : k ≢ s).
+      omega (
+        arith,
+        get_or-set_other counts s k after 0 apart,
+        tallied.within k (omega (arith, length-set counts s after)),
+      ))
       (cases_eq k s);
-  each = λ v v_in. omega (arith, changed.changed v, tallied.each v v_in, change v, ap (λ n. count n (λ k. eqb (get_or (set counts s after) k 0) v)) (length-set counts s after));
+  each = λ v v_in.
+      omega (
+        arith,
+        changed.changed v,
+        tallied.each v v_in,
+        change v,
+        ap (λ n. count n (λ k. eqb (get_or (set counts s after) k 0) v)) (length-set counts s after),
+      );
 }
   where
-    change : (v : ℕ) → count (length counts) (λ k. eqb (get_or (set counts s after) k 0) v) + one_if (eqb x v) ≡ count (length counts) (λ k. eqb (get_or counts k 0) v) + one_if (eqb after v)
-    change v = omega (arith, count_change (length counts) s (λ k. eqb (get_or (set counts s after) k 0) v) (λ k. eqb (get_or counts k 0) v) there (λ k k_in apart. ap (λ y. eqb y v) (get_or-set_other counts s k after 0 apart)), ap (λ y. one_if (eqb y v)) (get_or-set_same counts s after 0 there), ap (λ y. one_if (eqb y v)) (get_or_read counts s x there read 0))
+    change : (v : ℕ) → count (length counts) (λ k. eqb (get_or (set counts s after) k 0) v) + one_if (eqb x v) ≡
+        count (length counts) (λ k. eqb (get_or counts k 0) v) + one_if (eqb after v)
+    change v = omega (
+      arith,
+      count_change (length counts) s (λ k. eqb (get_or (set counts s after) k 0) v)
+          (λ k. eqb (get_or counts k 0) v) there
+          (λ k k_in apart. ap (λ y. eqb y v) (get_or-set_other counts s k after 0 apart)),
+      ap (λ y. one_if (eqb y v)) (get_or-set_same counts s after 0 there),
+      ap (λ y. one_if (eqb y v)) (get_or_read counts s x there read 0),
+    )
 
-pub greatest_set : (counts : List ℕ) (s after most : ℕ) → s < length counts → most ≡ greatest (length counts) (λ k. get_or counts k 0) → greatest (length (set counts s after)) (λ k. get_or (set counts s after) k 0) ≤ max most after
-greatest_set counts s after most there is = greatest_least (length (set counts s after)) (max most after) (λ k. get_or (set counts s after) k 0) (λ k within. ⊎_elim
-    (λ (here : k ≡ s). omega (arith, ap (λ j. get_or (set counts s after) j 0) here, get_or-set_same counts s after 0 there))
-    (λ (apart : k ≢ s). omega (arith, is, get_or-set_other counts s k after 0 apart, greatest_at (length counts) k (λ j. get_or counts j 0) (omega (arith, length-set counts s after))))
+pub greatest_set : (counts : List ℕ) (s after most : ℕ) → s < length counts →
+    most ≡ greatest (length counts) (λ k. get_or counts k 0) →
+    greatest (length (set counts s after)) (λ k. get_or (set counts s after) k 0) ≤ max most after
+greatest_set counts s after most there is = greatest_least (length (set counts s after)) (max most after)
+    (λ k. get_or (set counts s after) k 0) (λ k within. ⊎_elim
+    (λ (here : k ≡ s).
+    omega (arith, ap (λ j. get_or (set counts s after) j 0) here, get_or-set_same counts s after 0 there))
+    (λ (apart : k ≢ s).
+    omega (
+      arith,
+      is,
+      get_or-set_other counts s k after 0 apart,
+      greatest_at (length counts) k (λ j. get_or counts j 0) (omega (arith, length-set counts s after)),
+    ))
     (cases_eq k s))
 
 with_none : (counts : List ℕ) → greatest_with counts None None None ≡ greatest (length counts) (λ k. get_or counts k 0)
 unfolding greatest_with counted_after
 with_none counts = refl
 
-pub counted_set : (counts tallies new : List ℕ) (limit s x after most top b : ℕ) → AreCounted counts tallies limit most → s < length counts → x ≡ get_or counts s x → after ≤ limit → AreRetallied tallies new x after → top ≡ max most after → b ≤ top → ((v : ℕ) → b < v → v ≤ top → is_free new None None None v ≡ true) → (0 < b → is_free new None None None b ≡ false) → AreCounted (set counts s after) new limit b
+pub counted_set : (counts tallies new : List ℕ) (limit s x after most top b : ℕ) →
+    AreCounted counts tallies limit most → s < length counts → x ≡ get_or counts s x → after ≤ limit →
+    AreRetallied tallies new x after → top ≡ max most after → b ≤ top →
+    ((v : ℕ) → b < v → v ≤ top → is_free new None None None v ≡ true) → (0 < b → is_free new None None None b ≡ false) →
+    AreCounted (set counts s after) new limit b
 counted_set counts tallies new limit s x after most top b counted there read within changed top_is below none some =
     let tallied = tallied_set counts tallies new limit s x after counted.tallied there read within changed in
     let moved : MovedCounts = record { counts = set counts s after; limit = limit } in
     record {
       tallied = tallied;
-      greatest_is = sym (highest_is moved new top b None None None tallied (omega (arith, with_none (set counts s after), greatest_set counts s after most there counted.greatest_is)) (omega (arith, most_within counts tallies limit most counted)) below tt tt tt tt tt tt none some) ∙ with_none (set counts s after);
+      greatest_is =
+          sym (highest_is moved new top b None None None tallied
+          (omega (
+            arith,
+            with_none (set counts s after),
+            greatest_set counts s after most there counted.greatest_is,
+          ))
+          (omega (arith, most_within counts tallies limit most counted)) below tt tt tt tt tt tt none some)
+          ∙ with_none (set counts s after);
     }
 
 -- no process has moved
-pub counted_none : (n limit : ℕ) (tallies : List ℕ) → n ≤ 50000 → tallies ≡ set (replicate {A = ℕ} (limit + 1) 0) 0 n → AreCounted (replicate {A = ℕ} n 0) tallies limit 0
+pub counted_none : (n limit : ℕ) (tallies : List ℕ) → n ≤ 50000 → tallies ≡ set (replicate {A = ℕ} (limit + 1) 0) 0 n →
+    AreCounted (replicate {A = ℕ} n 0) tallies limit 0
 counted_none n limit tallies few is = record {
   tallied = record {
     few = omega (arith, length-replicate {A = ℕ} n 0);
     one_each = ap length is ∙ length-set (replicate {A = ℕ} (limit + 1) 0) 0 n ∙ length-replicate {A = ℕ} (limit + 1) 0;
     within = λ s within. omega (arith, get_or-replicate {A = ℕ} n s 0 0 (omega (arith, length-replicate {A = ℕ} n 0)));
-    each = λ v within. each v within ∙ sym (ap (λ m. count m (λ k. eqb (get_or (replicate {A = ℕ} n 0) k 0) v)) (length-replicate {A = ℕ} n 0));
+    each = λ v within. each v within
+        ∙ sym (ap (λ m. count m (λ k. eqb (get_or (replicate {A = ℕ} n 0) k 0) v)) (length-replicate {A = ℕ} n 0));
   };
-  greatest_is = let bound : greatest (length (replicate {A = ℕ} n 0)) (λ k. get_or (replicate {A = ℕ} n 0) k 0) ≤ 0 = greatest_least (length (replicate {A = ℕ} n 0)) 0 (λ k. get_or (replicate {A = ℕ} n 0) k 0) (λ k inside. omega (arith, zero_at k (omega (arith, length-replicate {A = ℕ} n 0)))) in omega arith;
+  greatest_is = let bound : greatest (length (replicate {A = ℕ} n 0)) (λ k. get_or (replicate {A = ℕ} n 0) k 0) ≤
+      0 = greatest_least (length (replicate {A = ℕ} n 0)) 0 (λ k. get_or (replicate {A = ℕ} n 0) k 0)
+      (λ k inside. omega (arith, zero_at k (omega (arith, length-replicate {A = ℕ} n 0)))) in omega arith;
 }
   where
     zero_at : (k : ℕ) → k < n → get_or (replicate {A = ℕ} n 0) k 0 ≡ 0
@@ -220,6 +389,14 @@ counted_none n limit tallies few is = record {
 
     each : (v : ℕ) → v ≤ limit → get_or tallies v 0 ≡ count n (λ k. eqb (get_or (replicate {A = ℕ} n 0) k 0) v)
     each v within = ap (λ xs. get_or xs v 0) is ∙ ⊎_elim
-        (λ (here : v ≡ 0). ap (λ j. get_or (set (replicate {A = ℕ} (limit + 1) 0) 0 n) j 0) here ∙ get_or-set_same (replicate {A = ℕ} (limit + 1) 0) 0 n 0 (omega (arith, length-replicate {A = ℕ} (limit + 1) 0)) ∙ sym (count_all n (λ k. eqb (get_or (replicate {A = ℕ} n 0) k 0) v) (λ k inside. eq-eqb (get_or (replicate {A = ℕ} n 0) k 0) v (zero_at k inside ∙ sym here))))
-        (λ (apart : v ≢ 0). get_or-set_other (replicate {A = ℕ} (limit + 1) 0) 0 v n 0 apart ∙ get_or-replicate {A = ℕ} (limit + 1) v 0 0 (omega arith) ∙ sym (count_zero n (λ k. eqb (get_or (replicate {A = ℕ} n 0) k 0) v) (λ k inside. ne_eqb (get_or (replicate {A = ℕ} n 0) k 0) v (λ e. apart (sym e ∙ zero_at k inside)))))
+        (λ (here : v ≡ 0). ap (λ j. get_or (set (replicate {A = ℕ} (limit + 1) 0) 0 n) j 0) here
+        ∙ get_or-set_same (replicate {A = ℕ} (limit + 1) 0) 0 n 0
+        (omega (arith, length-replicate {A = ℕ} (limit + 1) 0))
+        ∙ sym (count_all n (λ k. eqb (get_or (replicate {A = ℕ} n 0) k 0) v)
+        (λ k inside. eq-eqb (get_or (replicate {A = ℕ} n 0) k 0) v (zero_at k inside ∙ sym here))))
+        (λ (apart : v ≢ 0). get_or-set_other (replicate {A = ℕ} (limit + 1) 0) 0 v n 0 apart
+        ∙ get_or-replicate {A = ℕ} (limit + 1) v 0 0 (omega arith)
+        ∙ sym (count_zero n (λ k. eqb (get_or (replicate {A = ℕ} n 0) k 0) v)
+        (λ k inside. ne_eqb (get_or (replicate {A = ℕ} n 0) k 0) v
+        (λ e. apart (sym e ∙ zero_at k inside)))))
         (cases_eq v 0)

@@ -1,5 +1,6 @@
 -- Moved counts if a move changes those of some services.
-use Rattle.std.specs.Prelude.{◌≡◌, ℕ, ◌+◌, ◌<◌, ◌≤◌, ◌≢◌, Bool, ◌==◌, List, length, slice_index, if◌then◌else◌, Option, Some, None, IfSome}
+use Rattle.std.specs.Prelude.{◌≡◌, ℕ, ◌+◌, ◌<◌, ◌≤◌, ◌≢◌, Bool, ◌==◌, List, length, slice_index, if◌then◌else◌, Option}
+use Rattle.std.specs.Prelude.{Some, None, IfSome}
 use Rattle.ra_base.specs.Sums.{one_if, greatest}
 use Rattle.ra_base.specs.declared.costs.MovedCount.{MovedCount}
 use Rattle.ra_cells.specs.MovedCounts.{MovedCounts}

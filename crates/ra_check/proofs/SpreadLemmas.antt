@@ -1,5 +1,6 @@
 -- The number of locations of a service, and the first service in too few.
-use Rattle.std.proofs.Common.{◌≡◌, ℕ, zero, suc, ◌+◌, ◌^◌, ◌<◌, ◌≤◌, true, false, not, cond, eqb, ltb, List, length, get_or, Some, None, sym, refl, ap, ap₂, ◌∙◌, arith}
+use Rattle.std.proofs.Common.{◌≡◌, ℕ, zero, suc, ◌+◌, ◌^◌, ◌<◌, ◌≤◌, true, false, not, cond, eqb, ltb, List, length}
+use Rattle.std.proofs.Common.{get_or, Some, None, sym, refl, ap, ap₂, ◌∙◌, arith}
 use Rattle.std.proofs.lemmas.Bool.{lt-ltb, le-ltb, cond-true, cond-false}
 use Rattle.ra_base.specs.Sums.{one_if, count, is_named, fresh}
 use Rattle.ra_base.specs.declared.ids.Machine.{Machine}
@@ -23,29 +24,35 @@ use Rattle.ra_check.specs.Stamps.{seat_of, site_of, holds_site, AreSeated, ArePl
 use Rattle.ra_check.proofs.StampLemmas.{below_grows, below_set, stamped_none, stamped_more, seated, placed}
 
 -- a name among the first n, at two lists of names whose tests agree
-pub named_like : (n : ℕ) (e f : ℕ → ℕ) (x y : ℕ) → ((k : ℕ) → k < n → eqb (e k) x ≡ eqb (f k) y) → is_named n e x ≡ is_named n f y
+pub named_like : (n : ℕ) (e f : ℕ → ℕ) (x y : ℕ) → ((k : ℕ) → k < n → eqb (e k) x ≡ eqb (f k) y) →
+    is_named n e x ≡ is_named n f y
 unfolding is_named
 named_like zero e f x y alike = refl
 named_like (suc n) e f x y alike = cc (named_like n e f x y (λ k h. alike k (omega arith)), alike n (omega arith))
 
 -- as many different names
-pub count_like : (size many n : ℕ) (e f : ℕ → ℕ) → ((k : ℕ) → k < n → e k < size) → ((k : ℕ) → k < n → f k < many) → ((j k : ℕ) → j < n → k < n → eqb (e j) (e k) ≡ eqb (f j) (f k)) → count size (is_named n e) ≡ count many (is_named n f)
+pub count_like : (size many n : ℕ) (e f : ℕ → ℕ) → ((k : ℕ) → k < n → e k < size) → ((k : ℕ) → k < n → f k < many) →
+    ((j k : ℕ) → j < n → k < n → eqb (e j) (e k) ≡ eqb (f j) (f k)) →
+    count size (is_named n e) ≡ count many (is_named n f)
 unfolding fresh
 count_like size many n e f e_in f_in alike =
     count_named size n e e_in
-    ∙ total_same n (fresh e (λ m. 1)) (fresh f (λ m. 1)) (λ k h. ap (λ t. cond t 0 1) (named_like k e f (e k) (f k) (λ j before. alike j k (omega arith) h)))
+    ∙ total_same n (fresh e (λ m. 1)) (fresh f (λ m. 1))
+    (λ k h. ap (λ t. cond t 0 1) (named_like k e f (e k) (f k) (λ j before. alike j k (omega arith) h)))
     ∙ sym (count_named many n f f_in)
 
 -- the first place, and one more
 pub sites_none : (size : ℕ) (e : ℕ → ℕ) → count size (is_named 0 e) ≡ 0
 sites_none size e = count_zero size (is_named 0 e) (λ x h. is_named_none e x)
 
-pub sites_new : (marks : List ℕ) (size stamp n x : ℕ) (e : ℕ → ℕ) → AreStamped marks size stamp n e → x < size → x ≡ e n → eqb (get_or marks x 0) stamp ≡ false → count size (is_named (n + 1) e) ≡ count size (is_named n e) + 1
+pub sites_new : (marks : List ℕ) (size stamp n x : ℕ) (e : ℕ → ℕ) → AreStamped marks size stamp n e → x < size →
+    x ≡ e n → eqb (get_or marks x 0) stamp ≡ false → count size (is_named (n + 1) e) ≡ count size (is_named n e) + 1
 sites_new marks size stamp n x e stamped within is new =
     let not_yet : is_named n e (e n) ≡ false = ap (is_named n e) (sym is) ∙ sym (stamped.exactly x within) ∙ new in
     count_named_more size n e (omega arith) ∙ ap (λ t. count size (is_named n e) + one_if (not t)) not_yet
 
-pub sites_old : (marks : List ℕ) (size stamp n x : ℕ) (e : ℕ → ℕ) → AreStamped marks size stamp n e → x < size → x ≡ e n → eqb (get_or marks x 0) stamp ≡ true → count size (is_named (n + 1) e) ≡ count size (is_named n e)
+pub sites_old : (marks : List ℕ) (size stamp n x : ℕ) (e : ℕ → ℕ) → AreStamped marks size stamp n e → x < size →
+    x ≡ e n → eqb (get_or marks x 0) stamp ≡ true → count size (is_named (n + 1) e) ≡ count size (is_named n e)
 sites_old marks size stamp n x e stamped within is old =
     let already : is_named n e (e n) ≡ true = ap (is_named n e) (sym is) ∙ sym (stamped.exactly x within) ∙ old in
     omega (arith, count_named_more size n e (omega arith), ap (λ t. one_if (not t)) already)
@@ -53,51 +60,82 @@ sites_old marks size stamp n x e stamped within is old =
 pub ruleset spreading = (sites_none, sites_new, sites_old, stamped_none, stamped_more, below_grows, below_set)
 
 -- the processes of a service are in as many locations as their places are different
-named_in_location : (i : Tables) (a : List Machine) (s label : ℕ) (processes : List Process) → AreProcessesOf i s processes → ltb 0 (in_location i a s label) ≡ is_named (length processes) (λ k. location_of i (seat_of a processes k)) label
+named_in_location : (i : Tables) (a : List Machine) (s label : ℕ) (processes : List Process) →
+    AreProcessesOf i s processes → ltb 0 (in_location i a s label) ≡ is_named (length processes)
+    (λ k. location_of i (seat_of a processes k)) label
 unfolding in_location seat_of
 named_in_location i a s label processes h =
     ap (λ n. ltb 0 n) (members_at_is i a s processes (λ p at. eqb (location_of i at) label) h)
     ∙ is_named_count (length processes) (λ k. location_of i (machine_at a (member_at processes k))) label
 
-locations_are : (i : Tables) (a : List Machine) (s size : ℕ) (processes : List Process) (places : List Machine) → Small i → AreProcessesOf i s processes → AreSeated a processes size → AreFirst (location_of i) size places → count size (holds_site places a processes) ≡ locations_of i a s
+locations_are : (i : Tables) (a : List Machine) (s size : ℕ) (processes : List Process) (places : List Machine) →
+    Small i → AreProcessesOf i s processes → AreSeated a processes size → AreFirst (location_of i) size places →
+    count size (holds_site places a processes) ≡ locations_of i a s
 unfolding locations_of holds_site site_of
 locations_are i a s size processes places small h seated first =
-    count_like size (2 ^ 32) (length processes) (site_of places a processes) (λ k. location_of i (seat_of a processes k))
+    count_like size (2 ^ 32) (length processes) (site_of places a processes)
+    (λ k. location_of i (seat_of a processes k))
     (λ k within. (placed (location_of i) size places first).within (seat_of a processes k) (seated.within k within))
     (λ k within. small.locations (seat_of a processes k))
-    (λ j k j_in k_in. place_test (location_of i) size (seat_of a processes j) (seat_of a processes k) places first (seated.within j j_in) (seated.within k k_in))
-    ∙ total_same (2 ^ 32) (λ x. one_if (is_named (length processes) (λ k. location_of i (seat_of a processes k)) x)) (λ x. one_if (ltb 0 (in_location i a s x))) (λ x within. ap one_if (sym (named_in_location i a s x processes h)))
+    (λ j k j_in k_in. place_test (location_of i) size (seat_of a processes j) (seat_of a processes k) places first
+    (seated.within j j_in) (seated.within k k_in))
+    ∙ total_same (2 ^ 32) (λ x. one_if (is_named (length processes) (λ k. location_of i (seat_of a processes k)) x))
+    (λ x. one_if (ltb 0 (in_location i a s x)))
+    (λ x within. ap one_if (sym (named_in_location i a s x processes h)))
 
 -- a service has no more processes than there are
-pub few_members : (i : Tables) (members : List (List Process)) (s : ℕ) → WellFormed i → AreMembers members i → s < service_count i → length (members_of members s) < 2 ^ 32
-few_members i members s formed are within = omega (arith, members_length i s (members_of members s) (are.each s within), count_le (process_count i) (is_of i s), formed.few_processes)
+pub few_members : (i : Tables) (members : List (List Process)) (s : ℕ) → WellFormed i → AreMembers members i →
+    s < service_count i → length (members_of members s) < 2 ^ 32
+few_members i members s formed are within =
+    omega (
+      arith,
+      members_length i s (members_of members s) (are.each s within),
+      count_le (process_count i) (is_of i s),
+      formed.few_processes,
+    )
 
-counted : (i : Tables) (a : List Machine) (s size has : ℕ) (members : List (List Process)) (places : PlaceLists) → Small i → IsAssignment i a → AreMembers members i → ArePlaces places i → s < service_count i → size ≡ machine_count i → has ≡ count size (holds_site places.locations a (members_of members s)) → has ≡ locations_of i a s
+counted : (i : Tables) (a : List Machine) (s size has : ℕ) (members : List (List Process)) (places : PlaceLists) →
+    Small i → IsAssignment i a → AreMembers members i → ArePlaces places i → s < service_count i →
+    size ≡ machine_count i → has ≡ count size (holds_site places.locations a (members_of members s)) →
+    has ≡ locations_of i a s
 counted i a s size has members places small assigned are placed within same is =
     is ∙ ap (λ n. count n (holds_site places.locations a (members_of members s))) same
-    ∙ locations_are i a s (machine_count i) (members_of members s) places.locations small (are.each s within) (seated i a members s (machine_count i) assigned are within refl) placed.locations
+    ∙ locations_are i a s (machine_count i) (members_of members s) places.locations small (are.each s within)
+    (seated i a members s (machine_count i) assigned are within refl) placed.locations
 
-test_at : (i : Tables) (a : List Machine) (s has wants : ℕ) → has ≡ locations_of i a s → wants ≡ spread_of i s → spread_test i a s ≡ cause_if (ltb has wants) (Spread (record { 0 = s }) has wants)
+test_at : (i : Tables) (a : List Machine) (s has wants : ℕ) → has ≡ locations_of i a s → wants ≡ spread_of i s →
+    spread_test i a s ≡ cause_if (ltb has wants) (Spread (record { 0 = s }) has wants)
 unfolding spread_test
-test_at i a s has wants is wanted = ap₂ (λ h w. cause_if (ltb h w) (Spread (record { 0 = s }) h w)) (sym is) (sym wanted)
+test_at i a s has wants is wanted =
+    ap₂ (λ h w. cause_if (ltb h w) (Spread (record { 0 = s }) h w)) (sym is) (sym wanted)
 
-pub spread_some : (i : Tables) (a : List Machine) (s size has wants : ℕ) (members : List (List Process)) (places : PlaceLists) → Small i → IsAssignment i a → AreMembers members i → ArePlaces places i → s < service_count i → size ≡ machine_count i → has ≡ count size (holds_site places.locations a (members_of members s)) → wants ≡ spread_of i s → has < wants → spread_test i a s ≡ Some (Spread (record { 0 = s }) has wants)
+pub spread_some : (i : Tables) (a : List Machine) (s size has wants : ℕ) (members : List (List Process))
+    (places : PlaceLists) → Small i → IsAssignment i a → AreMembers members i → ArePlaces places i →
+    s < service_count i → size ≡ machine_count i →
+    has ≡ count size (holds_site places.locations a (members_of members s)) → wants ≡ spread_of i s → has < wants →
+    spread_test i a s ≡ Some (Spread (record { 0 = s }) has wants)
 unfolding cause_if
 spread_some i a s size has wants members places small assigned are placed within same is wanted fewer =
     test_at i a s has wants (counted i a s size has members places small assigned are placed within same is) wanted
     ∙ cond-true (ltb has wants) (Some (Spread (record { 0 = s }) has wants)) None (lt-ltb has wants fewer)
 
-pub spread_none : (i : Tables) (a : List Machine) (s size has wants : ℕ) (members : List (List Process)) (places : PlaceLists) → Small i → IsAssignment i a → AreMembers members i → ArePlaces places i → s < service_count i → size ≡ machine_count i → has ≡ count size (holds_site places.locations a (members_of members s)) → wants ≡ spread_of i s → wants ≤ has → spread_test i a s ≡ None
+pub spread_none : (i : Tables) (a : List Machine) (s size has wants : ℕ) (members : List (List Process))
+    (places : PlaceLists) → Small i → IsAssignment i a → AreMembers members i → ArePlaces places i →
+    s < service_count i → size ≡ machine_count i →
+    has ≡ count size (holds_site places.locations a (members_of members s)) → wants ≡ spread_of i s → wants ≤ has →
+    spread_test i a s ≡ None
 unfolding cause_if
 spread_none i a s size has wants members places small assigned are placed within same is wanted enough =
     test_at i a s has wants (counted i a s size has members places small assigned are placed within same is) wanted
     ∙ cond-false (ltb has wants) (Some (Spread (record { 0 = s }) has wants)) None (le-ltb has wants enough)
 
 -- the places of an instance are below its number of machines
-pub placed_locations : (i : Tables) (places : PlaceLists) (size : ℕ) → ArePlaces places i → size ≡ machine_count i → ArePlaced places.locations size
+pub placed_locations : (i : Tables) (places : PlaceLists) (size : ℕ) → ArePlaces places i → size ≡ machine_count i →
+    ArePlaced places.locations size
 placed_locations i places size are same = record {
   one_each = are.locations.one_each ∙ sym same;
-  within = λ m within. omega (arith, (placed (location_of i) (machine_count i) places.locations are.locations).within m (omega arith));
+  within = λ m within.
+      omega (arith, (placed (location_of i) (machine_count i) places.locations are.locations).within m (omega arith));
 }
 
 pub ruleset spreads = (few_members, seated, placed_locations, spread_some, spread_none)

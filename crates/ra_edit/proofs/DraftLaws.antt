@@ -1,5 +1,6 @@
 -- What the answer to an edit is, and what is left after it.
-use Rattle.std.proofs.Common.{◌≡◌, ◌≢◌, ℕ, ◌<◌, ◌≤◌, List, length, Some, None, refl, sym, ap, ◌∙◌, subst, ⊎_elim, eq-eqb, ne_eqb}
+use Rattle.std.proofs.Common.{◌≡◌, ◌≢◌, ℕ, ◌<◌, ◌≤◌, List, length, Some, None, refl, sym, ap, ◌∙◌, subst, ⊎_elim}
+use Rattle.std.proofs.Common.{eq-eqb, ne_eqb}
 use Rattle.std.proofs.Math.Nat.{mod-eq_of_lt}
 use Rattle.std.proofs.lemmas.Bool.{cases_lt, cases_eq, lt-ltb, le-ltb}
 use Rattle.ra_base.specs.declared.causes.Cause.{Cause}
@@ -35,7 +36,8 @@ unfolding process_of
 row_is row = process_same row (process_of row.service row.move_cost) refl (sym (mod-eq_of_lt row.small))
 
 -- a new draft
-new_kept : (i : Tables) (a0 a : List Machine) (parts : Parts) → WellFormed i → IsAssignment i a0 → IsAssignment i a → first_broken i a0 a ≡ None → parts ≡ parts_of i a0 a → IsKept (draft_of i a0 a) parts
+new_kept : (i : Tables) (a0 a : List Machine) (parts : Parts) → WellFormed i → IsAssignment i a0 → IsAssignment i a →
+    first_broken i a0 a ≡ None → parts ≡ parts_of i a0 a → IsKept (draft_of i a0 a) parts
 unfolding with_processes broken_in
 new_kept i a0 a parts well fits0 fits unbroken cost = record {
   sound = record { well_formed = well; initial = fits0; current = fits };
@@ -43,8 +45,10 @@ new_kept i a0 a parts well fits0 fits unbroken cost = record {
   parts_are = cost;
 }
 
-pub made_kept : (d : Drafted) (i : Tables) (a0 a : List Machine) (parts : Parts) → d ≡ draft_of i a0 a → WellFormed i → IsAssignment i a0 → IsAssignment i a → first_broken i a0 a ≡ None → parts ≡ parts_of i a0 a → IsKept d parts
-made_kept d i a0 a parts same well fits0 fits unbroken cost = subst (λ (e : Drafted). IsKept e parts) (sym same) (new_kept i a0 a parts well fits0 fits unbroken cost)
+pub made_kept : (d : Drafted) (i : Tables) (a0 a : List Machine) (parts : Parts) → d ≡ draft_of i a0 a → WellFormed i →
+    IsAssignment i a0 → IsAssignment i a → first_broken i a0 a ≡ None → parts ≡ parts_of i a0 a → IsKept d parts
+made_kept d i a0 a parts same well fits0 fits unbroken cost =
+    subst (λ (e : Drafted). IsKept e parts) (sym same) (new_kept i a0 a parts well fits0 fits unbroken cost)
 
 -- what bars an edit isn't that it is done
 never_done : (count : ℕ) (e : Edit) (cost : ℕ) → barred count e ≡ Some (Done cost) → ⊥
@@ -66,7 +70,8 @@ never_done count (Resize p) cost h = ⊎_elim
     (cases_lt p count)
 
 -- a barred edit changes nothing
-barred_keeps : (count : ℕ) (e : Edit) (reply : EditReply) (before after : Drafted) → barred count e ≡ Some reply → kept reply before after ≡ before
+barred_keeps : (count : ℕ) (e : Edit) (reply : EditReply) (before after : Drafted) → barred count e ≡ Some reply →
+    kept reply before after ≡ before
 unfolding kept barred
 barred_keeps count e (Done cost) before after h = absurd (never_done count e cost h)
 barred_keeps count e (NoProcess p) before after h = refl
@@ -74,63 +79,99 @@ barred_keeps count e Full before after h = refl
 barred_keeps count e Last before after h = refl
 barred_keeps count e (Broken cause) before after h = refl
 
-pub answered_barred : (d : Drafted) (e : EditLists) (k : ℕ) (reply : EditReply) → barred (length d.rows) (edit_at e k) ≡ Some reply → reply ≡ edit_answer d e k
+pub answered_barred : (d : Drafted) (e : EditLists) (k : ℕ) (reply : EditReply) → barred (length d.rows) (edit_at e k) ≡
+    Some reply → reply ≡ edit_answer d e k
 unfolding edit_answer answer
 answered_barred d e k reply h = rw h refl
 
-pub kept_barred : (d : Drafted) (e : EditLists) (k : ℕ) (reply : EditReply) → barred (length d.rows) (edit_at e k) ≡ Some reply → d ≡ after_edit d e k
+pub kept_barred : (d : Drafted) (e : EditLists) (k : ℕ) (reply : EditReply) → barred (length d.rows) (edit_at e k) ≡
+    Some reply → d ≡ after_edit d e k
 unfolding after_edit
-kept_barred d e k reply h = sym (ap (λ (r : EditReply). kept r d (edited d (edit_at e k) (row_of e.width e.requirements k))) (sym (answered_barred d e k reply h)) ∙ barred_keeps (length d.rows) (edit_at e k) reply d (edited d (edit_at e k) (row_of e.width e.requirements k)) h)
+kept_barred d e k reply h =
+    sym (ap (λ (r : EditReply). kept r d (edited d (edit_at e k) (row_of e.width e.requirements k)))
+    (sym (answered_barred d e k reply h))
+    ∙ barred_keeps (length d.rows) (edit_at e k) reply d (edited d (edit_at e k) (row_of e.width e.requirements k))
+    h)
 
 -- a broken constraint
-pub answered_broken : (d next : Drafted) (e : EditLists) (k : ℕ) (cause : Cause) → barred (length d.rows) (edit_at e k) ≡ None → next ≡ edited d (edit_at e k) (row_of e.width e.requirements k) → broken_in next ≡ Some cause → Broken cause ≡ edit_answer d e k
+pub answered_broken : (d next : Drafted) (e : EditLists) (k : ℕ) (cause : Cause) →
+    barred (length d.rows) (edit_at e k) ≡ None → next ≡ edited d (edit_at e k) (row_of e.width e.requirements k) →
+    broken_in next ≡ Some cause → Broken cause ≡ edit_answer d e k
 unfolding edit_answer answer judged
 answered_broken d next e k cause free same broken = rw (free, ← same, broken) refl
 
-pub kept_broken : (d next : Drafted) (e : EditLists) (k : ℕ) (cause : Cause) → barred (length d.rows) (edit_at e k) ≡ None → next ≡ edited d (edit_at e k) (row_of e.width e.requirements k) → broken_in next ≡ Some cause → d ≡ after_edit d e k
+pub kept_broken : (d next : Drafted) (e : EditLists) (k : ℕ) (cause : Cause) → barred (length d.rows) (edit_at e k) ≡
+    None → next ≡ edited d (edit_at e k) (row_of e.width e.requirements k) → broken_in next ≡ Some cause →
+    d ≡ after_edit d e k
 unfolding after_edit kept
 kept_broken d next e k cause free same broken = rw (← answered_broken d next e k cause free same broken) refl
 
 -- an edit that is done
-total_is : (d : Drafted) (parts : Parts) → parts ≡ parts_of (instance_of d) d.initial d.current → cost_in d ≡ parts.total
+total_is : (d : Drafted) (parts : Parts) → parts ≡ parts_of (instance_of d) d.initial d.current →
+    cost_in d ≡ parts.total
 unfolding cost_in parts_of
 total_is d parts same = sym (ap (λ (p : Parts). p.total) same)
 
-pub answered_done : (d next : Drafted) (e : EditLists) (k : ℕ) (parts : Parts) → barred (length d.rows) (edit_at e k) ≡ None → next ≡ edited d (edit_at e k) (row_of e.width e.requirements k) → broken_in next ≡ None → parts ≡ parts_of (instance_of next) next.initial next.current → Done parts.total ≡ edit_answer d e k
+pub answered_done : (d next : Drafted) (e : EditLists) (k : ℕ) (parts : Parts) → barred (length d.rows) (edit_at e k) ≡
+    None → next ≡ edited d (edit_at e k) (row_of e.width e.requirements k) → broken_in next ≡ None →
+    parts ≡ parts_of (instance_of next) next.initial next.current → Done parts.total ≡ edit_answer d e k
 unfolding edit_answer answer judged
 answered_done d next e k parts free same fine cost = rw (free, ← same, fine, total_is next parts cost) refl
 
-pub kept_done : (d next : Drafted) (e : EditLists) (k : ℕ) (parts : Parts) → barred (length d.rows) (edit_at e k) ≡ None → next ≡ edited d (edit_at e k) (row_of e.width e.requirements k) → broken_in next ≡ None → parts ≡ parts_of (instance_of next) next.initial next.current → next ≡ after_edit d e k
+pub kept_done : (d next : Drafted) (e : EditLists) (k : ℕ) (parts : Parts) → barred (length d.rows) (edit_at e k) ≡
+    None → next ≡ edited d (edit_at e k) (row_of e.width e.requirements k) → broken_in next ≡ None →
+    parts ≡ parts_of (instance_of next) next.initial next.current → next ≡ after_edit d e k
 unfolding after_edit kept
 kept_done d next e k parts free same fine cost = rw (← answered_done d next e k parts free same fine cost) same
 
 -- the current list is feasible
 pub kept_feasible : (d : Drafted) (parts : Parts) → IsKept d parts → Feasible (instance_of d) d.initial d.current
 unfolding broken_in
-kept_feasible d parts h = feasible_from_unbroken (instance_of d) d.initial d.current h.sound.well_formed h.sound.current h.unbroken
+kept_feasible d parts h =
+    feasible_from_unbroken (instance_of d) d.initial d.current h.sound.well_formed h.sound.current h.unbroken
 
 -- and feasible in the instance that is built
-pub built_feasible : (d : Drafted) (parts : Parts) (j : Tables) → IsKept d parts → AreSameLists (instance_of d) j → Feasible j d.initial d.current
+pub built_feasible : (d : Drafted) (parts : Parts) (j : Tables) → IsKept d parts → AreSameLists (instance_of d) j →
+    Feasible j d.initial d.current
 unfolding broken_in
-built_feasible d parts j h same = feasible_from_unbroken j d.initial d.current (same_well (instance_of d) j same.lists h.sound.well_formed) (same_fits (instance_of d) j d.current same.lists h.sound.current) (same_broken (instance_of d) j d.initial d.current same h.sound.current ∙ h.unbroken)
+built_feasible d parts j h same =
+    feasible_from_unbroken j d.initial d.current (same_well (instance_of d) j same.lists h.sound.well_formed)
+    (same_fits (instance_of d) j d.current same.lists h.sound.current)
+    (same_broken (instance_of d) j d.initial d.current same h.sound.current ∙ h.unbroken)
 
 -- and in one with the same lists
-pub same_feasible : (d : Drafted) (j : Tables) → IsSound d → Feasible (instance_of d) d.initial d.current → AreSameLists (instance_of d) j → Feasible j d.initial d.current
-same_feasible d j sound feasible same = feasible_from_unbroken j d.initial d.current (same_well (instance_of d) j same.lists sound.well_formed) (same_fits (instance_of d) j d.current same.lists sound.current) (same_broken (instance_of d) j d.initial d.current same sound.current ∙ unbroken_from_feasible (instance_of d) d.initial d.current feasible)
+pub same_feasible : (d : Drafted) (j : Tables) → IsSound d → Feasible (instance_of d) d.initial d.current →
+    AreSameLists (instance_of d) j → Feasible j d.initial d.current
+same_feasible d j sound feasible same =
+    feasible_from_unbroken j d.initial d.current (same_well (instance_of d) j same.lists sound.well_formed)
+    (same_fits (instance_of d) j d.current same.lists sound.current)
+    (same_broken (instance_of d) j d.initial d.current same sound.current
+    ∙ unbroken_from_feasible (instance_of d) d.initial d.current feasible)
 
-pub built_parts : (d : Drafted) (j : Tables) → AreSameLists (instance_of d) j → parts_of j d.initial d.current ≡ parts_of (instance_of d) d.initial d.current
+pub built_parts : (d : Drafted) (j : Tables) → AreSameLists (instance_of d) j →
+    parts_of j d.initial d.current ≡ parts_of (instance_of d) d.initial d.current
 built_parts d j same = same_parts (instance_of d) j d.initial d.current same.lists
 
 -- what an edit makes of a draft is sound
-pub next_sound : (d old next : Drafted) (e : EditLists) (k : ℕ) → d ≡ old → IsSound d → AreEditsFor old.origin e → k < length e.edits → barred (length d.rows) (edit_at e k) ≡ None → next ≡ edited d (edit_at e k) (row_of e.width e.requirements k) → length (row_of e.width e.requirements k) ≡ e.width → IsSound next
+pub next_sound : (d old next : Drafted) (e : EditLists) (k : ℕ) → d ≡ old → IsSound d → AreEditsFor old.origin e →
+    k < length e.edits → barred (length d.rows) (edit_at e k) ≡ None →
+    next ≡ edited d (edit_at e k) (row_of e.width e.requirements k) → length (row_of e.width e.requirements k) ≡
+    e.width → IsSound next
 unfolding edit_at
 next_sound d old next e k same sound fits within free is width =
     let here = subst (λ (o : Drafted). AreEditsFor o.origin e) (sym same) fits in
-    subst IsSound (sym is) (edited_sound d (edit_at e k) (row_of e.width e.requirements k) sound free (here.each k within) (width ∙ here.width))
+    subst IsSound (sym is)
+    (edited_sound d (edit_at e k) (row_of e.width e.requirements k) sound free (here.each k within)
+    (width ∙ here.width))
 
 -- and it is what the kind of the edit says
-pub next_edited : (d old next : Drafted) (e : EditLists) (k : ℕ) (edit : Edit) → d ≡ old → IsSound d → AreEditsFor old.origin e → k < length e.edits → edit ≡ edit_at e k → barred (length d.rows) (edit_at e k) ≡ None → next ≡ edited d (edit_at e k) (row_of e.width e.requirements k) → length (row_of e.width e.requirements k) ≡ e.width → IsEdited d edit next
+pub next_edited : (d old next : Drafted) (e : EditLists) (k : ℕ) (edit : Edit) → d ≡ old → IsSound d →
+    AreEditsFor old.origin e → k < length e.edits → edit ≡ edit_at e k → barred (length d.rows) (edit_at e k) ≡ None →
+    next ≡ edited d (edit_at e k) (row_of e.width e.requirements k) → length (row_of e.width e.requirements k) ≡
+    e.width → IsEdited d edit next
 unfolding edit_at
 next_edited d old next e k edit same sound fits within is free made width =
     let fits_d : AreEditsFor d.origin e = subst (λ (o : Drafted). AreEditsFor o.origin e) (sym same) fits in
-    subst (λ (x : Edit). IsEdited d x next) (sym is) (edited_is d next (edit_at e k) (row_of e.width e.requirements k) sound free (fits_d.each k within) (width ∙ fits_d.width) made)
+    subst (λ (x : Edit). IsEdited d x next) (sym is)
+    (edited_is d next (edit_at e k) (row_of e.width e.requirements k) sound free (fits_d.each k within)
+    (width ∙ fits_d.width) made)

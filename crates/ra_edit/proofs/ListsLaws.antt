@@ -9,14 +9,41 @@ use Rattle.ra_edit.specs.Editing.{process_of, drop_row, added, retired, resized}
 use Rattle.ra_edit.proofs.DraftLaws.{row_is}
 use Rattle.ra_edit.proofs.ListLaws.{put_here}
 
-pub added_is : (d : Drafted) (row : ProcessRow) (m : Machine) (requirements : List ℕ) (rows : List ProcessRow) (table : List ℕ) (initial current : List Machine) → rows ≡ d.rows ++ row ∷ [] → table ≡ d.requirements ++ requirements → initial ≡ d.initial ++ m ∷ [] → current ≡ d.current ++ m ∷ [] → record { origin = d.origin; rows = rows; requirements = table; initial = initial; current = current } ≡ added d row.service m row.move_cost requirements
+pub added_is : (d : Drafted) (row : ProcessRow) (m : Machine) (requirements : List ℕ) (rows : List ProcessRow)
+    (table : List ℕ) (initial current : List Machine) → rows ≡ d.rows ++ row ∷ [] →
+    table ≡ d.requirements ++ requirements → initial ≡ d.initial ++ m ∷ [] → current ≡ d.current ++ m ∷ [] → record {
+      origin = d.origin;
+      rows = rows;
+      requirements = table;
+      initial = initial;
+      current = current;
+    } ≡ added d row.service m row.move_cost requirements
 unfolding added
 added_is d row m requirements rows table initial current e f g h = rw (e, f, g, h, ← row_is row) refl
 
-pub retired_is : (d : Drafted) (p w n : ℕ) (rows : List ProcessRow) (table : List ℕ) (initial current : List Machine) → rows ≡ swap_remove d.rows p (process_of (record { 0 = 0 }) 0) → table ≡ drop_row w d.requirements n p → w ≡ resource_count d.origin → n ≡ length d.rows → initial ≡ swap_remove d.initial p (record { 0 = 0 }) → current ≡ swap_remove d.current p (record { 0 = 0 }) → record { origin = d.origin; rows = rows; requirements = table; initial = initial; current = current } ≡ retired d p
+pub retired_is : (d : Drafted) (p w n : ℕ) (rows : List ProcessRow) (table : List ℕ) (initial current : List Machine) →
+    rows ≡ swap_remove d.rows p (process_of (record { 0 = 0 }) 0) → table ≡ drop_row w d.requirements n p →
+    w ≡ resource_count d.origin → n ≡ length d.rows → initial ≡ swap_remove d.initial p (record { 0 = 0 }) →
+    current ≡ swap_remove d.current p (record { 0 = 0 }) → record {
+      origin = d.origin;
+      rows = rows;
+      requirements = table;
+      initial = initial;
+      current = current;
+    } ≡ retired d p
 unfolding retired
 retired_is d p w n rows table initial current e f width count g h = rw (e, f, width, count, g, h) refl
 
-pub resized_is : (d : Drafted) (p start : ℕ) (requirements table : List ℕ) (rows : List ProcessRow) (initial current : List Machine) → rows ≡ d.rows → start ≡ p * resource_count d.origin → length requirements ≡ resource_count d.origin → table ≡ (take start d.requirements ++ requirements) ++ drop (start + length requirements) d.requirements → initial ≡ d.initial → current ≡ d.current → record { origin = d.origin; rows = rows; requirements = table; initial = initial; current = current } ≡ resized d p requirements
+pub resized_is : (d : Drafted) (p start : ℕ) (requirements table : List ℕ) (rows : List ProcessRow)
+    (initial current : List Machine) → rows ≡ d.rows → start ≡ p * resource_count d.origin →
+    length requirements ≡ resource_count d.origin → table ≡ (take start d.requirements ++ requirements) ++ drop
+    (start + length requirements) d.requirements → initial ≡ d.initial → current ≡ d.current → record {
+      origin = d.origin;
+      rows = rows;
+      requirements = table;
+      initial = initial;
+      current = current;
+    } ≡ resized d p requirements
 unfolding resized
-resized_is d p start requirements table rows initial current e start_is width f g h = rw (e, f, g, h, put_here (resource_count d.origin) p start d.requirements requirements width start_is) refl
+resized_is d p start requirements table rows initial current e start_is width f g h =
+    rw (e, f, g, h, put_here (resource_count d.origin) p start d.requirements requirements width start_is) refl

@@ -15,7 +15,9 @@ pub record Small : Type 0 where
 pub small_same : (x y : Small) → x.number ≡ y.number → x ≡ y
 small_same x y e =
     let P : ℕ → Type 0 = λ n. (s : n < 2 ^ 32) → x ≡ record { number = n; small = s } in
-    let here : P x.number = λ s. ap (λ (t : x.number < 2 ^ 32). let z : Small = record { number = x.number; small = t } in z) (le_prop x.small s) in
+    let here : P x.number =
+    λ s. ap (λ (t : x.number < 2 ^ 32). let z : Small = record { number = x.number; small = t } in z)
+    (le_prop x.small s) in
     subst P e here y.small
 
 resource_from : Bool → Small → ResourceRow
@@ -29,7 +31,12 @@ resource_same x y e f =
     ap (λ (t : Bool). resource_from t a) e ∙ ap (resource_from y.transient) (small_same a b f)
 
 machine_from : Small → Small → MachineRow
-machine_from a b = record { neighbourhood = a.number; location = b.number; small_neighbourhood = a.small; small_location = b.small }
+machine_from a b = record {
+  neighbourhood = a.number;
+  location = b.number;
+  small_neighbourhood = a.small;
+  small_location = b.small;
+}
 
 pub machine_same : (x y : MachineRow) → x.neighbourhood ≡ y.neighbourhood → x.location ≡ y.location → x ≡ y
 unfolding machine_from
@@ -41,7 +48,12 @@ machine_same x y e f =
     ap (λ (s : Small). machine_from s c) (small_same a b e) ∙ ap (machine_from b) (small_same c d f)
 
 service_from : Small → Small → ServiceRow
-service_from a b = record { spread_min = a.number; dependency_end = b.number; small_spread = a.small; small_end = b.small }
+service_from a b = record {
+  spread_min = a.number;
+  dependency_end = b.number;
+  small_spread = a.small;
+  small_end = b.small;
+}
 
 pub service_same : (x y : ServiceRow) → x.spread_min ≡ y.spread_min → x.dependency_end ≡ y.dependency_end → x ≡ y
 unfolding service_from

@@ -12,18 +12,31 @@ use Rattle.ra_model.specs.declared.raw.ResourceRow.{ResourceRow}
 use Rattle.ra_model.specs.declared.raw.ServiceRow.{ServiceRow}
 use Rattle.ra_model.specs.declared.raw.Tables.{Tables}
 use Rattle.ra_model.specs.Limits.{WellFormed}
-use Rattle.ra_model.specs.Numbers.{resource_row, machine_row, service_row, process_row, balance_row, resource_count, machine_count, service_count, process_count, balance_count, transient_at, load_weight_of, neighbourhood_of, location_of, capacity_of, safety_of, way_cost_of, spread_of, dependency_end, dependency_start, dependency_count, need_at, need_of, service_of, requirement_of, process_cost_of, first_of, second_of, target_of, balance_weight_of, process_weight_of, service_weight_of, machine_weight_of, closed_at}
+use Rattle.ra_model.specs.Numbers.{resource_row, machine_row, service_row, process_row, balance_row, resource_count}
+use Rattle.ra_model.specs.Numbers.{machine_count, service_count, process_count, balance_count, transient_at}
+use Rattle.ra_model.specs.Numbers.{load_weight_of, neighbourhood_of, location_of, capacity_of, safety_of, way_cost_of}
+use Rattle.ra_model.specs.Numbers.{spread_of, dependency_end, dependency_start, dependency_count, need_at, need_of}
+use Rattle.ra_model.specs.Numbers.{service_of, requirement_of, process_cost_of, first_of, second_of, target_of}
+use Rattle.ra_model.specs.Numbers.{balance_weight_of, process_weight_of, service_weight_of, machine_weight_of}
+use Rattle.ra_model.specs.Numbers.{closed_at}
 use Rattle.ra_model.specs.Assignments.{IsAssignment, machine_at, tally}
 use Rattle.ra_model.specs.Usage.{use_share, use_of, transient_share, transient_of}
-use Rattle.ra_model.specs.Services.{is_of, of_service, members_at, on_machine, in_neighbourhood, in_location, locations_of, moved_of}
-use Rattle.ra_model.specs.Broken.{capacity_test, row_capacity, broken_capacity, transient_test, row_transient, broken_transient, conflict_test, service_conflict, broken_conflict, spread_test, broken_spread, near_of, far_test, dependency_test, pair_dependency, service_dependency, broken_dependency, closed_test, broken_closed, first_broken}
-use Rattle.ra_model.specs.Costs.{excess_on, load_part, load_cost, available, shortfall, balance_part, balance_cost, process_share, process_cost, service_cost, way_share, machine_cost, objective, parts_of}
+use Rattle.ra_model.specs.Services.{is_of, of_service, members_at, on_machine, in_neighbourhood, in_location}
+use Rattle.ra_model.specs.Services.{locations_of, moved_of}
+use Rattle.ra_model.specs.Broken.{capacity_test, row_capacity, broken_capacity, transient_test, row_transient}
+use Rattle.ra_model.specs.Broken.{broken_transient, conflict_test, service_conflict, broken_conflict, spread_test}
+use Rattle.ra_model.specs.Broken.{broken_spread, near_of, far_test, dependency_test, pair_dependency}
+use Rattle.ra_model.specs.Broken.{service_dependency, broken_dependency, closed_test, broken_closed, first_broken}
+use Rattle.ra_model.specs.Costs.{excess_on, load_part, load_cost, available, shortfall, balance_part, balance_cost}
+use Rattle.ra_model.specs.Costs.{process_share, process_cost, service_cost, way_share, machine_cost, objective}
+use Rattle.ra_model.specs.Costs.{parts_of}
 use Rattle.ra_model.proofs.InstanceLemmas.{well_formed_with}
 use Rattle.ra_edit.specs.SameLists.{HasLists, AreSameLists}
 use Rattle.ra_edit.proofs.RowLaws.{Small, small_same}
 
 -- the instance of lists that have no room, in which no machine is closed
-bare_from : List ResourceRow → List MachineRow → List ℕ → List ℕ → List ℕ → List ServiceRow → List Service → List ProcessRow → List ℕ → List BalanceRow → Small → Small → Small → Tables
+bare_from : List ResourceRow → List MachineRow → List ℕ → List ℕ → List ℕ → List ServiceRow → List Service →
+    List ProcessRow → List ℕ → List BalanceRow → Small → Small → Small → Tables
 bare_from rs ms cs ss ws sv ds ps qs bs a b c = record {
   raw = record {
     resources = record { items = rs; room = 0 };
@@ -56,23 +69,42 @@ machine_weight_from : RawInstance → Small
 machine_weight_from raw = record { number = raw.machine_weight; small = raw.small_machine_weight }
 
 bare : RawInstance → Tables
-bare raw = bare_from raw.resources.items raw.machines.items raw.capacities.items raw.safeties.items raw.move_costs.items raw.services.items raw.dependencies.items raw.processes.items raw.requirements.items raw.balances.items (weight_of raw) (service_weight_from raw) (machine_weight_from raw)
+bare raw = bare_from raw.resources.items raw.machines.items raw.capacities.items raw.safeties.items raw.move_costs.items
+    raw.services.items raw.dependencies.items raw.processes.items raw.requirements.items raw.balances.items
+    (weight_of raw) (service_weight_from raw) (machine_weight_from raw)
 
 weights_same : (x y : RawInstance) → x.process_weight ≡ y.process_weight → weight_of x ≡ weight_of y
 unfolding weight_of
 weights_same x y e = small_same (weight_of x) (weight_of y) e
 
-service_weights_same : (x y : RawInstance) → x.service_weight ≡ y.service_weight → service_weight_from x ≡ service_weight_from y
+service_weights_same : (x y : RawInstance) → x.service_weight ≡ y.service_weight →
+    service_weight_from x ≡ service_weight_from y
 unfolding service_weight_from
 service_weights_same x y e = small_same (service_weight_from x) (service_weight_from y) e
 
-machine_weights_same : (x y : RawInstance) → x.machine_weight ≡ y.machine_weight → machine_weight_from x ≡ machine_weight_from y
+machine_weights_same : (x y : RawInstance) → x.machine_weight ≡ y.machine_weight →
+    machine_weight_from x ≡ machine_weight_from y
 unfolding machine_weight_from
 machine_weights_same x y e = small_same (machine_weight_from x) (machine_weight_from y) e
 
 bare_same : (x y : RawInstance) → HasLists x y → bare x ≡ bare y
 unfolding bare
-bare_same x y h = rw (weights_same x y h.process_weight, service_weights_same x y h.service_weight, machine_weights_same x y h.machine_weight, h.resources, h.machines, h.capacities, h.safeties, h.move_costs, h.services, h.dependencies, h.processes, h.requirements, h.balances) refl
+bare_same x y h =
+    rw (
+      weights_same x y h.process_weight,
+      service_weights_same x y h.service_weight,
+      machine_weights_same x y h.machine_weight,
+      h.resources,
+      h.machines,
+      h.capacities,
+      h.safeties,
+      h.move_costs,
+      h.services,
+      h.dependencies,
+      h.processes,
+      h.requirements,
+      h.balances,
+    ) refl
 
 -- no definition but that of closed machines looks at rooms and flags
 
@@ -85,27 +117,38 @@ unfolding bare bare_from process_count
 processes_bare i = refl
 
 capacity_bare : (i : Tables) (a : List Machine) → broken_capacity (bare i.raw) a ≡ broken_capacity i a
-unfolding bare bare_from broken_capacity row_capacity capacity_test use_of use_share machine_count resource_count process_count capacity_of requirement_of
+unfolding bare bare_from broken_capacity row_capacity capacity_test use_of use_share machine_count resource_count
+    process_count capacity_of requirement_of
 capacity_bare i a = refl
 
 transient_bare : (i : Tables) (a0 a : List Machine) → broken_transient (bare i.raw) a0 a ≡ broken_transient i a0 a
-unfolding bare bare_from broken_transient row_transient transient_test transient_of transient_share transient_at resource_row machine_count resource_count process_count capacity_of requirement_of
+unfolding bare bare_from broken_transient row_transient transient_test transient_of transient_share transient_at
+    resource_row machine_count resource_count process_count capacity_of requirement_of
 transient_bare i a0 a = refl
 
 conflict_bare : (i : Tables) (a : List Machine) → broken_conflict (bare i.raw) a ≡ broken_conflict i a
-unfolding bare bare_from broken_conflict service_conflict conflict_test on_machine members_at of_service is_of service_of process_row machine_count service_count process_count
+unfolding bare bare_from broken_conflict service_conflict conflict_test on_machine members_at of_service is_of
+    service_of process_row machine_count service_count process_count
 conflict_bare i a = refl
 
 spread_bare : (i : Tables) (a : List Machine) → broken_spread (bare i.raw) a ≡ broken_spread i a
-unfolding bare bare_from broken_spread spread_test spread_of service_row locations_of in_location location_of machine_row members_at of_service is_of service_of process_row service_count process_count
+unfolding bare bare_from broken_spread spread_test spread_of service_row locations_of in_location location_of
+    machine_row members_at of_service is_of service_of process_row service_count process_count
 spread_bare i a = refl
 
 dependency_bare : (i : Tables) (a : List Machine) → broken_dependency (bare i.raw) a ≡ broken_dependency i a
-unfolding bare bare_from broken_dependency service_dependency pair_dependency dependency_test far_test near_of in_neighbourhood neighbourhood_of machine_row need_of need_at dependency_start dependency_end dependency_count service_row members_at of_service is_of service_of process_row service_count process_count
+unfolding bare bare_from broken_dependency service_dependency pair_dependency dependency_test far_test near_of
+    in_neighbourhood neighbourhood_of machine_row need_of need_at dependency_start dependency_end dependency_count
+    service_row members_at of_service is_of service_of process_row service_count process_count
 dependency_bare i a = refl
 
 parts_bare : (i : Tables) (a0 a : List Machine) → parts_of (bare i.raw) a0 a ≡ parts_of i a0 a
-unfolding bare bare_from parts_of objective load_cost load_part excess_on balance_cost balance_part shortfall available process_cost process_share service_cost moved_of machine_cost way_share use_of use_share members_at of_service is_of service_of process_row resource_row balance_row resource_count machine_count service_count process_count balance_count load_weight_of capacity_of safety_of way_cost_of requirement_of process_cost_of first_of second_of target_of balance_weight_of process_weight_of service_weight_of machine_weight_of tally weight_of service_weight_from machine_weight_from
+unfolding bare bare_from parts_of objective load_cost load_part excess_on balance_cost balance_part shortfall available
+    process_cost process_share service_cost moved_of machine_cost way_share use_of use_share members_at of_service is_of
+    service_of process_row resource_row balance_row resource_count machine_count service_count process_count
+    balance_count load_weight_of capacity_of safety_of way_cost_of requirement_of process_cost_of first_of second_of
+    target_of balance_weight_of process_weight_of service_weight_of machine_weight_of tally weight_of
+    service_weight_from machine_weight_from
 parts_bare i a0 a = refl
 
 to_bare : (i : Tables) → WellFormed i → WellFormed (bare i.raw)
@@ -118,7 +161,8 @@ from_bare i h = well_formed_with (bare i.raw) i h h.some_process h.few_processes
 
 -- what holds of one of two instances with the same lists holds of the other
 
-along : {X : Type 0} (f : Tables → X) (i j : Tables) → ((k : Tables) → f (bare k.raw) ≡ f k) → HasLists j.raw i.raw → f j ≡ f i
+along : {X : Type 0} (f : Tables → X) (i j : Tables) → ((k : Tables) → f (bare k.raw) ≡ f k) → HasLists j.raw i.raw →
+    f j ≡ f i
 along f i j unchanged h = sym (unchanged j) ∙ ap f (bare_same j.raw i.raw h) ∙ unchanged i
 
 pub same_machines : (i j : Tables) → HasLists j.raw i.raw → machine_count j ≡ machine_count i
@@ -136,19 +180,32 @@ same_parts i j a0 a h = along (λ k. parts_of k a0 a) i j (λ k. parts_bare k a0
 pub same_fits : (i j : Tables) (a : List Machine) → HasLists j.raw i.raw → IsAssignment i a → IsAssignment j a
 same_fits i j a h fits = record {
   one_each = fits.one_each ∙ sym (same_processes i j h);
-  in_range = λ p within. subst (λ n. machine_at a p < n) (sym (same_machines i j h)) (fits.in_range p (subst (λ n. p < n) (same_processes i j h) within));
+  in_range = λ p within. subst (λ n. machine_at a p < n) (sym (same_machines i j h))
+      (fits.in_range p (subst (λ n. p < n) (same_processes i j h) within));
 }
 
-closed_test_same : (i j : Tables) (a0 a : List Machine) (p : ℕ) → closed_at j (machine_at a p) ≡ closed_at i (machine_at a p) → closed_test j a0 a p ≡ closed_test i a0 a p
+closed_test_same : (i j : Tables) (a0 a : List Machine) (p : ℕ) →
+    closed_at j (machine_at a p) ≡ closed_at i (machine_at a p) → closed_test j a0 a p ≡ closed_test i a0 a p
 unfolding closed_test
 closed_test_same i j a0 a p e = rw e refl
 
-same_closed : (i j : Tables) (a0 a : List Machine) → AreSameLists i j → IsAssignment i a → broken_closed j a0 a ≡ broken_closed i a0 a
+same_closed : (i j : Tables) (a0 a : List Machine) → AreSameLists i j → IsAssignment i a →
+    broken_closed j a0 a ≡ broken_closed i a0 a
 unfolding broken_closed
 same_closed i j a0 a h fits =
     ap (λ n. first n (closed_test j a0 a)) (same_processes i j h.lists)
-    ∙ first_same (process_count i) (closed_test j a0 a) (closed_test i a0 a) (λ p within. closed_test_same i j a0 a p (h.closed (machine_at a p) (fits.in_range p within)))
+    ∙ first_same (process_count i) (closed_test j a0 a) (closed_test i a0 a)
+    (λ p within. closed_test_same i j a0 a p (h.closed (machine_at a p) (fits.in_range p within)))
 
-pub same_broken : (i j : Tables) (a0 a : List Machine) → AreSameLists i j → IsAssignment i a → first_broken j a0 a ≡ first_broken i a0 a
+pub same_broken : (i j : Tables) (a0 a : List Machine) → AreSameLists i j → IsAssignment i a →
+    first_broken j a0 a ≡ first_broken i a0 a
 unfolding first_broken
-same_broken i j a0 a h fits = rw (along (λ k. broken_capacity k a) i j (λ k. capacity_bare k a) h.lists, along (λ k. broken_transient k a0 a) i j (λ k. transient_bare k a0 a) h.lists, along (λ k. broken_conflict k a) i j (λ k. conflict_bare k a) h.lists, along (λ k. broken_spread k a) i j (λ k. spread_bare k a) h.lists, along (λ k. broken_dependency k a) i j (λ k. dependency_bare k a) h.lists, same_closed i j a0 a h fits) refl
+same_broken i j a0 a h fits =
+    rw (
+      along (λ k. broken_capacity k a) i j (λ k. capacity_bare k a) h.lists,
+      along (λ k. broken_transient k a0 a) i j (λ k. transient_bare k a0 a) h.lists,
+      along (λ k. broken_conflict k a) i j (λ k. conflict_bare k a) h.lists,
+      along (λ k. broken_spread k a) i j (λ k. spread_bare k a) h.lists,
+      along (λ k. broken_dependency k a) i j (λ k. dependency_bare k a) h.lists,
+      same_closed i j a0 a h fits,
+    ) refl

@@ -1,12 +1,17 @@
 -- What is read of the lists of a draft.
-use Rattle.std.proofs.Common.{◌≡◌, ◌≢◌, ℕ, ◌+◌, ◌*◌, ◌^◌, ◌<◌, lit<, true, false, List, length, get_or, refl, sym, ap, ◌∙◌, arith, eq-eqb, ne_eqb, Bool}
+use Rattle.std.proofs.Common.{◌≡◌, ◌≢◌, ℕ, ◌+◌, ◌*◌, ◌^◌, ◌<◌, lit<, true, false, List, length, get_or, refl, sym, ap}
+use Rattle.std.proofs.Common.{◌∙◌, arith, eq-eqb, ne_eqb, Bool}
 use Rattle.std.proofs.lemmas.List.{get_or_read}
 use Rattle.ra_base.specs.Tables.{cell}
 use Rattle.ra_base.specs.declared.ids.Machine.{Machine}
 use Rattle.ra_base.proofs.Tables.{place_within, cell_is}
 use Rattle.ra_model.specs.declared.raw.ProcessRow.{ProcessRow}
 use Rattle.ra_model.specs.declared.raw.Tables.{Tables}
-use Rattle.ra_model.specs.Numbers.{resource_count, machine_count, process_count, resource_row, machine_row, service_row, process_row, balance_row, service_of, requirement_of, location_of, neighbourhood_of, load_weight_of, capacity_of, safety_of, way_cost_of, spread_of, dependency_end, process_cost_of, target_of, balance_weight_of, process_weight_of, service_weight_of, machine_weight_of}
+use Rattle.ra_model.specs.Numbers.{resource_count, machine_count, process_count, resource_row, machine_row, service_row}
+use Rattle.ra_model.specs.Numbers.{process_row, balance_row, service_of, requirement_of, location_of, neighbourhood_of}
+use Rattle.ra_model.specs.Numbers.{load_weight_of, capacity_of, safety_of, way_cost_of, spread_of, dependency_end}
+use Rattle.ra_model.specs.Numbers.{process_cost_of, target_of, balance_weight_of, process_weight_of, service_weight_of}
+use Rattle.ra_model.specs.Numbers.{machine_weight_of}
 use Rattle.ra_model.specs.Limits.{Small}
 use Rattle.ra_model.specs.Assignments.{machine_at, tally}
 use Rattle.ra_model.specs.Usage.{use_share, use_of, transient_share, transient_of}
@@ -23,39 +28,56 @@ use Rattle.ra_edit.proofs.OneMoreLaws.{row_read, requirement_read}
 pub few : (i : Tables) (l : Lists) → IsSound (drafted i l) → AreFew (drafted i l)
 few i l sound = few_of (drafted i l) sound
 
-pub place_there : (i : Tables) (l : Lists) (p r : ℕ) → IsSound (drafted i l) → p < length l.rows.items → r < resource_count i → p * resource_count i + r < length l.requirements.items
-place_there i l p r sound p_in r_in = let f = few i l sound in omega (arith, place_within p r (length l.rows.items) (resource_count i) p_in r_in, f.table)
+pub place_there : (i : Tables) (l : Lists) (p r : ℕ) → IsSound (drafted i l) → p < length l.rows.items →
+    r < resource_count i → p * resource_count i + r < length l.requirements.items
+place_there i l p r sound p_in r_in =
+    let f = few i l sound in omega (arith, place_within p r (length l.rows.items) (resource_count i) p_in r_in, f.table)
 
-pub requirement_told : (i : Tables) (l : Lists) (p r place x : ℕ) → IsSound (drafted i l) → p < length l.rows.items → r < resource_count i → place ≡ p * resource_count i + r → x ≡ get_or l.requirements.items place x → x ≡ requirement_of (tables_with i l) p r
+pub requirement_told : (i : Tables) (l : Lists) (p r place x : ℕ) → IsSound (drafted i l) → p < length l.rows.items →
+    r < resource_count i → place ≡ p * resource_count i + r → x ≡ get_or l.requirements.items place x →
+    x ≡ requirement_of (tables_with i l) p r
 requirement_told i l p r place x sound p_in r_in place_is read =
     let there = place_there i l p r sound p_in r_in in
-    get_or_read l.requirements.items place x (omega (arith, there, place_is)) read 0 ∙ ap (λ k. get_or l.requirements.items k 0) place_is ∙ sym (cell_is (resource_count i) l.requirements.items p r) ∙ sym (requirement_read i l.rows.items l.requirements.items p r)
+    get_or_read l.requirements.items place x (omega (arith, there, place_is)) read 0
+    ∙ ap (λ k. get_or l.requirements.items k 0) place_is ∙ sym (cell_is (resource_count i) l.requirements.items p r)
+    ∙ sym (requirement_read i l.rows.items l.requirements.items p r)
 
-pub service_told : (i : Tables) (l : Lists) (p : ℕ) (row : ProcessRow) → p < length l.rows.items → row ≡ get_or l.rows.items p row → row.service.0 ≡ service_of (tables_with i l) p
+pub service_told : (i : Tables) (l : Lists) (p : ℕ) (row : ProcessRow) → p < length l.rows.items →
+    row ≡ get_or l.rows.items p row → row.service.0 ≡ service_of (tables_with i l) p
 unfolding service_of
-service_told i l p row p_in read = ap (λ (x : ProcessRow). x.service.0) (read ∙ sym (row_read i l.rows.items l.requirements.items p row p_in))
+service_told i l p row p_in read =
+    ap (λ (x : ProcessRow). x.service.0) (read ∙ sym (row_read i l.rows.items l.requirements.items p row p_in))
 
-pub cost_told : (i : Tables) (l : Lists) (p : ℕ) (row : ProcessRow) → p < length l.rows.items → row ≡ get_or l.rows.items p row → row.move_cost ≡ process_cost_of (tables_with i l) p
+pub cost_told : (i : Tables) (l : Lists) (p : ℕ) (row : ProcessRow) → p < length l.rows.items →
+    row ≡ get_or l.rows.items p row → row.move_cost ≡ process_cost_of (tables_with i l) p
 unfolding process_cost_of
-cost_told i l p row p_in read = ap (λ (x : ProcessRow). x.move_cost) (read ∙ sym (row_read i l.rows.items l.requirements.items p row p_in))
+cost_told i l p row p_in read =
+    ap (λ (x : ProcessRow). x.move_cost) (read ∙ sym (row_read i l.rows.items l.requirements.items p row p_in))
 
 -- sums over the processes are those of the definitions
 
-pub use_told : (i : Tables) (l : Lists) (m r n x : ℕ) → n ≡ length l.rows.items → x ≡ tally n (use_share (tables_with i l) m r) l.current.items → x ≡ use_of (tables_with i l) l.current.items m r
+pub use_told : (i : Tables) (l : Lists) (m r n x : ℕ) → n ≡ length l.rows.items →
+    x ≡ tally n (use_share (tables_with i l) m r) l.current.items → x ≡ use_of (tables_with i l) l.current.items m r
 unfolding use_of process_count with_processes
 use_told i l m r n x all is = is ∙ ap (λ k. tally k (use_share (tables_with i l) m r) l.current.items) all
 
-pub transient_told : (i : Tables) (l : Lists) (m r n x : ℕ) → n ≡ length l.rows.items → x ≡ tally n (transient_share (tables_with i l) l.initial.items m r) l.current.items → x ≡ transient_of (tables_with i l) l.initial.items l.current.items m r
+pub transient_told : (i : Tables) (l : Lists) (m r n x : ℕ) → n ≡ length l.rows.items →
+    x ≡ tally n (transient_share (tables_with i l) l.initial.items m r) l.current.items →
+    x ≡ transient_of (tables_with i l) l.initial.items l.current.items m r
 unfolding transient_of process_count with_processes
-transient_told i l m r n x all is = is ∙ ap (λ k. tally k (transient_share (tables_with i l) l.initial.items m r) l.current.items) all
+transient_told i l m r n x all is =
+    is ∙ ap (λ k. tally k (transient_share (tables_with i l) l.initial.items m r) l.current.items) all
 
-pub members_told : (i : Tables) (l : Lists) (s : ℕ) (test : ℕ → ℕ → Bool) (n x : ℕ) → n ≡ length l.rows.items → x ≡ tally n (of_service (tables_with i l) s test) l.current.items → x ≡ members_at (tables_with i l) l.current.items s test
+pub members_told : (i : Tables) (l : Lists) (s : ℕ) (test : ℕ → ℕ → Bool) (n x : ℕ) → n ≡ length l.rows.items →
+    x ≡ tally n (of_service (tables_with i l) s test) l.current.items →
+    x ≡ members_at (tables_with i l) l.current.items s test
 unfolding members_at process_count with_processes
 members_told i l s test n x all is = is ∙ ap (λ k. tally k (of_service (tables_with i l) s test) l.current.items) all
 
 -- shares
 
-pub use_here : (i : Tables) (m r p at amount : ℕ) → at ≡ m → amount ≡ requirement_of i p r → amount ≡ use_share i m r p at
+pub use_here : (i : Tables) (m r p at amount : ℕ) → at ≡ m → amount ≡ requirement_of i p r →
+    amount ≡ use_share i m r p at
 unfolding use_share
 use_here i m r p at amount same is = is ∙ sym (rw (eq-eqb at m same) refl)
 
@@ -63,15 +85,18 @@ pub use_away : (i : Tables) (m r p at : ℕ) → at ≢ m → 0 ≡ use_share i 
 unfolding use_share
 use_away i m r p at apart = sym (rw (ne_eqb at m apart) refl)
 
-pub between_home : (i : Tables) (a0 : List Machine) (m r p at amount : ℕ) → machine_at a0 p ≡ m → amount ≡ requirement_of i p r → amount ≡ transient_share i a0 m r p at
+pub between_home : (i : Tables) (a0 : List Machine) (m r p at amount : ℕ) → machine_at a0 p ≡ m →
+    amount ≡ requirement_of i p r → amount ≡ transient_share i a0 m r p at
 unfolding transient_share
 between_home i a0 m r p at amount home is = is ∙ sym (rw (eq-eqb (machine_at a0 p) m home) refl)
 
-pub between_here : (i : Tables) (a0 : List Machine) (m r p at amount : ℕ) → machine_at a0 p ≢ m → at ≡ m → amount ≡ requirement_of i p r → amount ≡ transient_share i a0 m r p at
+pub between_here : (i : Tables) (a0 : List Machine) (m r p at amount : ℕ) → machine_at a0 p ≢ m → at ≡ m →
+    amount ≡ requirement_of i p r → amount ≡ transient_share i a0 m r p at
 unfolding transient_share
 between_here i a0 m r p at amount away here is = is ∙ sym (rw (ne_eqb (machine_at a0 p) m away, eq-eqb at m here) refl)
 
-pub between_away : (i : Tables) (a0 : List Machine) (m r p at : ℕ) → machine_at a0 p ≢ m → at ≢ m → 0 ≡ transient_share i a0 m r p at
+pub between_away : (i : Tables) (a0 : List Machine) (m r p at : ℕ) → machine_at a0 p ≢ m → at ≢ m →
+    0 ≡ transient_share i a0 m r p at
 unfolding transient_share
 between_away i a0 m r p at away apart = sym (rw (ne_eqb (machine_at a0 p) m away, ne_eqb at m apart) refl)
 
@@ -79,33 +104,42 @@ pub cost_stays : (i : Tables) (a0 : List Machine) (p at w : ℕ) → at ≡ mach
 unfolding process_share
 cost_stays i a0 p at w same = sym (rw (eq-eqb at (machine_at a0 p) same) (grind arith))
 
-pub cost_moves : (i : Tables) (a0 : List Machine) (p at w weight cost : ℕ) → at ≢ machine_at a0 p → weight ≡ w → cost ≡ process_cost_of i p → weight * cost ≡ w * process_share i a0 p at
+pub cost_moves : (i : Tables) (a0 : List Machine) (p at w weight cost : ℕ) → at ≢ machine_at a0 p → weight ≡ w →
+    cost ≡ process_cost_of i p → weight * cost ≡ w * process_share i a0 p at
 unfolding process_share
-cost_moves i a0 p at w weight cost apart weight_is cost_is = rw (ne_eqb at (machine_at a0 p) apart, weight_is, cost_is) refl
+cost_moves i a0 p at w weight cost apart weight_is cost_is =
+    rw (ne_eqb at (machine_at a0 p) apart, weight_is, cost_is) refl
 
 pub of_other : (i : Tables) (s : ℕ) (test : ℕ → ℕ → Bool) (p at : ℕ) → service_of i p ≢ s → 0 ≡ of_service i s test p at
 unfolding of_service is_of
 of_other i s test p at apart = sym (rw (ne_eqb (service_of i p) s apart) refl)
 
-pub of_there : (i : Tables) (s : ℕ) (test : ℕ → ℕ → Bool) (p at : ℕ) → service_of i p ≡ s → test p at ≡ true → 1 ≡ of_service i s test p at
+pub of_there : (i : Tables) (s : ℕ) (test : ℕ → ℕ → Bool) (p at : ℕ) → service_of i p ≡ s → test p at ≡ true →
+    1 ≡ of_service i s test p at
 unfolding of_service is_of
 of_there i s test p at same there = sym (rw (eq-eqb (service_of i p) s same, there) refl)
 
-pub of_away : (i : Tables) (s : ℕ) (test : ℕ → ℕ → Bool) (p at : ℕ) → service_of i p ≡ s → test p at ≡ false → 0 ≡ of_service i s test p at
+pub of_away : (i : Tables) (s : ℕ) (test : ℕ → ℕ → Bool) (p at : ℕ) → service_of i p ≡ s → test p at ≡ false →
+    0 ≡ of_service i s test p at
 unfolding of_service is_of
 of_away i s test p at same away = sym (rw (eq-eqb (service_of i p) s same, away) refl)
 
 -- counts at a spot are those of the definitions
 
-pub machine_told : (d : Drafted) (a : List Machine) (s n : ℕ) (m : Machine) → n ≡ members_at (instance_of d) a s (is_there d.origin (OnMachine m)) → n ≡ on_machine (instance_of d) a s m.0
+pub machine_told : (d : Drafted) (a : List Machine) (s n : ℕ) (m : Machine) →
+    n ≡ members_at (instance_of d) a s (is_there d.origin (OnMachine m)) → n ≡ on_machine (instance_of d) a s m.0
 unfolding on_machine
 machine_told d a s n m is = is
 
-pub near_told : (d : Drafted) (a : List Machine) (s label n : ℕ) → n ≡ members_at (instance_of d) a s (is_there d.origin (InNeighbourhood label)) → n ≡ in_neighbourhood (instance_of d) a s label
+pub near_told : (d : Drafted) (a : List Machine) (s label n : ℕ) →
+    n ≡ members_at (instance_of d) a s (is_there d.origin (InNeighbourhood label)) →
+    n ≡ in_neighbourhood (instance_of d) a s label
 unfolding in_neighbourhood neighbourhood_of machine_row with_processes
 near_told d a s label n is = is
 
-pub location_told : (d : Drafted) (a : List Machine) (s label n : ℕ) → n ≡ members_at (instance_of d) a s (is_there d.origin (InLocation label)) → n ≡ in_location (instance_of d) a s label
+pub location_told : (d : Drafted) (a : List Machine) (s label n : ℕ) →
+    n ≡ members_at (instance_of d) a s (is_there d.origin (InLocation label)) →
+    n ≡ in_location (instance_of d) a s label
 unfolding in_location location_of machine_row with_processes
 location_told d a s label n is = is
 
@@ -113,8 +147,12 @@ pub ruleset readings = (few, place_there, requirement_told, service_told)
 
 -- numbers of other processes are small too
 
-pub small_with : (i : Tables) (rows : List ProcessRow) (requirements : List ℕ) → Small i → ((k : ℕ) → get_or requirements k 0 < 2 ^ 32) → Small (with_processes i rows requirements)
-unfolding with_processes load_weight_of resource_row neighbourhood_of location_of machine_row capacity_of safety_of way_cost_of spread_of service_row dependency_end requirement_of process_cost_of process_row target_of balance_weight_of balance_row process_weight_of service_weight_of machine_weight_of resource_count machine_count cell
+pub small_with : (i : Tables) (rows : List ProcessRow) (requirements : List ℕ) → Small i →
+    ((k : ℕ) → get_or requirements k 0 < 2 ^ 32) → Small (with_processes i rows requirements)
+unfolding with_processes load_weight_of resource_row neighbourhood_of location_of machine_row capacity_of safety_of
+    way_cost_of spread_of service_row dependency_end requirement_of process_cost_of process_row target_of
+    balance_weight_of balance_row process_weight_of service_weight_of machine_weight_of resource_count machine_count
+    cell
 small_with i rows requirements small each = record {
   load_weights = small.load_weights;
   neighbourhoods = small.neighbourhoods;

@@ -1,5 +1,6 @@
 -- What one process more adds to each sum over the processes.
-use Rattle.std.proofs.Common.{◌≡◌, ◌≢◌, ℕ, ◌+◌, ◌*◌, ◌^◌, ◌<◌, ◌≤◌, Bool, true, false, cond, eqb, ltb, ◌&&◌, ◌||◌, List, length, refl, sym, ap, ◌∙◌, arith, eq-eqb, ne_eqb}
+use Rattle.std.proofs.Common.{◌≡◌, ◌≢◌, ℕ, ◌+◌, ◌*◌, ◌^◌, ◌<◌, ◌≤◌, Bool, true, false, cond, eqb, ltb, ◌&&◌, ◌||◌, List}
+use Rattle.std.proofs.Common.{length, refl, sym, ap, ◌∙◌, arith, eq-eqb, ne_eqb}
 use Rattle.std.proofs.lemmas.Bool.{lt-ltb}
 use Rattle.ra_base.specs.Sums.{total, one_if}
 use Rattle.ra_base.proofs.Sums.{total_change, total_term}
@@ -7,32 +8,43 @@ use Rattle.ra_base.proofs.Counts.{count_change, count_same}
 use Rattle.ra_model.specs.declared.raw.ProcessRow.{ProcessRow}
 use Rattle.ra_model.specs.declared.raw.Tables.{Tables}
 use Rattle.ra_model.specs.Limits.{WellFormed}
-use Rattle.ra_model.specs.Numbers.{resource_count, machine_count, process_count, balance_count, machine_row, resource_row, location_of, neighbourhood_of, service_of, requirement_of, process_cost_of, way_cost_of, process_weight_of, machine_weight_of, capacity_of, safety_of, load_weight_of, balance_row, first_of, second_of, target_of, balance_weight_of}
+use Rattle.ra_model.specs.Numbers.{resource_count, machine_count, process_count, balance_count, machine_row}
+use Rattle.ra_model.specs.Numbers.{resource_row, location_of, neighbourhood_of, service_of, requirement_of}
+use Rattle.ra_model.specs.Numbers.{process_cost_of, way_cost_of, process_weight_of, machine_weight_of, capacity_of}
+use Rattle.ra_model.specs.Numbers.{safety_of, load_weight_of, balance_row, first_of, second_of, target_of}
+use Rattle.ra_model.specs.Numbers.{balance_weight_of}
 use Rattle.ra_model.specs.Assignments.{machine_at, tally}
 use Rattle.ra_model.specs.Usage.{use_share, use_of, transient_share, transient_of}
-use Rattle.ra_model.specs.Services.{is_of, of_service, members_at, on_machine, in_location, in_neighbourhood, locations_of, moved_of}
+use Rattle.ra_model.specs.Services.{is_of, of_service, members_at, on_machine, in_location, in_neighbourhood}
+use Rattle.ra_model.specs.Services.{locations_of, moved_of}
 use Rattle.ra_model.specs.Costs.{load_cost, balance_cost, process_share, process_cost, way_share, machine_cost}
-use Rattle.ra_model.specs.MachineCosts.{load_share, row_load, row_left, balance_share, row_balance, machine_load, machine_balance}
+use Rattle.ra_model.specs.MachineCosts.{load_share, row_load, row_left, balance_share, row_balance, machine_load}
+use Rattle.ra_model.specs.MachineCosts.{machine_balance}
 use Rattle.ra_model.proofs.MachineLemmas.{load_by_machine, balance_by_machine, row_load_same, row_balance_same}
 use Rattle.ra_edit.specs.Drafts.{Drafted, with_processes, instance_of}
 use Rattle.ra_edit.specs.OneMore.{IsSame, OneMore}
 
 -- numbers that edits leave alone
 
-pub neighbourhood_with : (i : Tables) (rows : List ProcessRow) (requirements : List ℕ) (m : ℕ) → neighbourhood_of (with_processes i rows requirements) m ≡ neighbourhood_of i m
+pub neighbourhood_with : (i : Tables) (rows : List ProcessRow) (requirements : List ℕ) (m : ℕ) →
+    neighbourhood_of (with_processes i rows requirements) m ≡ neighbourhood_of i m
 unfolding with_processes neighbourhood_of machine_row
 neighbourhood_with i rows requirements m = refl
 
-pub location_with : (i : Tables) (rows : List ProcessRow) (requirements : List ℕ) (m : ℕ) → location_of (with_processes i rows requirements) m ≡ location_of i m
+pub location_with : (i : Tables) (rows : List ProcessRow) (requirements : List ℕ) (m : ℕ) →
+    location_of (with_processes i rows requirements) m ≡ location_of i m
 unfolding with_processes location_of machine_row
 location_with i rows requirements m = refl
 
-pub row_load_with : (i : Tables) (rows : List ProcessRow) (requirements : List ℕ) (m : ℕ) (u : ℕ → ℕ) → row_load (with_processes i rows requirements) m u ≡ row_load i m u
+pub row_load_with : (i : Tables) (rows : List ProcessRow) (requirements : List ℕ) (m : ℕ) (u : ℕ → ℕ) →
+    row_load (with_processes i rows requirements) m u ≡ row_load i m u
 unfolding with_processes row_load load_share load_weight_of safety_of resource_count resource_row
 row_load_with i rows requirements m u = refl
 
-pub row_balance_with : (i : Tables) (rows : List ProcessRow) (requirements : List ℕ) (m : ℕ) (u : ℕ → ℕ) → row_balance (with_processes i rows requirements) m u ≡ row_balance i m u
-unfolding with_processes row_balance balance_share balance_weight_of target_of row_left first_of second_of balance_row capacity_of resource_count balance_count
+pub row_balance_with : (i : Tables) (rows : List ProcessRow) (requirements : List ℕ) (m : ℕ) (u : ℕ → ℕ) →
+    row_balance (with_processes i rows requirements) m u ≡ row_balance i m u
+unfolding with_processes row_balance balance_share balance_weight_of target_of row_left first_of second_of balance_row
+    capacity_of resource_count balance_count
 row_balance_with i rows requirements m u = refl
 
 pub same_origin : (d e : Drafted) → e.origin ≡ d.origin → (f : Tables → ℕ) → f d.origin ≡ f e.origin
@@ -40,18 +52,25 @@ same_origin d e origin f = ap f (sym origin)
 
 -- use
 
-pub use_more : (d e : Drafted) (p m r : ℕ) → OneMore d e p → r < resource_count d.origin → use_of (instance_of e) e.current m r ≡ use_of (instance_of d) d.current m r + cond (eqb (machine_at e.current p) m) (requirement_of (instance_of e) p r) 0
+pub use_more : (d e : Drafted) (p m r : ℕ) → OneMore d e p → r < resource_count d.origin →
+    use_of (instance_of e) e.current m r ≡ use_of (instance_of d) d.current m r + cond (eqb (machine_at e.current p) m)
+    (requirement_of (instance_of e) p r) 0
 unfolding use_of tally use_share process_count with_processes
 use_more d e p m r more column = more.sums
     (λ k. cond (eqb (machine_at d.current k) m) (requirement_of (instance_of d) k r) 0)
     (λ q. cond (eqb (machine_at e.current q) m) (requirement_of (instance_of e) q r) 0)
-    (λ k q k_in q_in same. ap (λ x. cond (eqb x m) (requirement_of (instance_of d) k r) 0) same.here ∙ ap (λ x. cond (eqb (machine_at e.current q) m) x 0) (same.requirement r column))
+    (λ k q k_in q_in same. ap (λ x. cond (eqb x m) (requirement_of (instance_of d) k r) 0) same.here
+    ∙ ap (λ x. cond (eqb (machine_at e.current q) m) x 0) (same.requirement r column))
 
-pub transient_more : (d e : Drafted) (p m r : ℕ) → OneMore d e p → r < resource_count d.origin → transient_of (instance_of e) e.initial e.current m r ≡ transient_of (instance_of d) d.initial d.current m r + cond (eqb (machine_at e.initial p) m || eqb (machine_at e.current p) m) (requirement_of (instance_of e) p r) 0
+pub transient_more : (d e : Drafted) (p m r : ℕ) → OneMore d e p → r < resource_count d.origin →
+    transient_of (instance_of e) e.initial e.current m r ≡ transient_of (instance_of d) d.initial d.current m r
+    + cond (eqb (machine_at e.initial p) m || eqb (machine_at e.current p) m) (requirement_of (instance_of e) p r) 0
 unfolding transient_of tally transient_share process_count with_processes
 transient_more d e p m r more column = more.sums
-    (λ k. cond (eqb (machine_at d.initial k) m || eqb (machine_at d.current k) m) (requirement_of (instance_of d) k r) 0)
-    (λ q. cond (eqb (machine_at e.initial q) m || eqb (machine_at e.current q) m) (requirement_of (instance_of e) q r) 0)
+    (λ k. cond (eqb (machine_at d.initial k) m || eqb (machine_at d.current k) m) (requirement_of (instance_of d) k r)
+    0)
+    (λ q. cond (eqb (machine_at e.initial q) m || eqb (machine_at e.current q) m) (requirement_of (instance_of e) q r)
+    0)
     (λ k q k_in q_in same.
     ap (λ x. cond (eqb (machine_at d.initial k) m || eqb x m) (requirement_of (instance_of d) k r) 0) same.here
     ∙ ap (λ x. cond (eqb x m || eqb (machine_at e.current q) m) (requirement_of (instance_of d) k r) 0) same.home
@@ -59,45 +78,83 @@ transient_more d e p m r more column = more.sums
 
 -- members
 
-pub members_more : (d e : Drafted) (p s : ℕ) (f g : ℕ → ℕ → Bool) → OneMore d e p → ((k q : ℕ) → IsSame d k e q → f k (machine_at d.current k) ≡ g q (machine_at e.current q)) → members_at (instance_of e) e.current s g ≡ members_at (instance_of d) d.current s f + one_if (eqb (service_of (instance_of e) p) s && g p (machine_at e.current p))
+pub members_more : (d e : Drafted) (p s : ℕ) (f g : ℕ → ℕ → Bool) → OneMore d e p →
+    ((k q : ℕ) → IsSame d k e q → f k (machine_at d.current k) ≡ g q (machine_at e.current q)) →
+    members_at (instance_of e) e.current s g ≡ members_at (instance_of d) d.current s f
+    + one_if (eqb (service_of (instance_of e) p) s && g p (machine_at e.current p))
 unfolding members_at tally of_service is_of process_count with_processes
 members_more d e p s f g more tests = more.sums
     (λ k. one_if (eqb (service_of (instance_of d) k) s && f k (machine_at d.current k)))
     (λ q. one_if (eqb (service_of (instance_of e) q) s && g q (machine_at e.current q)))
-    (λ k q k_in q_in same. ap (λ x. one_if (eqb x s && f k (machine_at d.current k))) same.service ∙ ap (λ t. one_if (eqb (service_of (instance_of e) q) s && t)) (tests k q same))
+    (λ k q k_in q_in same. ap (λ x. one_if (eqb x s && f k (machine_at d.current k))) same.service
+    ∙ ap (λ t. one_if (eqb (service_of (instance_of e) q) s && t)) (tests k q same))
 
-pub machine_more : (d e : Drafted) (p s m : ℕ) → OneMore d e p → on_machine (instance_of e) e.current s m ≡ on_machine (instance_of d) d.current s m + one_if (eqb (service_of (instance_of e) p) s && eqb (machine_at e.current p) m)
+pub machine_more : (d e : Drafted) (p s m : ℕ) → OneMore d e p → on_machine (instance_of e) e.current s m ≡
+    on_machine (instance_of d) d.current s m
+    + one_if (eqb (service_of (instance_of e) p) s && eqb (machine_at e.current p) m)
 unfolding on_machine
-machine_more d e p s m more = members_more d e p s (λ k at. eqb at m) (λ k at. eqb at m) more (λ k q same. ap (λ x. eqb x m) same.here)
+machine_more d e p s m more =
+    members_more d e p s (λ k at. eqb at m) (λ k at. eqb at m) more (λ k q same. ap (λ x. eqb x m) same.here)
 
-pub neighbourhood_more : (d e : Drafted) (p s x : ℕ) → OneMore d e p → in_neighbourhood (instance_of e) e.current s x ≡ in_neighbourhood (instance_of d) d.current s x + one_if (eqb (service_of (instance_of e) p) s && eqb (neighbourhood_of d.origin (machine_at e.current p)) x)
+pub neighbourhood_more : (d e : Drafted) (p s x : ℕ) → OneMore d e p → in_neighbourhood (instance_of e) e.current s x ≡
+    in_neighbourhood (instance_of d) d.current s x
+    + one_if (eqb (service_of (instance_of e) p) s && eqb (neighbourhood_of d.origin (machine_at e.current p)) x)
 unfolding in_neighbourhood
 neighbourhood_more d e p s x more =
-    let here : neighbourhood_of (instance_of e) (machine_at e.current p) ≡ neighbourhood_of d.origin (machine_at e.current p) = neighbourhood_with e.origin e.rows e.requirements (machine_at e.current p) ∙ ap (λ (i : Tables). neighbourhood_of i (machine_at e.current p)) more.origin in
-    members_more d e p s (λ k at. eqb (neighbourhood_of (instance_of d) at) x) (λ k at. eqb (neighbourhood_of (instance_of e) at) x) more (λ k q same. ap (λ y. eqb y x) (neighbourhood_with d.origin d.rows d.requirements (machine_at d.current k) ∙ ap (neighbourhood_of d.origin) same.here ∙ ap (λ (i : Tables). neighbourhood_of i (machine_at e.current q)) (sym more.origin) ∙ sym (neighbourhood_with e.origin e.rows e.requirements (machine_at e.current q))))
-    ∙ ap (λ y. in_neighbourhood (instance_of d) d.current s x + one_if (eqb (service_of (instance_of e) p) s && eqb y x)) here
+    let here : neighbourhood_of (instance_of e) (machine_at e.current p) ≡ neighbourhood_of d.origin
+    (machine_at e.current p) = neighbourhood_with e.origin e.rows e.requirements (machine_at e.current p)
+    ∙ ap (λ (i : Tables). neighbourhood_of i (machine_at e.current p)) more.origin in
+    members_more d e p s (λ k at. eqb (neighbourhood_of (instance_of d) at) x)
+    (λ k at. eqb (neighbourhood_of (instance_of e) at) x) more
+    (λ k q same. ap (λ y. eqb y x) (neighbourhood_with d.origin d.rows d.requirements (machine_at d.current k)
+    ∙ ap (neighbourhood_of d.origin) same.here
+    ∙ ap (λ (i : Tables). neighbourhood_of i (machine_at e.current q)) (sym more.origin)
+    ∙ sym (neighbourhood_with e.origin e.rows e.requirements (machine_at e.current q))))
+    ∙ ap (λ y. in_neighbourhood (instance_of d) d.current s x
+    + one_if (eqb (service_of (instance_of e) p) s && eqb y x)) here
 
-pub location_more : (d e : Drafted) (p s x : ℕ) → OneMore d e p → in_location (instance_of e) e.current s x ≡ in_location (instance_of d) d.current s x + one_if (eqb (service_of (instance_of e) p) s && eqb (location_of d.origin (machine_at e.current p)) x)
+pub location_more : (d e : Drafted) (p s x : ℕ) → OneMore d e p → in_location (instance_of e) e.current s x ≡
+    in_location (instance_of d) d.current s x
+    + one_if (eqb (service_of (instance_of e) p) s && eqb (location_of d.origin (machine_at e.current p)) x)
 unfolding in_location
 location_more d e p s x more =
-    let here : location_of (instance_of e) (machine_at e.current p) ≡ location_of d.origin (machine_at e.current p) = location_with e.origin e.rows e.requirements (machine_at e.current p) ∙ ap (λ (i : Tables). location_of i (machine_at e.current p)) more.origin in
-    members_more d e p s (λ k at. eqb (location_of (instance_of d) at) x) (λ k at. eqb (location_of (instance_of e) at) x) more (λ k q same. ap (λ y. eqb y x) (location_with d.origin d.rows d.requirements (machine_at d.current k) ∙ ap (location_of d.origin) same.here ∙ ap (λ (i : Tables). location_of i (machine_at e.current q)) (sym more.origin) ∙ sym (location_with e.origin e.rows e.requirements (machine_at e.current q))))
-    ∙ ap (λ y. in_location (instance_of d) d.current s x + one_if (eqb (service_of (instance_of e) p) s && eqb y x)) here
+    let here : location_of (instance_of e) (machine_at e.current p) ≡ location_of d.origin (machine_at e.current p) =
+    location_with e.origin e.rows e.requirements (machine_at e.current p)
+    ∙ ap (λ (i : Tables). location_of i (machine_at e.current p)) more.origin in
+    members_more d e p s (λ k at. eqb (location_of (instance_of d) at) x)
+    (λ k at. eqb (location_of (instance_of e) at) x) more
+    (λ k q same. ap (λ y. eqb y x) (location_with d.origin d.rows d.requirements (machine_at d.current k)
+    ∙ ap (location_of d.origin) same.here ∙ ap (λ (i : Tables). location_of i (machine_at e.current q))
+    (sym more.origin) ∙ sym (location_with e.origin e.rows e.requirements (machine_at e.current q))))
+    ∙ ap (λ y. in_location (instance_of d) d.current s x + one_if (eqb (service_of (instance_of e) p) s && eqb y x))
+    here
 
-pub moved_more : (d e : Drafted) (p s : ℕ) → OneMore d e p → moved_of (instance_of e) e.initial e.current s ≡ moved_of (instance_of d) d.initial d.current s + one_if (eqb (service_of (instance_of e) p) s && cond (eqb (machine_at e.initial p) (machine_at e.current p)) false true)
+pub moved_more : (d e : Drafted) (p s : ℕ) → OneMore d e p → moved_of (instance_of e) e.initial e.current s ≡
+    moved_of (instance_of d) d.initial d.current s
+    + one_if (eqb (service_of (instance_of e) p) s && cond (eqb (machine_at e.initial p) (machine_at e.current p)) false
+    true)
 unfolding moved_of
-moved_more d e p s more = members_more d e p s (λ k at. cond (eqb (machine_at d.initial k) at) false true) (λ q at. cond (eqb (machine_at e.initial q) at) false true) more (λ k q same. ap (λ x. cond (eqb x (machine_at d.current k)) false true) same.home ∙ ap (λ x. cond (eqb (machine_at e.initial q) x) false true) same.here)
+moved_more d e p s more = members_more d e p s (λ k at. cond (eqb (machine_at d.initial k) at) false true)
+    (λ q at. cond (eqb (machine_at e.initial q) at) false true) more
+    (λ k q same. ap (λ x. cond (eqb x (machine_at d.current k)) false true) same.home
+    ∙ ap (λ x. cond (eqb (machine_at e.initial q) x) false true) same.here)
 
 -- locations
 
-pub locations_other : (d e : Drafted) (p s : ℕ) → OneMore d e p → service_of (instance_of e) p ≢ s → locations_of (instance_of e) e.current s ≡ locations_of (instance_of d) d.current s
+pub locations_other : (d e : Drafted) (p s : ℕ) → OneMore d e p → service_of (instance_of e) p ≢ s →
+    locations_of (instance_of e) e.current s ≡ locations_of (instance_of d) d.current s
 unfolding locations_of
-locations_other d e p s more other = count_same (2 ^ 32) (λ x. ltb 0 (in_location (instance_of e) e.current s x)) (λ x. ltb 0 (in_location (instance_of d) d.current s x)) (λ x within. ap (ltb 0) (unchanged x))
+locations_other d e p s more other = count_same (2 ^ 32) (λ x. ltb 0 (in_location (instance_of e) e.current s x))
+    (λ x. ltb 0 (in_location (instance_of d) d.current s x)) (λ x within. ap (ltb 0) (unchanged x))
   where
     unchanged : (x : ℕ) → in_location (instance_of e) e.current s x ≡ in_location (instance_of d) d.current s x
-    unchanged x = let h = location_more d e p s x more in let n = ne_eqb (service_of (instance_of e) p) s other in let g = rw n at h in omega (arith, g)
+    unchanged x = let h = location_more d e p s x more in let n = ne_eqb (service_of (instance_of e) p) s other in
+        let g = rw n at h in omega (arith, g)
 
-pub locations_more : (d e : Drafted) (p s x : ℕ) → OneMore d e p → service_of (instance_of e) p ≡ s → location_of d.origin (machine_at e.current p) ≡ x → x < 2 ^ 32 → locations_of (instance_of e) e.current s + one_if (ltb 0 (in_location (instance_of d) d.current s x)) ≡ locations_of (instance_of d) d.current s + 1
+pub locations_more : (d e : Drafted) (p s x : ℕ) → OneMore d e p → service_of (instance_of e) p ≡ s →
+    location_of d.origin (machine_at e.current p) ≡ x → x < 2 ^ 32 →
+    locations_of (instance_of e) e.current s + one_if (ltb 0 (in_location (instance_of d) d.current s x)) ≡
+    locations_of (instance_of d) d.current s + 1
 unfolding locations_of
 locations_more d e p s x more mine is within =
     let high : ℕ → Bool = λ y. ltb 0 (in_location (instance_of e) e.current s y) in
@@ -108,52 +165,82 @@ locations_more d e p s x more mine is within =
     omega (arith, changed, one)
   where
     here : in_location (instance_of e) e.current s x ≡ in_location (instance_of d) d.current s x + 1
-    here = let h = location_more d e p s x more in let a = eq-eqb (service_of (instance_of e) p) s mine in let b = eq-eqb (location_of d.origin (machine_at e.current p)) x is in let g = rw (a, b) at h in g
+    here = let h = location_more d e p s x more in let a = eq-eqb (service_of (instance_of e) p) s mine in
+        let b = eq-eqb (location_of d.origin (machine_at e.current p)) x is in let g = rw (a, b) at h in g
 
     elsewhere : (y : ℕ) → y ≢ x → in_location (instance_of e) e.current s y ≡ in_location (instance_of d) d.current s y
-    elsewhere y apart = let h = location_more d e p s y more in let a = eq-eqb (service_of (instance_of e) p) s mine in let b = ne_eqb (location_of d.origin (machine_at e.current p)) y (λ same. apart (sym same ∙ is)) in let g = rw (a, b) at h in omega (arith, g)
+    elsewhere y apart = let h = location_more d e p s y more in let a = eq-eqb (service_of (instance_of e) p) s mine in
+        let b = ne_eqb (location_of d.origin (machine_at e.current p)) y (λ same. apart (sym same ∙ is)) in
+        let g = rw (a, b) at h in omega (arith, g)
 
 -- costs
 
-load_here : (f : Drafted) (i : Tables) (m : ℕ) → f.origin ≡ i → machine_load (instance_of f) f.current m ≡ row_load i m (use_of (instance_of f) f.current m)
+load_here : (f : Drafted) (i : Tables) (m : ℕ) → f.origin ≡ i → machine_load (instance_of f) f.current m ≡
+    row_load i m (use_of (instance_of f) f.current m)
 unfolding machine_load
-load_here f i m origin = row_load_with f.origin f.rows f.requirements m (use_of (instance_of f) f.current m) ∙ ap (λ (j : Tables). row_load j m (use_of (instance_of f) f.current m)) origin
+load_here f i m origin = row_load_with f.origin f.rows f.requirements m (use_of (instance_of f) f.current m)
+    ∙ ap (λ (j : Tables). row_load j m (use_of (instance_of f) f.current m)) origin
 
-load_elsewhere : (d e : Drafted) (p m : ℕ) → OneMore d e p → machine_at e.current p ≢ m → machine_load (instance_of e) e.current m ≡ machine_load (instance_of d) d.current m
-load_elsewhere d e p m more apart = load_here e d.origin m more.origin ∙ row_load_same d.origin m (use_of (instance_of e) e.current m) (use_of (instance_of d) d.current m) (λ r column. let h = use_more d e p m r more column in let n = ne_eqb (machine_at e.current p) m apart in let g = rw n at h in omega (arith, g)) ∙ sym (load_here d d.origin m refl)
+load_elsewhere : (d e : Drafted) (p m : ℕ) → OneMore d e p → machine_at e.current p ≢ m →
+    machine_load (instance_of e) e.current m ≡ machine_load (instance_of d) d.current m
+load_elsewhere d e p m more apart = load_here e d.origin m more.origin
+    ∙ row_load_same d.origin m (use_of (instance_of e) e.current m) (use_of (instance_of d) d.current m)
+    (λ r column. let h = use_more d e p m r more column in let n = ne_eqb (machine_at e.current p) m apart in
+    let g = rw n at h in omega (arith, g)) ∙ sym (load_here d d.origin m refl)
 
-pub load_more : (d e : Drafted) (p m : ℕ) → OneMore d e p → machine_at e.current p ≡ m → m < machine_count d.origin → load_cost (instance_of e) e.current + row_load d.origin m (use_of (instance_of d) d.current m) ≡ load_cost (instance_of d) d.current + row_load d.origin m (use_of (instance_of e) e.current m)
+pub load_more : (d e : Drafted) (p m : ℕ) → OneMore d e p → machine_at e.current p ≡ m → m < machine_count d.origin →
+    load_cost (instance_of e) e.current + row_load d.origin m (use_of (instance_of d) d.current m) ≡
+    load_cost (instance_of d) d.current + row_load d.origin m (use_of (instance_of e) e.current m)
 unfolding machine_count with_processes
 load_more d e p m more here within =
     let low = machine_load (instance_of d) d.current in
     let high = machine_load (instance_of e) e.current in
-    let changed = total_change (machine_count d.origin) m high low within (λ k k_in apart. load_elsewhere d e p k more (λ same. apart (sym same ∙ here))) in
+    let changed = total_change (machine_count d.origin) m high low within
+    (λ k k_in apart. load_elsewhere d e p k more (λ same. apart (sym same ∙ here))) in
     let at_low : low m ≡ row_load d.origin m (use_of (instance_of d) d.current m) = load_here d d.origin m refl in
-    let at_high : high m ≡ row_load d.origin m (use_of (instance_of e) e.current m) = load_here e d.origin m more.origin in
-    let all_low : load_cost (instance_of d) d.current ≡ total (machine_count d.origin) low = load_by_machine (instance_of d) d.current in
-    let all_high : load_cost (instance_of e) e.current ≡ total (machine_count d.origin) high = load_by_machine (instance_of e) e.current ∙ ap (λ (i : Tables). total (machine_count i) high) more.origin in
+    let at_high : high m ≡ row_load d.origin m (use_of (instance_of e) e.current m) =
+    load_here e d.origin m more.origin in
+    let all_low : load_cost (instance_of d) d.current ≡ total (machine_count d.origin) low =
+    load_by_machine (instance_of d) d.current in
+    let all_high : load_cost (instance_of e) e.current ≡ total (machine_count d.origin) high =
+    load_by_machine (instance_of e) e.current ∙ ap (λ (i : Tables). total (machine_count i) high) more.origin in
     omega (arith, changed, at_low, at_high, all_low, all_high)
 
-balance_here : (f : Drafted) (i : Tables) (m : ℕ) → f.origin ≡ i → machine_balance (instance_of f) f.current m ≡ row_balance i m (use_of (instance_of f) f.current m)
+balance_here : (f : Drafted) (i : Tables) (m : ℕ) → f.origin ≡ i → machine_balance (instance_of f) f.current m ≡
+    row_balance i m (use_of (instance_of f) f.current m)
 unfolding machine_balance
-balance_here f i m origin = row_balance_with f.origin f.rows f.requirements m (use_of (instance_of f) f.current m) ∙ ap (λ (j : Tables). row_balance j m (use_of (instance_of f) f.current m)) origin
+balance_here f i m origin = row_balance_with f.origin f.rows f.requirements m (use_of (instance_of f) f.current m)
+    ∙ ap (λ (j : Tables). row_balance j m (use_of (instance_of f) f.current m)) origin
 
-balance_elsewhere : (d e : Drafted) (p m : ℕ) → WellFormed d.origin → OneMore d e p → machine_at e.current p ≢ m → machine_balance (instance_of e) e.current m ≡ machine_balance (instance_of d) d.current m
-balance_elsewhere d e p m limits more apart = balance_here e d.origin m more.origin ∙ row_balance_same d.origin m (use_of (instance_of e) e.current m) (use_of (instance_of d) d.current m) limits (λ r column. let h = use_more d e p m r more column in let n = ne_eqb (machine_at e.current p) m apart in let g = rw n at h in omega (arith, g)) ∙ sym (balance_here d d.origin m refl)
+balance_elsewhere : (d e : Drafted) (p m : ℕ) → WellFormed d.origin → OneMore d e p → machine_at e.current p ≢ m →
+    machine_balance (instance_of e) e.current m ≡ machine_balance (instance_of d) d.current m
+balance_elsewhere d e p m limits more apart = balance_here e d.origin m more.origin
+    ∙ row_balance_same d.origin m (use_of (instance_of e) e.current m) (use_of (instance_of d) d.current m) limits
+    (λ r column. let h = use_more d e p m r more column in let n = ne_eqb (machine_at e.current p) m apart in
+    let g = rw n at h in omega (arith, g)) ∙ sym (balance_here d d.origin m refl)
 
-pub balance_more : (d e : Drafted) (p m : ℕ) → WellFormed d.origin → OneMore d e p → machine_at e.current p ≡ m → m < machine_count d.origin → balance_cost (instance_of e) e.current + row_balance d.origin m (use_of (instance_of d) d.current m) ≡ balance_cost (instance_of d) d.current + row_balance d.origin m (use_of (instance_of e) e.current m)
+pub balance_more : (d e : Drafted) (p m : ℕ) → WellFormed d.origin → OneMore d e p → machine_at e.current p ≡ m →
+    m < machine_count d.origin → balance_cost (instance_of e) e.current + row_balance d.origin m
+    (use_of (instance_of d) d.current m) ≡ balance_cost (instance_of d) d.current + row_balance d.origin m
+    (use_of (instance_of e) e.current m)
 unfolding machine_count with_processes
 balance_more d e p m limits more here within =
     let low = machine_balance (instance_of d) d.current in
     let high = machine_balance (instance_of e) e.current in
-    let changed = total_change (machine_count d.origin) m high low within (λ k k_in apart. balance_elsewhere d e p k limits more (λ same. apart (sym same ∙ here))) in
+    let changed = total_change (machine_count d.origin) m high low within
+    (λ k k_in apart. balance_elsewhere d e p k limits more (λ same. apart (sym same ∙ here))) in
     let at_low : low m ≡ row_balance d.origin m (use_of (instance_of d) d.current m) = balance_here d d.origin m refl in
-    let at_high : high m ≡ row_balance d.origin m (use_of (instance_of e) e.current m) = balance_here e d.origin m more.origin in
-    let all_low : balance_cost (instance_of d) d.current ≡ total (machine_count d.origin) low = balance_by_machine (instance_of d) d.current in
-    let all_high : balance_cost (instance_of e) e.current ≡ total (machine_count d.origin) high = balance_by_machine (instance_of e) e.current ∙ ap (λ (i : Tables). total (machine_count i) high) more.origin in
+    let at_high : high m ≡ row_balance d.origin m (use_of (instance_of e) e.current m) =
+    balance_here e d.origin m more.origin in
+    let all_low : balance_cost (instance_of d) d.current ≡ total (machine_count d.origin) low =
+    balance_by_machine (instance_of d) d.current in
+    let all_high : balance_cost (instance_of e) e.current ≡ total (machine_count d.origin) high =
+    balance_by_machine (instance_of e) e.current ∙ ap (λ (i : Tables). total (machine_count i) high) more.origin in
     omega (arith, changed, at_low, at_high, all_low, all_high)
 
-pub process_more : (d e : Drafted) (p : ℕ) → OneMore d e p → process_cost (instance_of e) e.initial e.current ≡ process_cost (instance_of d) d.initial d.current + process_weight_of d.origin * cond (eqb (machine_at e.current p) (machine_at e.initial p)) 0 (process_cost_of (instance_of e) p)
+pub process_more : (d e : Drafted) (p : ℕ) → OneMore d e p → process_cost (instance_of e) e.initial e.current ≡
+    process_cost (instance_of d) d.initial d.current + process_weight_of d.origin
+    * cond (eqb (machine_at e.current p) (machine_at e.initial p)) 0 (process_cost_of (instance_of e) p)
 unfolding process_cost tally process_share process_count with_processes process_weight_of
 process_more d e p more =
     let sums = more.sums
@@ -168,7 +255,9 @@ process_more d e p more =
     weighted : (v w x y z : ℕ) → v ≡ w → x ≡ y + z → v * x ≡ w * y + w * z
     weighted v w x y z same sum = rw (same, sum) (grind arith)
 
-pub way_more : (d e : Drafted) (p : ℕ) → OneMore d e p → machine_cost (instance_of e) e.initial e.current ≡ machine_cost (instance_of d) d.initial d.current + machine_weight_of d.origin * way_cost_of d.origin (machine_at e.initial p) (machine_at e.current p)
+pub way_more : (d e : Drafted) (p : ℕ) → OneMore d e p → machine_cost (instance_of e) e.initial e.current ≡
+    machine_cost (instance_of d) d.initial d.current + machine_weight_of d.origin * way_cost_of d.origin
+    (machine_at e.initial p) (machine_at e.current p)
 unfolding machine_cost tally way_share process_count with_processes machine_weight_of way_cost_of machine_count
 way_more d e p more =
     let sums = more.sums
@@ -178,15 +267,32 @@ way_more d e p more =
     ap (λ x. way_cost_of d.origin x (machine_at d.current k)) same.home
     ∙ ap (λ x. way_cost_of d.origin (machine_at e.initial q) x) same.here
     ∙ ap (λ (i : Tables). way_cost_of i (machine_at e.initial q) (machine_at e.current q)) (sym more.origin)) in
-    weighted (machine_weight_of e.origin) (machine_weight_of d.origin) _ _ _ (ap machine_weight_of more.origin) (sums ∙ ap (λ (i : Tables). total (length d.rows) (λ k. way_cost_of d.origin (machine_at d.initial k) (machine_at d.current k)) + way_cost_of i (machine_at e.initial p) (machine_at e.current p)) more.origin)
+    weighted (machine_weight_of e.origin) (machine_weight_of d.origin) _ _ _ (ap machine_weight_of more.origin)
+    (sums ∙ ap (λ (i : Tables).
+    total (length d.rows) (λ k. way_cost_of d.origin (machine_at d.initial k) (machine_at d.current k))
+    + way_cost_of i (machine_at e.initial p) (machine_at e.current p)) more.origin)
   where
     weighted : (v w x y z : ℕ) → v ≡ w → x ≡ y + z → v * x ≡ w * y + w * z
     weighted v w x y z same sum = rw (same, sum) (grind arith)
 
-pub load_term : (d : Drafted) (m : ℕ) → m < machine_count d.origin → row_load d.origin m (use_of (instance_of d) d.current m) ≤ load_cost (instance_of d) d.current
+pub load_term : (d : Drafted) (m : ℕ) → m < machine_count d.origin →
+    row_load d.origin m (use_of (instance_of d) d.current m) ≤ load_cost (instance_of d) d.current
 unfolding machine_count with_processes
-load_term d m within = omega (arith, load_here d d.origin m refl, load_by_machine (instance_of d) d.current, total_term (machine_count d.origin) m (machine_load (instance_of d) d.current) within)
+load_term d m within =
+    omega (
+      arith,
+      load_here d d.origin m refl,
+      load_by_machine (instance_of d) d.current,
+      total_term (machine_count d.origin) m (machine_load (instance_of d) d.current) within,
+    )
 
-pub balance_term : (d : Drafted) (m : ℕ) → m < machine_count d.origin → row_balance d.origin m (use_of (instance_of d) d.current m) ≤ balance_cost (instance_of d) d.current
+pub balance_term : (d : Drafted) (m : ℕ) → m < machine_count d.origin →
+    row_balance d.origin m (use_of (instance_of d) d.current m) ≤ balance_cost (instance_of d) d.current
 unfolding machine_count with_processes
-balance_term d m within = omega (arith, balance_here d d.origin m refl, balance_by_machine (instance_of d) d.current, total_term (machine_count d.origin) m (machine_balance (instance_of d) d.current) within)
+balance_term d m within =
+    omega (
+      arith,
+      balance_here d d.origin m refl,
+      balance_by_machine (instance_of d) d.current,
+      total_term (machine_count d.origin) m (machine_balance (instance_of d) d.current) within,
+    )

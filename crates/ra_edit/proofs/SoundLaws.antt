@@ -1,5 +1,6 @@
 -- An edit leaves an instance within the limits, and two lists that fit it.
-use Rattle.std.proofs.Common.{◌≡◌, ◌≢◌, ℕ, ◌+◌, ◌-◌, ◌*◌, ◌<◌, ◌≤◌, List, [], ◌∷◌, ◌++◌, length, get_or, Some, None, refl, sym, ap, ◌∙◌, subst, ⊎_elim, arith, length-append, eq-eqb}
+use Rattle.std.proofs.Common.{◌≡◌, ◌≢◌, ℕ, ◌+◌, ◌-◌, ◌*◌, ◌<◌, ◌≤◌, List, [], ◌∷◌, ◌++◌, length, get_or, Some, None}
+use Rattle.std.proofs.Common.{refl, sym, ap, ◌∙◌, subst, ⊎_elim, arith, length-append, eq-eqb}
 use Rattle.std.specs.List.{swap_remove}
 use Rattle.std.proofs.Math.Seq.{get_or-append_seam}
 use Rattle.std.proofs.lemmas.Bool.{cases_lt, lt-ltb, le-ltb}
@@ -34,20 +35,24 @@ pub record AreRows (i : Tables) (rows : List ProcessRow) (requirements : List �
   pub table : length requirements ≡ length rows * resource_count i
   pub services : (p : ℕ) → p < length rows → row_service rows p < service_count i
 
-service_here : (i : Tables) (rows : List ProcessRow) (requirements : List ℕ) (p : ℕ) → p < length rows → service_of (with_processes i rows requirements) p ≡ row_service rows p
+service_here : (i : Tables) (rows : List ProcessRow) (requirements : List ℕ) (p : ℕ) → p < length rows →
+    service_of (with_processes i rows requirements) p ≡ row_service rows p
 unfolding with_processes service_of process_row row_service
 service_here i rows requirements p within = ap (λ (x : ProcessRow). x.service.0) (get_or_default rows p _ _ within)
 
-pub rows_of : (i : Tables) (rows : List ProcessRow) (requirements : List ℕ) → WellFormed (with_processes i rows requirements) → AreRows i rows requirements
+pub rows_of : (i : Tables) (rows : List ProcessRow) (requirements : List ℕ) →
+    WellFormed (with_processes i rows requirements) → AreRows i rows requirements
 unfolding with_processes process_count resource_count service_count
 rows_of i rows requirements h = record {
   some = h.some_process;
   few = h.few_processes;
   table = h.requirements;
-  services = λ p within. subst (λ s. s < service_count i) (service_here i rows requirements p within) (h.services p within);
+  services = λ p within. subst (λ s. s < service_count i) (service_here i rows requirements p within)
+      (h.services p within);
 }
 
-pub well_with : (i : Tables) (rows after : List ProcessRow) (requirements next : List ℕ) → WellFormed (with_processes i rows requirements) → AreRows i after next → WellFormed (with_processes i after next)
+pub well_with : (i : Tables) (rows after : List ProcessRow) (requirements next : List ℕ) →
+    WellFormed (with_processes i rows requirements) → AreRows i after next → WellFormed (with_processes i after next)
 unfolding with_processes resource_count service_count process_count
 well_with i rows after requirements next h fits =
     well_formed_with (with_processes i rows requirements) (with_processes i after next) h fits.some fits.few fits.table
@@ -55,42 +60,55 @@ well_with i rows after requirements next h fits =
 
 -- assignments
 
-machines_with : (i : Tables) (rows : List ProcessRow) (requirements : List ℕ) → machine_count (with_processes i rows requirements) ≡ machine_count i
+machines_with : (i : Tables) (rows : List ProcessRow) (requirements : List ℕ) →
+    machine_count (with_processes i rows requirements) ≡ machine_count i
 unfolding with_processes machine_count
 machines_with i rows requirements = refl
 
-processes_with : (i : Tables) (rows : List ProcessRow) (requirements : List ℕ) → process_count (with_processes i rows requirements) ≡ length rows
+processes_with : (i : Tables) (rows : List ProcessRow) (requirements : List ℕ) →
+    process_count (with_processes i rows requirements) ≡ length rows
 unfolding with_processes process_count
 processes_with i rows requirements = refl
 
-fits_with : (i : Tables) (rows : List ProcessRow) (requirements : List ℕ) (a : List Machine) → length a ≡ length rows → ((p : ℕ) → p < length a → machine_at a p < machine_count i) → IsAssignment (with_processes i rows requirements) a
+fits_with : (i : Tables) (rows : List ProcessRow) (requirements : List ℕ) (a : List Machine) → length a ≡ length rows →
+    ((p : ℕ) → p < length a → machine_at a p < machine_count i) → IsAssignment (with_processes i rows requirements) a
 fits_with i rows requirements a size each = record {
   one_each = size ∙ sym (processes_with i rows requirements);
-  in_range = λ p within. subst (λ n. machine_at a p < n) (sym (machines_with i rows requirements)) (each p (omega (arith, size, processes_with i rows requirements)));
+  in_range = λ p within. subst (λ n. machine_at a p < n) (sym (machines_with i rows requirements))
+      (each p (omega (arith, size, processes_with i rows requirements)));
 }
 
-fits_size : (i : Tables) (rows : List ProcessRow) (requirements : List ℕ) (a : List Machine) → IsAssignment (with_processes i rows requirements) a → length a ≡ length rows
+fits_size : (i : Tables) (rows : List ProcessRow) (requirements : List ℕ) (a : List Machine) →
+    IsAssignment (with_processes i rows requirements) a → length a ≡ length rows
 fits_size i rows requirements a h = h.one_each ∙ processes_with i rows requirements
 
-fits_each : (i : Tables) (rows : List ProcessRow) (requirements : List ℕ) (a : List Machine) → IsAssignment (with_processes i rows requirements) a → (p : ℕ) → p < length a → machine_at a p < machine_count i
-fits_each i rows requirements a h p within = subst (λ n. machine_at a p < n) (machines_with i rows requirements) (h.in_range p (subst (λ n. p < n) h.one_each within))
+fits_each : (i : Tables) (rows : List ProcessRow) (requirements : List ℕ) (a : List Machine) →
+    IsAssignment (with_processes i rows requirements) a → (p : ℕ) → p < length a → machine_at a p < machine_count i
+fits_each i rows requirements a h p within = subst (λ n. machine_at a p < n) (machines_with i rows requirements)
+    (h.in_range p (subst (λ n. p < n) h.one_each within))
 
 -- one more
 
-each_more : {X : Type 0} → (P : X → Type 0) (xs : List X) (x d : X) → ((p : ℕ) → p < length xs → P (get_or xs p d)) → P x → (p : ℕ) → p < length (xs ++ x ∷ []) → P (get_or (xs ++ x ∷ []) p d)
+each_more : {X : Type 0} → (P : X → Type 0) (xs : List X) (x d : X) → ((p : ℕ) → p < length xs → P (get_or xs p d)) →
+    P x → (p : ℕ) → p < length (xs ++ x ∷ []) → P (get_or (xs ++ x ∷ []) p d)
 each_more P xs x d each here p within = ⊎_elim
     (λ (below : p < length xs). subst P (sym (get_or_append_left xs (x ∷ []) d p below)) (each p below))
-    (λ (last : length xs ≤ p). let e : p ≡ length xs = omega (arith, length-append xs (x ∷ [])) in subst (λ n. P (get_or (xs ++ x ∷ []) n d)) (sym e) (subst P (sym (get_or-append_seam xs x [] d)) here))
+    (λ (last : length xs ≤ p). let e : p ≡ length xs = omega (arith, length-append xs (x ∷ [])) in
+    subst (λ n. P (get_or (xs ++ x ∷ []) n d)) (sym e) (subst P (sym (get_or-append_seam xs x [] d)) here))
     (cases_lt p (length xs))
 
 -- one less
-each_less : {X : Type 0} → (P : X → Type 0) (xs : List X) (q : ℕ) (d e : X) → q < length xs → ((p : ℕ) → p < length xs → P (get_or xs p e)) → (p : ℕ) → p < length (swap_remove xs q d) → P (get_or (swap_remove xs q d) p e)
+each_less : {X : Type 0} → (P : X → Type 0) (xs : List X) (q : ℕ) (d e : X) → q < length xs →
+    ((p : ℕ) → p < length xs → P (get_or xs p e)) → (p : ℕ) → p < length (swap_remove xs q d) →
+    P (get_or (swap_remove xs q d) p e)
 each_less P xs q d e there each p within =
     let left : p < length xs - 1 = omega (arith, removed_length xs q d) in
     let found = removed_item xs q p d e there left in
     subst P (sym found.2) (each found.0 found.1)
 
-pub added_sound : (d : Drafted) (s : Service) (m : Machine) (c : ℕ) (requirements : List ℕ) → IsSound d → length d.rows < 50000 → s.0 < service_count d.origin → m.0 < machine_count d.origin → length requirements ≡ resource_count d.origin → IsSound (added d s m c requirements)
+pub added_sound : (d : Drafted) (s : Service) (m : Machine) (c : ℕ) (requirements : List ℕ) → IsSound d →
+    length d.rows < 50000 → s.0 < service_count d.origin → m.0 < machine_count d.origin →
+    length requirements ≡ resource_count d.origin → IsSound (added d s m c requirements)
 unfolding added row_service process_of machine_at
 added_sound d s m c requirements sound few s_in m_in width =
     let i = d.origin in
@@ -100,13 +118,33 @@ added_sound d s m c requirements sound few s_in m_in width =
     let rows : AreRows i (d.rows ++ row ∷ []) (d.requirements ++ requirements) = record {
       some = omega (arith, size);
       few = omega (arith, size);
-      table = length-append d.requirements requirements ∙ more_rows (length d.requirements) (length requirements) (length d.rows) (resource_count i) (length (d.rows ++ row ∷ [])) old.table width size;
-      services = each_more (λ (x : ProcessRow). x.service.0 < service_count i) d.rows row (process_of (record { 0 = 0 }) 0) old.services s_in;
+      table = length-append d.requirements requirements ∙ more_rows (length d.requirements) (length requirements)
+          (length d.rows) (resource_count i) (length (d.rows ++ row ∷ [])) old.table width size;
+      services = each_more (λ (x : ProcessRow). x.service.0 < service_count i) d.rows row
+          (process_of (record { 0 = 0 }) 0) old.services s_in;
     } in
     record {
-      well_formed = well_with i d.rows (d.rows ++ row ∷ []) d.requirements (d.requirements ++ requirements) sound.well_formed rows;
-      initial = fits_with i (d.rows ++ row ∷ []) (d.requirements ++ requirements) (d.initial ++ m ∷ []) (omega (arith, length-append d.initial (m ∷ []), size, fits_size i d.rows d.requirements d.initial sound.initial)) (each_more (λ (x : Machine). x.0 < machine_count i) d.initial m (record { 0 = 0 }) (fits_each i d.rows d.requirements d.initial sound.initial) m_in);
-      current = fits_with i (d.rows ++ row ∷ []) (d.requirements ++ requirements) (d.current ++ m ∷ []) (omega (arith, length-append d.current (m ∷ []), size, fits_size i d.rows d.requirements d.current sound.current)) (each_more (λ (x : Machine). x.0 < machine_count i) d.current m (record { 0 = 0 }) (fits_each i d.rows d.requirements d.current sound.current) m_in);
+      well_formed =
+          well_with i d.rows (d.rows ++ row ∷ []) d.requirements (d.requirements ++ requirements) sound.well_formed
+          rows;
+      initial = fits_with i (d.rows ++ row ∷ []) (d.requirements ++ requirements) (d.initial ++ m ∷ [])
+          (omega (
+            arith,
+            length-append d.initial (m ∷ []),
+            size,
+            fits_size i d.rows d.requirements d.initial sound.initial,
+          ))
+          (each_more (λ (x : Machine). x.0 < machine_count i) d.initial m (record { 0 = 0 })
+          (fits_each i d.rows d.requirements d.initial sound.initial) m_in);
+      current = fits_with i (d.rows ++ row ∷ []) (d.requirements ++ requirements) (d.current ++ m ∷ [])
+          (omega (
+            arith,
+            length-append d.current (m ∷ []),
+            size,
+            fits_size i d.rows d.requirements d.current sound.current,
+          ))
+          (each_more (λ (x : Machine). x.0 < machine_count i) d.current m (record { 0 = 0 })
+          (fits_each i d.rows d.requirements d.current sound.current) m_in);
     }
   where
     more_rows : (a b n w after : ℕ) → a ≡ n * w → b ≡ w → after ≡ n + 1 → a + b ≡ after * w
@@ -133,22 +171,36 @@ retired_sound d p sound within more =
     } in
     record {
       well_formed = well_with i d.rows after d.requirements next sound.well_formed rows;
-      initial = fits_with i after next (swap_remove d.initial p first) (omega (arith, removed_length d.initial p first, size, initial_size)) (each_less (λ (x : Machine). x.0 < machine_count i) d.initial p first first (omega (arith, initial_size)) (fits_each i d.rows d.requirements d.initial sound.initial));
-      current = fits_with i after next (swap_remove d.current p first) (omega (arith, removed_length d.current p first, size, current_size)) (each_less (λ (x : Machine). x.0 < machine_count i) d.current p first first (omega (arith, current_size)) (fits_each i d.rows d.requirements d.current sound.current));
+      initial = fits_with i after next (swap_remove d.initial p first)
+          (omega (arith, removed_length d.initial p first, size, initial_size))
+          (each_less (λ (x : Machine). x.0 < machine_count i) d.initial p first first (omega (arith, initial_size))
+          (fits_each i d.rows d.requirements d.initial sound.initial));
+      current = fits_with i after next (swap_remove d.current p first)
+          (omega (arith, removed_length d.current p first, size, current_size))
+          (each_less (λ (x : Machine). x.0 < machine_count i) d.current p first first (omega (arith, current_size))
+          (fits_each i d.rows d.requirements d.current sound.current));
     }
 
-pub resized_sound : (d : Drafted) (p : ℕ) (requirements : List ℕ) → IsSound d → p < length d.rows → length requirements ≡ resource_count d.origin → IsSound (resized d p requirements)
+pub resized_sound : (d : Drafted) (p : ℕ) (requirements : List ℕ) → IsSound d → p < length d.rows →
+    length requirements ≡ resource_count d.origin → IsSound (resized d p requirements)
 unfolding resized
 resized_sound d p requirements sound within width =
     let i = d.origin in
     let w = resource_count i in
     let old = rows_of i d.rows d.requirements sound.well_formed in
     let next = put_row w d.requirements p requirements in
-    let rows : AreRows i d.rows next = record { some = old.some; few = old.few; table = put_length w (length d.rows) p d.requirements requirements old.table within width; services = old.services } in
+    let rows : AreRows i d.rows next = record {
+      some = old.some;
+      few = old.few;
+      table = put_length w (length d.rows) p d.requirements requirements old.table within width;
+      services = old.services;
+    } in
     record {
       well_formed = well_with i d.rows d.rows d.requirements next sound.well_formed rows;
-      initial = fits_with i d.rows next d.initial (fits_size i d.rows d.requirements d.initial sound.initial) (fits_each i d.rows d.requirements d.initial sound.initial);
-      current = fits_with i d.rows next d.current (fits_size i d.rows d.requirements d.current sound.current) (fits_each i d.rows d.requirements d.current sound.current);
+      initial = fits_with i d.rows next d.initial (fits_size i d.rows d.requirements d.initial sound.initial)
+          (fits_each i d.rows d.requirements d.initial sound.initial);
+      current = fits_with i d.rows next d.current (fits_size i d.rows d.requirements d.current sound.current)
+          (fits_each i d.rows d.requirements d.current sound.current);
     }
 
 -- what bars no edit
@@ -160,7 +212,11 @@ free_add count s m c free full = let e : Some Full ≡ None = rw (eq-eqb count 5
 pub free_retire : (count p : ℕ) → barred count (Retire p) ≡ None → (p < count) × (count ≢ 1)
 unfolding barred
 free_retire count p free = ⊎_elim
-    (λ (within : p < count). (within, λ (one : count ≡ 1). let e : Some Last ≡ None = rw (lt-ltb p count within, eq-eqb count 1 one) at free in cc))
+    (λ (within : p < count). (
+      within,
+      λ (one : count ≡ 1). let e : Some Last ≡ None = rw (lt-ltb p count within, eq-eqb count 1 one) at
+          free in cc,
+    ))
     (λ (past : count ≤ p). absurd (let e : Some (NoProcess p) ≡ None = rw (le-ltb p count past) at free in cc))
     (cases_lt p count)
 
@@ -171,11 +227,17 @@ free_resize count p free = ⊎_elim
     (λ (past : count ≤ p). absurd (let e : Some (NoProcess p) ≡ None = rw (le-ltb p count past) at free in cc))
     (cases_lt p count)
 
-pub edited_sound : (d : Drafted) (e : Edit) (requirements : List ℕ) → IsSound d → barred (length d.rows) e ≡ None → FitsInstance d.origin e → length requirements ≡ resource_count d.origin → IsSound (edited d e requirements)
+pub edited_sound : (d : Drafted) (e : Edit) (requirements : List ℕ) → IsSound d → barred (length d.rows) e ≡ None →
+    FitsInstance d.origin e → length requirements ≡ resource_count d.origin → IsSound (edited d e requirements)
 unfolding edited
-edited_sound d (Add s m c) requirements sound free fits width = added_sound d s m c requirements sound (let few = (rows_of d.origin d.rows d.requirements sound.well_formed).few in let not_full = free_add (length d.rows) s m c free in omega arith) fits.0 fits.1 width
-edited_sound d (Retire p) requirements sound free fits width = let h = free_retire (length d.rows) p free in let some = (rows_of d.origin d.rows d.requirements sound.well_formed).some in retired_sound d p sound h.0 (let not_one = h.1 in omega arith)
-edited_sound d (Resize p) requirements sound free fits width = resized_sound d p requirements sound (free_resize (length d.rows) p free) width
+edited_sound d (Add s m c) requirements sound free fits width =
+    added_sound d s m c requirements sound (let few = (rows_of d.origin d.rows d.requirements sound.well_formed).few in
+    let not_full = free_add (length d.rows) s m c free in omega arith) fits.0 fits.1 width
+edited_sound d (Retire p) requirements sound free fits width = let h = free_retire (length d.rows) p free in
+    let some = (rows_of d.origin d.rows d.requirements sound.well_formed).some in
+    retired_sound d p sound h.0 (let not_one = h.1 in omega arith)
+edited_sound d (Resize p) requirements sound free fits width =
+    resized_sound d p requirements sound (free_resize (length d.rows) p free) width
 
 -- how long the lists of a draft are
 pub record AreFew (d : Drafted) : Type 0 where
@@ -187,7 +249,8 @@ pub record AreFew (d : Drafted) : Type 0 where
   pub initial : length d.initial ≡ length d.rows
   pub current : length d.current ≡ length d.rows
 
-narrow_of : (i : Tables) (rows : List ProcessRow) (requirements : List ℕ) → WellFormed (with_processes i rows requirements) → resource_count i ≤ 20
+narrow_of : (i : Tables) (rows : List ProcessRow) (requirements : List ℕ) →
+    WellFormed (with_processes i rows requirements) → resource_count i ≤ 20
 unfolding with_processes resource_count
 narrow_of i rows requirements h = h.few_resources
 
@@ -206,7 +269,8 @@ few_of d sound =
       rows = old.few;
       narrow = narrow;
       table = old.table;
-      requirements = few_cells (length d.rows) (resource_count d.origin) (length d.requirements) old.few narrow old.table;
+      requirements =
+          few_cells (length d.rows) (resource_count d.origin) (length d.requirements) old.few narrow old.table;
       initial = fits_size d.origin d.rows d.requirements d.initial sound.initial;
       current = fits_size d.origin d.rows d.requirements d.current sound.current;
     }

@@ -1,5 +1,6 @@
 -- What is found after an edit is what the edited draft breaks, or what it costs.
-use Rattle.std.proofs.Common.{◌≡◌, ℕ, ◌+◌, ◌-◌, ◌*◌, ◌^◌, ◌<◌, ◌≤◌, Bool, true, false, cond, eqb, ◌&&◌, List, [], ◌∷◌, ◌++◌, length, get_or, None, refl, sym, ap, ◌∙◌, subst, arith, eq-eqb}
+use Rattle.std.proofs.Common.{◌≡◌, ℕ, ◌+◌, ◌-◌, ◌*◌, ◌^◌, ◌<◌, ◌≤◌, Bool, true, false, cond, eqb, ◌&&◌, List, [], ◌∷◌}
+use Rattle.std.proofs.Common.{◌++◌, length, get_or, None, refl, sym, ap, ◌∙◌, subst, arith, eq-eqb}
 use Rattle.std.proofs.lemmas.Nat.{mul-lt}
 use Rattle.ra_base.specs.Sums.{greatest, one_if}
 use Rattle.ra_base.specs.declared.costs.Parts.{Parts}
@@ -10,11 +11,14 @@ use Rattle.ra_base.proofs.Greatest.{greatest_same}
 use Rattle.ra_model.specs.declared.raw.ProcessRow.{ProcessRow}
 use Rattle.ra_model.specs.declared.raw.Tables.{Tables}
 use Rattle.ra_model.specs.Limits.{WellFormed, Small}
-use Rattle.ra_model.specs.Numbers.{resource_count, machine_count, service_count, process_count, process_row, neighbourhood_of, service_of, process_cost_of, way_cost_of, process_weight_of, service_weight_of, machine_weight_of}
+use Rattle.ra_model.specs.Numbers.{resource_count, machine_count, service_count, process_count, process_row}
+use Rattle.ra_model.specs.Numbers.{neighbourhood_of, service_of, process_cost_of, way_cost_of, process_weight_of}
+use Rattle.ra_model.specs.Numbers.{service_weight_of, machine_weight_of}
 use Rattle.ra_model.specs.Assignments.{machine_at, tally}
 use Rattle.ra_model.specs.Usage.{use_of}
 use Rattle.ra_model.specs.Services.{is_of, of_service, members_at, moved_of}
-use Rattle.ra_model.specs.Costs.{load_cost, balance_cost, process_share, process_cost, service_cost, way_share, machine_cost, objective, parts_of}
+use Rattle.ra_model.specs.Costs.{load_cost, balance_cost, process_share, process_cost, service_cost, way_share}
+use Rattle.ra_model.specs.Costs.{machine_cost, objective, parts_of}
 use Rattle.ra_model.specs.MachineCosts.{row_load, row_balance}
 use Rattle.ra_model.proofs.BoundLemmas.{load_under, balance_under, process_under, service_under, machine_under}
 use Rattle.ra_edit_read.specs.declared.edits.Edit.{Edit}
@@ -29,27 +33,33 @@ use Rattle.ra_edit.specs.MachineCosts.{AreCostsOn}
 use Rattle.ra_edit.specs.Touched.{added_breaks, retired_breaks, resized_breaks}
 use Rattle.ra_edit.specs.Replies.{barred, broken_in}
 use Rattle.ra_edit.specs.Keeping.{IsSound, IsKept}
-use Rattle.ra_edit.proofs.ShareLaws.{load_more, balance_more, process_more, way_more, moved_more, load_term, balance_term}
+use Rattle.ra_edit.proofs.ShareLaws.{load_more, balance_more, process_more, way_more, moved_more, load_term}
+use Rattle.ra_edit.proofs.ShareLaws.{balance_term}
 use Rattle.ra_edit.proofs.BrokenLaws.{added_law, retired_law, resized_law}
 use Rattle.ra_edit.proofs.SoundLaws.{few_of, free_retire, free_resize}
 use Rattle.ra_edit.proofs.OneMoreLaws.{more_joined, more_retired, put_cell_other}
 
 -- a process has come
 
-service_read : (i : Tables) (rows : List ProcessRow) (requirements : List ℕ) (row : ProcessRow) → service_of (with_processes i (rows ++ row ∷ []) requirements) (length rows) ≡ row.service.0
+service_read : (i : Tables) (rows : List ProcessRow) (requirements : List ℕ) (row : ProcessRow) →
+    service_of (with_processes i (rows ++ row ∷ []) requirements) (length rows) ≡ row.service.0
 unfolding with_processes service_of process_row
 service_read i rows requirements row = ap (λ (x : ProcessRow). x.service.0) (get_or-append_seam rows row [] _)
 
 machine_read : (a : List Machine) (n : ℕ) (m : Machine) → length a ≡ n → machine_at (a ++ m ∷ []) n ≡ m.0
 unfolding machine_at
-machine_read a n m size = ap (λ (x : Machine). x.0) (subst (λ k. get_or (a ++ m ∷ []) k (record { 0 = 0 }) ≡ m) size (get_or-append_seam a m [] (record { 0 = 0 })))
+machine_read a n m size =
+    ap (λ (x : Machine). x.0)
+    (subst (λ k. get_or (a ++ m ∷ []) k (record { 0 = 0 }) ≡ m) size (get_or-append_seam a m [] (record { 0 = 0 })))
 
-has_come : (d e : Drafted) (s : Service) (m : Machine) (c : ℕ) (requirements : List ℕ) → IsSound d → s.0 < service_count d.origin → m.0 < machine_count d.origin → e ≡ added d s m c requirements → HasCome d e s.0 m.0
+has_come : (d e : Drafted) (s : Service) (m : Machine) (c : ℕ) (requirements : List ℕ) → IsSound d →
+    s.0 < service_count d.origin → m.0 < machine_count d.origin → e ≡ added d s m c requirements → HasCome d e s.0 m.0
 unfolding added process_of
 has_come d e s m c requirements sound s_in m_in same =
     let few = few_of d sound in
     subst (λ (f : Drafted). HasCome d f s.0 m.0) (sym same) (record {
-      more = more_joined d (added d s m c requirements) (process_of s c) requirements m m refl refl refl refl refl few.table few.initial few.current;
+      more = more_joined d (added d s m c requirements) (process_of s c) requirements m m refl refl refl refl refl
+          few.table few.initial few.current;
       service = service_read d.origin d.rows (d.requirements ++ requirements) (process_of s c);
       home = machine_read d.initial (length d.rows) m few.initial;
       here = machine_read d.current (length d.rows) m few.current;
@@ -62,42 +72,58 @@ has_gone d e p sound within same =
     let few = few_of d sound in
     subst (λ (f : Drafted). HasGone d f p) (sym same) (record {
       there = within;
-      fewer = more_retired d d p refl refl refl refl (λ q r q_in apart column. refl) few.table few.initial few.current within;
+      fewer = more_retired d d p refl refl refl refl (λ q r q_in apart column. refl) few.table few.initial few.current
+          within;
     })
 
-has_other : (d e : Drafted) (p : ℕ) (requirements : List ℕ) → IsSound d → p < length d.rows → length requirements ≡ resource_count d.origin → e ≡ resized d p requirements → HasOther d e p
+has_other : (d e : Drafted) (p : ℕ) (requirements : List ℕ) → IsSound d → p < length d.rows →
+    length requirements ≡ resource_count d.origin → e ≡ resized d p requirements → HasOther d e p
 unfolding resized
 has_other d e p requirements sound within width same =
     let few = few_of d sound in
     subst (λ (f : Drafted). HasOther d f p) (sym same) (record {
       there = within;
-      before = more_retired d d p refl refl refl refl (λ q r q_in apart column. refl) few.table few.initial few.current within;
-      after = more_retired d (resized d p requirements) p refl refl refl refl (λ q r q_in apart column. put_cell_other (resource_count d.origin) (length d.rows) p q r d.requirements requirements few.table within width apart column) few.table few.initial few.current within;
+      before = more_retired d d p refl refl refl refl (λ q r q_in apart column. refl) few.table few.initial few.current
+          within;
+      after = more_retired d (resized d p requirements) p refl refl refl refl
+          (λ q r q_in apart column. put_cell_other (resource_count d.origin) (length d.rows) p q r d.requirements
+          requirements few.table within width apart column) few.table few.initial few.current within;
       rows = refl;
       initial = refl;
       current = refl;
     })
 
-pub edited_is : (d e : Drafted) (edit : Edit) (requirements : List ℕ) → IsSound d → barred (length d.rows) edit ≡ None → FitsInstance d.origin edit → length requirements ≡ resource_count d.origin → e ≡ edited d edit requirements → IsEdited d edit e
+pub edited_is : (d e : Drafted) (edit : Edit) (requirements : List ℕ) → IsSound d → barred (length d.rows) edit ≡ None →
+    FitsInstance d.origin edit → length requirements ≡ resource_count d.origin → e ≡ edited d edit requirements →
+    IsEdited d edit e
 unfolding edited
-edited_is d e (Add s m c) requirements sound free fits width same = has_come d e s m c requirements sound fits.0 fits.1 same
-edited_is d e (Retire p) requirements sound free fits width same = has_gone d e p sound (free_retire (length d.rows) p free).0 same
-edited_is d e (Resize p) requirements sound free fits width same = has_other d e p requirements sound (free_resize (length d.rows) p free) width same
+edited_is d e (Add s m c) requirements sound free fits width same =
+    has_come d e s m c requirements sound fits.0 fits.1 same
+edited_is d e (Retire p) requirements sound free fits width same =
+    has_gone d e p sound (free_retire (length d.rows) p free).0 same
+edited_is d e (Resize p) requirements sound free fits width same =
+    has_other d e p requirements sound (free_resize (length d.rows) p free) width same
 
 -- what is broken
 
-pub come_broken : (d e : Drafted) (parts : Parts) (s m : ℕ) → IsKept d parts → HasCome d e s m → broken_in e ≡ added_breaks (instance_of e) e.initial e.current s m
+pub come_broken : (d e : Drafted) (parts : Parts) (s m : ℕ) → IsKept d parts → HasCome d e s m →
+    broken_in e ≡ added_breaks (instance_of e) e.initial e.current s m
 unfolding broken_in
-come_broken d e parts s m kept come = added_law d e (length d.rows) s m come.more kept.unbroken come.service come.home come.here come.service_in come.machine_in
+come_broken d e parts s m kept come = added_law d e (length d.rows) s m come.more kept.unbroken come.service come.home
+    come.here come.service_in come.machine_in
 
-pub service_there : (d : Drafted) (p : ℕ) → IsSound d → p < length d.rows → service_of (instance_of d) p < service_count d.origin
+pub service_there : (d : Drafted) (p : ℕ) → IsSound d → p < length d.rows →
+    service_of (instance_of d) p < service_count d.origin
 unfolding with_processes process_count service_count
 service_there d p sound within = sound.well_formed.services p within
 
-pub gone_service : (d e : Drafted) (p s : ℕ) → IsSound d → HasGone d e p → s ≡ service_of (instance_of d) p → s < service_count d.origin
+pub gone_service : (d e : Drafted) (p s : ℕ) → IsSound d → HasGone d e p → s ≡ service_of (instance_of d) p →
+    s < service_count d.origin
 gone_service d e p s sound gone s_is = omega (arith, s_is, service_there d p sound gone.there)
 
-pub gone_broken : (d e : Drafted) (parts : Parts) (p s label : ℕ) → IsKept d parts → HasGone d e p → s ≡ service_of (instance_of d) p → label ≡ neighbourhood_of d.origin (machine_at d.current p) → broken_in e ≡ retired_breaks (instance_of e) e.current s label
+pub gone_broken : (d e : Drafted) (parts : Parts) (p s label : ℕ) → IsKept d parts → HasGone d e p →
+    s ≡ service_of (instance_of d) p → label ≡ neighbourhood_of d.origin (machine_at d.current p) →
+    broken_in e ≡ retired_breaks (instance_of e) e.current s label
 unfolding broken_in
 gone_broken d e parts p s label kept gone s_is label_is =
     let origin = gone.fewer.origin in
@@ -109,19 +135,35 @@ machines_less : (d : Drafted) (p : ℕ) → machine_count (retired d p).origin �
 unfolding retired
 machines_less d p = refl
 
-in_range : (d : Drafted) (a : List Machine) (p : ℕ) → ((q : ℕ) → q < process_count (instance_of d) → machine_at a q < machine_count (instance_of d)) → p < length d.rows → machine_at a p < machine_count d.origin
+in_range : (d : Drafted) (a : List Machine) (p : ℕ) →
+    ((q : ℕ) → q < process_count (instance_of d) → machine_at a q < machine_count (instance_of d)) → p < length d.rows →
+    machine_at a p < machine_count d.origin
 unfolding with_processes process_count machine_count
 in_range d a p each within = each p within
 
-pub other_broken : (d e : Drafted) (parts : Parts) (p home here : ℕ) → IsKept d parts → HasOther d e p → home ≡ machine_at d.initial p → here ≡ machine_at d.current p → broken_in e ≡ resized_breaks (instance_of e) e.initial e.current home here
+pub other_broken : (d e : Drafted) (parts : Parts) (p home here : ℕ) → IsKept d parts → HasOther d e p →
+    home ≡ machine_at d.initial p → here ≡ machine_at d.current p →
+    broken_in e ≡ resized_breaks (instance_of e) e.initial e.current home here
 unfolding broken_in
-other_broken d e parts p home here kept other home_is here_is = resized_law (retired d p) d e p home here other.before other.after other.rows other.initial other.current kept.unbroken (sym home_is) (sym here_is)
+other_broken d e parts p home here kept other home_is here_is =
+    resized_law (retired d p) d e p home here other.before other.after other.rows other.initial other.current
+    kept.unbroken (sym home_is) (sym here_is)
     (omega (arith, home_is, in_range d d.initial p kept.sound.initial.in_range other.there, machines_less d p))
     (omega (arith, here_is, in_range d d.current p kept.sound.current.in_range other.there, machines_less d p))
 
 -- what it costs
 
-parts_from : (e : Drafted) (l b p s m : ℕ) → l ≡ load_cost (instance_of e) e.current → b ≡ balance_cost (instance_of e) e.current → p ≡ process_cost (instance_of e) e.initial e.current → s ≡ service_cost (instance_of e) e.initial e.current → m ≡ machine_cost (instance_of e) e.initial e.current → record { load = l; balance = b; process = p; service = s; machine = m; total = l + b + p + s + m } ≡ parts_of (instance_of e) e.initial e.current
+parts_from : (e : Drafted) (l b p s m : ℕ) → l ≡ load_cost (instance_of e) e.current →
+    b ≡ balance_cost (instance_of e) e.current → p ≡ process_cost (instance_of e) e.initial e.current →
+    s ≡ service_cost (instance_of e) e.initial e.current → m ≡ machine_cost (instance_of e) e.initial e.current →
+    record {
+      load = l;
+      balance = b;
+      process = p;
+      service = s;
+      machine = m;
+      total = l + b + p + s + m;
+    } ≡ parts_of (instance_of e) e.initial e.current
 unfolding parts_of objective
 parts_from e l b p s m l_is b_is p_is s_is m_is = rw (l_is, b_is, p_is, s_is, m_is) refl
 
@@ -161,7 +203,8 @@ parts_told d parts kept small =
       machine_small = omega (arith, machine, machine_under i d.initial d.current well small);
     }
 
-moved_same : (d e : Drafted) (p s : ℕ) → OneMore d e p → machine_at e.initial p ≡ machine_at e.current p → moved_of (instance_of e) e.initial e.current s ≡ moved_of (instance_of d) d.initial d.current s
+moved_same : (d e : Drafted) (p s : ℕ) → OneMore d e p → machine_at e.initial p ≡ machine_at e.current p →
+    moved_of (instance_of e) e.initial e.current s ≡ moved_of (instance_of d) d.initial d.current s
 moved_same d e p s more home =
     let h = moved_more d e p s more in
     let stays = eq-eqb (machine_at e.initial p) (machine_at e.current p) home in
@@ -176,19 +219,24 @@ services_both : (d e : Drafted) → e.origin ≡ d.origin → service_count (ins
 unfolding with_processes service_count
 services_both d e origin = ap (λ (i : Tables). length i.raw.services.items) origin
 
-weight_both : (d e : Drafted) → e.origin ≡ d.origin → service_weight_of (instance_of e) ≡ service_weight_of (instance_of d)
+weight_both : (d e : Drafted) → e.origin ≡ d.origin → service_weight_of (instance_of e) ≡ service_weight_of
+    (instance_of d)
 unfolding with_processes service_weight_of
 weight_both d e origin = ap (λ (i : Tables). i.raw.service_weight) origin
 
-service_same : (d e : Drafted) (p : ℕ) → OneMore d e p → machine_at e.initial p ≡ machine_at e.current p → service_cost (instance_of e) e.initial e.current ≡ service_cost (instance_of d) d.initial d.current
+service_same : (d e : Drafted) (p : ℕ) → OneMore d e p → machine_at e.initial p ≡ machine_at e.current p →
+    service_cost (instance_of e) e.initial e.current ≡ service_cost (instance_of d) d.initial d.current
 unfolding service_cost
 service_same d e p more home =
-    let counts : greatest (service_count (instance_of e)) (moved_of (instance_of e) e.initial e.current) ≡ greatest (service_count (instance_of d)) (moved_of (instance_of d) d.initial d.current) =
-    greatest_same (service_count (instance_of e)) (moved_of (instance_of e) e.initial e.current) (moved_of (instance_of d) d.initial d.current) (λ s s_in. moved_same d e p s more home)
+    let counts : greatest (service_count (instance_of e)) (moved_of (instance_of e) e.initial e.current) ≡
+    greatest (service_count (instance_of d)) (moved_of (instance_of d) d.initial d.current) =
+    greatest_same (service_count (instance_of e)) (moved_of (instance_of e) e.initial e.current)
+    (moved_of (instance_of d) d.initial d.current) (λ s s_in. moved_same d e p s more home)
     ∙ ap (λ n. greatest n (moved_of (instance_of d) d.initial d.current)) (services_both d e more.origin) in
     rw (weight_both d e more.origin, counts) refl
 
-process_same : (d e : Drafted) (p : ℕ) → OneMore d e p → machine_at e.initial p ≡ machine_at e.current p → process_cost (instance_of e) e.initial e.current ≡ process_cost (instance_of d) d.initial d.current
+process_same : (d e : Drafted) (p : ℕ) → OneMore d e p → machine_at e.initial p ≡ machine_at e.current p →
+    process_cost (instance_of e) e.initial e.current ≡ process_cost (instance_of d) d.initial d.current
 process_same d e p more home =
     let h = process_more d e p more in
     let stays = eq-eqb (machine_at e.current p) (machine_at e.initial p) (sym home) in
@@ -199,60 +247,123 @@ process_same d e p more home =
     none a w = grind arith
 
 -- a process has come: the numbers of the parts
-pub come_parts : (d e : Drafted) (cost : Parts) (s m l b w : ℕ) (before after : MachineCosts) → WellFormed d.origin → HasParts d cost → HasCome d e s m → AreCostsOn d m before → AreCostsOn e m after → l + before.load ≡ cost.load + after.load → b + before.balance ≡ cost.balance + after.balance → w ≡ machine_weight_of d.origin * way_cost_of d.origin m m → record { load = l; balance = b; process = cost.process; service = cost.service; machine = cost.machine + w; total = l + b + cost.process + cost.service + (cost.machine + w) } ≡ parts_of (instance_of e) e.initial e.current
+pub come_parts : (d e : Drafted) (cost : Parts) (s m l b w : ℕ) (before after : MachineCosts) → WellFormed d.origin →
+    HasParts d cost → HasCome d e s m → AreCostsOn d m before → AreCostsOn e m after →
+    l + before.load ≡ cost.load + after.load → b + before.balance ≡ cost.balance + after.balance →
+    w ≡ machine_weight_of d.origin * way_cost_of d.origin m m → record {
+      load = l;
+      balance = b;
+      process = cost.process;
+      service = cost.service;
+      machine = cost.machine + w;
+      total = l + b + cost.process + cost.service + (cost.machine + w);
+    } ≡ parts_of (instance_of e) e.initial e.current
 come_parts d e cost s m l b w before after well has come before_is after_is l_is b_is w_is =
     let more = come.more in
     let origin = more.origin in
     let n = length d.rows in
     let home : machine_at e.initial n ≡ machine_at e.current n = come.home ∙ sym come.here in
-    let after_load : after.load ≡ row_load d.origin m (use_of (instance_of e) e.current m) = after_is.load ∙ ap (λ (i : Tables). row_load i m (use_of (instance_of e) e.current m)) origin in
-    let after_balance : after.balance ≡ row_balance d.origin m (use_of (instance_of e) e.current m) = after_is.balance ∙ ap (λ (i : Tables). row_balance i m (use_of (instance_of e) e.current m)) origin in
-    let way : machine_cost (instance_of e) e.initial e.current ≡ machine_cost (instance_of d) d.initial d.current + machine_weight_of d.origin * way_cost_of d.origin m m = way_more d e n more ∙ ap (λ x. machine_cost (instance_of d) d.initial d.current + machine_weight_of d.origin * way_cost_of d.origin x (machine_at e.current n)) come.home ∙ ap (λ x. machine_cost (instance_of d) d.initial d.current + machine_weight_of d.origin * way_cost_of d.origin m x) come.here in
+    let after_load : after.load ≡ row_load d.origin m (use_of (instance_of e) e.current m) = after_is.load
+    ∙ ap (λ (i : Tables). row_load i m (use_of (instance_of e) e.current m)) origin in
+    let after_balance : after.balance ≡ row_balance d.origin m (use_of (instance_of e) e.current m) = after_is.balance
+    ∙ ap (λ (i : Tables). row_balance i m (use_of (instance_of e) e.current m)) origin in
+    let way : machine_cost (instance_of e) e.initial e.current ≡ machine_cost (instance_of d) d.initial d.current
+    + machine_weight_of d.origin * way_cost_of d.origin m m = way_more d e n more
+    ∙ ap (λ x. machine_cost (instance_of d) d.initial d.current + machine_weight_of d.origin
+    * way_cost_of d.origin x (machine_at e.current n)) come.home
+    ∙ ap (λ x. machine_cost (instance_of d) d.initial d.current + machine_weight_of d.origin
+    * way_cost_of d.origin m x) come.here in
     parts_from e l b cost.process cost.service (cost.machine + w)
     (omega (arith, l_is, has.load, before_is.load, after_load, load_more d e n m more come.here come.machine_in))
-    (omega (arith, b_is, has.balance, before_is.balance, after_balance, balance_more d e n m well more come.here come.machine_in))
+    (omega (
+      arith,
+      b_is,
+      has.balance,
+      before_is.balance,
+      after_balance,
+      balance_more d e n m well more come.here come.machine_in,
+    ))
     (has.process ∙ sym (process_same d e n more home))
     (has.service ∙ sym (service_same d e n more home))
     (omega (arith, has.machine, way, w_is))
 
 -- a process has gone: what it added to the process cost and to the machine cost
-pub gone_process : (d e : Drafted) (p : ℕ) → HasGone d e p → process_cost (instance_of d) d.initial d.current ≡ process_cost (instance_of e) e.initial e.current + process_weight_of d.origin * process_share (instance_of d) d.initial p (machine_at d.current p)
+pub gone_process : (d e : Drafted) (p : ℕ) → HasGone d e p → process_cost (instance_of d) d.initial d.current ≡
+    process_cost (instance_of e) e.initial e.current + process_weight_of d.origin * process_share (instance_of d)
+    d.initial p (machine_at d.current p)
 unfolding process_share
-gone_process d e p gone = process_more e d p gone.fewer ∙ ap (λ (i : Tables). process_cost (instance_of e) e.initial e.current + process_weight_of i * cond (eqb (machine_at d.current p) (machine_at d.initial p)) 0 (process_cost_of (instance_of d) p)) (sym gone.fewer.origin)
+gone_process d e p gone = process_more e d p gone.fewer
+    ∙ ap (λ (i : Tables). process_cost (instance_of e) e.initial e.current + process_weight_of i
+    * cond (eqb (machine_at d.current p) (machine_at d.initial p)) 0 (process_cost_of (instance_of d) p))
+    (sym gone.fewer.origin)
 
-pub gone_way : (d e : Drafted) (p : ℕ) → HasGone d e p → machine_cost (instance_of d) d.initial d.current ≡ machine_cost (instance_of e) e.initial e.current + machine_weight_of d.origin * way_cost_of d.origin (machine_at d.initial p) (machine_at d.current p)
-gone_way d e p gone = way_more e d p gone.fewer ∙ ap (λ (i : Tables). machine_cost (instance_of e) e.initial e.current + machine_weight_of i * way_cost_of i (machine_at d.initial p) (machine_at d.current p)) (sym gone.fewer.origin)
+pub gone_way : (d e : Drafted) (p : ℕ) → HasGone d e p → machine_cost (instance_of d) d.initial d.current ≡
+    machine_cost (instance_of e) e.initial e.current + machine_weight_of d.origin * way_cost_of d.origin
+    (machine_at d.initial p) (machine_at d.current p)
+gone_way d e p gone = way_more e d p gone.fewer
+    ∙ ap (λ (i : Tables). machine_cost (instance_of e) e.initial e.current + machine_weight_of i * way_cost_of i
+    (machine_at d.initial p) (machine_at d.current p)) (sym gone.fewer.origin)
 
 -- the numbers of the parts
-pub gone_parts : (d e : Drafted) (cost : Parts) (p m l b q s w : ℕ) (before after : MachineCosts) → WellFormed d.origin → HasParts d cost → HasGone d e p → m ≡ machine_at d.current p → m < machine_count d.origin → AreCostsOn d m before → AreCostsOn e m after → l + before.load ≡ cost.load + after.load → b + before.balance ≡ cost.balance + after.balance → q ≡ cost.process - process_weight_of d.origin * process_share (instance_of d) d.initial p (machine_at d.current p) → s ≡ service_cost (instance_of e) e.initial e.current → w ≡ cost.machine - machine_weight_of d.origin * way_cost_of d.origin (machine_at d.initial p) (machine_at d.current p) → record { load = l; balance = b; process = q; service = s; machine = w; total = l + b + q + s + w } ≡ parts_of (instance_of e) e.initial e.current
+pub gone_parts : (d e : Drafted) (cost : Parts) (p m l b q s w : ℕ) (before after : MachineCosts) →
+    WellFormed d.origin → HasParts d cost → HasGone d e p → m ≡ machine_at d.current p → m < machine_count d.origin →
+    AreCostsOn d m before → AreCostsOn e m after → l + before.load ≡ cost.load + after.load →
+    b + before.balance ≡ cost.balance + after.balance → q ≡ cost.process - process_weight_of d.origin * process_share
+    (instance_of d) d.initial p (machine_at d.current p) → s ≡ service_cost (instance_of e) e.initial e.current →
+    w ≡ cost.machine - machine_weight_of d.origin * way_cost_of d.origin (machine_at d.initial p)
+    (machine_at d.current p) → record {
+      load = l;
+      balance = b;
+      process = q;
+      service = s;
+      machine = w;
+      total = l + b + q + s + w;
+    } ≡ parts_of (instance_of e) e.initial e.current
 gone_parts d e cost p m l b q s w before after well has gone here m_in before_is after_is l_is b_is q_is s_is w_is =
     let origin = gone.fewer.origin in
     let low_in : m < machine_count e.origin = subst (λ (i : Tables). m < machine_count i) origin m_in in
     let low_well : WellFormed e.origin = subst WellFormed origin well in
-    let before_load : before.load ≡ row_load e.origin m (use_of (instance_of d) d.current m) = before_is.load ∙ ap (λ (i : Tables). row_load i m (use_of (instance_of d) d.current m)) origin in
-    let before_balance : before.balance ≡ row_balance e.origin m (use_of (instance_of d) d.current m) = before_is.balance ∙ ap (λ (i : Tables). row_balance i m (use_of (instance_of d) d.current m)) origin in
+    let before_load : before.load ≡ row_load e.origin m (use_of (instance_of d) d.current m) = before_is.load
+    ∙ ap (λ (i : Tables). row_load i m (use_of (instance_of d) d.current m)) origin in
+    let before_balance : before.balance ≡ row_balance e.origin m (use_of (instance_of d) d.current m) =
+    before_is.balance ∙ ap (λ (i : Tables). row_balance i m (use_of (instance_of d) d.current m)) origin in
     parts_from e l b q s w
     (omega (arith, l_is, has.load, before_load, after_is.load, load_more e d p m gone.fewer (sym here) low_in))
-    (omega (arith, b_is, has.balance, before_balance, after_is.balance, balance_more e d p m low_well gone.fewer (sym here) low_in))
+    (omega (
+      arith,
+      b_is,
+      has.balance,
+      before_balance,
+      after_is.balance,
+      balance_more e d p m low_well gone.fewer (sym here) low_in,
+    ))
     (omega (arith, q_is, has.process, gone_process d e p gone))
     s_is
     (omega (arith, w_is, has.machine, gone_way d e p gone))
 
 -- a process requires something else
 
-process_with : (i : Tables) (rows : List ProcessRow) (t u : List ℕ) (a0 a : List Machine) → process_cost (with_processes i rows t) a0 a ≡ process_cost (with_processes i rows u) a0 a
+process_with : (i : Tables) (rows : List ProcessRow) (t u : List ℕ) (a0 a : List Machine) →
+    process_cost (with_processes i rows t) a0 a ≡ process_cost (with_processes i rows u) a0 a
 unfolding with_processes process_cost tally process_share process_cost_of process_row process_count process_weight_of
 process_with i rows t u a0 a = refl
 
-service_with : (i : Tables) (rows : List ProcessRow) (t u : List ℕ) (a0 a : List Machine) → service_cost (with_processes i rows t) a0 a ≡ service_cost (with_processes i rows u) a0 a
-unfolding with_processes service_cost moved_of members_at tally of_service is_of service_of process_row process_count service_count service_weight_of
+service_with : (i : Tables) (rows : List ProcessRow) (t u : List ℕ) (a0 a : List Machine) →
+    service_cost (with_processes i rows t) a0 a ≡ service_cost (with_processes i rows u) a0 a
+unfolding with_processes service_cost moved_of members_at tally of_service is_of service_of process_row process_count
+    service_count service_weight_of
 service_with i rows t u a0 a = refl
 
-way_with : (i : Tables) (rows : List ProcessRow) (t u : List ℕ) (a0 a : List Machine) → machine_cost (with_processes i rows t) a0 a ≡ machine_cost (with_processes i rows u) a0 a
+way_with : (i : Tables) (rows : List ProcessRow) (t u : List ℕ) (a0 a : List Machine) →
+    machine_cost (with_processes i rows t) a0 a ≡ machine_cost (with_processes i rows u) a0 a
 unfolding with_processes machine_cost tally way_share way_cost_of process_count machine_count machine_weight_of
 way_with i rows t u a0 a = refl
 
-renamed : (f : Tables → List Machine → List Machine → ℕ) (d e : Drafted) → ((i : Tables) (rows : List ProcessRow) (t u : List ℕ) (a0 a : List Machine) → f (with_processes i rows t) a0 a ≡ f (with_processes i rows u) a0 a) → e.origin ≡ d.origin → e.rows ≡ d.rows → e.initial ≡ d.initial → e.current ≡ d.current → f (instance_of d) d.initial d.current ≡ f (instance_of e) e.initial e.current
+renamed : (f : Tables → List Machine → List Machine → ℕ) (d e : Drafted) →
+    ((i : Tables) (rows : List ProcessRow) (t u : List ℕ) (a0 a : List Machine) →
+    f (with_processes i rows t) a0 a ≡ f (with_processes i rows u) a0 a) → e.origin ≡ d.origin → e.rows ≡ d.rows →
+    e.initial ≡ d.initial → e.current ≡ d.current → f (instance_of d) d.initial d.current ≡
+    f (instance_of e) e.initial e.current
 renamed f d e same origin rows initial current =
     same d.origin d.rows d.requirements e.requirements d.initial d.current
     ∙ ap (λ (i : Tables). f (with_processes i d.rows e.requirements) d.initial d.current) (sym origin)
@@ -260,7 +371,17 @@ renamed f d e same origin rows initial current =
     ∙ ap (λ (a : List Machine). f (instance_of e) a d.current) (sym initial)
     ∙ ap (λ (a : List Machine). f (instance_of e) e.initial a) (sym current)
 
-pub other_parts : (d e : Drafted) (cost : Parts) (p m l b : ℕ) (before after : MachineCosts) → WellFormed d.origin → m < machine_count d.origin → m ≡ machine_at d.current p → HasParts d cost → HasOther d e p → AreCostsOn d m before → AreCostsOn e m after → l + before.load ≡ cost.load + after.load → b + before.balance ≡ cost.balance + after.balance → record { load = l; balance = b; process = cost.process; service = cost.service; machine = cost.machine; total = l + b + cost.process + cost.service + cost.machine } ≡ parts_of (instance_of e) e.initial e.current
+pub other_parts : (d e : Drafted) (cost : Parts) (p m l b : ℕ) (before after : MachineCosts) → WellFormed d.origin →
+    m < machine_count d.origin → m ≡ machine_at d.current p → HasParts d cost → HasOther d e p → AreCostsOn d m before →
+    AreCostsOn e m after → l + before.load ≡ cost.load + after.load →
+    b + before.balance ≡ cost.balance + after.balance → record {
+      load = l;
+      balance = b;
+      process = cost.process;
+      service = cost.service;
+      machine = cost.machine;
+      total = l + b + cost.process + cost.service + cost.machine;
+    } ≡ parts_of (instance_of e) e.initial e.current
 other_parts d e cost p m l b before after well m_in here has other before_is after_is l_is b_is =
     let low = retired d p in
     let low_origin : d.origin ≡ low.origin = other.before.origin in
@@ -269,21 +390,47 @@ other_parts d e cost p m l b before after well m_in here has other before_is aft
     let here_e : machine_at e.current p ≡ m = ap (λ (a : List Machine). machine_at a p) other.current ∙ here_d in
     let low_in : m < machine_count low.origin = subst (λ (i : Tables). m < machine_count i) low_origin m_in in
     let low_well : WellFormed low.origin = subst WellFormed low_origin well in
-    let at_low : (f : Drafted) → f.origin ≡ low.origin → row_load f.origin m (use_of (instance_of f) f.current m) ≡ row_load low.origin m (use_of (instance_of f) f.current m) = λ f same. ap (λ (i : Tables). row_load i m (use_of (instance_of f) f.current m)) same in
-    let on_low : (f : Drafted) → f.origin ≡ low.origin → row_balance f.origin m (use_of (instance_of f) f.current m) ≡ row_balance low.origin m (use_of (instance_of f) f.current m) = λ f same. ap (λ (i : Tables). row_balance i m (use_of (instance_of f) f.current m)) same in
+    let at_low : (f : Drafted) → f.origin ≡ low.origin → row_load f.origin m (use_of (instance_of f) f.current m) ≡
+    row_load low.origin m (use_of (instance_of f) f.current m) =
+    λ f same. ap (λ (i : Tables). row_load i m (use_of (instance_of f) f.current m)) same in
+    let on_low : (f : Drafted) → f.origin ≡ low.origin → row_balance f.origin m (use_of (instance_of f) f.current m) ≡
+    row_balance low.origin m (use_of (instance_of f) f.current m) =
+    λ f same. ap (λ (i : Tables). row_balance i m (use_of (instance_of f) f.current m)) same in
     parts_from e l b cost.process cost.service cost.machine
-    (omega (arith, l_is, has.load, before_is.load, after_is.load, at_low d low_origin, at_low e other.after.origin, load_more low d p m other.before here_d low_in, load_more low e p m other.after here_e low_in))
-    (omega (arith, b_is, has.balance, before_is.balance, after_is.balance, on_low d low_origin, on_low e other.after.origin, balance_more low d p m low_well other.before here_d low_in, balance_more low e p m low_well other.after here_e low_in))
+    (omega (
+      arith,
+      l_is,
+      has.load,
+      before_is.load,
+      after_is.load,
+      at_low d low_origin,
+      at_low e other.after.origin,
+      load_more low d p m other.before here_d low_in,
+      load_more low e p m other.after here_e low_in,
+    ))
+    (omega (
+      arith,
+      b_is,
+      has.balance,
+      before_is.balance,
+      after_is.balance,
+      on_low d low_origin,
+      on_low e other.after.origin,
+      balance_more low d p m low_well other.before here_d low_in,
+      balance_more low e p m low_well other.after here_e low_in,
+    ))
     (has.process ∙ renamed process_cost d e process_with origin other.rows other.initial other.current)
     (has.service ∙ renamed service_cost d e service_with origin other.rows other.initial other.current)
     (has.machine ∙ renamed machine_cost d e way_with origin other.rows other.initial other.current)
 
 -- what a machine costs is counted
 
-pub load_counted : (d : Drafted) (m : ℕ) (costs : MachineCosts) → m < machine_count d.origin → AreCostsOn d m costs → costs.load ≤ load_cost (instance_of d) d.current
+pub load_counted : (d : Drafted) (m : ℕ) (costs : MachineCosts) → m < machine_count d.origin → AreCostsOn d m costs →
+    costs.load ≤ load_cost (instance_of d) d.current
 load_counted d m costs within are = omega (arith, are.load, load_term d m within)
 
-pub balance_counted : (d : Drafted) (m : ℕ) (costs : MachineCosts) → m < machine_count d.origin → AreCostsOn d m costs → costs.balance ≤ balance_cost (instance_of d) d.current
+pub balance_counted : (d : Drafted) (m : ℕ) (costs : MachineCosts) → m < machine_count d.origin → AreCostsOn d m costs →
+    costs.balance ≤ balance_cost (instance_of d) d.current
 balance_counted d m costs within are = omega (arith, are.balance, balance_term d m within)
 
 -- the machine of a process exists

@@ -1,5 +1,6 @@
 -- The answers to edits.
-use Rattle.std.specs.Prelude.{◌≡◌, ℕ, zero, suc, ◌≤◌, [], ◌∷◌, ◌++◌, if◌then◌else◌, ◌==◌, nat_lt, List, length, Option, Some, None}
+use Rattle.std.specs.Prelude.{◌≡◌, ℕ, zero, suc, ◌≤◌, [], ◌∷◌, ◌++◌, if◌then◌else◌, ◌==◌, nat_lt, List, length, Option}
+use Rattle.std.specs.Prelude.{Some, None}
 use Rattle.ra_base.specs.declared.causes.Cause.{Cause}
 use Rattle.ra_model.specs.Broken.{first_broken}
 use Rattle.ra_model.specs.Costs.{objective}

@@ -16,7 +16,8 @@ far_from i a s label k =
     cause_if (in_neighbourhood i a (need_of i s k) label == 0)
     (Dependency (record { 0 = s }) (record { 0 = need_of i s k }) label)
 
--- a process more, of service s on machine m, which is its initial machine too: the capacity and the transient use of the
+-- a process more, of service s on machine m, which is its initial machine too: the capacity and the transient use of
+-- the
 -- machine, a conflict there, and what its service depends on
 unfoldable pub added_breaks : Tables → List Machine → List Machine → ℕ → ℕ → Option Cause
 added_breaks i a0 a s m =
@@ -35,7 +36,8 @@ left_alone i a s label u =
 unfoldable pub left_by : Tables → List Machine → ℕ → ℕ → ℕ → Option Cause
 left_by i a s label u = if depends i u s then left_alone i a s label u else None
 
--- a process less, of service s in a neighbourhood: the spread of its service, and those in the neighbourhood that depend on it
+-- a process less, of service s in a neighbourhood: the spread of its service, and those in the neighbourhood that
+-- depend on it
 unfoldable pub retired_breaks : Tables → List Machine → ℕ → ℕ → Option Cause
 retired_breaks i a s label =
     or_else (spread_test i a s) (first (service_count i) (left_by i a s label))

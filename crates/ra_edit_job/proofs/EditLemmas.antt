@@ -1,5 +1,6 @@
 -- How `edit` ends, from how its stages end.
-use Rattle.std.proofs.Common.{◌≡◌, ◌≢◌, ◌⊎◌, ℕ, ◌≤◌, List, length, Option, Some, None, IfSome, IsSome, Result, inl, inr, ⊎_elim, refl, sym, ◌∙◌, ap, subst}
+use Rattle.std.proofs.Common.{◌≡◌, ◌≢◌, ◌⊎◌, ℕ, ◌≤◌, List, length, Option, Some, None, IfSome, IsSome, Result, inl, inr}
+use Rattle.std.proofs.Common.{⊎_elim, refl, sym, ◌∙◌, ap, subst}
 use Rattle.ra_base.specs.declared.causes.Cause.{Cause}
 use Rattle.ra_base.specs.declared.ids.Machine.{Machine}
 use Rattle.ra_base.specs.Searches.{first}
@@ -13,14 +14,20 @@ use Rattle.ra_edit_read.specs.declared.faults.EditsFault.{EditsFault}
 use Rattle.ra_edit_read.specs.declared.faults.EditsFault.TheVariants as reader
 use Rattle.ra_edit_read.specs.Answers.{IsEditsRefusal}
 use Rattle.ra_edit_read.specs.EditLists.{EditLists}
-use Rattle.ra_edit_read.specs.EditTexts.{edits_refusal, AreEditsOf, added_test, resized_test, numbers_test, found_test, edit_test}
+use Rattle.ra_edit_read.specs.EditTexts.{edits_refusal, AreEditsOf, added_test, resized_test, numbers_test, found_test}
+use Rattle.ra_edit_read.specs.EditTexts.{edit_test}
 use Rattle.ra_edit_read.proofs.FileLaws.{edits_accept}
 use Rattle.ra_io.specs.Faults.{Rose}
 use Rattle.ra_model.specs.Assignments.{IsAssignment}
 use Rattle.ra_model.specs.Costs.{parts_of}
 use Rattle.ra_model.specs.Feasible.{Feasible}
 use Rattle.ra_model.specs.Limits.{WellFormed, Small}
-use Rattle.ra_model.specs.Numbers.{resource_row, machine_row, service_row, process_row, balance_row, resource_count, machine_count, service_count, process_count, balance_count, transient_at, load_weight_of, neighbourhood_of, location_of, capacity_of, safety_of, way_cost_of, spread_of, dependency_end, dependency_start, dependency_count, need_at, need_of, service_of, requirement_of, process_cost_of, first_of, second_of, target_of, balance_weight_of, process_weight_of, service_weight_of, machine_weight_of}
+use Rattle.ra_model.specs.Numbers.{resource_row, machine_row, service_row, process_row, balance_row, resource_count}
+use Rattle.ra_model.specs.Numbers.{machine_count, service_count, process_count, balance_count, transient_at}
+use Rattle.ra_model.specs.Numbers.{load_weight_of, neighbourhood_of, location_of, capacity_of, safety_of, way_cost_of}
+use Rattle.ra_model.specs.Numbers.{spread_of, dependency_end, dependency_start, dependency_count, need_at, need_of}
+use Rattle.ra_model.specs.Numbers.{service_of, requirement_of, process_cost_of, first_of, second_of, target_of}
+use Rattle.ra_model.specs.Numbers.{balance_weight_of, process_weight_of, service_weight_of, machine_weight_of}
 use Rattle.ra_model.specs.declared.raw.RawInstance.{RawInstance}
 use Rattle.ra_model.specs.declared.raw.Tables.{Tables}
 use Rattle.ra_model.proofs.BrokenLemmas.{unbroken_from_feasible}
@@ -28,11 +35,13 @@ use Rattle.ra_model_read.specs.FieldOrder.{joined, resource_numbers, machine_num
 use Rattle.ra_model_read.specs.Lists.{lists_of}
 use Rattle.ra_model_read.specs.ModelText.{model_refusal}
 use Rattle.ra_model_text.proofs.Meaning.{text_accepted_whole}
-use Rattle.ra_model_text.specs.ModelTexts.{group_text, resource_text, machine_text, service_text, process_text, balance_text, weights_text, model_text}
+use Rattle.ra_model_text.specs.ModelTexts.{group_text, resource_text, machine_text, service_text, process_text}
+use Rattle.ra_model_text.specs.ModelTexts.{balance_text, weights_text, model_text}
 use Rattle.ra_io.specs.Outside.{Reading, Took}
 use Rattle.ra_jobs.specs.declared.refusals.File.TheVariants as file
 use Rattle.ra_jobs.specs.declared.refusals.Refusal.{Refusal}
-use Rattle.ra_jobs.specs.declared.refusals.Refusal.TheVariants.{Read, Model, Closed, Assign, Edits, Broken, Write, Memory}
+use Rattle.ra_jobs.specs.declared.refusals.Refusal.TheVariants.{Read, Model, Closed, Assign, Edits, Broken, Write}
+use Rattle.ra_jobs.specs.declared.refusals.Refusal.TheVariants.{Memory}
 use Rattle.ra_jobs.specs.declared.refusals.Role.{Role}
 use Rattle.ra_jobs.specs.declared.refusals.Role.TheVariants as role
 use Rattle.ra_jobs.specs.declared.status.Status.{Status}
@@ -52,37 +61,66 @@ use Rattle.ra_jobs.proofs.ComesLemmas.{Listed, breaks_listed, told_of}
 use Rattle.ra_jobs.proofs.CompleteLemmas.{is_done, complete, contradiction}
 use Rattle.ra_jobs.proofs.DoesLemmas.{does_so, memory_refused}
 use Rattle.ra_jobs.proofs.EndLemmas.{Ends, EndsOver, finished, left_so}
-use Rattle.ra_jobs.proofs.MeaningLemmas.{no_model, no_closed, no_initial, no_changed, no_initial_break, no_changed_break, instances_same}
+use Rattle.ra_jobs.proofs.MeaningLemmas.{no_model, no_closed, no_initial, no_changed, no_initial_break}
+use Rattle.ra_jobs.proofs.MeaningLemmas.{no_changed_break, instances_same}
 use Rattle.ra_jobs.proofs.RowLemmas.{raw_of, bare_raw, raw_same}
 use Rattle.ra_jobs.proofs.StageLemmas.{rose_later, can_tell, reason_more}
 use Rattle.ra_edit_job.specs.declared.edit.Outcome.{Outcome}
 use Rattle.ra_edit_job.specs.EditedTexts.{model_part, edited_lines, edited_text}
 use Rattle.ra_edit_job.specs.Outcomes.{IsOutcome, outcome_text}
-use Rattle.ra_edit_job.specs.Editing.{left_of, text_left, edits_output, IsEdited, IsTaken, Edited, EditsRefused, EditsAccepted, EditOwn, EditComes, AreEditable, edits_as, EditsReason, HasEdits, EditReason, OverReason, editing}
+use Rattle.ra_edit_job.specs.Editing.{left_of, text_left, edits_output, IsEdited, IsTaken, Edited, EditsRefused}
+use Rattle.ra_edit_job.specs.Editing.{EditsAccepted, EditOwn, EditComes, AreEditable, edits_as, EditsReason, HasEdits}
+use Rattle.ra_edit_job.specs.Editing.{EditReason, OverReason, editing}
 
 -- ---- the text of instances with the same lists
 
 lists_as : (x y : RawInstance) → HasLists x y → lists_of x ≡ lists_of y
-lists_as x y h = rw (h.resources, h.machines, h.capacities, h.safeties, h.move_costs, h.services, h.dependencies, h.processes, h.requirements, h.balances, h.process_weight, h.service_weight, h.machine_weight) refl
+lists_as x y h = rw (
+  h.resources,
+  h.machines,
+  h.capacities,
+  h.safeties,
+  h.move_costs,
+  h.services,
+  h.dependencies,
+  h.processes,
+  h.requirements,
+  h.balances,
+  h.process_weight,
+  h.service_weight,
+  h.machine_weight,
+) refl
 
 -- the instance of lists without room, in which no machine is closed
 abbrev open_bare : RawInstance → Tables
 open_bare raw = record { raw = bare_raw raw; closed = None }
 
 text_bare : (i : Tables) → model_text (open_bare i.raw) ≡ model_text i
-unfolding raw_of bare_raw model_text group_text resource_text machine_text service_text process_text balance_text weights_text joined resource_numbers machine_numbers service_numbers process_numbers resource_row machine_row service_row process_row balance_row resource_count machine_count service_count process_count balance_count transient_at load_weight_of neighbourhood_of location_of capacity_of safety_of way_cost_of spread_of dependency_end dependency_start dependency_count need_at need_of service_of requirement_of process_cost_of first_of second_of target_of balance_weight_of process_weight_of service_weight_of machine_weight_of
+unfolding raw_of bare_raw model_text group_text resource_text machine_text service_text process_text balance_text
+    weights_text joined resource_numbers machine_numbers service_numbers process_numbers resource_row machine_row
+    service_row process_row balance_row resource_count machine_count service_count process_count balance_count
+    transient_at load_weight_of neighbourhood_of location_of capacity_of safety_of way_cost_of spread_of dependency_end
+    dependency_start dependency_count need_at need_of service_of requirement_of process_cost_of first_of second_of
+    target_of balance_weight_of process_weight_of service_weight_of machine_weight_of
 text_bare i = refl
 
 pub text_same : (i j : Tables) → HasLists j.raw i.raw → model_text j ≡ model_text i
-text_same i j same = sym (text_bare j) ∙ (ap (λ (raw : RawInstance). model_text (record { raw = raw; closed = None })) (raw_same j.raw i.raw (lists_as j.raw i.raw same)) ∙ text_bare i)
+text_same i j same = sym (text_bare j)
+    ∙ (ap (λ (raw : RawInstance). model_text (record { raw = raw; closed = None }))
+    (raw_same j.raw i.raw (lists_as j.raw i.raw same)) ∙ text_bare i)
 
 -- the text of what a draft leaves is that of the draft
-pub left_text : (d : Drafted) (i : Tables) (a0 a : List Machine) (replies : List EditReply) → AreSameLists (instance_of d) i → a0 ≡ d.initial → a ≡ d.current → parts_of i a0 a ≡ parts_of (instance_of d) d.initial d.current → edited_text i a0 a replies ≡ edited_text (instance_of d) d.initial d.current replies
+pub left_text : (d : Drafted) (i : Tables) (a0 a : List Machine) (replies : List EditReply) →
+    AreSameLists (instance_of d) i → a0 ≡ d.initial → a ≡ d.current →
+    parts_of i a0 a ≡ parts_of (instance_of d) d.initial d.current →
+    edited_text i a0 a replies ≡ edited_text (instance_of d) d.initial d.current replies
 unfolding edited_text edited_lines model_part
-left_text d i a0 a replies same first second parts = rw (parts, text_same (instance_of d) i same.lists, first, second) refl
+left_text d i a0 a replies same first second parts =
+    rw (parts, text_same (instance_of d) i same.lists, first, second) refl
 
 -- the run of edits of an instance and two lists
-pub outcome_edited : (i : Tables) (a0 a : List Machine) (e : EditLists) (o : Outcome) (sent : List ℕ → Type 0) → IsOutcome i a0 a e o → sent (outcome_text i o) → IsEdited i a0 a e sent
+pub outcome_edited : (i : Tables) (a0 a : List Machine) (e : EditLists) (o : Outcome) (sent : List ℕ → Type 0) →
+    IsOutcome i a0 a e o → sent (outcome_text i o) → IsEdited i a0 a e sent
 unfolding left_of text_left edits_output outcome_text
 outcome_edited i a0 a e o sent h text =
     let d : Drafted = left_in i o.left in
@@ -90,12 +128,18 @@ outcome_edited i a0 a e o sent h text =
       start = h.start;
       current = h.current;
       limits = subst (λ (x : Drafted). WellFormed (instance_of x)) h.left h.writable.sound.well_formed;
-      accepted = subst (λ (x : Drafted). model_refusal (model_text (instance_of x)) ≡ None) h.left (text_accepted_whole (instance_of d) h.writable.sound.well_formed h.writable.small);
+      accepted = subst (λ (x : Drafted). model_refusal (model_text (instance_of x)) ≡ None) h.left
+          (text_accepted_whole (instance_of d) h.writable.sound.well_formed h.writable.small);
       left = subst (λ (x : Drafted). Feasible (instance_of x) x.initial x.current) h.left h.writable.feasible;
-      text = subst (λ (x : Drafted). sent (text_left (draft_of i a0 a) x e)) h.left (subst (λ (r : List EditReply). sent (edited_text (instance_of d) d.initial d.current r)) h.replies text);
+      text = subst (λ (x : Drafted). sent (text_left (draft_of i a0 a) x e)) h.left
+          (subst (λ (r : List EditReply). sent (edited_text (instance_of d) d.initial d.current r)) h.replies text);
     }
 
-pub outcome_is : (i : Tables) (a0 a : List Machine) (e : EditLists) (made d : Drafted) (o : Outcome) → Feasible i a0 a0 → Feasible i a0 a → made ≡ draft_of i a0 a → d ≡ after_edits made e (length e.edits) → d.origin ≡ made.origin → left_in d.origin o.left ≡ d → o.replies.items ≡ replies_to made e (length e.edits) → IsSound d → Small (instance_of d) → Feasible (instance_of d) d.initial d.current → o.parts ≡ parts_of (instance_of d) d.initial d.current → IsOutcome i a0 a e o
+pub outcome_is : (i : Tables) (a0 a : List Machine) (e : EditLists) (made d : Drafted) (o : Outcome) →
+    Feasible i a0 a0 → Feasible i a0 a → made ≡ draft_of i a0 a → d ≡ after_edits made e (length e.edits) →
+    d.origin ≡ made.origin → left_in d.origin o.left ≡ d → o.replies.items ≡ replies_to made e (length e.edits) →
+    IsSound d → Small (instance_of d) → Feasible (instance_of d) d.initial d.current →
+    o.parts ≡ parts_of (instance_of d) d.initial d.current → IsOutcome i a0 a e o
 unfolding left_of
 outcome_is i a0 a e made d o start current from run origin lists answers sound small feasible parts =
     let same : d.origin ≡ i = origin ∙ ap (λ (x : Drafted). x.origin) from in
@@ -113,13 +157,19 @@ outcome_is i a0 a e made d o start current from run origin lists answers sound s
       };
     }
 
-pub outcome_written : (i j : Tables) (o : Outcome) (a0 a : List Machine) (sent : List ℕ → Type 0) → AreSameLists (instance_of (left_in i o.left)) j → a0 ≡ o.left.initial.items → a ≡ o.left.current.items → parts_of j a0 a ≡ parts_of (instance_of (left_in i o.left)) o.left.initial.items o.left.current.items → sent (edited_text j a0 a o.replies.items) → sent (outcome_text i o)
+pub outcome_written : (i j : Tables) (o : Outcome) (a0 a : List Machine) (sent : List ℕ → Type 0) →
+    AreSameLists (instance_of (left_in i o.left)) j → a0 ≡ o.left.initial.items → a ≡ o.left.current.items →
+    parts_of j a0 a ≡ parts_of (instance_of (left_in i o.left)) o.left.initial.items o.left.current.items →
+    sent (edited_text j a0 a o.replies.items) → sent (outcome_text i o)
 unfolding outcome_text
-outcome_written i j o a0 a sent same first second parts text = subst sent (left_text (left_in i o.left) j a0 a o.replies.items same first second parts) text
+outcome_written i j o a0 a sent same first second parts text =
+    subst sent (left_text (left_in i o.left) j a0 a o.replies.items same first second parts) text
 
 -- ---- the stages
 
-pub edits_reason : (held : Held) (name : List ℕ) (i : Tables) (before now : Faults) (fault : EditsFault) → (fault ≡ reader.ReadFault → Rose (before name) (now name)) → IfSome (held name) (λ bytes. IsEditsRefusal bytes i fault) → EditsReason held name i before now (edits_as fault)
+pub edits_reason : (held : Held) (name : List ℕ) (i : Tables) (before now : Faults) (fault : EditsFault) →
+    (fault ≡ reader.ReadFault → Rose (before name) (now name)) →
+    IfSome (held name) (λ bytes. IsEditsRefusal bytes i fault) → EditsReason held name i before now (edits_as fault)
 edits_reason held name i before now reader.ReadFault rose told = rose refl
 edits_reason held name i before now (reader.BadByte at byte) rose told = ((λ e. cc, λ e. cc), told)
 edits_reason held name i before now (reader.TooLarge at) rose told = ((λ e. cc, λ e. cc), told)
@@ -130,17 +180,52 @@ edits_reason held name i before now (reader.TooMany at) rose told = ((λ e. cc, 
 edits_reason held name i before now reader.NoMemory rose told = tt
 
 -- a refusal of the lists
-pub reason_listed : (held later : Held) (model : List ℕ) (closed : Option (List ℕ)) (initial current edits : List ℕ) (i : Tables) (first before now : Faults) (own : Refusal → Type 0) → ((other : List ℕ) → later other ≡ held other) → ((other : List ℕ) → first other ≤ before other) → InstanceIs held model closed i → (refusal : Refusal) → ListsReason later initial current i before now refusal → Reason held (edit_names model initial current edits closed) first now own refusal
+pub reason_listed : (held later : Held) (model : List ℕ) (closed : Option (List ℕ)) (initial current edits : List ℕ)
+    (i : Tables) (first before now : Faults) (own : Refusal → Type 0) → ((other : List ℕ) → later other ≡ held other) →
+    ((other : List ℕ) → first other ≤ before other) → InstanceIs held model closed i → (refusal : Refusal) →
+    ListsReason later initial current i before now refusal →
+    Reason held (edit_names model initial current edits closed) first now own refusal
 unfolding name_of
-reason_listed held later model closed initial current edits i first before now own same never_fell instance (Read file.Initial) reason = record { earlier = (i, instance); named = refl; rose = rose_later (first initial) (before initial) (now initial) (never_fell initial) reason }
-reason_listed held later model closed initial current edits i first before now own same never_fell instance (Read file.Changed) reason = record { earlier = (i, reason.0, instance, rw (sym (same initial)) reason.1); named = refl; rose = rose_later (first current) (before current) (now current) (never_fell current) reason.2 }
-reason_listed held later model closed initial current edits i first before now own same never_fell instance (Assign role.Initial fault) reason = record { tables = i; instance = instance; name = initial; named = refl; refused = record { in_file = reason.in_file; refused = rw (sym (same initial)) reason.refused } }
-reason_listed held later model closed initial current edits i first before now own same never_fell instance (Assign role.Changed fault) reason = record { tables = i; a0 = reason.0; instance = instance; initial = rw (sym (same initial)) reason.1; name = current; named = refl; refused = record { in_file = reason.2.in_file; refused = rw (sym (same current)) reason.2.refused } }
-reason_listed held later model closed initial current edits i first before now own same never_fell instance Memory reason = tt
-reason_listed held later model closed initial current edits i first before now own same never_fell instance refusal reason = absurd reason
+reason_listed held later model closed initial current edits i first before now own same never_fell instance
+    (Read file.Initial) reason = record {
+      earlier = (i, instance);
+      named = refl;
+      rose = rose_later (first initial) (before initial) (now initial) (never_fell initial) reason;
+    }
+reason_listed held later model closed initial current edits i first before now own same never_fell instance
+    (Read file.Changed) reason = record {
+      earlier = (i, reason.0, instance, rw (sym (same initial)) reason.1);
+      named = refl;
+      rose = rose_later (first current) (before current) (now current) (never_fell current) reason.2;
+    }
+reason_listed held later model closed initial current edits i first before now own same never_fell instance
+    (Assign role.Initial fault) reason = record {
+      tables = i;
+      instance = instance;
+      name = initial;
+      named = refl;
+      refused = record { in_file = reason.in_file; refused = rw (sym (same initial)) reason.refused };
+    }
+reason_listed held later model closed initial current edits i first before now own same never_fell instance
+    (Assign role.Changed fault) reason = record {
+      tables = i;
+      a0 = reason.0;
+      instance = instance;
+      initial = rw (sym (same initial)) reason.1;
+      name = current;
+      named = refl;
+      refused = record { in_file = reason.2.in_file; refused = rw (sym (same current)) reason.2.refused };
+    }
+reason_listed held later model closed initial current edits i first before now own same never_fell instance Memory
+    reason = tt
+reason_listed held later model closed initial current edits i first before now own same never_fell instance refusal
+    reason = absurd reason
 
 -- the lists were accepted
-pub accepts_lists : (held later : Held) (model : List ℕ) (closed : Option (List ℕ)) (initial current edits : List ℕ) (i : Tables) (a0 a : List Machine) → ((other : List ℕ) → later other ≡ held other) → InstanceIs held model closed i → ReadsLists later initial current i a0 a → Accepts held (edit_names model initial current edits closed) i a0 a
+pub accepts_lists : (held later : Held) (model : List ℕ) (closed : Option (List ℕ)) (initial current edits : List ℕ)
+    (i : Tables) (a0 a : List Machine) → ((other : List ℕ) → later other ≡ held other) →
+    InstanceIs held model closed i → ReadsLists later initial current i a0 a →
+    Accepts held (edit_names model initial current edits closed) i a0 a
 accepts_lists held later model closed initial current edits i a0 a same instance lists = record {
   instance = instance;
   initial = rw (sym (same initial)) lists.initial;
@@ -148,97 +233,195 @@ accepts_lists held later model closed initial current edits i a0 a same instance
 }
 
 -- a refusal of the edits
-pub reason_edits : (held later : Held) (model : List ℕ) (closed : Option (List ℕ)) (initial current edits : List ℕ) (i : Tables) (a0 a : List Machine) (first before now : Faults) (written : Type 0) → ((other : List ℕ) → later other ≡ held other) → ((other : List ℕ) → first other ≤ before other) → Accepts held (edit_names model initial current edits closed) i a0 a → (refusal : Refusal) → EditsReason later edits i before now refusal
-    → Reason held (edit_names model initial current edits closed) first now (EditOwn held (edit_names model initial current edits closed) written) refusal
+pub reason_edits : (held later : Held) (model : List ℕ) (closed : Option (List ℕ)) (initial current edits : List ℕ)
+    (i : Tables) (a0 a : List Machine) (first before now : Faults) (written : Type 0) →
+    ((other : List ℕ) → later other ≡ held other) → ((other : List ℕ) → first other ≤ before other) →
+    Accepts held (edit_names model initial current edits closed) i a0 a → (refusal : Refusal) →
+    EditsReason later edits i before now refusal
+    → Reason held (edit_names model initial current edits closed) first now
+    (EditOwn held (edit_names model initial current edits closed) written) refusal
 unfolding name_of
-reason_edits held later model closed initial current edits i a0 a first before now written same never_fell accepts (Read file.Edits) reason = record { earlier = (i, a0, a, accepts); named = refl; rose = rose_later (first edits) (before edits) (now edits) (never_fell edits) reason }
-reason_edits held later model closed initial current edits i a0 a first before now written same never_fell accepts (Edits fault) reason = record { tables = i; a0 = a0; a = a; accepts = accepts; named = refl; in_file = reason.0; refused = rw (sym (same edits)) reason.1 }
-reason_edits held later model closed initial current edits i a0 a first before now written same never_fell accepts Memory reason = tt
-reason_edits held later model closed initial current edits i a0 a first before now written same never_fell accepts refusal reason = absurd reason
+reason_edits held later model closed initial current edits i a0 a first before now written same never_fell accepts
+    (Read file.Edits) reason = record {
+      earlier = (i, a0, a, accepts);
+      named = refl;
+      rose = rose_later (first edits) (before edits) (now edits) (never_fell edits) reason;
+    }
+reason_edits held later model closed initial current edits i a0 a first before now written same never_fell accepts
+    (Edits fault) reason = record {
+      tables = i;
+      a0 = a0;
+      a = a;
+      accepts = accepts;
+      named = refl;
+      in_file = reason.0;
+      refused = rw (sym (same edits)) reason.1;
+    }
+reason_edits held later model closed initial current edits i a0 a first before now written same never_fell accepts
+    Memory reason = tt
+reason_edits held later model closed initial current edits i a0 a first before now written same never_fell accepts
+    refusal reason = absurd reason
 
-pub taken_all : (held later : Held) (model : List ℕ) (closed : Option (List ℕ)) (initial current edits : List ℕ) (i : Tables) (a0 a : List Machine) (e : EditLists) → ((other : List ℕ) → later other ≡ held other) → Accepts held (edit_names model initial current edits closed) i a0 a → IsAssignment i a0 → IsAssignment i a → HasEdits later edits i e → IsTaken held (edit_names model initial current edits closed) i a0 a e
+pub taken_all : (held later : Held) (model : List ℕ) (closed : Option (List ℕ)) (initial current edits : List ℕ)
+    (i : Tables) (a0 a : List Machine) (e : EditLists) → ((other : List ℕ) → later other ≡ held other) →
+    Accepts held (edit_names model initial current edits closed) i a0 a → IsAssignment i a0 → IsAssignment i a →
+    HasEdits later edits i e → IsTaken held (edit_names model initial current edits closed) i a0 a e
 unfolding name_of
-taken_all held later model closed initial current edits i a0 a e same accepts first second has = record { accepts = accepts; initial = first; current = second; edits = rw (sym (same edits)) has.edits; fits = has.fits }
+taken_all held later model closed initial current edits i a0 a e same accepts first second has = record {
+  accepts = accepts;
+  initial = first;
+  current = second;
+  edits = rw (sym (same edits)) has.edits;
+  fits = has.fits;
+}
 
-some_then : (told : Option (List ℕ)) (P Q : List ℕ → Type 0) → ((bytes : List ℕ) → P bytes → Q bytes) → IfSome told P → IfSome told Q
+some_then : (told : Option (List ℕ)) (P Q : List ℕ → Type 0) → ((bytes : List ℕ) → P bytes → Q bytes) → IfSome told P →
+    IfSome told Q
 some_then None P Q step is = tt
 some_then (Some bytes) P Q step is = step bytes is
 
-accepted_of : (held : Held) (names : Names) (i : Tables) (a0 a : List Machine) (e : EditLists) → IsTaken held names i a0 a e → EditsAccepted held names
-accepted_of held names i a0 a e taken = record { tables = i; a0 = a0; a = a; accepts = taken.accepts; none = some_then (held (name_of names file.Edits)) (λ bytes. AreEditsOf bytes i e) (λ bytes. edits_refusal bytes i ≡ None) (λ bytes is. (edits_accept bytes i).1 (is.count, is.file)) taken.edits }
+accepted_of : (held : Held) (names : Names) (i : Tables) (a0 a : List Machine) (e : EditLists) →
+    IsTaken held names i a0 a e → EditsAccepted held names
+accepted_of held names i a0 a e taken = record {
+  tables = i;
+  a0 = a0;
+  a = a;
+  accepts = taken.accepts;
+  none = some_then (held (name_of names file.Edits)) (λ bytes. AreEditsOf bytes i e)
+      (λ bytes. edits_refusal bytes i ≡ None) (λ bytes is. (edits_accept bytes i).1 (is.count, is.file)) taken.edits;
+}
 
 -- a refusal of the run
-pub reason_run : (held : Held) (names : Names) (i : Tables) (a0 a : List Machine) (e : EditLists) (before now : Faults) (sent : List ℕ → Type 0) → IsSome names.initial → IsSome names.changed → IsTaken held names i a0 a e → (refusal : Refusal) → EditReason i a0 a (IsEdited i a0 a e sent) refusal → Reason held names before now (EditOwn held names (Edited held names sent)) refusal
-reason_run held names i a0 a e before now sent has_initial has_changed taken (Broken role.Initial cause) reason = (accepted_of held names i a0 a e taken, record { tables = i; a0 = a0; a = a; named = has_initial; accepts = taken.accepts; broken = reason })
-reason_run held names i a0 a e before now sent has_initial has_changed taken (Broken role.Changed cause) reason = (accepted_of held names i a0 a e taken, record { tables = i; a0 = a0; a = a; start_named = has_initial; named = has_changed; accepts = taken.accepts; initial = reason.0; broken = reason.1 })
-reason_run held names i a0 a e before now sent has_initial has_changed taken Write reason = record { tables = i; a0 = a0; a = a; edits = e; taken = taken; run = reason }
+pub reason_run : (held : Held) (names : Names) (i : Tables) (a0 a : List Machine) (e : EditLists) (before now : Faults)
+    (sent : List ℕ → Type 0) → IsSome names.initial → IsSome names.changed → IsTaken held names i a0 a e →
+    (refusal : Refusal) → EditReason i a0 a (IsEdited i a0 a e sent) refusal →
+    Reason held names before now (EditOwn held names (Edited held names sent)) refusal
+reason_run held names i a0 a e before now sent has_initial has_changed taken (Broken role.Initial cause) reason = (
+  accepted_of held names i a0 a e taken,
+  record {
+    tables = i;
+    a0 = a0;
+    a = a;
+    named = has_initial;
+    accepts = taken.accepts;
+    broken = reason;
+  },
+)
+reason_run held names i a0 a e before now sent has_initial has_changed taken (Broken role.Changed cause) reason = (
+  accepted_of held names i a0 a e taken,
+  record {
+    tables = i;
+    a0 = a0;
+    a = a;
+    start_named = has_initial;
+    named = has_changed;
+    accepts = taken.accepts;
+    initial = reason.0;
+    broken = reason.1;
+  },
+)
+reason_run held names i a0 a e before now sent has_initial has_changed taken Write reason = record {
+  tables = i;
+  a0 = a0;
+  a = a;
+  edits = e;
+  taken = taken;
+  run = reason;
+}
 reason_run held names i a0 a e before now sent has_initial has_changed taken Memory reason = tt
 reason_run held names i a0 a e before now sent has_initial has_changed taken refusal reason = absurd reason
 
-pub edited_all : (held : Held) (names : Names) (i : Tables) (a0 a : List Machine) (e : EditLists) (sent : List ℕ → Type 0) → IsTaken held names i a0 a e → IsEdited i a0 a e sent → Edited held names sent
-edited_all held names i a0 a e sent taken run = record { tables = i; a0 = a0; a = a; edits = e; taken = taken; run = run }
+pub edited_all : (held : Held) (names : Names) (i : Tables) (a0 a : List Machine) (e : EditLists)
+    (sent : List ℕ → Type 0) → IsTaken held names i a0 a e → IsEdited i a0 a e sent → Edited held names sent
+edited_all held names i a0 a e sent taken run = record {
+  tables = i;
+  a0 = a0;
+  a = a;
+  edits = e;
+  taken = taken;
+  run = run;
+}
 
-pub judge_reason : (i : Tables) (a0 a : List Machine) (written : Type 0) (refusal : Refusal) → JudgeReason i a0 a refusal → EditReason i a0 a written refusal
+pub judge_reason : (i : Tables) (a0 a : List Machine) (written : Type 0) (refusal : Refusal) →
+    JudgeReason i a0 a refusal → EditReason i a0 a written refusal
 judge_reason i a0 a written (Broken role.Initial cause) reason = reason
 judge_reason i a0 a written (Broken role.Changed cause) reason = reason
 judge_reason i a0 a written Memory reason = tt
 judge_reason i a0 a written refusal reason = absurd reason
 
-pub outcome_reason : (i : Tables) (a0 a : List Machine) (written : Type 0) (refusal : Refusal) → EditReason i a0 a ⊥ refusal → EditReason i a0 a written refusal
+pub outcome_reason : (i : Tables) (a0 a : List Machine) (written : Type 0) (refusal : Refusal) →
+    EditReason i a0 a ⊥ refusal → EditReason i a0 a written refusal
 outcome_reason i a0 a written (Broken role.Initial cause) reason = reason
 outcome_reason i a0 a written (Broken role.Changed cause) reason = reason
 outcome_reason i a0 a written Write reason = absurd reason
 outcome_reason i a0 a written Memory reason = tt
 outcome_reason i a0 a written refusal reason = absurd reason
 
-pub over_more : (i : Tables) (a0 a : List Machine) (broke written : Type 0) (step : broke → written) (refusal : Refusal) → OverReason broke refusal → EditReason i a0 a written refusal
+pub over_more : (i : Tables) (a0 a : List Machine) (broke written : Type 0) (step : broke → written)
+    (refusal : Refusal) → OverReason broke refusal → EditReason i a0 a written refusal
 over_more i a0 a broke written step Write reason = step reason
 over_more i a0 a broke written step Memory reason = tt
 over_more i a0 a broke written step refusal reason = absurd reason
 
-own_more : (held : Held) (names : Names) (written more : Type 0) → (written → more) → (r : Refusal) → EditOwn held names written r → EditOwn held names more r
+own_more : (held : Held) (names : Names) (written more : Type 0) → (written → more) → (r : Refusal) →
+    EditOwn held names written r → EditOwn held names more r
 own_more held names written more step (Edits fault) reason = reason
 own_more held names written more step (Broken which cause) reason = reason
 own_more held names written more step Write reason = step reason
 own_more held names written more step refusal reason = absurd reason
 
-pub reason_untaken : (held : Held) (names : Names) (before now : Faults) (written : Type 0) (refusal : Refusal) → Reason held names before now (EditOwn held names ⊥) refusal → Reason held names before now (EditOwn held names written) refusal
-reason_untaken held names before now written refusal reason = reason_more held names before now (EditOwn held names ⊥) (EditOwn held names written) (own_more held names ⊥ written (λ none. absurd none)) refusal reason
+pub reason_untaken : (held : Held) (names : Names) (before now : Faults) (written : Type 0) (refusal : Refusal) →
+    Reason held names before now (EditOwn held names ⊥) refusal →
+    Reason held names before now (EditOwn held names written) refusal
+reason_untaken held names before now written refusal reason = reason_more held names before now (EditOwn held names ⊥)
+    (EditOwn held names written) (own_more held names ⊥ written (λ none. absurd none)) refusal reason
 
-own_tells : (held : Held) (names : Names) (written : Type 0) (r : Refusal) → EditOwn held names written r → CanTell names r
+own_tells : (held : Held) (names : Names) (written : Type 0) (r : Refusal) → EditOwn held names written r →
+    CanTell names r
 own_tells held names written (Edits fault) reason = (reason.named, reason.in_file)
 own_tells held names written (Broken role.Initial cause) reason = reason.1.named
 own_tells held names written (Broken role.Changed cause) reason = reason.1.named
 own_tells held names written Write reason = tt
 own_tells held names written refusal reason = absurd reason
 
-pub can_tell_edits : (held : Held) (names : Names) (before now : Faults) (written : Type 0) (refusal : Refusal) → Reason held names before now (EditOwn held names written) refusal → CanTell names refusal
-can_tell_edits held names before now written = can_tell held names before now (EditOwn held names written) (own_tells held names written)
+pub can_tell_edits : (held : Held) (names : Names) (before now : Faults) (written : Type 0) (refusal : Refusal) →
+    Reason held names before now (EditOwn held names written) refusal → CanTell names refusal
+can_tell_edits held names before now written =
+    can_tell held names before now (EditOwn held names written) (own_tells held names written)
 
 -- ---- when its statuses come
 
 pub edited_listed : (held : Held) (names : Names) (sent : List ℕ → Type 0) → Edited held names sent → Listed held names
 edited_listed held names sent is = record { tables = is.tables; a0 = is.a0; a = is.a; accepts = is.taken.accepts }
 
-pub own_listed : (held : Held) (names : Names) (sent : List ℕ → Type 0) (r : Refusal) → EditOwn held names (Edited held names sent) r → Listed held names
-own_listed held names sent (Edits fault) reason = record { tables = reason.tables; a0 = reason.a0; a = reason.a; accepts = reason.accepts }
+pub own_listed : (held : Held) (names : Names) (sent : List ℕ → Type 0) (r : Refusal) →
+    EditOwn held names (Edited held names sent) r → Listed held names
+own_listed held names sent (Edits fault) reason = record {
+  tables = reason.tables;
+  a0 = reason.a0;
+  a = reason.a;
+  accepts = reason.accepts;
+}
 own_listed held names sent (Broken which cause) reason = breaks_listed held names which cause reason.1
 own_listed held names sent Write reason = edited_listed held names sent reason
 own_listed held names sent refusal reason = absurd reason
 
 -- instances that differ in room alone take the same edits files
 edits_bare : (bytes : List ℕ) (i : Tables) → edits_refusal bytes (bare i) ≡ edits_refusal bytes i
-unfolding raw_of bare_raw edits_refusal edit_test found_test numbers_test added_test resized_test resource_count machine_count service_count
+unfolding raw_of bare_raw edits_refusal edit_test found_test numbers_test added_test resized_test resource_count
+    machine_count service_count
 edits_bare bytes i = refl
 
 edits_same : (bytes : List ℕ) (i j : Tables) → bare i ≡ bare j → edits_refusal bytes i ≡ edits_refusal bytes j
 edits_same bytes i j same = sym (edits_bare bytes i) ∙ (ap (edits_refusal bytes) same ∙ edits_bare bytes j)
 
 -- over valid files none of its own refusals can come
-valid_none : (held : Held) (names : Names) (sent : List ℕ → Type 0) → AreEditable held names → ((text : List ℕ) → sent text → ⊥) → (refusal : Refusal) → EditOwn held names (Edited held names sent) refusal → ⊥
+valid_none : (held : Held) (names : Names) (sent : List ℕ → Type 0) → AreEditable held names →
+    ((text : List ℕ) → sent text → ⊥) → (refusal : Refusal) → EditOwn held names (Edited held names sent) refusal → ⊥
 valid_none held names sent editable wrote (Edits fault) reason =
     let accepted = editable.edits reason.tables reason.a0 reason.a reason.accepts in
-    contradiction (held (name_of names file.Edits)) accepted.0 (λ bytes. edits_refusal bytes reason.tables) fault accepted.1 accepted.2 reason.refused
+    contradiction (held (name_of names file.Edits)) accepted.0 (λ bytes. edits_refusal bytes reason.tables) fault
+    accepted.1 accepted.2 reason.refused
 valid_none held names sent editable wrote (Broken role.Initial cause) reason =
     let b = reason.1 in
     let none = unbroken_from_feasible b.tables b.a0 b.a0 (editable.valid.initial b.named b.tables b.a0 b.a b.accepts) in
@@ -252,85 +435,160 @@ valid_none held names sent editable wrote (Broken role.Changed cause) reason =
 valid_none held names sent editable wrote Write reason = wrote _ reason.run.text
 valid_none held names sent editable wrote refusal reason = reason
 
-pub complete_edits : {held : Held} {names : Names} {before now : Faults} {sent : List ℕ → Type 0} {output : Type 0} {tells : List ℕ → Type 0} {out_same err_same : Type 0} {status : Status} → Ends held names before now output (EditOwn held names (Edited held names sent)) tells out_same err_same status → AreEditable held names → NoFault names before now → ((text : List ℕ) → sent text → ⊥) → (status ≡ Done) ⊎ (status ≡ NoMemory)
-complete_edits {held} {names} {before} {now} {sent} ends editable sound wrote = complete ends editable.valid.accepted sound (valid_none held names sent editable wrote)
+pub complete_edits : {held : Held} {names : Names} {before now : Faults} {sent : List ℕ → Type 0} {output : Type 0}
+    {tells : List ℕ → Type 0} {out_same err_same : Type 0} {status : Status} →
+    Ends held names before now output (EditOwn held names (Edited held names sent)) tells out_same err_same status →
+    AreEditable held names → NoFault names before now → ((text : List ℕ) → sent text → ⊥) → (status ≡ Done)
+    ⊎ (status ≡ NoMemory)
+complete_edits {held} {names} {before} {now} {sent} ends editable sound wrote =
+    complete ends editable.valid.accepted sound (valid_none held names sent editable wrote)
 
 -- over known files that are accepted, a refusal is one of the job's own, or of memory
-own_known : (held : Held) (model : List ℕ) (closed : Option (List ℕ)) (initial current edits : List ℕ) (before now : Faults) (own : Refusal → Type 0) → KnownTo held (edit_names model initial current edits closed) before now file.Edits → (i : Tables) (a0 a : List Machine) → Accepts held (edit_names model initial current edits closed) i a0 a → (refusal : Refusal) → Reason held (edit_names model initial current edits closed) before now own refusal → own refusal ⊎ (status_of refusal ≡ NoMemory)
+own_known : (held : Held) (model : List ℕ) (closed : Option (List ℕ)) (initial current edits : List ℕ)
+    (before now : Faults) (own : Refusal → Type 0) → KnownTo held (edit_names model initial current edits closed) before
+    now file.Edits → (i : Tables) (a0 a : List Machine) →
+    Accepts held (edit_names model initial current edits closed) i a0 a → (refusal : Refusal) →
+    Reason held (edit_names model initial current edits closed) before now own refusal → own refusal
+    ⊎ (status_of refusal ≡ NoMemory)
 unfolding status_of name_of
-own_known held model closed initial current edits before now own known i a0 a accepts (Read file.Model) reason = absurd ((known.0 tt).1 reason.rose)
-own_known held model closed initial current edits before now own known i a0 a accepts (Read file.Closed) reason = absurd ((known.1 reason.named).1 reason.rose)
-own_known held model closed initial current edits before now own known i a0 a accepts (Read file.Initial) reason = absurd ((known.2 reason.named).1 reason.rose)
-own_known held model closed initial current edits before now own known i a0 a accepts (Read file.Changed) reason = absurd ((known.3 reason.named).1 reason.rose)
-own_known held model closed initial current edits before now own known i a0 a accepts (Read file.Report) reason = absurd (let none = reason.named in cc)
-own_known held model closed initial current edits before now own known i a0 a accepts (Read file.Edits) reason = absurd ((known.4 reason.named).1 reason.rose)
-own_known held model closed initial current edits before now own known i a0 a accepts (Model fault) reason = absurd (no_model held model (known.0 tt).0 fault reason accepts.instance.model accepts.instance.read)
-own_known held model closed initial current edits before now own known i a0 a accepts (Closed fault) reason = absurd (no_closed held model closed (known.0 tt).0 (told_of held closed _ known.1) fault reason i accepts.instance)
-own_known held model closed initial current edits before now own known i a0 a accepts (Assign role.Initial fault) reason = absurd (no_initial held (edit_names model initial current edits closed) (known.0 tt).0 (told_of held closed _ known.1) (told_of held (Some initial) _ known.2) fault reason i a0 accepts.instance accepts.initial)
-own_known held model closed initial current edits before now own known i a0 a accepts (Assign role.Changed fault) reason = absurd (no_changed held (edit_names model initial current edits closed) (known.0 tt).0 (told_of held closed _ known.1) (told_of held (Some current) _ known.3) fault reason i a accepts.instance accepts.changed)
+own_known held model closed initial current edits before now own known i a0 a accepts (Read file.Model) reason =
+    absurd ((known.0 tt).1 reason.rose)
+own_known held model closed initial current edits before now own known i a0 a accepts (Read file.Closed) reason =
+    absurd ((known.1 reason.named).1 reason.rose)
+own_known held model closed initial current edits before now own known i a0 a accepts (Read file.Initial) reason =
+    absurd ((known.2 reason.named).1 reason.rose)
+own_known held model closed initial current edits before now own known i a0 a accepts (Read file.Changed) reason =
+    absurd ((known.3 reason.named).1 reason.rose)
+own_known held model closed initial current edits before now own known i a0 a accepts (Read file.Report) reason =
+    absurd (let none = reason.named in cc)
+own_known held model closed initial current edits before now own known i a0 a accepts (Read file.Edits) reason =
+    absurd ((known.4 reason.named).1 reason.rose)
+own_known held model closed initial current edits before now own known i a0 a accepts (Model fault) reason =
+    absurd (no_model held model (known.0 tt).0 fault reason accepts.instance.model accepts.instance.read)
+own_known held model closed initial current edits before now own known i a0 a accepts (Closed fault) reason =
+    absurd (no_closed held model closed (known.0 tt).0 (told_of held closed _ known.1) fault reason i accepts.instance)
+own_known held model closed initial current edits before now own known i a0 a accepts (Assign role.Initial fault)
+    reason = absurd
+    (no_initial held (edit_names model initial current edits closed) (known.0 tt).0 (told_of held closed _ known.1)
+    (told_of held (Some initial) _ known.2) fault reason i a0 accepts.instance accepts.initial)
+own_known held model closed initial current edits before now own known i a0 a accepts (Assign role.Changed fault)
+    reason = absurd
+    (no_changed held (edit_names model initial current edits closed) (known.0 tt).0 (told_of held closed _ known.1)
+    (told_of held (Some current) _ known.3) fault reason i a accepts.instance accepts.changed)
 own_known held model closed initial current edits before now own known i a0 a accepts Memory reason = inr refl
 own_known held model closed initial current edits before now own known i a0 a accepts refusal reason = inl reason
 
 -- no edits file is refused and accepted at once
-told_not : (told : Option (List ℕ)) → IsSome told → (P Q : List ℕ → Type 0) → ((bytes : List ℕ) → P bytes → Q bytes → ⊥) → IfSome told P → IfSome told Q → ⊥
+told_not : (told : Option (List ℕ)) → IsSome told → (P Q : List ℕ → Type 0) →
+    ((bytes : List ℕ) → P bytes → Q bytes → ⊥) → IfSome told P → IfSome told Q → ⊥
 told_not None some P Q never p q = absurd (cc)
 told_not (Some bytes) some P Q never p q = never bytes p q
 
-not_both : (held : Held) (model : List ℕ) (closed : Option (List ℕ)) (initial current edits : List ℕ) (before now : Faults) → KnownTo held (edit_names model initial current edits closed) before now file.Edits → (fault : EditsFault) → EditsRefused held (edit_names model initial current edits closed) fault → EditsAccepted held (edit_names model initial current edits closed) → ⊥
+not_both : (held : Held) (model : List ℕ) (closed : Option (List ℕ)) (initial current edits : List ℕ)
+    (before now : Faults) → KnownTo held (edit_names model initial current edits closed) before now file.Edits →
+    (fault : EditsFault) → EditsRefused held (edit_names model initial current edits closed) fault →
+    EditsAccepted held (edit_names model initial current edits closed) → ⊥
 unfolding name_of
 not_both held model closed initial current edits before now known fault refused accepted =
-    let same = instances_same held model closed (known.0 tt).0 (told_of held closed _ known.1) refused.tables accepted.tables refused.accepts.instance accepted.accepts.instance in
-    told_not (held edits) (known.4 refl).0 (λ bytes. edits_refusal bytes refused.tables ≡ Some fault) (λ bytes. edits_refusal bytes accepted.tables ≡ None)
-    (λ bytes some none. let both : None ≡ Some fault = sym none ∙ (sym (edits_same bytes refused.tables accepted.tables same) ∙ some) in cc)
+    let same = instances_same held model closed (known.0 tt).0 (told_of held closed _ known.1) refused.tables
+    accepted.tables refused.accepts.instance accepted.accepts.instance in
+    told_not (held edits) (known.4 refl).0 (λ bytes. edits_refusal bytes refused.tables ≡ Some fault)
+    (λ bytes. edits_refusal bytes accepted.tables ≡ None)
+    (λ bytes some none. let both : None ≡ Some fault = sym none
+    ∙ (sym (edits_same bytes refused.tables accepted.tables same) ∙ some) in cc)
     refused.refused accepted.none
 
-bad_own : (held : Held) (model : List ℕ) (closed : Option (List ℕ)) (initial current edits : List ℕ) (before now : Faults) (sent : List ℕ → Type 0) → KnownTo held (edit_names model initial current edits closed) before now file.Edits → (fault : EditsFault) → EditsRefused held (edit_names model initial current edits closed) fault → (refusal : Refusal) → EditOwn held (edit_names model initial current edits closed) (Edited held (edit_names model initial current edits closed) sent) refusal → status_of refusal ≡ BadEdits
+bad_own : (held : Held) (model : List ℕ) (closed : Option (List ℕ)) (initial current edits : List ℕ)
+    (before now : Faults) (sent : List ℕ → Type 0) → KnownTo held (edit_names model initial current edits closed) before
+    now file.Edits → (fault : EditsFault) → EditsRefused held (edit_names model initial current edits closed) fault →
+    (refusal : Refusal) → EditOwn held (edit_names model initial current edits closed)
+    (Edited held (edit_names model initial current edits closed) sent) refusal → status_of refusal ≡ BadEdits
 unfolding status_of
 bad_own held model closed initial current edits before now sent known fault refused (Edits other) reason = refl
-bad_own held model closed initial current edits before now sent known fault refused (Broken which cause) reason = absurd (not_both held model closed initial current edits before now known fault refused reason.0)
-bad_own held model closed initial current edits before now sent known fault refused Write reason = absurd (not_both held model closed initial current edits before now known fault refused (accepted_of held (edit_names model initial current edits closed) reason.tables reason.a0 reason.a reason.edits reason.taken))
+bad_own held model closed initial current edits before now sent known fault refused (Broken which cause) reason =
+    absurd (not_both held model closed initial current edits before now known fault refused reason.0)
+bad_own held model closed initial current edits before now sent known fault refused Write reason =
+    absurd (not_both held model closed initial current edits before now known fault refused
+    (accepted_of held (edit_names model initial current edits closed) reason.tables reason.a0 reason.a reason.edits
+    reason.taken))
 bad_own held model closed initial current edits before now sent known fault refused refusal reason = absurd reason
 
 -- no run is written of lists that break a constraint
-broken_not : (held : Held) (model : List ℕ) (closed : Option (List ℕ)) (initial current edits : List ℕ) (before now : Faults) (sent : List ℕ → Type 0) → KnownTo held (edit_names model initial current edits closed) before now file.Edits → (which : Role) (cause : Cause) → RoleBreaks held (edit_names model initial current edits closed) which cause → Edited held (edit_names model initial current edits closed) sent → ⊥
+broken_not : (held : Held) (model : List ℕ) (closed : Option (List ℕ)) (initial current edits : List ℕ)
+    (before now : Faults) (sent : List ℕ → Type 0) → KnownTo held (edit_names model initial current edits closed) before
+    now file.Edits → (which : Role) (cause : Cause) →
+    RoleBreaks held (edit_names model initial current edits closed) which cause →
+    Edited held (edit_names model initial current edits closed) sent → ⊥
 unfolding name_of
-broken_not held model closed initial current edits before now sent known role.Initial cause breaks is = no_initial_break held (edit_names model initial current edits closed) (known.0 tt).0 (told_of held closed _ known.1) (told_of held (Some initial) _ known.2) cause breaks is.tables is.a0 is.a is.taken.accepts is.run.start
-broken_not held model closed initial current edits before now sent known role.Changed cause breaks is = no_changed_break held (edit_names model initial current edits closed) (known.0 tt).0 (told_of held closed _ known.1) (told_of held (Some initial) _ known.2) (told_of held (Some current) _ known.3) cause breaks is.tables is.a0 is.a is.taken.accepts is.run.current
+broken_not held model closed initial current edits before now sent known role.Initial cause breaks is =
+    no_initial_break held (edit_names model initial current edits closed) (known.0 tt).0 (told_of held closed _ known.1)
+    (told_of held (Some initial) _ known.2) cause breaks is.tables is.a0 is.a is.taken.accepts is.run.start
+broken_not held model closed initial current edits before now sent known role.Changed cause breaks is =
+    no_changed_break held (edit_names model initial current edits closed) (known.0 tt).0 (told_of held closed _ known.1)
+    (told_of held (Some initial) _ known.2) (told_of held (Some current) _ known.3) cause breaks is.tables is.a0 is.a
+    is.taken.accepts is.run.current
 
-broken_own : (held : Held) (model : List ℕ) (closed : Option (List ℕ)) (initial current edits : List ℕ) (before now : Faults) (sent : List ℕ → Type 0) → KnownTo held (edit_names model initial current edits closed) before now file.Edits → EditsAccepted held (edit_names model initial current edits closed) → (which : Role) (cause : Cause) → RoleBreaks held (edit_names model initial current edits closed) which cause → (refusal : Refusal) → EditOwn held (edit_names model initial current edits closed) (Edited held (edit_names model initial current edits closed) sent) refusal → status_of refusal ≡ Infeasible
+broken_own : (held : Held) (model : List ℕ) (closed : Option (List ℕ)) (initial current edits : List ℕ)
+    (before now : Faults) (sent : List ℕ → Type 0) → KnownTo held (edit_names model initial current edits closed) before
+    now file.Edits → EditsAccepted held (edit_names model initial current edits closed) →
+    (which : Role) (cause : Cause) → RoleBreaks held (edit_names model initial current edits closed) which cause →
+    (refusal : Refusal) → EditOwn held (edit_names model initial current edits closed)
+    (Edited held (edit_names model initial current edits closed) sent) refusal → status_of refusal ≡ Infeasible
 unfolding status_of
-broken_own held model closed initial current edits before now sent known accepted which cause breaks (Edits fault) reason = absurd (not_both held model closed initial current edits before now known fault reason accepted)
-broken_own held model closed initial current edits before now sent known accepted which cause breaks (Broken one other) reason = refl
-broken_own held model closed initial current edits before now sent known accepted which cause breaks Write reason = absurd (broken_not held model closed initial current edits before now sent known which cause breaks reason)
-broken_own held model closed initial current edits before now sent known accepted which cause breaks refusal reason = absurd reason
+broken_own held model closed initial current edits before now sent known accepted which cause breaks (Edits fault)
+    reason = absurd (not_both held model closed initial current edits before now known fault reason accepted)
+broken_own held model closed initial current edits before now sent known accepted which cause breaks (Broken one other)
+    reason = refl
+broken_own held model closed initial current edits before now sent known accepted which cause breaks Write reason =
+    absurd (broken_not held model closed initial current edits before now sent known which cause breaks reason)
+broken_own held model closed initial current edits before now sent known accepted which cause breaks refusal reason =
+    absurd reason
 
 -- what each of its own statuses says
-reason_bad : (held : Held) (names : Names) (written : Type 0) (before now : Faults) (refusal : Refusal) → Reason held names before now (EditOwn held names written) refusal → status_of refusal ≡ BadEdits → (fault : EditsFault) × EditsRefused held names fault
+reason_bad : (held : Held) (names : Names) (written : Type 0) (before now : Faults) (refusal : Refusal) →
+    Reason held names before now (EditOwn held names written) refusal → status_of refusal ≡ BadEdits →
+    (fault : EditsFault) × EditsRefused held names fault
 unfolding status_of
 reason_bad held names written before now (Edits fault) reason e = (fault, reason)
 reason_bad held names written before now refusal reason e = absurd (let both : status_of refusal ≡ BadEdits = e in cc)
 
-reason_broken : (held : Held) (names : Names) (written : Type 0) (before now : Faults) (refusal : Refusal) → Reason held names before now (EditOwn held names written) refusal → status_of refusal ≡ Infeasible → EditsAccepted held names × ((which : Role) × (cause : Cause) × RoleBreaks held names which cause)
+reason_broken : (held : Held) (names : Names) (written : Type 0) (before now : Faults) (refusal : Refusal) →
+    Reason held names before now (EditOwn held names written) refusal → status_of refusal ≡ Infeasible →
+    EditsAccepted held names × ((which : Role) × (cause : Cause) × RoleBreaks held names which cause)
 unfolding status_of
 reason_broken held names written before now (Broken which cause) reason e = (reason.0, (which, cause, reason.1))
-reason_broken held names written before now refusal reason e = absurd (let both : status_of refusal ≡ Infeasible = e in cc)
+reason_broken held names written before now refusal reason e =
+    absurd (let both : status_of refusal ≡ Infeasible = e in cc)
 
 -- a job that isn't done has a status that its own refusals give it, or that of memory
-stops : (held : Held) (model : List ℕ) (closed : Option (List ℕ)) (initial current edits : List ℕ) (before now : Faults) (output : Type 0) (own : Refusal → Type 0) (tells : List ℕ → Type 0) (out_same err_same : Type 0) (status this : Status) → Ends held (edit_names model initial current edits closed) before now output own tells out_same err_same status → KnownTo held (edit_names model initial current edits closed) before now file.Edits → Listed held (edit_names model initial current edits closed) → (output → ⊥) → ((refusal : Refusal) → own refusal → status_of refusal ≡ this) → (status ≡ this) ⊎ (status ≡ NoMemory)
-stops held model closed initial current edits before now output own tells out_same err_same status this ends known listed undone step = ⊎_elim
+stops : (held : Held) (model : List ℕ) (closed : Option (List ℕ)) (initial current edits : List ℕ) (before now : Faults)
+    (output : Type 0) (own : Refusal → Type 0) (tells : List ℕ → Type 0) (out_same err_same : Type 0)
+    (status this : Status) → Ends held (edit_names model initial current edits closed) before now output own tells
+    out_same err_same status → KnownTo held (edit_names model initial current edits closed) before now file.Edits →
+    Listed held (edit_names model initial current edits closed) → (output → ⊥) →
+    ((refusal : Refusal) → own refusal → status_of refusal ≡ this) → (status ≡ this) ⊎ (status ≡ NoMemory)
+stops held model closed initial current edits before now output own tells out_same err_same status this ends known
+    listed undone step = ⊎_elim
     (λ (done : status ≡ Done). absurd (undone (ends.printed done)))
     (λ (other : status ≢ Done).
     let refused = ends.refused other in
     ⊎_elim
     (λ (reason : own refused.refusal). inl (refused.is ∙ step refused.refusal reason))
     (λ (memory : status_of refused.refusal ≡ NoMemory). inr (refused.is ∙ memory))
-    (own_known held model closed initial current edits before now own known listed.tables listed.a0 listed.a listed.accepts refused.refusal refused.reason))
+    (own_known held model closed initial current edits before now own known listed.tables listed.a0 listed.a
+    listed.accepts refused.refusal refused.reason))
     (is_done status)
 
-pub edit_comes : {held : Held} {before now : Faults} {tells : List ℕ → Type 0} {out_same err_same : Type 0} {status : Status} (model : List ℕ) (closed : Option (List ℕ)) (initial current edits : List ℕ) (prints breaks : List ℕ → Type 0)
-    → Ends held (edit_names model initial current edits closed) before now (Edited held (edit_names model initial current edits closed) prints) (EditOwn held (edit_names model initial current edits closed) (Edited held (edit_names model initial current edits closed) breaks)) tells out_same err_same status
+pub edit_comes : {held : Held} {before now : Faults} {tells : List ℕ → Type 0} {out_same err_same : Type 0}
+    {status : Status} (model : List ℕ) (closed : Option (List ℕ)) (initial current edits : List ℕ)
+    (prints breaks : List ℕ → Type 0)
+    → Ends held (edit_names model initial current edits closed) before now
+    (Edited held (edit_names model initial current edits closed) prints)
+    (EditOwn held (edit_names model initial current edits closed)
+    (Edited held (edit_names model initial current edits closed) breaks)) tells out_same err_same status
     → EditComes held (edit_names model initial current edits closed) before now status
-edit_comes {held} {before} {now} {tells} {out_same} {err_same} {status} model closed initial current edits prints breaks ends =
+edit_comes {held} {before} {now} {tells} {out_same} {err_same} {status} model closed initial current edits prints breaks
+    ends =
     let names = (edit_names model initial current edits closed) in
     let output = Edited held names prints in
     let own : Refusal → Type 0 = EditOwn held names (Edited held names breaks) in
@@ -338,26 +596,46 @@ edit_comes {held} {before} {now} {tells} {out_same} {err_same} {status} model cl
       bad_edits = record {
         only = λ (is : status ≡ BadEdits).
             let refused = ends.refused (λ (done : status ≡ Done). let e : Done ≡ BadEdits = sym done ∙ is in cc) in
-            reason_bad held names (Edited held names breaks) before now refused.refusal refused.reason (sym refused.is ∙ is);
+            reason_bad held names (Edited held names breaks) before now refused.refusal refused.reason
+            (sym refused.is ∙ is);
         always = λ known cause.
             let r = cause.1 in
-            stops held model closed initial current edits before now output own tells out_same err_same status BadEdits ends known (record { tables = r.tables; a0 = r.a0; a = r.a; accepts = r.accepts })
-            (λ o. not_both held model closed initial current edits before now known cause.0 r (accepted_of held names o.tables o.a0 o.a o.edits o.taken))
+            stops held model closed initial current edits before now output own tells out_same err_same status BadEdits
+            ends known (record {
+              tables = r.tables;
+              a0 = r.a0;
+              a = r.a;
+              accepts = r.accepts;
+            })
+            (λ o. not_both held model closed initial current edits before now known cause.0 r
+            (accepted_of held names o.tables o.a0 o.a o.edits o.taken))
             (bad_own held model closed initial current edits before now breaks known cause.0 r);
       };
       infeasible = record {
         only = λ (is : status ≡ Infeasible).
             let refused = ends.refused (λ (done : status ≡ Done). let e : Done ≡ Infeasible = sym done ∙ is in cc) in
-            reason_broken held names (Edited held names breaks) before now refused.refusal refused.reason (sym refused.is ∙ is);
+            reason_broken held names (Edited held names breaks) before now refused.refusal refused.reason
+            (sym refused.is ∙ is);
         always = λ known cause.
             let r = cause.0 in
-            stops held model closed initial current edits before now output own tells out_same err_same status Infeasible ends known (record { tables = r.tables; a0 = r.a0; a = r.a; accepts = r.accepts })
+            stops held model closed initial current edits before now output own tells out_same err_same status
+            Infeasible ends known (record {
+              tables = r.tables;
+              a0 = r.a0;
+              a = r.a;
+              accepts = r.accepts;
+            })
             (broken_not held model closed initial current edits before now prints known cause.1.0 cause.1.1 cause.1.2)
-            (broken_own held model closed initial current edits before now breaks known r cause.1.0 cause.1.1 cause.1.2);
+            (broken_own held model closed initial current edits before now breaks known r cause.1.0 cause.1.1
+            cause.1.2);
       };
     }
 
-pub edit_so : (model : List ℕ) (closed : Option (List ℕ)) (initial current edits : List ℕ) (files : Reading) (out err : Output) (ended : Result (Unit {0}) Refusal) (status : Status) → Tries (over (editing (edit_names model initial current edits closed))) files out ended → Finishes (edit_names model initial current edits closed) ended err status → Does (over (editing (edit_names model initial current edits closed))) files out err status
+pub edit_so : (model : List ℕ) (closed : Option (List ℕ)) (initial current edits : List ℕ) (files : Reading)
+    (out err : Output) (ended : Result (Unit {0}) Refusal) (status : Status) →
+    Tries (over (editing (edit_names model initial current edits closed))) files out ended →
+    Finishes (edit_names model initial current edits closed) ended err status →
+    Does (over (editing (edit_names model initial current edits closed))) files out err status
 edit_so model closed initial current edits files out err ended status tries finishes =
     let names = edit_names model initial current edits closed in
     let c = editing names in
@@ -372,11 +650,22 @@ edit_so model closed initial current edits files out err ended status tries fini
     (left_so c files out err ended status tries finishes)
 
 -- if memory was refused before the words were read
-pub edit_not : (held : Held) (names : Names) (before now : Faults) (status : Status) → status ≡ NoMemory → EditComes held names before now status
+pub edit_not : (held : Held) (names : Names) (before now : Faults) (status : Status) → status ≡ NoMemory →
+    EditComes held names before now status
 edit_not held names before now status is = record {
-  bad_edits = record { only = λ e. absurd (let both : NoMemory ≡ BadEdits = sym is ∙ e in cc); always = λ known cause. inr is };
-  infeasible = record { only = λ e. absurd (let both : NoMemory ≡ Infeasible = sym is ∙ e in cc); always = λ known cause. inr is };
+  bad_edits = record {
+    only = λ e. absurd (let both : NoMemory ≡ BadEdits = sym is ∙ e in cc);
+    always = λ known cause. inr is;
+  };
+  infeasible = record {
+    only = λ e. absurd (let both : NoMemory ≡ Infeasible = sym is ∙ e in cc);
+    always = λ known cause. inr is;
+  };
 }
 
-pub edit_memory : (names : Names) (files : Reading) (out err : Output) (status : Status) → status ≡ NoMemory → ((names : Names) → Put err.sink (refusal_line names Memory)) → out.same → Leaves files out err → Does (over (editing names)) files out err status
-edit_memory names files out err status is line same leaves = memory_refused (editing names) files out err status is line same leaves (edit_not files.held names files.before files.after status is) (inr is)
+pub edit_memory : (names : Names) (files : Reading) (out err : Output) (status : Status) → status ≡ NoMemory →
+    ((names : Names) → Put err.sink (refusal_line names Memory)) → out.same → Leaves files out err →
+    Does (over (editing names)) files out err status
+edit_memory names files out err status is line same leaves =
+    memory_refused (editing names) files out err status is line same leaves
+    (edit_not files.held names files.before files.after status is) (inr is)

@@ -13,17 +13,22 @@ use Rattle.ra_report_text.specs.Gathering.{Adds}
 use Rattle.ra_report_text.proofs.GatheringLemmas.{adds_more}
 
 -- the answer that was read
-pub reply_read : (replies : List EditReply) (k : ℕ) (x : EditReply) → k < length replies → x ≡ get_or replies k x → x ≡ reply_in replies k
+pub reply_read : (replies : List EditReply) (k : ℕ) (x : EditReply) → k < length replies → x ≡ get_or replies k x →
+    x ≡ reply_in replies k
 unfolding reply_in
 reply_read replies k x within read = get_or_read replies k x within read Full
 
 -- one more line
-pub adds_edit : {O : Type 0} (taken : O → Option (List ℕ)) (faults : O → ℕ) (replies : List EditReply) (n : ℕ) (a b c : Gathered O)
-    → Adds taken faults a b (edits_text replies n) → Adds taken faults b c (edit_line n (reply_in replies n)) → Adds taken faults a c (edits_text replies (n + 1))
+pub adds_edit : {O : Type 0} (taken : O → Option (List ℕ)) (faults : O → ℕ) (replies : List EditReply) (n : ℕ)
+    (a b c : Gathered O)
+    → Adds taken faults a b (edits_text replies n) → Adds taken faults b c (edit_line n (reply_in replies n)) →
+    Adds taken faults a c (edits_text replies (n + 1))
 unfolding edits_text
-adds_edit taken faults replies n a b c first next = rw add-one (adds_more taken faults a b c (edits_text replies n) (edit_line n (reply_in replies n)) first next)
+adds_edit taken faults replies n a b c first next =
+    rw add-one (adds_more taken faults a b c (edits_text replies n) (edit_line n (reply_in replies n)) first next)
 
 -- the lines with the parts of the lists are the output
-pub edited_told : (i : Tables) (a0 a : List Machine) (replies : List EditReply) (parts : Parts) → parts ≡ parts_of i a0 a → edited_text i a0 a replies ≡ edited_lines parts a0 a replies i
+pub edited_told : (i : Tables) (a0 a : List Machine) (replies : List EditReply) (parts : Parts) →
+    parts ≡ parts_of i a0 a → edited_text i a0 a replies ≡ edited_lines parts a0 a replies i
 unfolding edited_text
 edited_told i a0 a replies parts is = rw is refl

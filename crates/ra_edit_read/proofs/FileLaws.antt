@@ -1,12 +1,15 @@
 -- All edits of a file, from what is known of each.
-use Rattle.std.proofs.Common.{◌≡◌, ℕ, suc, ◌+◌, ◌-◌, ◌*◌, ◌<◌, ◌≤◌, ◌↔◌, List, [], ◌∷◌, ◌++◌, length, Option, Some, None, Ok, Err, refl, sym, ap, ◌∙◌, subst, inl, inr, ⊎_elim, arith, add-one, get_or, length-append}
+use Rattle.std.proofs.Common.{◌≡◌, ℕ, suc, ◌+◌, ◌-◌, ◌*◌, ◌<◌, ◌≤◌, ◌↔◌, List, [], ◌∷◌, ◌++◌, length, Option, Some}
+use Rattle.std.proofs.Common.{None, Ok, Err, refl, sym, ap, ◌∙◌, subst, inl, inr, ⊎_elim, arith, add-one, get_or}
+use Rattle.std.proofs.Common.{length-append}
 use Rattle.std.specs.Prelude.{slice_get}
 use Rattle.std.proofs.lemmas.Bool.{cases_lt}
 use Rattle.std.proofs.lemmas.Option.{slice_get_past}
 use Rattle.std.proofs.lemmas.List.{get_or_append_left}
 use Rattle.std.proofs.Math.Seq.{get_or-append_seam}
 use Rattle.ra_base.specs.Searches.{or_else, first}
-use Rattle.ra_base.proofs.Searches.{first_none, first_more_none, first_none_at, first_none_from, first_found, first_skip, both_none, left_none, right_none, or_else_none, or_else_some}
+use Rattle.ra_base.proofs.Searches.{first_none, first_more_none, first_none_at, first_none_from, first_found}
+use Rattle.ra_base.proofs.Searches.{first_skip, both_none, left_none, right_none, or_else_none, or_else_some}
 use Rattle.ra_token.specs.declared.answers.Token.{Token}
 use Rattle.ra_token.specs.declared.answers.TokenFault.{TokenFault}
 use Rattle.ra_token.specs.declared.answers.TokenFault.TheVariants as told
@@ -20,7 +23,9 @@ use Rattle.ra_edit_read.specs.declared.edits.Edit.TheVariants.{Retire}
 use Rattle.ra_edit_read.specs.declared.faults.EditsFault.{EditsFault}
 use Rattle.ra_edit_read.specs.declared.faults.EditsFault.TheVariants.{Range, TooMany}
 use Rattle.ra_edit_read.specs.EditLists.{AllFit, FitsInstance}
-use Rattle.ra_edit_read.specs.EditTexts.{value_at, numbers_behind, kind_place, edit_from, requirements_from, edits_to, requirements_to, edits_fault, numbers_test, found_test, edit_test, file_fault, edits_refusal, IsEditsFile}
+use Rattle.ra_edit_read.specs.EditTexts.{value_at, numbers_behind, kind_place, edit_from, requirements_from, edits_to}
+use Rattle.ra_edit_read.specs.EditTexts.{requirements_to, edits_fault, numbers_test, found_test, edit_test, file_fault}
+use Rattle.ra_edit_read.specs.EditTexts.{edits_refusal, IsEditsFile}
 use Rattle.ra_edit_read.specs.Answers.{EditsSays, IsEditsRefusal}
 use Rattle.ra_edit_read.specs.Reading.{HasEdit, HasEdits, EditStop, IsWhole}
 use Rattle.ra_edit_read.proofs.NumberLaws.{says_same, says_fault}
@@ -28,52 +33,82 @@ use Rattle.ra_edit_read.proofs.Meaning.{kinds_ascend, file_at, each_passes, coun
 use Rattle.ra_edit_read.proofs.EditLaws.{kind_wrong, kind_behind, found_kind, found_behind}
 
 -- what is wrong with edit k, where its kind is due
-test_here : (bytes : List ℕ) (i : Tables) (k n : ℕ) → n ≡ kind_place (resource_count i) bytes k → edit_test bytes i k ≡ found_test bytes i k n (slice_get (tokens bytes) n)
+test_here : (bytes : List ℕ) (i : Tables) (k n : ℕ) → n ≡ kind_place (resource_count i) bytes k →
+    edit_test bytes i k ≡ found_test bytes i k n (slice_get (tokens bytes) n)
 unfolding edit_test
 test_here bytes i k n due = rw due refl
 
-refused : (bytes : List ℕ) (i : Tables) (k : ℕ) (fault : EditsFault) → k < 100001 → first k (edit_test bytes i) ≡ None → edit_test bytes i k ≡ Some fault → edits_refusal bytes i ≡ Some fault
+refused : (bytes : List ℕ) (i : Tables) (k : ℕ) (fault : EditsFault) → k < 100001 → first k (edit_test bytes i) ≡ None →
+    edit_test bytes i k ≡ Some fault → edits_refusal bytes i ≡ Some fault
 unfolding edits_refusal
-refused bytes i k fault few sound here = rw (first_found k 100001 (edit_test bytes i) fault few sound here) (or_else_some fault _)
+refused bytes i k fault few sound here =
+    rw (first_found k 100001 (edit_test bytes i) fault few sound here) (or_else_some fault _)
 
 -- a wrong edit is the refusal
-stop_at : (bytes : List ℕ) (i : Tables) (k x : ℕ) (fault : EditsFault) → k < 100001 → EditsSays (found_test bytes i k (tokens_before bytes x) (slice_get (tokens bytes) (tokens_before bytes x))) fault → EditStop bytes i k x fault
-stop_at bytes i k x fault few says due sound = says_same _ (edits_refusal bytes i) fault (λ (e : found_test bytes i k (tokens_before bytes x) (slice_get (tokens bytes) (tokens_before bytes x)) ≡ Some fault). refused bytes i k fault few sound (test_here bytes i k (tokens_before bytes x) due ∙ e)) says
+stop_at : (bytes : List ℕ) (i : Tables) (k x : ℕ) (fault : EditsFault) → k < 100001 →
+    EditsSays (found_test bytes i k (tokens_before bytes x) (slice_get (tokens bytes) (tokens_before bytes x))) fault →
+    EditStop bytes i k x fault
+stop_at bytes i k x fault few says due sound =
+    says_same _ (edits_refusal bytes i) fault
+    (λ (e : found_test bytes i k (tokens_before bytes x) (slice_get (tokens bytes) (tokens_before bytes x)) ≡
+    Some fault). refused bytes i k fault few sound (test_here bytes i k (tokens_before bytes x) due ∙ e)) says
 
-pub stop_kind : (bytes : List ℕ) (i : Tables) (k x y : ℕ) (t : Token) → HasNext bytes x y (Some t) → k < 100000 → (0 < t.value → t.value < 4 → ⊥) → EditStop bytes i k x (Range t.at t.value 1 3)
-stop_kind bytes i k x y t h few wrong = stop_at bytes i k x (Range t.at t.value 1 3) (omega arith) (found_kind bytes i k (tokens_before bytes x) t (Range t.at t.value 1 3) h.answer (kind_wrong k t few wrong))
+pub stop_kind : (bytes : List ℕ) (i : Tables) (k x y : ℕ) (t : Token) → HasNext bytes x y (Some t) → k < 100000 →
+    (0 < t.value → t.value < 4 → ⊥) → EditStop bytes i k x (Range t.at t.value 1 3)
+stop_kind bytes i k x y t h few wrong = stop_at bytes i k x (Range t.at t.value 1 3) (omega arith)
+    (found_kind bytes i k (tokens_before bytes x) t (Range t.at t.value 1 3) h.answer (kind_wrong k t few wrong))
 
-pub stop_many : (bytes : List ℕ) (i : Tables) (x y : ℕ) (t : Token) → HasNext bytes x y (Some t) → EditStop bytes i 100000 x (TooMany t.at)
-stop_many bytes i x y t h = stop_at bytes i 100000 x (TooMany t.at) (omega arith) (found_kind bytes i 100000 (tokens_before bytes x) t (TooMany t.at) h.answer (kind_behind 100000 t (omega arith)))
+pub stop_many : (bytes : List ℕ) (i : Tables) (x y : ℕ) (t : Token) → HasNext bytes x y (Some t) →
+    EditStop bytes i 100000 x (TooMany t.at)
+stop_many bytes i x y t h = stop_at bytes i 100000 x (TooMany t.at) (omega arith)
+    (found_kind bytes i 100000 (tokens_before bytes x) t (TooMany t.at) h.answer (kind_behind 100000 t (omega arith)))
 
-pub stop_behind : (bytes : List ℕ) (i : Tables) (k x y : ℕ) (t : Token) (fault : EditsFault) → HasNext bytes x y (Some t) → k < 100000 → 0 < t.value → t.value < 4 → EditsSays (numbers_test bytes i k t.value (tokens_before bytes y)) fault → EditStop bytes i k x fault
-stop_behind bytes i k x y t fault h few some kind says = stop_at bytes i k x fault (omega arith) (found_behind bytes i k x y t fault h.answer h.one_more few some kind says)
+pub stop_behind : (bytes : List ℕ) (i : Tables) (k x y : ℕ) (t : Token) (fault : EditsFault) →
+    HasNext bytes x y (Some t) → k < 100000 → 0 < t.value → t.value < 4 →
+    EditsSays (numbers_test bytes i k t.value (tokens_before bytes y)) fault → EditStop bytes i k x fault
+stop_behind bytes i k x y t fault h few some kind says =
+    stop_at bytes i k x fault (omega arith) (found_behind bytes i k x y t fault h.answer h.one_more few some kind says)
 
 -- behind the last token there is no edit
-none_past : (bytes : List ℕ) (i : Tables) (k j : ℕ) → kind_place (resource_count i) bytes k ≡ length (tokens bytes) → k ≤ j → edit_test bytes i j ≡ None
+none_past : (bytes : List ℕ) (i : Tables) (k j : ℕ) → kind_place (resource_count i) bytes k ≡ length (tokens bytes) →
+    k ≤ j → edit_test bytes i j ≡ None
 unfolding edit_test found_test
 none_past bytes i k j all after =
     let e : k + (j - k) ≡ j = omega arith in
-    let past : length (tokens bytes) ≤ kind_place (resource_count i) bytes j = omega (arith, all, subst (λ n. kind_place (resource_count i) bytes k ≤ kind_place (resource_count i) bytes n) e (kinds_ascend (resource_count i) bytes k (j - k))) in
+    let past : length (tokens bytes) ≤ kind_place (resource_count i) bytes j =
+    omega (
+      arith,
+      all,
+      subst (λ n. kind_place (resource_count i) bytes k ≤ kind_place (resource_count i) bytes n) e
+          (kinds_ascend (resource_count i) bytes k (j - k)),
+    ) in
     rw (slice_get_past (tokens bytes) (kind_place (resource_count i) bytes j) past) refl
 
-pub all_sound : (bytes : List ℕ) (i : Tables) (k : ℕ) → k < 100001 → kind_place (resource_count i) bytes k ≡ length (tokens bytes) → first k (edit_test bytes i) ≡ None → first 100001 (edit_test bytes i) ≡ None
-all_sound bytes i k few all sound = first_skip k 100001 (edit_test bytes i) (omega arith) (λ j after h. none_past bytes i k j all after) ∙ sound
+pub all_sound : (bytes : List ℕ) (i : Tables) (k : ℕ) → k < 100001 → kind_place (resource_count i) bytes k ≡
+    length (tokens bytes) → first k (edit_test bytes i) ≡ None → first 100001 (edit_test bytes i) ≡ None
+all_sound bytes i k few all sound =
+    first_skip k 100001 (edit_test bytes i) (omega arith) (λ j after h. none_past bytes i k j all after) ∙ sound
 
 -- a fault of the file, where the kind of edit k is due
-file_refused : (bytes : List ℕ) (i : Tables) (k n : ℕ) (fault : TokenFault) → k < 100001 → n ≡ kind_place (resource_count i) bytes k → first k (edit_test bytes i) ≡ None → IsAnswer bytes n (Err fault) → EditsSays (edits_refusal bytes i) (edits_fault fault)
+file_refused : (bytes : List ℕ) (i : Tables) (k n : ℕ) (fault : TokenFault) → k < 100001 →
+    n ≡ kind_place (resource_count i) bytes k → first k (edit_test bytes i) ≡ None → IsAnswer bytes n (Err fault) →
+    EditsSays (edits_refusal bytes i) (edits_fault fault)
 unfolding edits_refusal file_fault
 file_refused bytes i k n fault few due sound answer = says_fault (edits_refusal bytes i) fault (⊎_elim
     (λ (e : fault ≡ told.ReadFault). inl e)
-    (λ (h : GaveAll bytes n × (first_fault bytes ≡ Some fault)). inr (rw (all_sound bytes i k few (sym due ∙ h.0) sound, h.1) (or_else_none (Some (edits_fault fault)))))
+    (λ (h : GaveAll bytes n × (first_fault bytes ≡ Some fault)).
+    inr (rw (all_sound bytes i k few (sym due ∙ h.0) sound, h.1) (or_else_none (Some (edits_fault fault)))))
     answer)
 
-pub stop_file : (bytes : List ℕ) (i : Tables) (k x : ℕ) (fault : EditsFault) → HasFault edits_fault bytes x fault → k < 100001 → EditStop bytes i k x fault
-stop_file bytes i k x fault h few due sound = subst (λ (f : EditsFault). EditsSays (edits_refusal bytes i) f) (sym h.same) (file_refused bytes i k (tokens_before bytes x) h.token_fault few due sound h.answer)
+pub stop_file : (bytes : List ℕ) (i : Tables) (k x : ℕ) (fault : EditsFault) → HasFault edits_fault bytes x fault →
+    k < 100001 → EditStop bytes i k x fault
+stop_file bytes i k x fault h few due sound = subst (λ (f : EditsFault). EditsSays (edits_refusal bytes i) f)
+    (sym h.same) (file_refused bytes i k (tokens_before bytes x) h.token_fault few due sound h.answer)
 
 -- the first edits
 
-pub has_none : (bytes : List ℕ) (i : Tables) (place : ℕ) (edits : List Edit) (requirements : List ℕ) → tokens_before bytes place ≡ 0 → edits ≡ [] → requirements ≡ [] → HasEdits bytes i place 0 edits requirements
+pub has_none : (bytes : List ℕ) (i : Tables) (place : ℕ) (edits : List Edit) (requirements : List ℕ) →
+    tokens_before bytes place ≡ 0 → edits ≡ [] → requirements ≡ [] → HasEdits bytes i place 0 edits requirements
 unfolding kind_place edits_to requirements_to
 has_none bytes i place edits requirements start no_edits no_requirements = record {
   given = start;
@@ -82,20 +117,31 @@ has_none bytes i place edits requirements start no_edits no_requirements = recor
   requirements_are = no_requirements;
 }
 
-pub has_more : (bytes : List ℕ) (i : Tables) (x y k : ℕ) (edits after : List Edit) (old new : List ℕ) (edit : Edit) → HasEdits bytes i x k edits old → HasEdit bytes i k x y old new edit → after ≡ edits ++ edit ∷ [] → HasEdits bytes i y (k + 1) after new
+pub has_more : (bytes : List ℕ) (i : Tables) (x y k : ℕ) (edits after : List Edit) (old new : List ℕ) (edit : Edit) →
+    HasEdits bytes i x k edits old → HasEdit bytes i k x y old new edit → after ≡ edits ++ edit ∷ [] →
+    HasEdits bytes i y (k + 1) after new
 unfolding kind_place edits_to requirements_to
 has_more bytes i x y k edits after old new edit before one pushed =
     let R = resource_count i in
     let due = before.given in
     record {
-      given = rw add-one (subst (λ n. tokens_before bytes y ≡ n + suc (numbers_behind R (value_at bytes n))) due one.next);
-      sound = first_more_none k (edit_test bytes i) before.sound (test_here bytes i k (tokens_before bytes x) due ∙ one.sound);
-      edits_are = rw add-one (pushed ∙ ap (λ front. front ++ edit ∷ []) before.edits_are ∙ ap (λ e. edits_to R bytes k ++ e ∷ []) (subst (λ n. edit ≡ edit_from R bytes (value_at bytes n) (suc n)) due one.edit_is));
-      requirements_are = rw add-one (subst (λ n. new ≡ old ++ requirements_from R bytes (value_at bytes n) (suc n)) due one.rows ∙ ap (λ front. front ++ requirements_from R bytes (value_at bytes (kind_place R bytes k)) (suc (kind_place R bytes k))) before.requirements_are);
+      given =
+          rw add-one (subst (λ n. tokens_before bytes y ≡ n + suc (numbers_behind R (value_at bytes n))) due one.next);
+      sound = first_more_none k (edit_test bytes i) before.sound (test_here bytes i k (tokens_before bytes x) due
+          ∙ one.sound);
+      edits_are = rw add-one (pushed ∙ ap (λ front. front ++ edit ∷ []) before.edits_are
+          ∙ ap (λ e. edits_to R bytes k ++ e ∷ [])
+          (subst (λ n. edit ≡ edit_from R bytes (value_at bytes n) (suc n)) due one.edit_is));
+      requirements_are =
+          rw add-one (subst (λ n. new ≡ old ++ requirements_from R bytes (value_at bytes n) (suc n)) due one.rows
+          ∙ ap (λ front. front ++ requirements_from R bytes (value_at bytes (kind_place R bytes k))
+          (suc (kind_place R bytes k))) before.requirements_are);
     }
 
 -- all edits
-pub has_all : (bytes : List ℕ) (i : Tables) (place k : ℕ) (edits : List Edit) (requirements : List ℕ) → k < 100001 → HasEdits bytes i place k edits requirements → IsAnswer bytes (tokens_before bytes place) (Ok None) → IsWhole bytes i edits requirements
+pub has_all : (bytes : List ℕ) (i : Tables) (place k : ℕ) (edits : List Edit) (requirements : List ℕ) → k < 100001 →
+    HasEdits bytes i place k edits requirements → IsAnswer bytes (tokens_before bytes place) (Ok None) →
+    IsWhole bytes i edits requirements
 has_all bytes i place k edits requirements few has answer =
     let all : kind_place (resource_count i) bytes k ≡ length (tokens bytes) = sym has.given ∙ answer.0 in
     record {
@@ -108,11 +154,19 @@ has_all bytes i place k edits requirements few has answer =
       };
     }
 
-pub has_ended : (bytes : List ℕ) (i : Tables) (place k : ℕ) (edits : List Edit) (requirements after : List ℕ) → k < 100001 → HasEdits bytes i place k edits requirements → IsAnswer bytes (tokens_before bytes place) (Ok None) × (after ≡ requirements) → IsWhole bytes i edits after
-has_ended bytes i place k edits requirements after few has end = has_all bytes i place k edits after few (subst (λ (rs : List ℕ). HasEdits bytes i place k edits rs) (sym end.1) has) end.0
+pub has_ended : (bytes : List ℕ) (i : Tables) (place k : ℕ) (edits : List Edit) (requirements after : List ℕ) →
+    k < 100001 → HasEdits bytes i place k edits requirements → IsAnswer bytes (tokens_before bytes place) (Ok None)
+    × (after ≡ requirements) → IsWhole bytes i edits after
+has_ended bytes i place k edits requirements after few has end =
+    has_all bytes i place k edits after few (subst (λ (rs : List ℕ). HasEdits bytes i place k edits rs) (sym end.1) has)
+    end.0
 
-pub last_stop : (bytes : List ℕ) (i : Tables) (k place : ℕ) (edits : List Edit) (requirements : List ℕ) (fault : EditsFault) → k ≡ 100000 → HasEdits bytes i place k edits requirements → EditStop bytes i 100000 place fault → IsEditsRefusal bytes i fault
-last_stop bytes i k place edits requirements fault same has stop = stop (subst (λ n. tokens_before bytes place ≡ kind_place (resource_count i) bytes n) same has.given) (subst (λ n. first n (edit_test bytes i) ≡ None) same has.sound)
+pub last_stop : (bytes : List ℕ) (i : Tables) (k place : ℕ) (edits : List Edit) (requirements : List ℕ)
+    (fault : EditsFault) → k ≡ 100000 → HasEdits bytes i place k edits requirements →
+    EditStop bytes i 100000 place fault → IsEditsRefusal bytes i fault
+last_stop bytes i k place edits requirements fault same has stop =
+    stop (subst (λ n. tokens_before bytes place ≡ kind_place (resource_count i) bytes n) same has.given)
+    (subst (λ n. first n (edit_test bytes i) ≡ None) same has.sound)
 
 pub next_row : (k w : ℕ) → k * w + w ≡ (k + 1) * w
 next_row k w = grind arith
@@ -121,10 +175,14 @@ next_row k w = grind arith
 pub fit_none : (i : Tables) (edits : List Edit) → edits ≡ [] → AllFit i edits
 fit_none i edits none k h = absurd (omega (arith, ap length none, h))
 
-pub fit_more : (i : Tables) (edits after : List Edit) (edit : Edit) → AllFit i edits → FitsInstance i edit → after ≡ edits ++ edit ∷ [] → AllFit i after
+pub fit_more : (i : Tables) (edits after : List Edit) (edit : Edit) → AllFit i edits → FitsInstance i edit →
+    after ≡ edits ++ edit ∷ [] → AllFit i after
 fit_more i edits after edit before fits pushed = subst (AllFit i) (sym pushed) (λ k h. ⊎_elim
-    (λ (below : k < length edits). subst (FitsInstance i) (sym (get_or_append_left edits (edit ∷ []) (Retire 0) k below)) (before k below))
-    (λ (last : length edits ≤ k). let e : k ≡ length edits = omega (arith, length-append {A = Edit}) in subst (λ n. FitsInstance i (get_or (edits ++ edit ∷ []) n (Retire 0))) (sym e) (subst (FitsInstance i) (sym (get_or-append_seam edits edit [] (Retire 0))) fits))
+    (λ (below : k < length edits).
+    subst (FitsInstance i) (sym (get_or_append_left edits (edit ∷ []) (Retire 0) k below)) (before k below))
+    (λ (last : length edits ≤ k). let e : k ≡ length edits = omega (arith, length-append {A = Edit}) in
+    subst (λ n. FitsInstance i (get_or (edits ++ edit ∷ []) n (Retire 0))) (sym e)
+    (subst (FitsInstance i) (sym (get_or-append_seam edits edit [] (Retire 0))) fits))
     (cases_lt k (length edits)))
 
 no_fault : (fault : Option TokenFault) → file_fault fault ≡ None → fault ≡ None
@@ -137,17 +195,26 @@ unfolding file_fault
 no_fault_none fault none = rw none refl
 
 -- nothing is refused exactly if the bytes are a file of edits
-pub edits_accept : (bytes : List ℕ) (i : Tables) → (edits_refusal bytes i ≡ None) ↔ ((count : ℕ) × IsEditsFile bytes i count)
+pub edits_accept : (bytes : List ℕ) (i : Tables) →
+    (edits_refusal bytes i ≡ None) ↔ ((count : ℕ) × IsEditsFile bytes i count)
 unfolding edits_refusal
 edits_accept bytes i = (there, back)
   where
-    there : or_else (first 100001 (edit_test bytes i)) (file_fault (first_fault bytes)) ≡ None → (count : ℕ) × IsEditsFile bytes i count
+    there : or_else (first 100001 (edit_test bytes i)) (file_fault (first_fault bytes)) ≡ None → (count : ℕ)
+        × IsEditsFile bytes i count
     there none =
         let sound = left_none (first 100001 (edit_test bytes i)) _ none in
-        let c = count_of bytes i sound in
-        (c.0, file_at bytes i c.0 c.1 c.2 (first_none_from c.0 (edit_test bytes i) (λ k below. first_none_at k 100001 (edit_test bytes i) (omega (arith, c.1)) sound)) (no_fault (first_fault bytes) (right_none (first 100001 (edit_test bytes i)) _ none)))
+        let c = count_of bytes i sound in (
+          c.0,
+          file_at bytes i c.0 c.1 c.2
+              (first_none_from c.0 (edit_test bytes i)
+              (λ k below. first_none_at k 100001 (edit_test bytes i) (omega (arith, c.1)) sound))
+              (no_fault (first_fault bytes) (right_none (first 100001 (edit_test bytes i)) _ none)),
+        )
 
-    back : ((count : ℕ) × IsEditsFile bytes i count) → or_else (first 100001 (edit_test bytes i)) (file_fault (first_fault bytes)) ≡ None
+    back : ((count : ℕ) × IsEditsFile bytes i count) →
+        or_else (first 100001 (edit_test bytes i)) (file_fault (first_fault bytes)) ≡ None
     back file = both_none _ _
-        (all_sound bytes i file.0 (omega (arith, file.1.few)) file.1.all (first_none_from file.0 (edit_test bytes i) (each_passes bytes i file.0 file.1)))
+        (all_sound bytes i file.0 (omega (arith, file.1.few)) file.1.all
+        (first_none_from file.0 (edit_test bytes i) (each_passes bytes i file.0 file.1)))
         (no_fault_none (first_fault bytes) file.1.sound)

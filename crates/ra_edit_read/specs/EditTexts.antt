@@ -1,6 +1,7 @@
 -- Files of edits. An edit is a kind and the numbers behind it: 1, a service, a machine, a requirement for each resource
 -- and a move cost add a process; 2 and a process retire it; 3, a process and a requirement for each resource resize it.
-use Rattle.std.specs.Prelude.{◌≡◌, ℕ, zero, suc, ◌+◌, ◌-◌, ◌<◌, ◌≤◌, ◌==◌, ◌&&◌, nat_lt, if◌then◌else◌, List, [], ◌∷◌, ◌++◌, length, replicate, slice_get, slice_index_or, Option, Some, None}
+use Rattle.std.specs.Prelude.{◌≡◌, ℕ, zero, suc, ◌+◌, ◌-◌, ◌<◌, ◌≤◌, ◌==◌, ◌&&◌, nat_lt, if◌then◌else◌, List, [], ◌∷◌}
+use Rattle.std.specs.Prelude.{◌++◌, length, replicate, slice_get, slice_index_or, Option, Some, None}
 use Rattle.ra_base.specs.Searches.{or_else, first}
 use Rattle.ra_token.specs.declared.answers.Token.{Token}
 use Rattle.ra_token.specs.declared.answers.TokenFault.{TokenFault}
@@ -13,7 +14,8 @@ use Rattle.ra_model.specs.Numbers.{resource_count, machine_count, service_count}
 use Rattle.ra_edit_read.specs.declared.edits.Edit.{Edit}
 use Rattle.ra_edit_read.specs.declared.edits.Edit.TheVariants.{Add, Retire, Resize}
 use Rattle.ra_edit_read.specs.declared.faults.EditsFault.{EditsFault}
-use Rattle.ra_edit_read.specs.declared.faults.EditsFault.TheVariants.{ReadFault, BadByte, TooLarge, TooLong, Missing, Range, TooMany, NoMemory}
+use Rattle.ra_edit_read.specs.declared.faults.EditsFault.TheVariants.{ReadFault, BadByte, TooLarge, TooLong, Missing}
+use Rattle.ra_edit_read.specs.declared.faults.EditsFault.TheVariants.{Range, TooMany, NoMemory}
 use Rattle.ra_edit_read.specs.EditLists.{EditLists, FitsInstance}
 
 -- what token n is worth, and zero past the last one

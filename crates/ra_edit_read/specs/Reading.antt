@@ -1,5 +1,6 @@
 -- What is known on the way through a file of edits.
-use Rattle.std.specs.Prelude.{◌≡◌, ℕ, suc, ◌+◌, ◌*◌, ◌≤◌, List, [], ◌++◌, length, slice_get, Option, Some, None, Result, Ok, IfSome, IfOk, OnOk, OnSome}
+use Rattle.std.specs.Prelude.{◌≡◌, ℕ, suc, ◌+◌, ◌*◌, ◌≤◌, List, [], ◌++◌, length, slice_get, Option, Some, None, Result}
+use Rattle.std.specs.Prelude.{Ok, IfSome, IfOk, OnOk, OnSome}
 use Rattle.ra_base.specs.Searches.{first}
 use Rattle.ra_base.specs.declared.lists.Fixed.{Fixed}
 use Rattle.ra_token.specs.declared.answers.Token.{Token}
@@ -11,7 +12,8 @@ use Rattle.ra_edit_read.specs.declared.edits.Edit.{Edit}
 use Rattle.ra_edit_read.specs.declared.faults.EditsFault.{EditsFault}
 use Rattle.ra_edit_read.specs.Answers.{IsEditsRefusal}
 use Rattle.ra_edit_read.specs.EditLists.{AllFit, FitsInstance}
-use Rattle.ra_edit_read.specs.EditTexts.{value_at, numbers_behind, kind_place, edit_from, requirements_from, edits_to, requirements_to, numbers_test, edit_test, found_test, AreEditsOf}
+use Rattle.ra_edit_read.specs.EditTexts.{value_at, numbers_behind, kind_place, edit_from, requirements_from, edits_to}
+use Rattle.ra_edit_read.specs.EditTexts.{requirements_to, numbers_test, edit_test, found_test, AreEditsOf}
 
 -- the next token was taken, and is worth this
 pub record TakesNumber (bytes : List ℕ) (before after value : ℕ) : Type 0 where

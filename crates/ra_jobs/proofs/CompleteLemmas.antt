@@ -1,5 +1,6 @@
 -- A job over valid files without a fault is done, or memory was refused.
-use Rattle.std.proofs.Common.{◌≡◌, ◌≢◌, ◌⊎◌, ℕ, ◌<◌, ◌-◌, ◌^◌, List, Option, Some, None, IfSome, inl, inr, ⊎_elim, refl, sym, ◌∙◌}
+use Rattle.std.proofs.Common.{◌≡◌, ◌≢◌, ◌⊎◌, ℕ, ◌<◌, ◌-◌, ◌^◌, List, Option, Some, None, IfSome, inl, inr, ⊎_elim, refl}
+use Rattle.std.proofs.Common.{sym, ◌∙◌}
 use Rattle.std.proofs.Math.Nat.{lt_irrefl}
 use Rattle.ra_io.specs.Faults.{Rose}
 use Rattle.ra_model.proofs.BrokenLemmas.{unbroken_from_feasible}
@@ -18,24 +19,33 @@ use Rattle.ra_jobs.specs.Statuses.{status_of}
 use Rattle.ra_jobs.proofs.EndLemmas.{Ends}
 
 -- what is told is refused and accepted at once
-pub contradiction : {X : Type 0} (told : Option (List ℕ)) (bytes : List ℕ) (refusal : List ℕ → Option X) (fault : X) → told ≡ Some bytes → refusal bytes ≡ None → IfSome told (λ b. refusal b ≡ Some fault) → ⊥
+pub contradiction : {X : Type 0} (told : Option (List ℕ)) (bytes : List ℕ) (refusal : List ℕ → Option X) (fault : X) →
+    told ≡ Some bytes → refusal bytes ≡ None → IfSome told (λ b. refusal b ≡ Some fault) → ⊥
 contradiction None bytes refusal fault is accepted refused = cc
-contradiction (Some other) bytes refusal fault is accepted refused = let same : other ≡ bytes = cc in let none : refusal other ≡ None = rw same accepted in let both : None ≡ Some fault = sym none ∙ refused in cc
+contradiction (Some other) bytes refusal fault is accepted refused = let same : other ≡ bytes = cc in
+    let none : refusal other ≡ None = rw same accepted in let both : None ≡ Some fault = sym none ∙ refused in cc
 
 -- a refusal over accepted files is one of the job's own, or of memory
-pub own_left : (held : Held) (names : Names) (before now : Faults) (own : Refusal → Type 0) → AreAccepted held names → NoFault names before now → (refusal : Refusal) → Reason held names before now own refusal → own refusal ⊎ (status_of refusal ≡ NoMemory)
+pub own_left : (held : Held) (names : Names) (before now : Faults) (own : Refusal → Type 0) → AreAccepted held names →
+    NoFault names before now → (refusal : Refusal) → Reason held names before now own refusal → own refusal
+    ⊎ (status_of refusal ≡ NoMemory)
 unfolding status_of
 own_left held names before now own valid sound (Read f) reason = absurd (sound f reason.named reason.rose)
-own_left held names before now own valid sound (Model fault) reason = absurd (contradiction (held names.model) valid.model.0 model_refusal fault valid.model.1 valid.model.2 reason.refused)
+own_left held names before now own valid sound (Model fault) reason =
+    absurd (contradiction (held names.model) valid.model.0 model_refusal fault valid.model.1 valid.model.2
+    reason.refused)
 own_left held names before now own valid sound (Closed fault) reason =
     let accepted = valid.closed reason.name reason.named reason.model reason.read in
-    absurd (contradiction (held reason.name) accepted.0 (λ bytes. closed_refusal bytes reason.model) fault accepted.1 accepted.2 reason.refused)
+    absurd (contradiction (held reason.name) accepted.0 (λ bytes. closed_refusal bytes reason.model) fault accepted.1
+    accepted.2 reason.refused)
 own_left held names before now own valid sound (Assign role.Initial fault) reason =
     let accepted = valid.initial reason.name reason.named reason.tables reason.instance in
-    absurd (contradiction (held reason.name) accepted.0 (λ bytes. assign_refusal bytes reason.tables) fault accepted.1 accepted.2 reason.refused.refused)
+    absurd (contradiction (held reason.name) accepted.0 (λ bytes. assign_refusal bytes reason.tables) fault accepted.1
+    accepted.2 reason.refused.refused)
 own_left held names before now own valid sound (Assign role.Changed fault) reason =
     let accepted = valid.changed reason.name reason.named reason.tables reason.instance in
-    absurd (contradiction (held reason.name) accepted.0 (λ bytes. assign_refusal bytes reason.tables) fault accepted.1 accepted.2 reason.refused.refused)
+    absurd (contradiction (held reason.name) accepted.0 (λ bytes. assign_refusal bytes reason.tables) fault accepted.1
+    accepted.2 reason.refused.refused)
 own_left held names before now own valid sound Memory reason = inr refl
 own_left held names before now own valid sound refusal reason = inl reason
 
@@ -49,8 +59,12 @@ pub record OwnRefused (own : Refusal → Type 0) (status : Status) : Type 0 wher
   pub reason : own refusal
   pub is : status ≡ status_of refusal
 
-pub complete_own : {held : Held} {names : Names} {before now : Faults} {printed : Type 0} {own : Refusal → Type 0} {tells : List ℕ → Type 0} {out_same err_same : Type 0} {status : Status} → Ends held names before now printed own tells out_same err_same status → AreAccepted held names → NoFault names before now → (status ≡ Done) ⊎ ((status ≡ NoMemory) ⊎ OwnRefused own status)
-complete_own {held} {names} {before} {now} {printed} {own} {tells} {out_same} {err_same} {status} ends valid sound = ⊎_elim
+pub complete_own : {held : Held} {names : Names} {before now : Faults} {printed : Type 0} {own : Refusal → Type 0}
+    {tells : List ℕ → Type 0} {out_same err_same : Type 0} {status : Status} →
+    Ends held names before now printed own tells out_same err_same status → AreAccepted held names →
+    NoFault names before now → (status ≡ Done) ⊎ ((status ≡ NoMemory) ⊎ OwnRefused own status)
+complete_own {held} {names} {before} {now} {printed} {own} {tells} {out_same} {err_same} {status} ends valid sound =
+    ⊎_elim
     (λ (done : status ≡ Done). inl done)
     (λ (other : status ≢ Done).
     let refused = ends.refused other in
@@ -61,8 +75,12 @@ complete_own {held} {names} {before} {now} {printed} {own} {tells} {out_same} {e
     (is_done status)
 
 -- if none of its own can come
-pub complete : {held : Held} {names : Names} {before now : Faults} {printed : Type 0} {own : Refusal → Type 0} {tells : List ℕ → Type 0} {out_same err_same : Type 0} {status : Status} → Ends held names before now printed own tells out_same err_same status → AreAccepted held names → NoFault names before now → ((refusal : Refusal) → own refusal → ⊥) → (status ≡ Done) ⊎ (status ≡ NoMemory)
-complete {held} {names} {before} {now} {printed} {own} {tells} {out_same} {err_same} {status} ends valid sound none = ⊎_elim
+pub complete : {held : Held} {names : Names} {before now : Faults} {printed : Type 0} {own : Refusal → Type 0}
+    {tells : List ℕ → Type 0} {out_same err_same : Type 0} {status : Status} →
+    Ends held names before now printed own tells out_same err_same status → AreAccepted held names →
+    NoFault names before now → ((refusal : Refusal) → own refusal → ⊥) → (status ≡ Done) ⊎ (status ≡ NoMemory)
+complete {held} {names} {before} {now} {printed} {own} {tells} {out_same} {err_same} {status} ends valid sound none =
+    ⊎_elim
     (λ (done : status ≡ Done). inl done)
     (λ (other : (status ≡ NoMemory) ⊎ OwnRefused own status). ⊎_elim
     (λ (memory : status ≡ NoMemory). inr memory)
@@ -71,13 +89,16 @@ complete {held} {names} {before} {now} {printed} {own} {tells} {out_same} {err_s
     (complete_own ends valid sound)
 
 -- over feasible lists no list breaks a constraint
-pub judges_none : (held : Held) (names : Names) (written : Type 0) → AreValid held names → (written → ⊥) → (refusal : Refusal) → Judges held names written refusal → ⊥
+pub judges_none : (held : Held) (names : Names) (written : Type 0) → AreValid held names → (written → ⊥) →
+    (refusal : Refusal) → Judges held names written refusal → ⊥
 judges_none held names written valid wrote (Broken role.Initial cause) reason =
-    let none = unbroken_from_feasible reason.tables reason.a0 reason.a0 (valid.initial reason.named reason.tables reason.a0 reason.a reason.accepts) in
+    let none = unbroken_from_feasible reason.tables reason.a0 reason.a0
+    (valid.initial reason.named reason.tables reason.a0 reason.a reason.accepts) in
     let both : None ≡ Some cause = sym none ∙ reason.broken in
     cc
 judges_none held names written valid wrote (Broken role.Changed cause) reason =
-    let none = unbroken_from_feasible reason.tables reason.a0 reason.a (valid.changed reason.named reason.tables reason.a0 reason.a reason.accepts) in
+    let none = unbroken_from_feasible reason.tables reason.a0 reason.a
+    (valid.changed reason.named reason.tables reason.a0 reason.a reason.accepts) in
     let both : None ≡ Some cause = sym none ∙ reason.broken in
     cc
 judges_none held names written valid wrote Write reason = wrote reason
@@ -92,23 +113,31 @@ pub never_rose : Rose 0 0 → ⊥
 never_rose = ⊎_elim (λ (less : 0 < 0). lt_irrefl 0 less) (λ (e : 0 ≡ 2 ^ 64 - 1). cc)
 
 -- a fault of a file is told only if its count rose
-read_rose : (held : Held) (names : Names) (before now : Faults) (own : Refusal → Type 0) (refusal : Refusal) → Reason held names before now own refusal → ((name : List ℕ) → Rose (before name) (now name) → ⊥) → status_of refusal ≢ ReadFault
+read_rose : (held : Held) (names : Names) (before now : Faults) (own : Refusal → Type 0) (refusal : Refusal) →
+    Reason held names before now own refusal → ((name : List ℕ) → Rose (before name) (now name) → ⊥) →
+    status_of refusal ≢ ReadFault
 unfolding status_of
 read_rose held names before now own (Read f) reason sound e = sound _ reason.rose
 read_rose held names before now own refusal reason sound e = cc
 
 -- a fault of the output is told only if writing failed
-write_rose : (held : Held) (names : Names) (before now : Faults) (own : Refusal → Type 0) (refusal : Refusal) → Reason held names before now own refusal → (own Write → ⊥) → status_of refusal ≢ WriteFault
+write_rose : (held : Held) (names : Names) (before now : Faults) (own : Refusal → Type 0) (refusal : Refusal) →
+    Reason held names before now own refusal → (own Write → ⊥) → status_of refusal ≢ WriteFault
 unfolding status_of
 write_rose held names before now own Write reason wrote e = wrote reason
 write_rose held names before now own refusal reason wrote e = cc
 
-pub no_read_fault : {held : Held} {names : Names} {before now : Faults} {printed : Type 0} {own : Refusal → Type 0} {tells : List ℕ → Type 0} {out_same err_same : Type 0} {status : Status} → Ends held names before now printed own tells out_same err_same status → ((name : List ℕ) → Rose (before name) (now name) → ⊥) → status ≢ ReadFault
+pub no_read_fault : {held : Held} {names : Names} {before now : Faults} {printed : Type 0} {own : Refusal → Type 0}
+    {tells : List ℕ → Type 0} {out_same err_same : Type 0} {status : Status} →
+    Ends held names before now printed own tells out_same err_same status →
+    ((name : List ℕ) → Rose (before name) (now name) → ⊥) → status ≢ ReadFault
 no_read_fault {held} {names} {before} {now} {printed} {own} {tells} {out_same} {err_same} {status} ends sound fault =
     let refused = ends.refused (λ (done : status ≡ Done). let e : Done ≡ ReadFault = sym done ∙ fault in cc) in
     read_rose held names before now own refused.refusal refused.reason sound (sym refused.is ∙ fault)
 
-pub no_write_fault : {held : Held} {names : Names} {before now : Faults} {printed : Type 0} {own : Refusal → Type 0} {tells : List ℕ → Type 0} {out_same err_same : Type 0} {status : Status} → Ends held names before now printed own tells out_same err_same status → (own Write → ⊥) → status ≢ WriteFault
+pub no_write_fault : {held : Held} {names : Names} {before now : Faults} {printed : Type 0} {own : Refusal → Type 0}
+    {tells : List ℕ → Type 0} {out_same err_same : Type 0} {status : Status} →
+    Ends held names before now printed own tells out_same err_same status → (own Write → ⊥) → status ≢ WriteFault
 no_write_fault {held} {names} {before} {now} {printed} {own} {tells} {out_same} {err_same} {status} ends wrote fault =
     let refused = ends.refused (λ (done : status ≡ Done). let e : Done ≡ WriteFault = sym done ∙ fault in cc) in
     write_rose held names before now own refused.refusal refused.reason wrote (sym refused.is ∙ fault)

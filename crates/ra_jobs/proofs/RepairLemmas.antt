@@ -1,5 +1,6 @@
 -- What is printed of the tries of a repair, and when its statuses come.
-use Rattle.std.proofs.Common.{◌≡◌, ◌≢◌, ◌⊎◌, ℕ, false, List, [], ◌∷◌, length, Option, Some, None, IsSome, Result, Ok, Err, OnOk, IfErr, inl, inr, ⊎_elim, refl, sym, ap, ◌∙◌, subst, arith}
+use Rattle.std.proofs.Common.{◌≡◌, ◌≢◌, ◌⊎◌, ℕ, false, List, [], ◌∷◌, length, Option, Some, None, IsSome, Result, Ok}
+use Rattle.std.proofs.Common.{Err, OnOk, IfErr, inl, inr, ⊎_elim, refl, sym, ap, ◌∙◌, subst, arith}
 use Rattle.ra_base.specs.declared.causes.Cause.{Cause}
 use Rattle.ra_base.specs.Listed.{Listed}
 use Rattle.ra_base.specs.declared.ids.Machine.{Machine}
@@ -23,7 +24,8 @@ use Rattle.ra_report.specs.RepairTexts.{text_of_repair}
 use Rattle.ra_io.specs.Outside.{Reading, Took}
 use Rattle.ra_jobs.specs.declared.refusals.File.TheVariants as file
 use Rattle.ra_jobs.specs.declared.refusals.Refusal.{Refusal}
-use Rattle.ra_jobs.specs.declared.refusals.Refusal.TheVariants.{Read, Model, Closed, Assign, Broken, Unrepaired as Left, Write, Memory}
+use Rattle.ra_jobs.specs.declared.refusals.Refusal.TheVariants.{Read, Model, Closed, Assign, Broken, Unrepaired as Left}
+use Rattle.ra_jobs.specs.declared.refusals.Refusal.TheVariants.{Write, Memory}
 use Rattle.ra_jobs.specs.declared.refusals.Role.TheVariants as role
 use Rattle.ra_jobs.specs.declared.status.Status.{Status}
 use Rattle.ra_jobs.specs.declared.status.Status.TheVariants.{Done, Infeasible, Unrepaired, WriteFault, NoMemory}
@@ -49,29 +51,47 @@ use Rattle.ra_jobs.proofs.MeaningLemmas.{broken_same, no_model, no_closed, no_in
 -- the tries
 
 -- a list that breaks a constraint has a penalty
-some_penalty : (i : Tables) (a0 a : List Machine) (broken : Option Cause) → WellFormed i → IsAssignment i a → first_broken i a0 a ≡ broken → broken ≢ None → penalty i a0 a ≢ 0
-some_penalty i a0 a broken limits fits is other zeros = other (sym is ∙ unbroken_from_feasible i a0 a ((zero.zero_is_feasible i a0 a limits fits).0 zeros))
+some_penalty : (i : Tables) (a0 a : List Machine) (broken : Option Cause) → WellFormed i → IsAssignment i a →
+    first_broken i a0 a ≡ broken → broken ≢ None → penalty i a0 a ≢ 0
+some_penalty i a0 a broken limits fits is other zeros =
+    other (sym is ∙ unbroken_from_feasible i a0 a ((zero.zero_is_feasible i a0 a limits fits).0 zeros))
 
-tried : (i : Tables) (a0 : List Machine) (lot : Lot) (r : Repair) (broken : Option Cause) (sent : List ℕ → Type 0) → WellFormed i → IsRepaired r → r.inst.now.tables ≡ i → r.start.now.items ≡ a0 → r.lot.now ≡ lot → IsAssignment i r.kept.assignment.items → broken ≡ first_broken i a0 r.kept.assignment.items → (broken ≡ None → Feasible i a0 r.kept.assignment.items) → sent (text_of_repair r) → IsTried i a0 lot broken sent
+tried : (i : Tables) (a0 : List Machine) (lot : Lot) (r : Repair) (broken : Option Cause) (sent : List ℕ → Type 0) →
+    WellFormed i → IsRepaired r → r.inst.now.tables ≡ i → r.start.now.items ≡ a0 → r.lot.now ≡ lot →
+    IsAssignment i r.kept.assignment.items → broken ≡ first_broken i a0 r.kept.assignment.items →
+    (broken ≡ None → Feasible i a0 r.kept.assignment.items) → sent (text_of_repair r) → IsTried i a0 lot broken sent
 unfolding text_of_repair
 tried i a0 lot r broken sent limits repaired instance initial of_lot fits is feasible text =
-    let run_is : (record { assignment = r.kept.assignment.items; tries = r.tries.items }) ≡ repair_run i a0 lot = rw (instance, initial, of_lot) at repaired.run in
-    let last : r.kept.assignment.items ≡ (repair_run i a0 lot).assignment = ap (λ (x : Repaired). x.assignment) run_is in
+    let run_is : (record {
+      assignment = r.kept.assignment.items;
+      tries = r.tries.items;
+    }) ≡ repair_run i a0 lot = rw (instance, initial, of_lot) at repaired.run in
+    let last : r.kept.assignment.items ≡ (repair_run i a0 lot).assignment =
+    ap (λ (x : Repaired). x.assignment) run_is in
     let all : r.tries.items ≡ (repair_run i a0 lot).tries = ap (λ (x : Repaired). x.tries) run_is in
-    let first : first_broken i a0 (repair_run i a0 lot).assignment ≡ broken = ap (first_broken i a0) (sym last) ∙ sym is in
+    let first : first_broken i a0 (repair_run i a0 lot).assignment ≡ broken = ap (first_broken i a0) (sym last)
+    ∙ sym is in
     record {
       is = first;
       feasible = λ none. subst (Feasible i a0) last (feasible none);
-      tried = λ some. run.uses_its_budget i a0 lot (some_penalty i a0 (repair_run i a0 lot).assignment broken limits (subst (IsAssignment i) last fits) first some);
+      tried = λ some.
+          run.uses_its_budget i a0 lot
+          (some_penalty i a0 (repair_run i a0 lot).assignment broken limits (subst (IsAssignment i) last fits) first
+          some);
       text = rw (instance, initial, sym is, last, all) at text;
     }
 
 -- the same of what a run of tries gives, and of the constraint that was found in its last list
-pub run_tried : (inst : Instance) (start a : Listed Machine) (lot : Lot) (r : Repair) (found broken : Option Cause) (sent : List ℕ → Type 0) → IsRepaired r → r.inst.now ≡ inst → r.start.now ≡ start → r.lot.now ≡ lot → a ≡ r.kept.assignment → found ≡ first_broken inst.tables start.items a.items → (found ≡ None → Feasible inst.tables start.items a.items) → found ≡ broken → sent (text_of_repair r) → IsTried inst.tables start.items lot broken sent
+pub run_tried : (inst : Instance) (start a : Listed Machine) (lot : Lot) (r : Repair) (found broken : Option Cause)
+    (sent : List ℕ → Type 0) → IsRepaired r → r.inst.now ≡ inst → r.start.now ≡ start → r.lot.now ≡ lot →
+    a ≡ r.kept.assignment → found ≡ first_broken inst.tables start.items a.items →
+    (found ≡ None → Feasible inst.tables start.items a.items) → found ≡ broken → sent (text_of_repair r) →
+    IsTried inst.tables start.items lot broken sent
 run_tried inst start a lot r found broken sent repaired instance initial of_lot last first feasible is text =
     let i : r.inst.now.tables ≡ inst.tables = ap (λ (x : Instance). x.tables) instance in
     let items : a.items ≡ r.kept.assignment.items = ap (λ (x : Listed Machine). x.items) last in
-    tried inst.tables start.items lot r broken sent inst.well_formed repaired i (ap (λ (x : Listed Machine). x.items) initial) of_lot
+    tried inst.tables start.items lot r broken sent inst.well_formed repaired i
+    (ap (λ (x : Listed Machine). x.items) initial) of_lot
     (subst (λ t. IsAssignment t r.kept.assignment.items) i r.keeps.stands.fits)
     (sym is ∙ (first ∙ ap (first_broken inst.tables start.items) items))
     (λ none. subst (Feasible inst.tables start.items) items (feasible (is ∙ none)))
@@ -93,120 +113,211 @@ lot_alone l lot one is = subst IsLots (one_lot l lot one is) l.fitting
 
 -- what is said of the files
 
-pub tried_all : (held : Held) (names : Names) (l : Lots) (i : Tables) (a0 : List Machine) (lot : Lot) (broken : Option Cause) (sent : List ℕ → Type 0) → IsStart held names i a0 → l.lots.items ≡ lot ∷ [] → IsTried i a0 lot broken sent → RepairPrinted held names l broken sent
-tried_all held names l i a0 lot broken sent start one is = record { tables = i; a0 = a0; accepts = start.accepts; lot = lot; one = one; run = is }
+pub tried_all : (held : Held) (names : Names) (l : Lots) (i : Tables) (a0 : List Machine) (lot : Lot)
+    (broken : Option Cause) (sent : List ℕ → Type 0) → IsStart held names i a0 → l.lots.items ≡ lot ∷ [] →
+    IsTried i a0 lot broken sent → RepairPrinted held names l broken sent
+tried_all held names l i a0 lot broken sent start one is = record {
+  tables = i;
+  a0 = a0;
+  accepts = start.accepts;
+  lot = lot;
+  one = one;
+  run = is;
+}
 
-pub reason_try : (held : Held) (names : Names) (l : Lots) (i : Tables) (a0 : List Machine) (lot : Lot) (before now : Faults) (prints breaks : List ℕ → Type 0) → IsStart held names i a0 → l.lots.items ≡ lot ∷ [] → (refusal : Refusal) → TryReason i a0 lot prints breaks refusal → Reason held names before now (RepairOwn held names l prints breaks) refusal
-reason_try held names l i a0 lot before now prints breaks start one (Left cause) reason = tried_all held names l i a0 lot (Some cause) prints start one reason
-reason_try held names l i a0 lot before now prints breaks start one Write reason = (reason.0, tried_all held names l i a0 lot reason.0 breaks start one reason.1)
+pub reason_try : (held : Held) (names : Names) (l : Lots) (i : Tables) (a0 : List Machine) (lot : Lot)
+    (before now : Faults) (prints breaks : List ℕ → Type 0) → IsStart held names i a0 → l.lots.items ≡ lot ∷ [] →
+    (refusal : Refusal) → TryReason i a0 lot prints breaks refusal →
+    Reason held names before now (RepairOwn held names l prints breaks) refusal
+reason_try held names l i a0 lot before now prints breaks start one (Left cause) reason =
+    tried_all held names l i a0 lot (Some cause) prints start one reason
+reason_try held names l i a0 lot before now prints breaks start one Write reason =
+    (reason.0, tried_all held names l i a0 lot reason.0 breaks start one reason.1)
 reason_try held names l i a0 lot before now prints breaks start one Memory reason = tt
 reason_try held names l i a0 lot before now prints breaks start one refusal reason = absurd reason
 
-pub tried_listed : (held : Held) (names : Names) (l : Lots) (broken : Option Cause) (sent : List ℕ → Type 0) → RepairPrinted held names l broken sent → AreListed held names
+pub tried_listed : (held : Held) (names : Names) (l : Lots) (broken : Option Cause) (sent : List ℕ → Type 0) →
+    RepairPrinted held names l broken sent → AreListed held names
 tried_listed held names l broken sent is = record { tables = is.tables; a0 = is.a0; a = is.a0; accepts = is.accepts }
 
-pub own_listed : (held : Held) (names : Names) (l : Lots) (prints breaks : List ℕ → Type 0) (r : Refusal) → RepairOwn held names l prints breaks r → AreListed held names
+pub own_listed : (held : Held) (names : Names) (l : Lots) (prints breaks : List ℕ → Type 0) (r : Refusal) →
+    RepairOwn held names l prints breaks r → AreListed held names
 own_listed held names l prints breaks (Left cause) reason = tried_listed held names l (Some cause) prints reason
 own_listed held names l prints breaks Write reason = tried_listed held names l reason.0 breaks reason.1
 own_listed held names l prints breaks refusal reason = absurd reason
 
-pub own_tells : (held : Held) (names : Names) (l : Lots) (prints breaks : List ℕ → Type 0) → IsSome names.initial → (r : Refusal) → RepairOwn held names l prints breaks r → CanTell names r
+pub own_tells : (held : Held) (names : Names) (l : Lots) (prints breaks : List ℕ → Type 0) → IsSome names.initial →
+    (r : Refusal) → RepairOwn held names l prints breaks r → CanTell names r
 own_tells held names l prints breaks named (Left cause) reason = named
 own_tells held names l prints breaks named Write reason = tt
 own_tells held names l prints breaks named refusal reason = absurd reason
 
 -- its own refusals, and their statuses
-own_wrote : (held : Held) (names : Names) (l : Lots) (prints breaks : List ℕ → Type 0) → ((text : List ℕ) → breaks text → ⊥) → (r : Refusal) → RepairOwn held names l prints breaks r → status_of r ≡ Unrepaired
+own_wrote : (held : Held) (names : Names) (l : Lots) (prints breaks : List ℕ → Type 0) →
+    ((text : List ℕ) → breaks text → ⊥) → (r : Refusal) → RepairOwn held names l prints breaks r →
+    status_of r ≡ Unrepaired
 unfolding status_of
 own_wrote held names l prints breaks wrote (Left cause) reason = refl
 own_wrote held names l prints breaks wrote Write reason = absurd (wrote _ reason.1.run.text)
 own_wrote held names l prints breaks wrote refusal reason = absurd reason
 
-pub complete_repair : {held : Held} {names : Names} {before now : Faults} {l : Lots} {prints breaks : List ℕ → Type 0} {printed : Type 0} {tells : List ℕ → Type 0} {out_same err_same : Type 0} {status : Status} → Ends held names before now printed (RepairOwn held names l prints breaks) tells out_same err_same status → AreAccepted held names → NoFault names before now → ((text : List ℕ) → breaks text → ⊥) → (status ≡ Done) ⊎ ((status ≡ Unrepaired) ⊎ (status ≡ NoMemory))
-complete_repair {held} {names} {before} {now} {l} {prints} {breaks} {printed} {tells} {out_same} {err_same} {status} ends valid sound wrote = ⊎_elim
+pub complete_repair : {held : Held} {names : Names} {before now : Faults} {l : Lots} {prints breaks : List ℕ → Type 0}
+    {printed : Type 0} {tells : List ℕ → Type 0} {out_same err_same : Type 0} {status : Status} →
+    Ends held names before now printed (RepairOwn held names l prints breaks) tells out_same err_same status →
+    AreAccepted held names → NoFault names before now → ((text : List ℕ) → breaks text → ⊥) → (status ≡ Done)
+    ⊎ ((status ≡ Unrepaired) ⊎ (status ≡ NoMemory))
+complete_repair {held} {names} {before} {now} {l} {prints} {breaks} {printed} {tells} {out_same} {err_same} {status}
+    ends valid sound wrote = ⊎_elim
     (λ (done : status ≡ Done). inl done)
     (λ (other : (status ≡ NoMemory) ⊎ OwnRefused (RepairOwn held names l prints breaks) status). inr (⊎_elim
     (λ (memory : status ≡ NoMemory). inr memory)
-    (λ (refused : OwnRefused (RepairOwn held names l prints breaks) status). inl (refused.is ∙ own_wrote held names l prints breaks wrote refused.refusal refused.reason))
+    (λ (refused : OwnRefused (RepairOwn held names l prints breaks) status).
+    inl (refused.is ∙ own_wrote held names l prints breaks wrote refused.refusal refused.reason))
     other))
     (complete_own ends valid sound)
 
 -- over known files that are accepted, a refusal is one of the job's own, or of memory
-own_known : (held : Held) (model : List ℕ) (closed : Option (List ℕ)) (initial : List ℕ) (before now : Faults) (own : Refusal → Type 0) → KnownTo held (solve_names model initial closed) before now file.Initial → (i : Tables) (a0 : List Machine) → Accepts held (solve_names model initial closed) i a0 a0 → (refusal : Refusal) → Reason held (solve_names model initial closed) before now own refusal → own refusal ⊎ (status_of refusal ≡ NoMemory)
+own_known : (held : Held) (model : List ℕ) (closed : Option (List ℕ)) (initial : List ℕ) (before now : Faults)
+    (own : Refusal → Type 0) → KnownTo held (solve_names model initial closed) before now file.Initial →
+    (i : Tables) (a0 : List Machine) → Accepts held (solve_names model initial closed) i a0 a0 → (refusal : Refusal) →
+    Reason held (solve_names model initial closed) before now own refusal → own refusal ⊎ (status_of refusal ≡ NoMemory)
 unfolding status_of name_of
-own_known held model closed initial before now own known i a0 accepts (Read file.Model) reason = absurd ((known.0 tt).1 reason.rose)
-own_known held model closed initial before now own known i a0 accepts (Read file.Closed) reason = absurd ((known.1 reason.named).1 reason.rose)
-own_known held model closed initial before now own known i a0 accepts (Read file.Initial) reason = absurd ((known.2 reason.named).1 reason.rose)
-own_known held model closed initial before now own known i a0 accepts (Read file.Changed) reason = absurd (let none = reason.named in cc)
-own_known held model closed initial before now own known i a0 accepts (Read file.Report) reason = absurd (let none = reason.named in cc)
-own_known held model closed initial before now own known i a0 accepts (Read file.Edits) reason = absurd (let none = reason.named in cc)
-own_known held model closed initial before now own known i a0 accepts (Model fault) reason = absurd (no_model held model (known.0 tt).0 fault reason accepts.instance.model accepts.instance.read)
-own_known held model closed initial before now own known i a0 accepts (Closed fault) reason = absurd (no_closed held model closed (known.0 tt).0 (told_of held closed _ known.1) fault reason i accepts.instance)
-own_known held model closed initial before now own known i a0 accepts (Assign role.Initial fault) reason = absurd (no_initial held (solve_names model initial closed) (known.0 tt).0 (told_of held closed _ known.1) (told_of held (Some initial) _ known.2) fault reason i a0 accepts.instance accepts.initial)
-own_known held model closed initial before now own known i a0 accepts (Assign role.Changed fault) reason = absurd (let none = reason.named in cc)
+own_known held model closed initial before now own known i a0 accepts (Read file.Model) reason =
+    absurd ((known.0 tt).1 reason.rose)
+own_known held model closed initial before now own known i a0 accepts (Read file.Closed) reason =
+    absurd ((known.1 reason.named).1 reason.rose)
+own_known held model closed initial before now own known i a0 accepts (Read file.Initial) reason =
+    absurd ((known.2 reason.named).1 reason.rose)
+own_known held model closed initial before now own known i a0 accepts (Read file.Changed) reason =
+    absurd (let none = reason.named in cc)
+own_known held model closed initial before now own known i a0 accepts (Read file.Report) reason =
+    absurd (let none = reason.named in cc)
+own_known held model closed initial before now own known i a0 accepts (Read file.Edits) reason =
+    absurd (let none = reason.named in cc)
+own_known held model closed initial before now own known i a0 accepts (Model fault) reason =
+    absurd (no_model held model (known.0 tt).0 fault reason accepts.instance.model accepts.instance.read)
+own_known held model closed initial before now own known i a0 accepts (Closed fault) reason =
+    absurd (no_closed held model closed (known.0 tt).0 (told_of held closed _ known.1) fault reason i accepts.instance)
+own_known held model closed initial before now own known i a0 accepts (Assign role.Initial fault) reason =
+    absurd (no_initial held (solve_names model initial closed) (known.0 tt).0 (told_of held closed _ known.1)
+    (told_of held (Some initial) _ known.2) fault reason i a0 accepts.instance accepts.initial)
+own_known held model closed initial before now own known i a0 accepts (Assign role.Changed fault) reason =
+    absurd (let none = reason.named in cc)
 own_known held model closed initial before now own known i a0 accepts Memory reason = inr refl
 own_known held model closed initial before now own known i a0 accepts refusal reason = inl reason
 
 -- with the causes of its own statuses
 
-said : (held : Held) (names : Names) (l : Lots) (broken : Option Cause) (sent : List ℕ → Type 0) → RepairPrinted held names l broken sent → RepairPrinted held names l broken (λ text. Unit {0})
-said held names l broken sent is = record { tables = is.tables; a0 = is.a0; accepts = is.accepts; lot = is.lot; one = is.one; run = record { is = is.run.is; feasible = is.run.feasible; tried = is.run.tried; text = tt } }
+said : (held : Held) (names : Names) (l : Lots) (broken : Option Cause) (sent : List ℕ → Type 0) →
+    RepairPrinted held names l broken sent → RepairPrinted held names l broken (λ text. Unit {0})
+said held names l broken sent is = record {
+  tables = is.tables;
+  a0 = is.a0;
+  accepts = is.accepts;
+  lot = is.lot;
+  one = is.one;
+  run = record { is = is.run.is; feasible = is.run.feasible; tried = is.run.tried; text = tt };
+}
 
 -- what a run leaves broken is what a run from each instance that the files mean leaves
-broken_left : (held : Held) (model : List ℕ) (closed : Option (List ℕ)) (initial : List ℕ) (before now : Faults) (l : Lots) (left broken : Option Cause) (sent : List ℕ → Type 0) (i : Tables) (a0 : List Machine) → Accepts held (solve_names model initial closed) i a0 a0 → KnownTo held (solve_names model initial closed) before now file.Initial → RepairPrinted held (solve_names model initial closed) l broken sent → LeavesBroken i a0 l left → broken ≡ left
+broken_left : (held : Held) (model : List ℕ) (closed : Option (List ℕ)) (initial : List ℕ) (before now : Faults)
+    (l : Lots) (left broken : Option Cause) (sent : List ℕ → Type 0) (i : Tables) (a0 : List Machine) →
+    Accepts held (solve_names model initial closed) i a0 a0 →
+    KnownTo held (solve_names model initial closed) before now file.Initial →
+    RepairPrinted held (solve_names model initial closed) l broken sent → LeavesBroken i a0 l left → broken ≡ left
 unfolding name_of
 broken_left held model closed initial before now l left broken sent i a0 accepts known is leaves =
-    let same = instances_same held model closed (known.0 tt).0 (told_of held closed _ known.1) is.tables i is.accepts.instance accepts.instance in
-    let start : is.a0 ≡ a0 = lists_same held (Some initial) (told_of held (Some initial) _ known.2) refl is.tables i is.a0 a0 is.accepts.initial accepts.initial in
-    sym is.run.is ∙ broken_same is.tables i is.a0 (repair_run is.tables is.a0 is.lot).assignment same ∙ rw (repaired_same is.tables i same is.a0 is.lot, start) (leaves is.lot is.one)
+    let same = instances_same held model closed (known.0 tt).0 (told_of held closed _ known.1) is.tables i
+    is.accepts.instance accepts.instance in
+    let start : is.a0 ≡ a0 = lists_same held (Some initial) (told_of held (Some initial) _ known.2) refl is.tables i
+    is.a0 a0 is.accepts.initial accepts.initial in
+    sym is.run.is ∙ broken_same is.tables i is.a0 (repair_run is.tables is.a0 is.lot).assignment same
+    ∙ rw (repaired_same is.tables i same is.a0 is.lot, start) (leaves is.lot is.one)
 
-own_case : (held : Held) (names : Names) (l : Lots) (prints breaks : List ℕ → Type 0) (status : Status) (refusal : Refusal) → status ≡ status_of refusal → RepairOwn held names l prints breaks refusal → ((cause : Cause) × RepairPrinted held names l (Some cause) prints × (status ≡ Unrepaired)) ⊎ ((status ≡ WriteFault) ⊎ (status ≡ NoMemory))
+own_case : (held : Held) (names : Names) (l : Lots) (prints breaks : List ℕ → Type 0) (status : Status)
+    (refusal : Refusal) → status ≡ status_of refusal → RepairOwn held names l prints breaks refusal →
+    ((cause : Cause) × RepairPrinted held names l (Some cause) prints × (status ≡ Unrepaired))
+    ⊎ ((status ≡ WriteFault) ⊎ (status ≡ NoMemory))
 unfolding status_of
 own_case held names l prints breaks status (Left cause) is reason = inl (cause, reason, is)
 own_case held names l prints breaks status Write is reason = inr (inl is)
 own_case held names l prints breaks status refusal is reason = absurd reason
 
-own_infeasible : (held : Held) (names : Names) (before now : Faults) (l : Lots) (prints breaks : List ℕ → Type 0) (refusal : Refusal) → Reason held names before now (RepairOwn held names l prints breaks) refusal → status_of refusal ≢ Infeasible
+own_infeasible : (held : Held) (names : Names) (before now : Faults) (l : Lots) (prints breaks : List ℕ → Type 0)
+    (refusal : Refusal) → Reason held names before now (RepairOwn held names l prints breaks) refusal →
+    status_of refusal ≢ Infeasible
 unfolding status_of
 own_infeasible held names before now l prints breaks (Broken which cause) reason e = reason
-own_infeasible held names before now l prints breaks refusal reason e = absurd (let both : status_of refusal ≡ Infeasible = e in cc)
+own_infeasible held names before now l prints breaks refusal reason e =
+    absurd (let both : status_of refusal ≡ Infeasible = e in cc)
 
-own_unrepaired : (held : Held) (names : Names) (before now : Faults) (l : Lots) (prints breaks : List ℕ → Type 0) (refusal : Refusal) → Reason held names before now (RepairOwn held names l prints breaks) refusal → status_of refusal ≡ Unrepaired → (cause : Cause) × RepairPrinted held names l (Some cause) (λ text. Unit {0})
+own_unrepaired : (held : Held) (names : Names) (before now : Faults) (l : Lots) (prints breaks : List ℕ → Type 0)
+    (refusal : Refusal) → Reason held names before now (RepairOwn held names l prints breaks) refusal →
+    status_of refusal ≡ Unrepaired → (cause : Cause) × RepairPrinted held names l (Some cause) (λ text. Unit {0})
 unfolding status_of
-own_unrepaired held names before now l prints breaks (Left cause) reason e = (cause, said held names l (Some cause) prints reason)
-own_unrepaired held names before now l prints breaks refusal reason e = absurd (let both : status_of refusal ≡ Unrepaired = e in cc)
+own_unrepaired held names before now l prints breaks (Left cause) reason e =
+    (cause, said held names l (Some cause) prints reason)
+own_unrepaired held names before now l prints breaks refusal reason e =
+    absurd (let both : status_of refusal ≡ Unrepaired = e in cc)
 
 -- a refusal of the job's own over known files: the last list broke a constraint, or a put failed
-own_ends : (held : Held) (names : Names) (l : Lots) (prints breaks : List ℕ → Type 0) (status : Status) (refusal : Refusal) → status ≡ status_of refusal → RepairOwn held names l prints breaks refusal ⊎ (status_of refusal ≡ NoMemory) → ((cause : Cause) × RepairPrinted held names l (Some cause) prints × (status ≡ Unrepaired)) ⊎ ((status ≡ WriteFault) ⊎ (status ≡ NoMemory))
+own_ends : (held : Held) (names : Names) (l : Lots) (prints breaks : List ℕ → Type 0) (status : Status)
+    (refusal : Refusal) → status ≡ status_of refusal → RepairOwn held names l prints breaks refusal
+    ⊎ (status_of refusal ≡ NoMemory) →
+    ((cause : Cause) × RepairPrinted held names l (Some cause) prints × (status ≡ Unrepaired))
+    ⊎ ((status ≡ WriteFault) ⊎ (status ≡ NoMemory))
 own_ends held names l prints breaks status refusal is reason = ⊎_elim
     (λ (own : RepairOwn held names l prints breaks refusal). own_case held names l prints breaks status refusal is own)
     (λ (memory : status_of refusal ≡ NoMemory). inr (inr (is ∙ memory)))
     reason
 
-pub repair_comes : {held : Held} {model : List ℕ} {closed : Option (List ℕ)} {initial : List ℕ} {before now : Faults} {l : Lots} {prints breaks : List ℕ → Type 0} {tells : List ℕ → Type 0} {out_same err_same : Type 0} {status : Status} → Ends held (solve_names model initial closed) before now (RepairPrinted held (solve_names model initial closed) l None prints) (RepairOwn held (solve_names model initial closed) l prints breaks) tells out_same err_same status → RepairComes held (solve_names model initial closed) (λ k. k ≡ l) before now status
-repair_comes {held} {model} {closed} {initial} {before} {now} {l} {prints} {breaks} {tells} {out_same} {err_same} {status} ends =
+pub repair_comes : {held : Held} {model : List ℕ} {closed : Option (List ℕ)} {initial : List ℕ} {before now : Faults}
+    {l : Lots} {prints breaks : List ℕ → Type 0} {tells : List ℕ → Type 0} {out_same err_same : Type 0}
+    {status : Status} → Ends held (solve_names model initial closed) before now
+    (RepairPrinted held (solve_names model initial closed) l None prints)
+    (RepairOwn held (solve_names model initial closed) l prints breaks) tells out_same err_same status →
+    RepairComes held (solve_names model initial closed) (λ k. k ≡ l) before now status
+repair_comes {held} {model} {closed} {initial} {before} {now} {l} {prints} {breaks} {tells} {out_same} {err_same}
+    {status} ends =
     let names = solve_names model initial closed in
     let own = RepairOwn held names l prints breaks in
     record {
-      never_infeasible = λ e. let refused = ends.refused (λ (done : status ≡ Done). let both : Done ≡ Infeasible = sym done ∙ e in cc) in own_infeasible held names before now l prints breaks refused.refusal refused.reason (sym refused.is ∙ e);
-      unrepaired = λ e. let refused = ends.refused (λ (done : status ≡ Done). let both : Done ≡ Unrepaired = sym done ∙ e in cc) in (l, refl, own_unrepaired held names before now l prints breaks refused.refusal refused.reason (sym refused.is ∙ e));
+      never_infeasible =
+          λ e. let refused = ends.refused (λ (done : status ≡ Done). let both : Done ≡ Infeasible = sym done ∙ e in
+          cc) in own_infeasible held names before now l prints breaks refused.refusal refused.reason
+          (sym refused.is ∙ e);
+      unrepaired = λ e. let refused = ends.refused (λ (done : status ≡ Done). let both : Done ≡ Unrepaired = sym done
+          ∙ e in cc) in (
+            l,
+            refl,
+            own_unrepaired held names before now l prints breaks refused.refusal refused.reason
+                (sym refused.is ∙ e),
+          );
       stays = λ i a0 accepts known cause leaves. ⊎_elim
-          (λ (done : status ≡ Done). absurd (let both = broken_left held model closed initial before now l (Some cause) None prints i a0 accepts known (ends.printed done) (leaves l refl) in cc))
+          (λ (done : status ≡ Done).
+          absurd (let both = broken_left held model closed initial before now l (Some cause) None prints i a0
+          accepts known (ends.printed done) (leaves l refl) in cc))
           (λ (other : status ≢ Done).
           let refused = ends.refused other in
           ⊎_elim
           (λ (left : (c : Cause) × RepairPrinted held names l (Some c) prints × (status ≡ Unrepaired)). inl left.2)
           (λ (rest : (status ≡ WriteFault) ⊎ (status ≡ NoMemory)). inr rest)
-          (own_ends held names l prints breaks status refused.refusal refused.is (own_known held model closed initial before now own known i a0 accepts refused.refusal refused.reason)))
+          (own_ends held names l prints breaks status refused.refusal refused.is
+          (own_known held model closed initial before now own known i a0 accepts refused.refusal
+          refused.reason)))
           (is_done status);
       is_repaired = λ i a0 accepts known leaves. ⊎_elim
           (λ (done : status ≡ Done). inl done)
           (λ (other : status ≢ Done).
           let refused = ends.refused other in
           ⊎_elim
-          (λ (left : (c : Cause) × RepairPrinted held names l (Some c) prints × (status ≡ Unrepaired)). absurd (let both = broken_left held model closed initial before now l None (Some left.0) prints i a0 accepts known left.1 (leaves l refl) in cc))
+          (λ (left : (c : Cause) × RepairPrinted held names l (Some c) prints × (status ≡ Unrepaired)).
+          absurd (let both = broken_left held model closed initial before now l None (Some left.0) prints i a0
+          accepts known left.1 (leaves l refl) in cc))
           (λ (rest : (status ≡ WriteFault) ⊎ (status ≡ NoMemory)). inr rest)
-          (own_ends held names l prints breaks status refused.refusal refused.is (own_known held model closed initial before now own known i a0 accepts refused.refusal refused.reason)))
+          (own_ends held names l prints breaks status refused.refusal refused.is
+          (own_known held model closed initial before now own known i a0 accepts refused.refusal
+          refused.reason)))
           (is_done status);
     }
 
@@ -215,7 +326,11 @@ pub of_these : {P : Lots → Type 0} (l : Lots) → (k : Lots) × (k ≡ l) × P
 of_these {P} l some = subst P some.1 some.2
 
 -- what the command of these lots does
-pub repair_so : (model : List ℕ) (closed : Option (List ℕ)) (initial : List ℕ) (l : Lots) (files : Reading) (out err : Output) (ended : Result (Unit {0}) Refusal) (status : Status) → Tries (over (repaired (solve_names model initial closed) (These l))) files out ended → Finishes (solve_names model initial closed) ended err status → Does (over (repaired (solve_names model initial closed) (These l))) files out err status
+pub repair_so : (model : List ℕ) (closed : Option (List ℕ)) (initial : List ℕ) (l : Lots) (files : Reading)
+    (out err : Output) (ended : Result (Unit {0}) Refusal) (status : Status) →
+    Tries (over (repaired (solve_names model initial closed) (These l))) files out ended →
+    Finishes (solve_names model initial closed) ended err status →
+    Does (over (repaired (solve_names model initial closed) (These l))) files out err status
 repair_so model closed initial l files out err ended status tries finishes =
     let held = files.held in
     let names = solve_names model initial closed in
@@ -223,12 +338,16 @@ repair_so model closed initial l files out err ended status tries finishes =
     let prints : List ℕ → Type 0 = Took out.sink in
     let breaks : List ℕ → Type 0 = BrokeOff out.sink in
     let ends : EndsOver c files out err status = finished c files out err ended status tries finishes in
-    let exact : Ends held names files.before files.after (RepairPrinted held names l None prints) (RepairOwn held names l prints breaks) (Put err.sink) out.same err.same status = record {
+    let exact : Ends held names files.before files.after (RepairPrinted held names l None prints)
+    (RepairOwn held names l prints breaks) (Put err.sink) out.same err.same status = record {
       printed = λ done. of_these {P = λ k. RepairPrinted held names k None prints} l (ends.printed done);
       no_line = ends.no_line;
       refused = λ other. let r = ends.refused other in record {
         refusal = r.refusal;
-        reason = reason_more held names files.before files.after (c.refuses held prints breaks) (RepairOwn held names l prints breaks) (λ refusal reason. of_these {P = λ k. RepairOwn held names k prints breaks refusal} l reason) r.refusal r.reason;
+        reason = reason_more held names files.before files.after (c.refuses held prints breaks)
+            (RepairOwn held names l prints breaks)
+            (λ refusal reason. of_these {P = λ k. RepairOwn held names k prints breaks refusal} l reason) r.refusal
+            r.reason;
         is = r.is;
         line = r.line;
         no_output = r.no_output;
@@ -242,7 +361,9 @@ repair_so model closed initial l files out err ended status tries finishes =
     (left_so c files out err ended status tries finishes)
 
 -- for other words of the lots
-pub repair_more : (held : Held) (names : Names) (asked more : Lots → Type 0) (before now : Faults) (status : Status) → ((l : Lots) → asked l → more l) → RepairComes held names asked before now status → RepairComes held names more before now status
+pub repair_more : (held : Held) (names : Names) (asked more : Lots → Type 0) (before now : Faults) (status : Status) →
+    ((l : Lots) → asked l → more l) → RepairComes held names asked before now status →
+    RepairComes held names more before now status
 repair_more held names asked more before now status step v = record {
   never_infeasible = v.never_infeasible;
   unrepaired = λ told. let w = v.unrepaired told in (w.0, step w.0 w.1, w.2);
@@ -251,7 +372,8 @@ repair_more held names asked more before now status step v = record {
 }
 
 -- if memory was refused before the words were read
-pub repair_not : (held : Held) (names : Names) (asked : Lots → Type 0) (before now : Faults) (status : Status) → status ≡ NoMemory → RepairComes held names asked before now status
+pub repair_not : (held : Held) (names : Names) (asked : Lots → Type 0) (before now : Faults) (status : Status) →
+    status ≡ NoMemory → RepairComes held names asked before now status
 repair_not held names asked before now status is = record {
   never_infeasible = λ e. let both : NoMemory ≡ Infeasible = sym is ∙ e in cc;
   unrepaired = λ told. absurd (let both : NoMemory ≡ Unrepaired = sym is ∙ told in cc);
@@ -261,12 +383,19 @@ repair_not held names asked before now status is = record {
 
 -- so it is with the whole command
 
-pub repair_command_more : (names : Names) (asked more : Lots → Type 0) (files : Reading) (out err : Output) (status : Status) → ((l : Lots) → asked l → more l) → Does (over (repaired names asked)) files out err status → Does (over (repaired names more)) files out err status
+pub repair_command_more : (names : Names) (asked more : Lots → Type 0) (files : Reading) (out err : Output)
+    (status : Status) → ((l : Lots) → asked l → more l) → Does (over (repaired names asked)) files out err status →
+    Does (over (repaired names more)) files out err status
 repair_command_more names asked more files out err status step does =
     let c = repaired names asked in
     let d = repaired names more in
     does_more names c.prints d.prints c.refuses d.refuses c.own_comes d.own_comes c.valid c.answers files out err status
-    (λ p. (p.0, step p.0 p.1, p.2)) (λ r p. (p.0, step p.0 p.1, p.2)) (repair_more files.held names asked more files.before files.after status step) does
+    (λ p. (p.0, step p.0 p.1, p.2)) (λ r p. (p.0, step p.0 p.1, p.2))
+    (repair_more files.held names asked more files.before files.after status step) does
 
-pub repair_memory : (names : Names) (asked : Lots → Type 0) (files : Reading) (out err : Output) (status : Status) → status ≡ NoMemory → ((names : Names) → Put err.sink (refusal_line names Memory)) → out.same → Leaves files out err → Does (over (repaired names asked)) files out err status
-repair_memory names asked files out err status is line same leaves = memory_refused (repaired names asked) files out err status is line same leaves (repair_not files.held names asked files.before files.after status is) (inr (inr is))
+pub repair_memory : (names : Names) (asked : Lots → Type 0) (files : Reading) (out err : Output) (status : Status) →
+    status ≡ NoMemory → ((names : Names) → Put err.sink (refusal_line names Memory)) → out.same → Leaves files out err →
+    Does (over (repaired names asked)) files out err status
+repair_memory names asked files out err status is line same leaves =
+    memory_refused (repaired names asked) files out err status is line same leaves
+    (repair_not files.held names asked files.before files.after status is) (inr (inr is))

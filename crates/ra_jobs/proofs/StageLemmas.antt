@@ -1,5 +1,6 @@
 -- Why the stages of a job refuse, from what the readers answer.
-use Rattle.std.proofs.Common.{◌≡◌, ℕ, ◌<◌, ◌≤◌, ◌-◌, ◌^◌, List, Option, Some, None, IfSome, IsSome, refl, sym, subst, inl, inr, ⊎_elim, arith}
+use Rattle.std.proofs.Common.{◌≡◌, ℕ, ◌<◌, ◌≤◌, ◌-◌, ◌^◌, List, Option, Some, None, IfSome, IsSome, refl, sym, subst}
+use Rattle.std.proofs.Common.{inl, inr, ⊎_elim, arith}
 use Rattle.std.specs.Prelude.{IsTrue}
 use Rattle.ra_base.specs.declared.costs.Parts.{Parts}
 use Rattle.ra_base.specs.declared.ids.Machine.{Machine}
@@ -21,24 +22,53 @@ use Rattle.ra_jobs.specs.declared.refusals.Refusal.{Refusal}
 use Rattle.ra_jobs.specs.declared.refusals.Refusal.TheVariants.{Read, Model, Closed, Assign, Broken, Write, Memory}
 use Rattle.ra_jobs.specs.declared.refusals.Role.{Role}
 use Rattle.ra_jobs.specs.declared.refusals.Role.TheVariants as role
-use Rattle.ra_jobs.specs.Files.{Held, Faults, Names, name_of, check_names, solve_names, bound_names, ModelIs, InstanceIs, Accepts}
+use Rattle.ra_jobs.specs.Files.{Held, Faults, Names, name_of, check_names, solve_names, bound_names, ModelIs}
+use Rattle.ra_jobs.specs.Files.{InstanceIs, Accepts}
 use Rattle.ra_jobs.specs.Outputs.{CheckPrinted, BoundIs, BoundRead}
 use Rattle.ra_jobs.specs.Refusals.{Reason, Judges, OnlyWrites, Nothing, CanTell, ReadFailed, RoleRefused}
-use Rattle.ra_jobs.specs.Stages.{model_as, closed_as, list_as, ModelReason, ClosedReason, SourceReason, NamedReason, ListReason, ListsReason, JudgeReason, StartReason, IsClosing, IsList, IsStart, ReadsLists, Passed, Judged}
+use Rattle.ra_jobs.specs.Stages.{model_as, closed_as, list_as, ModelReason, ClosedReason, SourceReason, NamedReason}
+use Rattle.ra_jobs.specs.Stages.{ListReason, ListsReason, JudgeReason, StartReason, IsClosing, IsList, IsStart}
+use Rattle.ra_jobs.specs.Stages.{ReadsLists, Passed, Judged}
 
-pub model_reason : (held : Held) (name : List ℕ) (before now : Faults) (fault : ModelFault) → (fault ≡ reader.ReadFault → Rose (before name) (now name)) → (IsTrue (is_by_content fault) → IfSome (held name) (λ bytes. model_refusal bytes ≡ Some fault)) → ModelReason held name before now (model_as fault)
+pub model_reason : (held : Held) (name : List ℕ) (before now : Faults) (fault : ModelFault) →
+    (fault ≡ reader.ReadFault → Rose (before name) (now name)) →
+    (IsTrue (is_by_content fault) → IfSome (held name) (λ bytes. model_refusal bytes ≡ Some fault)) →
+    ModelReason held name before now (model_as fault)
 unfolding is_by_content
 model_reason held name before now reader.ReadFault rose told = rose refl
-model_reason held name before now (reader.BadByte at byte) rose told = record { in_file = (λ e. cc, λ e. cc); refused = told refl }
-model_reason held name before now (reader.TooLarge at) rose told = record { in_file = (λ e. cc, λ e. cc); refused = told refl }
-model_reason held name before now reader.TooLong rose told = record { in_file = (λ e. cc, λ e. cc); refused = told refl }
-model_reason held name before now (reader.Missing what item) rose told = record { in_file = (λ e. cc, λ e. cc); refused = told refl }
-model_reason held name before now (reader.Range what at value least most) rose told = record { in_file = (λ e. cc, λ e. cc); refused = told refl }
-model_reason held name before now (reader.Flag at value) rose told = record { in_file = (λ e. cc, λ e. cc); refused = told refl }
-model_reason held name before now (reader.Extra at) rose told = record { in_file = (λ e. cc, λ e. cc); refused = told refl }
+model_reason held name before now (reader.BadByte at byte) rose told = record {
+  in_file = (λ e. cc, λ e. cc);
+  refused = told refl;
+}
+model_reason held name before now (reader.TooLarge at) rose told = record {
+  in_file = (λ e. cc, λ e. cc);
+  refused = told refl;
+}
+model_reason held name before now reader.TooLong rose told = record {
+  in_file = (λ e. cc, λ e. cc);
+  refused = told refl;
+}
+model_reason held name before now (reader.Missing what item) rose told = record {
+  in_file = (λ e. cc, λ e. cc);
+  refused = told refl;
+}
+model_reason held name before now (reader.Range what at value least most) rose told = record {
+  in_file = (λ e. cc, λ e. cc);
+  refused = told refl;
+}
+model_reason held name before now (reader.Flag at value) rose told = record {
+  in_file = (λ e. cc, λ e. cc);
+  refused = told refl;
+}
+model_reason held name before now (reader.Extra at) rose told = record {
+  in_file = (λ e. cc, λ e. cc);
+  refused = told refl;
+}
 model_reason held name before now reader.NoMemory rose told = tt
 
-pub closed_reason : (held : Held) (name : List ℕ) (i : Tables) (before now : Faults) (fault : ClosedFault) → (fault ≡ closer.ReadFault → Rose (before name) (now name)) → IfSome (held name) (λ bytes. IsClosedRefusal bytes i fault) → ClosedReason held name i before now (closed_as fault)
+pub closed_reason : (held : Held) (name : List ℕ) (i : Tables) (before now : Faults) (fault : ClosedFault) →
+    (fault ≡ closer.ReadFault → Rose (before name) (now name)) →
+    IfSome (held name) (λ bytes. IsClosedRefusal bytes i fault) → ClosedReason held name i before now (closed_as fault)
 closed_reason held name i before now closer.ReadFault rose told = rose refl
 closed_reason held name i before now (closer.BadByte at byte) rose told = ((λ e. cc, λ e. cc), told)
 closed_reason held name i before now (closer.TooLarge at) rose told = ((λ e. cc, λ e. cc), told)
@@ -46,48 +76,87 @@ closed_reason held name i before now closer.TooLong rose told = ((λ e. cc, λ e
 closed_reason held name i before now (closer.NoMachine at value) rose told = ((λ e. cc, λ e. cc), told)
 closed_reason held name i before now closer.NoMemory rose told = tt
 
-pub list_reason : (which : Role) (held : Held) (name : List ℕ) (i : Tables) (before now : Faults) (fault : AssignFault) → (fault ≡ assigner.ReadFault → Rose (before name) (now name)) → IfSome (held name) (λ bytes. IsAssignRefusal bytes i fault) → ListReason which held name i before now (list_as which fault)
+pub list_reason : (which : Role) (held : Held) (name : List ℕ) (i : Tables) (before now : Faults)
+    (fault : AssignFault) → (fault ≡ assigner.ReadFault → Rose (before name) (now name)) →
+    IfSome (held name) (λ bytes. IsAssignRefusal bytes i fault) →
+    ListReason which held name i before now (list_as which fault)
 list_reason which held name i before now assigner.ReadFault rose told = (refl, rose refl)
-list_reason which held name i before now (assigner.BadByte at byte) rose told = (refl, record { in_file = (λ e. cc, λ e. cc); refused = told })
-list_reason which held name i before now (assigner.TooLarge at) rose told = (refl, record { in_file = (λ e. cc, λ e. cc); refused = told })
-list_reason which held name i before now assigner.TooLong rose told = (refl, record { in_file = (λ e. cc, λ e. cc); refused = told })
-list_reason which held name i before now (assigner.Missing process) rose told = (refl, record { in_file = (λ e. cc, λ e. cc); refused = told })
-list_reason which held name i before now (assigner.NoMachine process value) rose told = (refl, record { in_file = (λ e. cc, λ e. cc); refused = told })
-list_reason which held name i before now (assigner.Extra at) rose told = (refl, record { in_file = (λ e. cc, λ e. cc); refused = told })
+list_reason which held name i before now (assigner.BadByte at byte) rose told =
+    (refl, record { in_file = (λ e. cc, λ e. cc); refused = told })
+list_reason which held name i before now (assigner.TooLarge at) rose told =
+    (refl, record { in_file = (λ e. cc, λ e. cc); refused = told })
+list_reason which held name i before now assigner.TooLong rose told =
+    (refl, record { in_file = (λ e. cc, λ e. cc); refused = told })
+list_reason which held name i before now (assigner.Missing process) rose told =
+    (refl, record { in_file = (λ e. cc, λ e. cc); refused = told })
+list_reason which held name i before now (assigner.NoMachine process value) rose told =
+    (refl, record { in_file = (λ e. cc, λ e. cc); refused = told })
+list_reason which held name i before now (assigner.Extra at) rose told =
+    (refl, record { in_file = (λ e. cc, λ e. cc); refused = told })
 list_reason which held name i before now assigner.NoMemory rose told = tt
 
 -- a count that rose later rose
 pub rose_later : (a b c : ℕ) → a ≤ b → Rose b c → Rose a c
-rose_later a b c never_fell rose = ⊎_elim (λ (more : b < c). let h : a < c = omega arith in inl h) (λ (last : c ≡ 2 ^ 64 - 1). inr last) rose
+rose_later a b c never_fell rose =
+    ⊎_elim (λ (more : b < c). let h : a < c = omega arith in inl h) (λ (last : c ≡ 2 ^ 64 - 1). inr last) rose
 
 -- the instance
 
-pub instance_open : (held : Held) (name : List ℕ) (closed : Option (List ℕ)) (i : Tables) → ModelIs held name i → closed ≡ None → InstanceIs held name closed i
+pub instance_open : (held : Held) (name : List ℕ) (closed : Option (List ℕ)) (i : Tables) → ModelIs held name i →
+    closed ≡ None → InstanceIs held name closed i
 instance_open held name closed i read none = record { model = i; read = read; closed = rw none refl }
 
-pub instance_closed : (held later : Held) (name : List ℕ) (closed : Option (List ℕ)) (list : List ℕ) (model i : Tables) → ((other : List ℕ) → later other ≡ held other) → closed ≡ Some list → ModelIs held name model → IsClosing later list model i → InstanceIs held name closed i
+pub instance_closed : (held later : Held) (name : List ℕ) (closed : Option (List ℕ)) (list : List ℕ)
+    (model i : Tables) → ((other : List ℕ) → later other ≡ held other) → closed ≡ Some list → ModelIs held name model →
+    IsClosing later list model i → InstanceIs held name closed i
 instance_closed held later name closed list model i same named read closing = record {
   model = model;
   read = read;
   closed = rw named (closing.0, closing.1, rw (sym (same list)) closing.2);
 }
 
-pub source_model : (held : Held) (name : List ℕ) (closed : Option (List ℕ)) (before now : Faults) (refusal : Refusal) → ModelReason held name before now refusal → SourceReason held name closed before now refusal
+pub source_model : (held : Held) (name : List ℕ) (closed : Option (List ℕ)) (before now : Faults) (refusal : Refusal) →
+    ModelReason held name before now refusal → SourceReason held name closed before now refusal
 source_model held name closed before now (Read file.Model) reason = reason
 source_model held name closed before now (Model fault) reason = reason
 source_model held name closed before now Memory reason = tt
 source_model held name closed before now refusal reason = absurd reason
 
-pub source_closed : (held later : Held) (name : List ℕ) (closed : Option (List ℕ)) (list : List ℕ) (model : Tables) (first before now : Faults) → ((other : List ℕ) → later other ≡ held other) → ((other : List ℕ) → first other ≤ before other) → closed ≡ Some list → ModelIs held name model → (refusal : Refusal) → ClosedReason later list model before now refusal → SourceReason held name closed first now refusal
-source_closed held later name closed list model first before now same never_fell named read (Read file.Closed) reason = record { tables = model; read = read; name = list; named = named; rose = rose_later (first list) (before list) (now list) (never_fell list) reason }
-source_closed held later name closed list model first before now same never_fell named read (Closed fault) reason = record { model = model; read = read; name = list; named = named; in_file = reason.0; refused = rw (sym (same list)) reason.1 }
+pub source_closed : (held later : Held) (name : List ℕ) (closed : Option (List ℕ)) (list : List ℕ) (model : Tables)
+    (first before now : Faults) → ((other : List ℕ) → later other ≡ held other) →
+    ((other : List ℕ) → first other ≤ before other) → closed ≡ Some list → ModelIs held name model →
+    (refusal : Refusal) → ClosedReason later list model before now refusal →
+    SourceReason held name closed first now refusal
+source_closed held later name closed list model first before now same never_fell named read (Read file.Closed) reason =
+    record {
+      tables = model;
+      read = read;
+      name = list;
+      named = named;
+      rose = rose_later (first list) (before list) (now list) (never_fell list) reason;
+    }
+source_closed held later name closed list model first before now same never_fell named read (Closed fault) reason =
+    record {
+      model = model;
+      read = read;
+      name = list;
+      named = named;
+      in_file = reason.0;
+      refused = rw (sym (same list)) reason.1;
+    }
 source_closed held later name closed list model first before now same never_fell named read Memory reason = tt
-source_closed held later name closed list model first before now same never_fell named read refusal reason = absurd reason
+source_closed held later name closed list model first before now same never_fell named read refusal reason =
+    absurd reason
 
-pub reason_source : (held : Held) (names : Names) (before now : Faults) (own : Refusal → Type 0) → (refusal : Refusal) → SourceReason held names.model names.closed before now refusal → Reason held names before now own refusal
+pub reason_source : (held : Held) (names : Names) (before now : Faults) (own : Refusal → Type 0) → (refusal : Refusal) →
+    SourceReason held names.model names.closed before now refusal → Reason held names before now own refusal
 unfolding name_of
 reason_source held names before now own (Read file.Model) reason = record { earlier = tt; named = tt; rose = reason }
-reason_source held names before now own (Read file.Closed) reason = record { earlier = (reason.tables, reason.read); named = rw reason.named refl; rose = rw reason.named reason.rose }
+reason_source held names before now own (Read file.Closed) reason = record {
+  earlier = (reason.tables, reason.read);
+  named = rw reason.named refl;
+  rose = rw reason.named reason.rose;
+}
 reason_source held names before now own (Model fault) reason = reason
 reason_source held names before now own (Closed fault) reason = reason
 reason_source held names before now own Memory reason = tt
@@ -95,73 +164,174 @@ reason_source held names before now own refusal reason = absurd reason
 
 -- the initial list
 
-pub reason_initial : (held later : Held) (model : List ℕ) (closed : Option (List ℕ)) (initial : List ℕ) (i : Tables) (first before now : Faults) (own : Refusal → Type 0) → ((other : List ℕ) → later other ≡ held other) → ((other : List ℕ) → first other ≤ before other) → InstanceIs held model closed i → (refusal : Refusal) → ListReason role.Initial later initial i before now refusal → Reason held (solve_names model initial closed) first now own refusal
+pub reason_initial : (held later : Held) (model : List ℕ) (closed : Option (List ℕ)) (initial : List ℕ) (i : Tables)
+    (first before now : Faults) (own : Refusal → Type 0) → ((other : List ℕ) → later other ≡ held other) →
+    ((other : List ℕ) → first other ≤ before other) → InstanceIs held model closed i → (refusal : Refusal) →
+    ListReason role.Initial later initial i before now refusal →
+    Reason held (solve_names model initial closed) first now own refusal
 unfolding name_of
-reason_initial held later model closed initial i first before now own same never_fell instance (Read f) reason = subst (ReadFailed held (solve_names model initial closed) first now) (sym reason.0) (record { earlier = (i, instance); named = refl; rose = rose_later (first initial) (before initial) (now initial) (never_fell initial) reason.1 })
-reason_initial held later model closed initial i first before now own same never_fell instance (Assign which fault) reason = subst (λ (w : Role). RoleRefused held (solve_names model initial closed) w fault) (sym reason.0) (record { tables = i; instance = instance; name = initial; named = refl; refused = record { in_file = reason.1.in_file; refused = rw (sym (same initial)) reason.1.refused } })
+reason_initial held later model closed initial i first before now own same never_fell instance (Read f) reason =
+    subst (ReadFailed held (solve_names model initial closed) first now) (sym reason.0) (record {
+      earlier = (i, instance);
+      named = refl;
+      rose = rose_later (first initial) (before initial) (now initial) (never_fell initial) reason.1;
+    })
+reason_initial held later model closed initial i first before now own same never_fell instance (Assign which fault)
+    reason = subst (λ (w : Role). RoleRefused held (solve_names model initial closed) w fault) (sym reason.0) (record {
+      tables = i;
+      instance = instance;
+      name = initial;
+      named = refl;
+      refused = record { in_file = reason.1.in_file; refused = rw (sym (same initial)) reason.1.refused };
+    })
 reason_initial held later model closed initial i first before now own same never_fell instance Memory reason = tt
-reason_initial held later model closed initial i first before now own same never_fell instance refusal reason = absurd reason
+reason_initial held later model closed initial i first before now own same never_fell instance refusal reason =
+    absurd reason
 
 -- the bound of the files
 
-pub reason_named : (held later : Held) (model : List ℕ) (closed initial : Option (List ℕ)) (i : Tables) (first before now : Faults) (own : Refusal → Type 0) → ((other : List ℕ) → later other ≡ held other) → ((other : List ℕ) → first other ≤ before other) → InstanceIs held model closed i → (refusal : Refusal) → NamedReason later initial i before now refusal → Reason held (bound_names model initial closed) first now own refusal
+pub reason_named : (held later : Held) (model : List ℕ) (closed initial : Option (List ℕ)) (i : Tables)
+    (first before now : Faults) (own : Refusal → Type 0) → ((other : List ℕ) → later other ≡ held other) →
+    ((other : List ℕ) → first other ≤ before other) → InstanceIs held model closed i → (refusal : Refusal) →
+    NamedReason later initial i before now refusal →
+    Reason held (bound_names model initial closed) first now own refusal
 reason_named held later model closed None i first before now own same never_fell instance refusal reason = absurd reason
-reason_named held later model closed (Some initial) i first before now own same never_fell instance refusal reason = reason_initial held later model closed initial i first before now own same never_fell instance refusal reason
+reason_named held later model closed (Some initial) i first before now own same never_fell instance refusal reason =
+    reason_initial held later model closed initial i first before now own same never_fell instance refusal reason
 
-pub bound_read : (held later : Held) (model : List ℕ) (closed initial : Option (List ℕ)) (i : Tables) (bound : Bound) → ((other : List ℕ) → later other ≡ held other) → InstanceIs held model closed i → BoundIs later initial i bound → BoundRead held (bound_names model initial closed) bound
+pub bound_read : (held later : Held) (model : List ℕ) (closed initial : Option (List ℕ)) (i : Tables) (bound : Bound) →
+    ((other : List ℕ) → later other ≡ held other) → InstanceIs held model closed i → BoundIs later initial i bound →
+    BoundRead held (bound_names model initial closed) bound
 bound_read held later model closed None i bound same instance is = record { tables = i; instance = instance; is = is }
-bound_read held later model closed (Some initial) i bound same instance is = record { tables = i; instance = instance; is = (is.0, rw (sym (same initial)) is.1, is.2, is.3) }
+bound_read held later model closed (Some initial) i bound same instance is = record {
+  tables = i;
+  instance = instance;
+  is = (is.0, rw (sym (same initial)) is.1, is.2, is.3);
+}
 
 -- the lists of a check
 
-pub reason_lists : (held later : Held) (model : List ℕ) (closed : Option (List ℕ)) (initial changed : List ℕ) (i : Tables) (first before now : Faults) (own : Refusal → Type 0) → ((other : List ℕ) → later other ≡ held other) → ((other : List ℕ) → first other ≤ before other) → InstanceIs held model closed i → (refusal : Refusal) → ListsReason later initial changed i before now refusal → Reason held (check_names model initial changed closed) first now own refusal
+pub reason_lists : (held later : Held) (model : List ℕ) (closed : Option (List ℕ)) (initial changed : List ℕ)
+    (i : Tables) (first before now : Faults) (own : Refusal → Type 0) → ((other : List ℕ) → later other ≡ held other) →
+    ((other : List ℕ) → first other ≤ before other) → InstanceIs held model closed i → (refusal : Refusal) →
+    ListsReason later initial changed i before now refusal →
+    Reason held (check_names model initial changed closed) first now own refusal
 unfolding name_of
-reason_lists held later model closed initial changed i first before now own same never_fell instance (Read file.Initial) reason = record { earlier = (i, instance); named = refl; rose = rose_later (first initial) (before initial) (now initial) (never_fell initial) reason }
-reason_lists held later model closed initial changed i first before now own same never_fell instance (Read file.Changed) reason = record { earlier = (i, reason.0, instance, rw (sym (same initial)) reason.1); named = refl; rose = rose_later (first changed) (before changed) (now changed) (never_fell changed) reason.2 }
-reason_lists held later model closed initial changed i first before now own same never_fell instance (Assign role.Initial fault) reason = record { tables = i; instance = instance; name = initial; named = refl; refused = record { in_file = reason.in_file; refused = rw (sym (same initial)) reason.refused } }
-reason_lists held later model closed initial changed i first before now own same never_fell instance (Assign role.Changed fault) reason = record { tables = i; a0 = reason.0; instance = instance; initial = rw (sym (same initial)) reason.1; name = changed; named = refl; refused = record { in_file = reason.2.in_file; refused = rw (sym (same changed)) reason.2.refused } }
+reason_lists held later model closed initial changed i first before now own same never_fell instance (Read file.Initial)
+    reason = record {
+      earlier = (i, instance);
+      named = refl;
+      rose = rose_later (first initial) (before initial) (now initial) (never_fell initial) reason;
+    }
+reason_lists held later model closed initial changed i first before now own same never_fell instance (Read file.Changed)
+    reason = record {
+      earlier = (i, reason.0, instance, rw (sym (same initial)) reason.1);
+      named = refl;
+      rose = rose_later (first changed) (before changed) (now changed) (never_fell changed) reason.2;
+    }
+reason_lists held later model closed initial changed i first before now own same never_fell instance
+    (Assign role.Initial fault) reason = record {
+      tables = i;
+      instance = instance;
+      name = initial;
+      named = refl;
+      refused = record { in_file = reason.in_file; refused = rw (sym (same initial)) reason.refused };
+    }
+reason_lists held later model closed initial changed i first before now own same never_fell instance
+    (Assign role.Changed fault) reason = record {
+      tables = i;
+      a0 = reason.0;
+      instance = instance;
+      initial = rw (sym (same initial)) reason.1;
+      name = changed;
+      named = refl;
+      refused = record { in_file = reason.2.in_file; refused = rw (sym (same changed)) reason.2.refused };
+    }
 reason_lists held later model closed initial changed i first before now own same never_fell instance Memory reason = tt
-reason_lists held later model closed initial changed i first before now own same never_fell instance refusal reason = absurd reason
+reason_lists held later model closed initial changed i first before now own same never_fell instance refusal reason =
+    absurd reason
 
-pub reason_judge : (held : Held) (names : Names) (i : Tables) (a0 a : List Machine) (first now : Faults) (written : Type 0) → IsSome names.initial → IsSome names.changed → Accepts held names i a0 a → (refusal : Refusal) → JudgeReason i a0 a refusal → Reason held names first now (Judges held names written) refusal
-reason_judge held names i a0 a first now written has_initial has_changed accepts (Broken role.Initial cause) reason = record { tables = i; a0 = a0; a = a; named = has_initial; accepts = accepts; broken = reason }
-reason_judge held names i a0 a first now written has_initial has_changed accepts (Broken role.Changed cause) reason = record { tables = i; a0 = a0; a = a; start_named = has_initial; named = has_changed; accepts = accepts; initial = reason.0; broken = reason.1 }
+pub reason_judge : (held : Held) (names : Names) (i : Tables) (a0 a : List Machine) (first now : Faults)
+    (written : Type 0) → IsSome names.initial → IsSome names.changed → Accepts held names i a0 a → (refusal : Refusal) →
+    JudgeReason i a0 a refusal → Reason held names first now (Judges held names written) refusal
+reason_judge held names i a0 a first now written has_initial has_changed accepts (Broken role.Initial cause) reason =
+    record {
+      tables = i;
+      a0 = a0;
+      a = a;
+      named = has_initial;
+      accepts = accepts;
+      broken = reason;
+    }
+reason_judge held names i a0 a first now written has_initial has_changed accepts (Broken role.Changed cause) reason =
+    record {
+      tables = i;
+      a0 = a0;
+      a = a;
+      start_named = has_initial;
+      named = has_changed;
+      accepts = accepts;
+      initial = reason.0;
+      broken = reason.1;
+    }
 reason_judge held names i a0 a first now written has_initial has_changed accepts Memory reason = tt
 reason_judge held names i a0 a first now written has_initial has_changed accepts refusal reason = absurd reason
 
 -- all files of a check were accepted
-pub accepts_all : (held later : Held) (model : List ℕ) (closed : Option (List ℕ)) (initial changed : List ℕ) (i : Tables) (a0 a : List Machine) → ((other : List ℕ) → later other ≡ held other) → InstanceIs held model closed i → ReadsLists later initial changed i a0 a → Accepts held (check_names model initial changed closed) i a0 a
+pub accepts_all : (held later : Held) (model : List ℕ) (closed : Option (List ℕ)) (initial changed : List ℕ)
+    (i : Tables) (a0 a : List Machine) → ((other : List ℕ) → later other ≡ held other) →
+    InstanceIs held model closed i → ReadsLists later initial changed i a0 a →
+    Accepts held (check_names model initial changed closed) i a0 a
 accepts_all held later model closed initial changed i a0 a same instance lists = record {
   instance = instance;
   initial = rw (sym (same initial)) lists.initial;
   changed = rw (sym (same changed)) lists.changed;
 }
 
-pub passed_all : (held : Held) (names : Names) (i : Tables) (a0 a : List Machine) (parts : Parts) → Accepts held names i a0 a → Judged i a0 a parts → Passed held names parts
-passed_all held names i a0 a parts accepts judged = record { tables = i; a0 = a0; a = a; passes = record { accepts = accepts; initial = judged.initial; changed = judged.changed }; parts_are = judged.parts_are }
+pub passed_all : (held : Held) (names : Names) (i : Tables) (a0 a : List Machine) (parts : Parts) →
+    Accepts held names i a0 a → Judged i a0 a parts → Passed held names parts
+passed_all held names i a0 a parts accepts judged = record {
+  tables = i;
+  a0 = a0;
+  a = a;
+  passes = record { accepts = accepts; initial = judged.initial; changed = judged.changed };
+  parts_are = judged.parts_are;
+}
 
 -- the text of the parts was sent
-pub printed : (held : Held) (names : Names) (parts : Parts) (sent : List ℕ → Type 0) → Passed held names parts → sent (parts_text parts) → CheckPrinted held names sent
-printed held names parts sent passed text = record { tables = passed.tables; a0 = passed.a0; a = passed.a; passes = passed.passes; text = rw (sym passed.parts_are) text }
+pub printed : (held : Held) (names : Names) (parts : Parts) (sent : List ℕ → Type 0) → Passed held names parts →
+    sent (parts_text parts) → CheckPrinted held names sent
+printed held names parts sent passed text = record {
+  tables = passed.tables;
+  a0 = passed.a0;
+  a = passed.a;
+  passes = passed.passes;
+  text = rw (sym passed.parts_are) text;
+}
 
 -- the initial list of a run
 
 -- the instance and the initial list were read
-pub starts : (held later : Held) (model : List ℕ) (closed : Option (List ℕ)) (initial : List ℕ) (i : Tables) (a0 : List Machine) → ((other : List ℕ) → later other ≡ held other) → InstanceIs held model closed i → IsList later initial i a0 → IsStart held (solve_names model initial closed) i a0
+pub starts : (held later : Held) (model : List ℕ) (closed : Option (List ℕ)) (initial : List ℕ) (i : Tables)
+    (a0 : List Machine) → ((other : List ℕ) → later other ≡ held other) → InstanceIs held model closed i →
+    IsList later initial i a0 → IsStart held (solve_names model initial closed) i a0
 starts held later model closed initial i a0 same instance list = record {
   accepts = record { instance = instance; initial = rw (sym (same initial)) list.0; changed = tt };
   fits = list.1;
 }
 
 -- the reason of the initial list is one of both
-pub judge_start_reason : (i : Tables) (a0 a : List Machine) (refusal : Refusal) → StartReason i a0 refusal → JudgeReason i a0 a refusal
+pub judge_start_reason : (i : Tables) (a0 a : List Machine) (refusal : Refusal) → StartReason i a0 refusal →
+    JudgeReason i a0 a refusal
 judge_start_reason i a0 a (Broken role.Initial cause) reason = reason
 judge_start_reason i a0 a Memory reason = tt
 judge_start_reason i a0 a refusal reason = absurd reason
 
 -- the reason of a refusal, if more is said of the job's own
 
-pub reason_more : (held : Held) (names : Names) (before now : Faults) (own more : Refusal → Type 0) → ((r : Refusal) → own r → more r) → (refusal : Refusal) → Reason held names before now own refusal → Reason held names before now more refusal
+pub reason_more : (held : Held) (names : Names) (before now : Faults) (own more : Refusal → Type 0) →
+    ((r : Refusal) → own r → more r) → (refusal : Refusal) → Reason held names before now own refusal →
+    Reason held names before now more refusal
 reason_more held names before now own more step (Read f) reason = reason
 reason_more held names before now own more step (Model fault) reason = reason
 reason_more held names before now own more step (Closed fault) reason = reason
@@ -169,18 +339,24 @@ reason_more held names before now own more step (Assign which fault) reason = re
 reason_more held names before now own more step Memory reason = reason
 reason_more held names before now own more step refusal reason = step refusal reason
 
-pub judges_more : (held : Held) (names : Names) (written more : Type 0) → (written → more) → (refusal : Refusal) → Judges held names written refusal → Judges held names more refusal
+pub judges_more : (held : Held) (names : Names) (written more : Type 0) → (written → more) → (refusal : Refusal) →
+    Judges held names written refusal → Judges held names more refusal
 judges_more held names written more step (Broken which cause) reason = reason
 judges_more held names written more step Write reason = step reason
 judges_more held names written more step refusal reason = reason
 
 -- a refusal before any list was judged, and one before anything was written
 
-pub reason_anywhere : (held : Held) (names : Names) (before now : Faults) (own : Refusal → Type 0) (refusal : Refusal) → Reason held names before now Nothing refusal → Reason held names before now own refusal
-reason_anywhere held names before now own refusal reason = reason_more held names before now Nothing own (λ r none. absurd none) refusal reason
+pub reason_anywhere : (held : Held) (names : Names) (before now : Faults) (own : Refusal → Type 0) (refusal : Refusal) →
+    Reason held names before now Nothing refusal → Reason held names before now own refusal
+reason_anywhere held names before now own refusal reason =
+    reason_more held names before now Nothing own (λ r none. absurd none) refusal reason
 
-pub reason_unwritten : (held : Held) (names : Names) (before now : Faults) (written : Type 0) (refusal : Refusal) → Reason held names before now (Judges held names ⊥) refusal → Reason held names before now (Judges held names written) refusal
-reason_unwritten held names before now written refusal reason = reason_more held names before now (Judges held names ⊥) (Judges held names written) (judges_more held names ⊥ written (λ none. absurd none)) refusal reason
+pub reason_unwritten : (held : Held) (names : Names) (before now : Faults) (written : Type 0) (refusal : Refusal) →
+    Reason held names before now (Judges held names ⊥) refusal →
+    Reason held names before now (Judges held names written) refusal
+reason_unwritten held names before now written refusal reason = reason_more held names before now (Judges held names ⊥)
+    (Judges held names written) (judges_more held names ⊥ written (λ none. absurd none)) refusal reason
 
 -- what refuses can be told
 
@@ -188,27 +364,38 @@ some_of : (name : Option (List ℕ)) (list : List ℕ) → name ≡ Some list �
 some_of name list is = rw is refl
 
 -- if the job's own can
-pub can_tell : (held : Held) (names : Names) (before now : Faults) (own : Refusal → Type 0) → ((r : Refusal) → own r → CanTell names r) → (refusal : Refusal) → Reason held names before now own refusal → CanTell names refusal
+pub can_tell : (held : Held) (names : Names) (before now : Faults) (own : Refusal → Type 0) →
+    ((r : Refusal) → own r → CanTell names r) → (refusal : Refusal) → Reason held names before now own refusal →
+    CanTell names refusal
 can_tell held names before now own tells (Read f) reason = reason.named
 can_tell held names before now own tells (Model fault) reason = reason.in_file
-can_tell held names before now own tells (Closed fault) reason = (some_of names.closed reason.name reason.named, reason.in_file)
-can_tell held names before now own tells (Assign role.Initial fault) reason = (some_of names.initial reason.name reason.named, reason.refused.in_file)
-can_tell held names before now own tells (Assign role.Changed fault) reason = (some_of names.changed reason.name reason.named, reason.refused.in_file)
+can_tell held names before now own tells (Closed fault) reason =
+    (some_of names.closed reason.name reason.named, reason.in_file)
+can_tell held names before now own tells (Assign role.Initial fault) reason =
+    (some_of names.initial reason.name reason.named, reason.refused.in_file)
+can_tell held names before now own tells (Assign role.Changed fault) reason =
+    (some_of names.changed reason.name reason.named, reason.refused.in_file)
 can_tell held names before now own tells Memory reason = tt
 can_tell held names before now own tells refusal reason = tells refusal reason
 
-judges_tell : (held : Held) (names : Names) (written : Type 0) (refusal : Refusal) → Judges held names written refusal → CanTell names refusal
+judges_tell : (held : Held) (names : Names) (written : Type 0) (refusal : Refusal) → Judges held names written refusal →
+    CanTell names refusal
 judges_tell held names written (Broken role.Initial cause) reason = reason.named
 judges_tell held names written (Broken role.Changed cause) reason = reason.named
 judges_tell held names written Write reason = tt
 judges_tell held names written refusal reason = absurd reason
 
-writes_tell : (names : Names) (written : Type 0) (refusal : Refusal) → OnlyWrites written refusal → CanTell names refusal
+writes_tell : (names : Names) (written : Type 0) (refusal : Refusal) → OnlyWrites written refusal →
+    CanTell names refusal
 writes_tell names written Write reason = tt
 writes_tell names written refusal reason = absurd reason
 
-pub can_tell_judged : (held : Held) (names : Names) (before now : Faults) (written : Type 0) (refusal : Refusal) → Reason held names before now (Judges held names written) refusal → CanTell names refusal
-can_tell_judged held names before now written = can_tell held names before now (Judges held names written) (judges_tell held names written)
+pub can_tell_judged : (held : Held) (names : Names) (before now : Faults) (written : Type 0) (refusal : Refusal) →
+    Reason held names before now (Judges held names written) refusal → CanTell names refusal
+can_tell_judged held names before now written =
+    can_tell held names before now (Judges held names written) (judges_tell held names written)
 
-pub can_tell_written : (held : Held) (names : Names) (before now : Faults) (written : Type 0) (refusal : Refusal) → Reason held names before now (OnlyWrites written) refusal → CanTell names refusal
-can_tell_written held names before now written = can_tell held names before now (OnlyWrites written) (writes_tell names written)
+pub can_tell_written : (held : Held) (names : Names) (before now : Faults) (written : Type 0) (refusal : Refusal) →
+    Reason held names before now (OnlyWrites written) refusal → CanTell names refusal
+can_tell_written held names before now written =
+    can_tell held names before now (OnlyWrites written) (writes_tell names written)

@@ -11,7 +11,8 @@ use Rattle.ra_jobs.specs.declared.refusals.Refusal.{Refusal}
 use Rattle.ra_jobs.specs.declared.refusals.Refusal.TheVariants.{Write}
 use Rattle.ra_jobs.specs.declared.refusals.Role.{Role}
 use Rattle.ra_jobs.specs.declared.status.Status.{Status}
-use Rattle.ra_jobs.specs.declared.status.Status.TheVariants.{Done, ReadFault, BadModel, BadAssignment, Infeasible, WriteFault, NoMemory, BadClosed, Unrepaired}
+use Rattle.ra_jobs.specs.declared.status.Status.TheVariants.{Done, ReadFault, BadModel, BadAssignment, Infeasible}
+use Rattle.ra_jobs.specs.declared.status.Status.TheVariants.{WriteFault, NoMemory, BadClosed, Unrepaired}
 use Rattle.ra_jobs.specs.Files.{Held, Faults, Names, name_of, file_of, IsNamed}
 use Rattle.ra_jobs.specs.Refusals.{ReadFailed, ModelRefused, ClosedRefused, RoleRefused, RoleBreaks}
 
@@ -41,7 +42,8 @@ KnownTo held names before now file.Report =
     IsKnown held names before now file.Model × IsKnown held names before now file.Closed
     × IsKnown held names before now file.Initial × IsKnown held names before now file.Report
 
--- a status comes only if its cause stands; and if that stands, over files that are known, no other status comes but that of
+-- a status comes only if its cause stands; and if that stands, over files that are known, no other status comes but
+-- that of
 -- refused memory
 pub record Exactly (status this : Status) (known cause : Type 0) : Type 0 where
   pub only : status ≡ this → cause
@@ -68,7 +70,8 @@ pub record BadAssignmentComes (held : Held) (names : Names) (before now : Faults
       → ((fault : AssignFault) × RoleRefused held names which fault)
       → (status ≡ BadAssignment) ⊎ (status ≡ NoMemory)
 
--- each status of a refused job that any job may have, and when it comes. The status of refused memory is free, but nothing
+-- each status of a refused job that any job may have, and when it comes. The status of refused memory is free, but
+-- nothing
 -- was written then
 pub record Comes (held : Held) (names : Names) (before now : Faults) (own : Refusal → Type 0)
     (out_same : Type 0) (status : Status) : Type 0 where

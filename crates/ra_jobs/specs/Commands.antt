@@ -1,4 +1,5 @@
--- A command: its files, what it prints and why it refuses, and how it ends. How far a text came is a predicate on texts: `sent`
+-- A command: its files, what it prints and why it refuses, and how it ends. How far a text came is a predicate on
+-- texts: `sent`
 -- in what is printed. The output took it whole, or broke off behind a front of it.
 use Rattle.std.specs.Prelude.{◌≡◌, ◌⊎◌, ℕ, List}
 use Rattle.ra_draws.specs.declared.budgets.Lots.{Lots}
@@ -17,7 +18,8 @@ pub record Command : Type 1 where
   pub names : Names
   -- what it has printed if it is done, by what its files hold: its text was sent so far
   pub prints : Held → (List ℕ → Type 0) → Type 0
-  -- the reason of each of its refusals, by the texts that the output took whole and those behind a front of which it broke off
+  -- the reason of each of its refusals, by the texts that the output took whole and those behind a front of which it
+  -- broke off
   pub refuses : Reading → (List ℕ → Type 0) → (List ℕ → Type 0) → Refusal → Type 0
   -- when each of its statuses comes
   pub comes : Reading → Output → Status → Type 0
@@ -26,7 +28,8 @@ pub record Command : Type 1 where
   -- then it ends with one of these, if writing didn't fail either
   pub answers : Status → Type 0
 
--- what is a command's own of one that reads a model and lists: its own refusals, when their statuses come, and what makes
+-- what is a command's own of one that reads a model and lists: its own refusals, when their statuses come, and what
+-- makes
 -- its files valid
 pub record OverFiles : Type 1 where
   pub names : Names
@@ -67,6 +70,7 @@ judged names prints = record {
   answers = λ status. (status ≡ Done) ⊎ (status ≡ NoMemory);
 }
 
--- the lots that were asked for are these. It is a predicate, since there are none if memory was refused before they were read
+-- the lots that were asked for are these. It is a predicate, since there are none if memory was refused before they
+-- were read
 abbrev pub These : Lots → Lots → Type 0
 These lots l = l ≡ lots

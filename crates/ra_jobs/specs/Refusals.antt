@@ -16,12 +16,15 @@ use Rattle.ra_report.specs.FaultTexts.{IsInModel, IsInClosed, IsInList, IsInEdit
 use Rattle.ra_jobs.specs.declared.refusals.File.{File}
 use Rattle.ra_jobs.specs.declared.refusals.File.TheVariants as file
 use Rattle.ra_jobs.specs.declared.refusals.Refusal.{Refusal}
-use Rattle.ra_jobs.specs.declared.refusals.Refusal.TheVariants.{Read, Model, Closed, Assign, Edits, Broken, Unrepaired, Write, Memory}
+use Rattle.ra_jobs.specs.declared.refusals.Refusal.TheVariants.{Read, Model, Closed, Assign, Edits, Broken, Unrepaired}
+use Rattle.ra_jobs.specs.declared.refusals.Refusal.TheVariants.{Write, Memory}
 use Rattle.ra_jobs.specs.declared.refusals.Role.{Role}
 use Rattle.ra_jobs.specs.declared.refusals.Role.TheVariants as role
-use Rattle.ra_jobs.specs.Files.{Held, Faults, Names, name_of, file_of, IsNamed, ModelIs, InstanceIs, NamedListIs, Accepts, Passes}
+use Rattle.ra_jobs.specs.Files.{Held, Faults, Names, name_of, file_of, IsNamed, ModelIs, InstanceIs, NamedListIs}
+use Rattle.ra_jobs.specs.Files.{Accepts, Passes}
 
--- what was done before a file of the job is read: the model, then the closed list, then the initial list, then the new or
+-- what was done before a file of the job is read: the model, then the closed list, then the initial list, then the new
+-- or
 -- current one, then the edits; a report is read once the initial list is known to be feasible
 abbrev pub ReadBefore : Held → Names → File → Type 0
 ReadBefore held names file.Model = Unit {0}
@@ -109,8 +112,10 @@ abbrev pub RoleBreaks : Held → Names → Role → Cause → Type 0
 RoleBreaks held names role.Initial cause = InitialBreaks held names cause
 RoleBreaks held names role.Changed cause = ChangedBreaks held names cause
 
--- the reason of each refusal: what is so of the files of a job, whose counts of faults went from before to now. What is the
--- job's own stands in `own`: the reasons of its refusals beyond those of the model, of the closed list, of the lists and of
+-- the reason of each refusal: what is so of the files of a job, whose counts of faults went from before to now. What is
+-- the
+-- job's own stands in `own`: the reasons of its refusals beyond those of the model, of the closed list, of the lists
+-- and of
 -- memory
 abbrev pub Reason : Held → Names → Faults → Faults → (Refusal → Type 0) → Refusal → Type 0
 Reason held names before now own (Read f) = ReadFailed held names before now f

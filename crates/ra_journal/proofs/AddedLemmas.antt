@@ -1,5 +1,6 @@
 -- A journal with one entry more: its counts of entries, its state, its kept cost and its versions.
-use Rattle.std.proofs.Common.{◌≡◌, ℕ, suc, ◌+◌, ◌<◌, ◌≤◌, Bool, true, false, cond, eqb, max, List, [], ◌∷◌, ◌++◌, length, Option, sym, ap, ap₂, ◌∙◌, arith}
+use Rattle.std.proofs.Common.{◌≡◌, ℕ, suc, ◌+◌, ◌<◌, ◌≤◌, Bool, true, false, cond, eqb, max, List, [], ◌∷◌, ◌++◌}
+use Rattle.std.proofs.Common.{length, Option, sym, ap, ap₂, ◌∙◌, arith}
 use Rattle.ra_base.specs.Sums.{one_if}
 use Rattle.ra_base.specs.declared.ids.Guard.{Guard}
 use Rattle.ra_base.specs.declared.ids.Machine.{Machine}
@@ -11,21 +12,29 @@ use Rattle.ra_guards.specs.Versions.{made_at, touches, stamp, version}
 use Rattle.ra_journal.specs.declared.entries.Entry.{Entry}
 use Rattle.ra_journal.specs.Entries.{entry_at, made_by, made_in, entries_of}
 use Rattle.ra_journal.specs.States.{state, after_made, kept_cost, cost_then}
-use Rattle.ra_journal.proofs.Places.{SameBelow, same_added, same_state, same_kept, same_entries_of, same_version, made_place, entry_added}
+use Rattle.ra_journal.proofs.Places.{SameBelow, same_added, same_state, same_kept, same_entries_of, same_version}
+use Rattle.ra_journal.proofs.Places.{made_place, entry_added}
 
-pub entries_added : (h : List Entry) (e : Entry) (w : ℕ) → entries_of (h ++ e ∷ []) (suc (length h)) w ≡ entries_of h (length h) w + one_if (eqb e.worker w)
+pub entries_added : (h : List Entry) (e : Entry) (w : ℕ) → entries_of (h ++ e ∷ []) (suc (length h)) w ≡
+    entries_of h (length h) w + one_if (eqb e.worker w)
 unfolding entries_of
 entries_added h e w =
     let g = h ++ e ∷ [] in
-    total_suc (length h) (λ j. one_if (eqb (entry_at g j).worker w)) ∙ ap₂ (λ m n. m + n) (sym (same_entries_of (length h) w h g (same_added h e))) (ap (λ (x : Entry). one_if (eqb x.worker w)) (entry_added h e))
+    total_suc (length h) (λ j. one_if (eqb (entry_at g j).worker w))
+    ∙ ap₂ (λ m n. m + n) (sym (same_entries_of (length h) w h g (same_added h e)))
+    (ap (λ (x : Entry). one_if (eqb x.worker w)) (entry_added h e))
 
-pub state_added : (a0 : List Machine) (h : List Entry) (e : Entry) → state a0 (h ++ e ∷ []) (suc (length h)) ≡ after_made (state a0 h (length h)) (made_by e)
+pub state_added : (a0 : List Machine) (h : List Entry) (e : Entry) → state a0 (h ++ e ∷ []) (suc (length h)) ≡
+    after_made (state a0 h (length h)) (made_by e)
 unfolding state
-state_added a0 h e = ap₂ after_made (sym (same_state a0 (length h) h (h ++ e ∷ []) (same_added h e))) (ap made_by (entry_added h e))
+state_added a0 h e =
+    ap₂ after_made (sym (same_state a0 (length h) h (h ++ e ∷ []) (same_added h e))) (ap made_by (entry_added h e))
 
-pub kept_added : (i : Tables) (a0 : List Machine) (h : List Entry) (e : Entry) → kept_cost i a0 (h ++ e ∷ []) (suc (length h)) ≡ cost_then (kept_cost i a0 h (length h)) e.verdict
+pub kept_added : (i : Tables) (a0 : List Machine) (h : List Entry) (e : Entry) →
+    kept_cost i a0 (h ++ e ∷ []) (suc (length h)) ≡ cost_then (kept_cost i a0 h (length h)) e.verdict
 unfolding kept_cost
-kept_added i a0 h e = ap₂ cost_then (sym (same_kept i a0 (length h) h (h ++ e ∷ []) (same_added h e))) (ap (λ (x : Entry). x.verdict) (entry_added h e))
+kept_added i a0 h e = ap₂ cost_then (sym (same_kept i a0 (length h) h (h ++ e ∷ []) (same_added h e)))
+    (ap (λ (x : Entry). x.verdict) (entry_added h e))
 
 -- no version is above the number of entries
 pub version_few : (i : Tables) (made : List (Option (List Step))) (n : ℕ) (g : Guard) → version i made n g ≤ n
@@ -36,17 +45,25 @@ version_few i made n g = greatest_least n n (stamp i made g) (λ j before. few j
     few j true before = omega arith
     few j false before = omega arith
 
-stamped : (touched : Bool) (n before : ℕ) → before ≤ n → max before (cond touched (suc n) 0) ≡ cond touched (suc n) before
+stamped : (touched : Bool) (n before : ℕ) → before ≤ n → max before (cond touched (suc n) 0) ≡
+    cond touched (suc n) before
 stamped true n before few = omega arith
 stamped false n before few = omega arith
 
 -- the guards that the entry touches get the version behind it, and the others keep theirs
-pub version_added : (i : Tables) (h : List Entry) (e : Entry) (g : Guard) → version i (made_in (h ++ e ∷ [])) (suc (length h)) g ≡ cond (touches i (made_by e) g) (suc (length h)) (version i (made_in h) (length h) g)
+pub version_added : (i : Tables) (h : List Entry) (e : Entry) (g : Guard) →
+    version i (made_in (h ++ e ∷ [])) (suc (length h)) g ≡ cond (touches i (made_by e) g) (suc (length h))
+    (version i (made_in h) (length h) g)
 unfolding version stamp
-version_added i h e g = version_of (h ++ e ∷ []) (same_added h e) (made_place (h ++ e ∷ []) (length h) ∙ ap made_by (entry_added h e))
+version_added i h e g =
+    version_of (h ++ e ∷ []) (same_added h e) (made_place (h ++ e ∷ []) (length h) ∙ ap made_by (entry_added h e))
   where
-    version_of : (k : List Entry) → SameBelow (length h) h k → made_at (made_in k) (length h) ≡ made_by e → version i (made_in k) (suc (length h)) g ≡ cond (touches i (made_by e) g) (suc (length h)) (version i (made_in h) (length h) g)
+    version_of : (k : List Entry) → SameBelow (length h) h k → made_at (made_in k) (length h) ≡ made_by e →
+        version i (made_in k) (suc (length h)) g ≡ cond (touches i (made_by e) g) (suc (length h))
+        (version i (made_in h) (length h) g)
     version_of k same here =
         greatest_suc (length h) (stamp i (made_in k) g)
-        ∙ ap₂ (λ before made. max before (cond (touches i made g) (suc (length h)) 0)) (sym (same_version i (length h) h k g same)) here
-        ∙ stamped (touches i (made_by e) g) (length h) (version i (made_in h) (length h) g) (version_few i (made_in h) (length h) g)
+        ∙ ap₂ (λ before made. max before (cond (touches i made g) (suc (length h)) 0))
+        (sym (same_version i (length h) h k g same)) here
+        ∙ stamped (touches i (made_by e) g) (length h) (version i (made_in h) (length h) g)
+        (version_few i (made_in h) (length h) g)

@@ -6,6 +6,7 @@ use Rattle.ra_guards.specs.Order.{AreWrites}
 use Rattle.ra_journal.specs.declared.journal.Journal.{Journal}
 use Rattle.ra_journal.specs.Journals.{tables_in, HasHeld}
 
-pub held_listed : (j : Journal) (plan : Plan) (guards : Option (List Guard)) → IfSome guards (HasHeld j plan) → IfSome guards (AreWrites (tables_in j) plan.mv.steps)
+pub held_listed : (j : Journal) (plan : Plan) (guards : Option (List Guard)) → IfSome guards (HasHeld j plan) →
+    IfSome guards (AreWrites (tables_in j) plan.mv.steps)
 held_listed j plan (Some guards) held = held.listed
 held_listed j plan None held = tt

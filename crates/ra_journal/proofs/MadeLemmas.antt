@@ -19,7 +19,9 @@ state_is_made a0 h (suc j) = ap₂ after_made (state_is_made a0 h j) (sym (made_
 stands_here : (i : Tables) (a : List Machine) (steps : List Step) → IsMove i a steps → StandsHere i a steps
 stands_here i a steps is = record { distinct = is.distinct; stands = is.stands; reaches = is.reaches }
 
-pub made_stand : (i : Tables) (a0 : List Machine) (h : List Entry) (n : ℕ) → MakesMoves i a0 h n → MadeStand i a0 (made_in h) n
+pub made_stand : (i : Tables) (a0 : List Machine) (h : List Entry) (n : ℕ) → MakesMoves i a0 h n →
+    MadeStand i a0 (made_in h) n
 made_stand i a0 h n moves = record {
-  each = λ j steps before is. subst (λ a. StandsHere i a steps) (state_is_made a0 h j) (stands_here i (state a0 h j) steps (moves.each j steps before (sym (made_place h j) ∙ is)));
+  each = λ j steps before is. subst (λ a. StandsHere i a steps) (state_is_made a0 h j)
+      (stands_here i (state a0 h j) steps (moves.each j steps before (sym (made_place h j) ∙ is)));
 }

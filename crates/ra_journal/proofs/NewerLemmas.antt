@@ -18,24 +18,38 @@ use Rattle.ra_journal.specs.Entries.{made_in}
 use Rattle.ra_journal.specs.Committing.{next_entry, newer_since, committed_by, committed, AreHeld, IsCommit}
 use Rattle.ra_journal.proofs.EndLemmas.{next_is_planned}
 
-pub newer_same : (i : Tables) (h : List Entry) (q : ℕ) (steps : List Step) (v : VersionTable) → AreVersions i (made_in h) (length h) v → first_newer i steps (version_in v) q ≡ newer_since i h q steps
+pub newer_same : (i : Tables) (h : List Entry) (q : ℕ) (steps : List Step) (v : VersionTable) →
+    AreVersions i (made_in h) (length h) v → first_newer i steps (version_in v) q ≡ newer_since i h q steps
 unfolding newer_since
 newer_same i h q steps v are = newest_is_right.in_table i (made_in h) (length h) steps v q are
 
 -- if no write guard is newer, by the guards that aren't write guards
-pub newer_read_same : (i : Tables) (h : List Entry) (q : ℕ) (steps : List Step) (v : VersionTable) → AreVersions i (made_in h) (length h) v → AreHeld i h q steps → first_newer_read i steps (version_in v) q ≡ newer_since i h q steps
+pub newer_read_same : (i : Tables) (h : List Entry) (q : ℕ) (steps : List Step) (v : VersionTable) →
+    AreVersions i (made_in h) (length h) v → AreHeld i h q steps → first_newer_read i steps (version_in v) q ≡
+    newer_since i h q steps
 unfolding newer_since
-newer_read_same i h q steps v are held = newest_is_right.read_in_table i (made_in h) (length h) steps v q are ∙ sym (newest_is_right.held i steps (version i (made_in h) (length h)) q held.each)
+newer_read_same i h q steps v are held = newest_is_right.read_in_table i (made_in h) (length h) steps v q are
+    ∙ sym (newest_is_right.held i steps (version i (made_in h) (length h)) q held.each)
 
 -- a commit by what is newer
-committed_by_newer : (i : Tables) (a0 : List Machine) (l : Lots) (h : List Entry) (w : ℕ) (plan : Plan) (newer : Option Newer) → IsCommit i a0 l h w plan → newer_since i h plan.q plan.mv.steps ≡ newer → committed i a0 l h w plan.q ≡ committed_by newer h (next_entry i a0 l h w plan.q)
+committed_by_newer : (i : Tables) (a0 : List Machine) (l : Lots) (h : List Entry) (w : ℕ) (plan : Plan)
+    (newer : Option Newer) → IsCommit i a0 l h w plan → newer_since i h plan.q plan.mv.steps ≡ newer →
+    committed i a0 l h w plan.q ≡ committed_by newer h (next_entry i a0 l h w plan.q)
 unfolding committed
-committed_by_newer i a0 l h w plan newer commit is = ap (λ (n : Option Newer). committed_by n h (next_entry i a0 l h w plan.q)) (ap (λ (mv : MoveSteps). newer_since i h plan.q mv.steps) (next_is_planned i a0 l h w plan commit) ∙ is)
+committed_by_newer i a0 l h w plan newer commit is =
+    ap (λ (n : Option Newer). committed_by n h (next_entry i a0 l h w plan.q))
+    (ap (λ (mv : MoveSteps). newer_since i h plan.q mv.steps) (next_is_planned i a0 l h w plan commit) ∙ is)
 
-pub committed_stale : (i : Tables) (a0 : List Machine) (l : Lots) (h : List Entry) (w : ℕ) (plan : Plan) (newer : Newer) → IsCommit i a0 l h w plan → newer_since i h plan.q plan.mv.steps ≡ Some newer → committed i a0 l h w plan.q ≡ record { journal = h; reply = Stale newer.guard newer.at }
+pub committed_stale : (i : Tables) (a0 : List Machine) (l : Lots) (h : List Entry) (w : ℕ) (plan : Plan)
+    (newer : Newer) → IsCommit i a0 l h w plan → newer_since i h plan.q plan.mv.steps ≡ Some newer →
+    committed i a0 l h w plan.q ≡ record { journal = h; reply = Stale newer.guard newer.at }
 unfolding committed_by
 committed_stale i a0 l h w plan newer commit is = committed_by_newer i a0 l h w plan (Some newer) commit is
 
-pub committed_recorded : (i : Tables) (a0 : List Machine) (l : Lots) (h : List Entry) (w : ℕ) (plan : Plan) → IsCommit i a0 l h w plan → newer_since i h plan.q plan.mv.steps ≡ None → committed i a0 l h w plan.q ≡ record { journal = h ++ next_entry i a0 l h w plan.q ∷ []; reply = Recorded (length h) (next_entry i a0 l h w plan.q).verdict }
+pub committed_recorded : (i : Tables) (a0 : List Machine) (l : Lots) (h : List Entry) (w : ℕ) (plan : Plan) →
+    IsCommit i a0 l h w plan → newer_since i h plan.q plan.mv.steps ≡ None → committed i a0 l h w plan.q ≡ record {
+      journal = h ++ next_entry i a0 l h w plan.q ∷ [];
+      reply = Recorded (length h) (next_entry i a0 l h w plan.q).verdict;
+    }
 unfolding committed_by
 committed_recorded i a0 l h w plan commit is = committed_by_newer i a0 l h w plan None commit is

@@ -19,13 +19,15 @@ use Rattle.ra_moves.specs.Touched.{ends_at}
 use Rattle.ra_moves.specs.Moving.{IsOffered}
 use Rattle.ra_moves.specs.Alike.{HeldAlike}
 
-option_few : (k : MoveKind) (a : List Machine) (x : List ℕ) (m : ℕ) (d : Drawing) (o : ℕ) → length (option_of k a x m d o).steps ≤ 3
+option_few : (k : MoveKind) (a : List Machine) (x : List ℕ) (m : ℕ) (d : Drawing) (o : ℕ) →
+    length (option_of k a x m d o).steps ≤ 3
 unfolding option_of shift_of swap_of chain_of
 option_few Shift a x m d o = omega arith
 option_few Swap a x m d o = omega arith
 option_few Chain a x m d o = omega arith
 
-pub plan_offered : (i : Tables) (a0 a : List Machine) (x : List ℕ) (d : Drawing) (rise : ℕ) → WellFormed i → IsAssignment i a → IsOffered i a (plan_of i a0 a x d rise).steps
+pub plan_offered : (i : Tables) (a0 a : List Machine) (x : List ℕ) (d : Drawing) (rise : ℕ) → WellFormed i →
+    IsAssignment i a → IsOffered i a (plan_of i a0 a x d rise).steps
 unfolding plan_of option_at
 plan_offered i a0 a x d rise limits fits = λ none.
     let place = plan_place i a0 a x d rise in
@@ -36,7 +38,8 @@ plan_offered i a0 a x d rise limits fits = λ none.
       stands = option_stands a x (machine_count i) d place some machines;
       distinct = distinct_from_none _ none;
       few = option_few (kind_of x) a x (machine_count i) d place;
-      reaches = option_reaches a x (machine_count i) d place some machines (λ p there. fits.in_range p (omega (arith, fits.one_each)));
+      reaches = option_reaches a x (machine_count i) d place some machines
+          (λ p there. fits.in_range p (omega (arith, fits.one_each)));
     }
 
 -- a machine that a step leaves is an end of the move
@@ -45,12 +48,15 @@ unfolding ends_at
 left_is_end steps j within = or_left _ _ (is_named_at (length steps) j (from_in steps) (from_in steps j) within refl)
 
 -- its processes stay where they stand
-stays_there : (i : Tables) (a b : List Machine) (steps : List Step) (j : ℕ) → HeldAlike i steps a b → j < length steps → machine_at a (process_in steps j) ≡ from_in steps j → machine_at b (process_in steps j) ≡ from_in steps j
+stays_there : (i : Tables) (a b : List Machine) (steps : List Step) (j : ℕ) → HeldAlike i steps a b → j < length steps →
+    machine_at a (process_in steps j) ≡ from_in steps j → machine_at b (process_in steps j) ≡ from_in steps j
 stays_there i a b steps j alike within there =
     let same = (alike.machines (from_in steps j) (left_is_end steps j within)).each (process_in steps j) in
-    eqb-true (machine_at b (process_in steps j)) (from_in steps j) (sym same ∙ eq-eqb (machine_at a (process_in steps j)) (from_in steps j) there)
+    eqb-true (machine_at b (process_in steps j)) (from_in steps j)
+    (sym same ∙ eq-eqb (machine_at a (process_in steps j)) (from_in steps j) there)
 
-pub offered_alike : (i : Tables) (a b : List Machine) (steps : List Step) → HeldAlike i steps a b → IsAssignment i b → IsOffered i a steps → IsOffered i b steps
+pub offered_alike : (i : Tables) (a b : List Machine) (steps : List Step) → HeldAlike i steps a b → IsAssignment i b →
+    IsOffered i a steps → IsOffered i b steps
 offered_alike i a b steps alike fits offered = λ none.
     let before = offered none in
     record {

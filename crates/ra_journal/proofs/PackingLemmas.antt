@@ -1,5 +1,6 @@
 -- An entry that is packed is found again, and so are all of a list.
-use Rattle.std.proofs.Common.{◌≡◌, ℕ, ◌+◌, ◌-◌, ◌<◌, min, List, [], ◌∷◌, ◌++◌, length, map, take, drop, get_or, refl, sym, ap, ◌∙◌, arith}
+use Rattle.std.proofs.Common.{◌≡◌, ℕ, ◌+◌, ◌-◌, ◌<◌, min, List, [], ◌∷◌, ◌++◌, length, map, take, drop, get_or, refl}
+use Rattle.std.proofs.Common.{sym, ap, ◌∙◌, arith}
 use Rattle.std.proofs.lemmas.List.{map-append, length-map, get_or-map, take-map, drop-map}
 use Rattle.std.specs.List.{slice_range}
 use Rattle.ra_moves.specs.declared.steps.MoveKind.{MoveKind}
@@ -15,7 +16,9 @@ use Rattle.ra_journal.specs.Packing.{verdict_in, steps_in, unpacked}
 use Rattle.ra_journal.proofs.BatchLemmas.{batch_is}
 
 -- the steps of a move are the first ones of its first, its second or last, and its last
-steps_back : (kind : MoveKind) (steps : List Step) → length steps ≡ step_count kind → steps_in kind (step_at steps 0) (step_at steps (min (length steps - 1) 1)) (step_at steps (length steps - 1)) ≡ steps
+steps_back : (kind : MoveKind) (steps : List Step) → length steps ≡ step_count kind →
+    steps_in kind (step_at steps 0) (step_at steps (min (length steps - 1) 1)) (step_at steps (length steps - 1)) ≡
+    steps
 unfolding step_count steps_in step_at
 steps_back Shift (one ∷ []) long = refl
 steps_back Swap (one ∷ two ∷ []) long = refl
@@ -30,12 +33,17 @@ steps_back Chain (one ∷ []) long = absurd (omega (arith, long))
 steps_back Chain (one ∷ two ∷ []) long = absurd (omega (arith, long))
 steps_back Chain (one ∷ two ∷ three ∷ four ∷ more) long = absurd (omega (arith, long))
 
-pub packed_back : (e : Entry) (p : Packed) (last : ℕ) → length e.mv.steps ≡ step_count e.mv.kind → last + 1 ≡ length e.mv.steps → verdict_in p.outcome ≡ e.verdict → p.worker ≡ e.worker → p.kind ≡ e.mv.kind → p.k ≡ e.k → p.q ≡ e.q → p.first ≡ step_at e.mv.steps 0 → p.second ≡ step_at e.mv.steps (min last 1) → p.third ≡ step_at e.mv.steps last → unpacked p ≡ e
+pub packed_back : (e : Entry) (p : Packed) (last : ℕ) → length e.mv.steps ≡ step_count e.mv.kind →
+    last + 1 ≡ length e.mv.steps → verdict_in p.outcome ≡ e.verdict → p.worker ≡ e.worker → p.kind ≡ e.mv.kind →
+    p.k ≡ e.k → p.q ≡ e.q → p.first ≡ step_at e.mv.steps 0 → p.second ≡ step_at e.mv.steps (min last 1) →
+    p.third ≡ step_at e.mv.steps last → unpacked p ≡ e
 unfolding unpacked
 packed_back e p last long last_is verdict worker kind k q first second third =
     let at : last ≡ length e.mv.steps - 1 = omega (arith, last_is) in
-    let steps : steps_in e.mv.kind (step_at e.mv.steps 0) (step_at e.mv.steps (min last 1)) (step_at e.mv.steps last) ≡ e.mv.steps =
-    ap (λ n. steps_in e.mv.kind (step_at e.mv.steps 0) (step_at e.mv.steps (min n 1)) (step_at e.mv.steps n)) at ∙ steps_back e.mv.kind e.mv.steps long in
+    let steps : steps_in e.mv.kind (step_at e.mv.steps 0) (step_at e.mv.steps (min last 1)) (step_at e.mv.steps last) ≡
+    e.mv.steps =
+    ap (λ n. steps_in e.mv.kind (step_at e.mv.steps 0) (step_at e.mv.steps (min n 1)) (step_at e.mv.steps n)) at
+    ∙ steps_back e.mv.kind e.mv.steps long in
     rw (worker, kind, k, q, first, second, third, verdict, steps) refl
 
 -- the lists that were packed
@@ -43,15 +51,20 @@ packed_back e p last long last_is verdict worker kind k q first second third =
 pub unpacked_length : (packed : List Packed) → length (map unpacked packed) ≡ length packed
 unpacked_length packed = length-map packed unpacked
 
-pub unpacked_push : (packed after : List Packed) (p : Packed) (e : Entry) → after ≡ packed ++ p ∷ [] → unpacked p ≡ e → map unpacked after ≡ map unpacked packed ++ e ∷ []
-unpacked_push packed after p e is back = ap (λ (ps : List Packed). map unpacked ps) is ∙ map-append unpacked packed (p ∷ []) ∙ ap (λ (x : Entry). map unpacked packed ++ x ∷ []) back
+pub unpacked_push : (packed after : List Packed) (p : Packed) (e : Entry) → after ≡ packed ++ p ∷ [] → unpacked p ≡ e →
+    map unpacked after ≡ map unpacked packed ++ e ∷ []
+unpacked_push packed after p e is back = ap (λ (ps : List Packed). map unpacked ps) is
+    ∙ map-append unpacked packed (p ∷ []) ∙ ap (λ (x : Entry). map unpacked packed ++ x ∷ []) back
 
-pub unpacked_at : (packed : List Packed) (n : ℕ) (p : Packed) → n < length packed → p ≡ get_or packed n p → unpacked p ≡ entry_at (map unpacked packed) n
+pub unpacked_at : (packed : List Packed) (n : ℕ) (p : Packed) → n < length packed → p ≡ get_or packed n p →
+    unpacked p ≡ entry_at (map unpacked packed) n
 unfolding entry_at
 unpacked_at packed n p within is = ap unpacked is ∙ sym (get_or-map unpacked packed n p _ within)
 
-pub unpacked_part : (packed : List Packed) (at number : ℕ) → number ≡ min 1024 (length packed - at) → map unpacked (slice_range packed at (at + number)) ≡ batch_from (map unpacked packed) at
+pub unpacked_part : (packed : List Packed) (at number : ℕ) → number ≡ min 1024 (length packed - at) →
+    map unpacked (slice_range packed at (at + number)) ≡ batch_from (map unpacked packed) at
 unpacked_part packed at number is =
     let long : length packed ≡ length (map unpacked packed) = sym (unpacked_length packed) in
     let few : number ≡ min 1024 (length (map unpacked packed) - at) = is ∙ ap (λ n. min 1024 (n - at)) long in
-    sym (take-map unpacked (at + number - at) (drop at packed)) ∙ ap (λ (ps : List Entry). take (at + number - at) ps) (sym (drop-map unpacked at packed)) ∙ batch_is (map unpacked packed) at number few
+    sym (take-map unpacked (at + number - at) (drop at packed)) ∙ ap (λ (ps : List Entry). take (at + number - at) ps)
+    (sym (drop-map unpacked at packed)) ∙ batch_is (map unpacked packed) at number few

@@ -1,5 +1,6 @@
 -- Journals that agree on their first entries agree on all that those determine.
-use Rattle.std.proofs.Common.{◌≡◌, ℕ, zero, suc, ◌<◌, ◌≤◌, eqb, cond, List, Option, ◌++◌, ◌∷◌, [], length, sym, refl, ap, ap₂, ◌∙◌, arith}
+use Rattle.std.proofs.Common.{◌≡◌, ℕ, zero, suc, ◌<◌, ◌≤◌, eqb, cond, List, Option, ◌++◌, ◌∷◌, [], length, sym, refl}
+use Rattle.std.proofs.Common.{ap, ap₂, ◌∙◌, arith}
 use Rattle.std.proofs.lemmas.List.{get_or_append_left, get_or_push}
 use Rattle.std.proofs.Math.ListN.{get_or-map}
 use Rattle.ra_base.specs.declared.ids.Guard.{Guard}
@@ -45,22 +46,30 @@ same_added h e = record { each = λ j before. sym (entry_before h e j before) }
 pub same_state : (a0 : List Machine) (n : ℕ) (h g : List Entry) → SameBelow n h g → state a0 h n ≡ state a0 g n
 unfolding state
 same_state a0 zero h g same = refl
-same_state a0 (suc n) h g same = ap₂ after_made (same_state a0 n h g (same_fewer n (suc n) h g (omega arith) same)) (ap made_by (same.each n (omega arith)))
+same_state a0 (suc n) h g same = ap₂ after_made (same_state a0 n h g (same_fewer n (suc n) h g (omega arith) same))
+    (ap made_by (same.each n (omega arith)))
 
-pub same_kept : (i : Tables) (a0 : List Machine) (n : ℕ) (h g : List Entry) → SameBelow n h g → kept_cost i a0 h n ≡ kept_cost i a0 g n
+pub same_kept : (i : Tables) (a0 : List Machine) (n : ℕ) (h g : List Entry) → SameBelow n h g →
+    kept_cost i a0 h n ≡ kept_cost i a0 g n
 unfolding kept_cost
 same_kept i a0 zero h g same = refl
-same_kept i a0 (suc n) h g same = ap₂ cost_then (same_kept i a0 n h g (same_fewer n (suc n) h g (omega arith) same)) (ap (λ (e : Entry). e.verdict) (same.each n (omega arith)))
+same_kept i a0 (suc n) h g same = ap₂ cost_then (same_kept i a0 n h g (same_fewer n (suc n) h g (omega arith) same))
+    (ap (λ (e : Entry). e.verdict) (same.each n (omega arith)))
 
 -- the same number of entries of each worker
 pub same_entries_of : (n w : ℕ) (h g : List Entry) → SameBelow n h g → entries_of h n w ≡ entries_of g n w
 unfolding entries_of
-same_entries_of n w h g same = count_same n (λ j. eqb (entry_at h j).worker w) (λ j. eqb (entry_at g j).worker w) (λ j before. ap (λ (e : Entry). eqb e.worker w) (same.each j before))
+same_entries_of n w h g same = count_same n (λ j. eqb (entry_at h j).worker w) (λ j. eqb (entry_at g j).worker w)
+    (λ j before. ap (λ (e : Entry). eqb e.worker w) (same.each j before))
 
 -- and the same versions
-pub same_made : (n : ℕ) (h g : List Entry) → SameBelow n h g → (j : ℕ) → j < n → made_at (made_in h) j ≡ made_at (made_in g) j
+pub same_made : (n : ℕ) (h g : List Entry) → SameBelow n h g → (j : ℕ) → j < n →
+    made_at (made_in h) j ≡ made_at (made_in g) j
 same_made n h g same j before = made_place h j ∙ ap made_by (same.each j before) ∙ sym (made_place g j)
 
-pub same_version : (i : Tables) (n : ℕ) (h g : List Entry) (guard : Guard) → SameBelow n h g → version i (made_in h) n guard ≡ version i (made_in g) n guard
+pub same_version : (i : Tables) (n : ℕ) (h g : List Entry) (guard : Guard) → SameBelow n h g →
+    version i (made_in h) n guard ≡ version i (made_in g) n guard
 unfolding version stamp
-same_version i n h g guard same = greatest_same n (stamp i (made_in h) guard) (stamp i (made_in g) guard) (λ j before. ap (λ (made : Option (List Step)). cond (touches i made guard) (suc j) 0) (same_made n h g same j before))
+same_version i n h g guard same = greatest_same n (stamp i (made_in h) guard) (stamp i (made_in g) guard)
+    (λ j before. ap (λ (made : Option (List Step)). cond (touches i made guard) (suc j) 0)
+    (same_made n h g same j before))

@@ -20,29 +20,36 @@ use Rattle.ra_journal.specs.Committing.{next_move, next_entry, newer_since, IsCo
 use Rattle.ra_journal.specs.Keeping.{IsStart}
 use Rattle.ra_journal.proofs.EndLemmas.{planned_at_end, next_is_planned}
 
-broken_in : (broken : Option Cause) (local : ℤ) (counts : ℕ → Option MovedCount) → (weighed_by broken local counts).broken ≡ broken
+broken_in : (broken : Option Cause) (local : ℤ) (counts : ℕ → Option MovedCount) →
+    (weighed_by broken local counts).broken ≡ broken
 unfolding weighed_by
 broken_in None local counts = refl
 broken_in (Some cause) local counts = refl
 
 -- the cause that a weighing tells
-broken_of : (i : Tables) (a0 a : List Machine) (steps : List Step) → (weighed_of i a0 a steps).broken ≡ broken_by i a0 a steps
+broken_of : (i : Tables) (a0 a : List Machine) (steps : List Step) →
+    (weighed_of i a0 a steps).broken ≡ broken_by i a0 a steps
 unfolding weighed_of
 broken_of i a0 a steps = broken_in _ _ _
 
-refused_for : (broken rise : Option Cause) (cause : Cause) (cost : ℕ) → broken ≡ Some cause → verdict_of (or_else broken rise) cost ≡ Refused cause
+refused_for : (broken rise : Option Cause) (cause : Cause) (cost : ℕ) → broken ≡ Some cause →
+    verdict_of (or_else broken rise) cost ≡ Refused cause
 unfolding verdict_of or_else
 refused_for None rise cause cost is = absurd (cc is)
 refused_for (Some found) rise cause cost is = ap Refused (let same : found ≡ cause = cc is in same)
 
 -- the verdict on it at the end, if no guard of its move was touched since it was planned
-pub broken_is_refused : (i : Tables) (a0 : List Machine) (l : Lots) (h : List Entry) (w : ℕ) (plan : Plan) (cause : Cause) → IsStart i a0 → Legal i a0 l h → IsCommit i a0 l h w plan
-    → newer_since i h plan.q plan.mv.steps ≡ None → plan.weighed.broken ≡ Some cause → (next_entry i a0 l h w plan.q).verdict ≡ Refused cause
+pub broken_is_refused : (i : Tables) (a0 : List Machine) (l : Lots) (h : List Entry) (w : ℕ) (plan : Plan)
+    (cause : Cause) → IsStart i a0 → Legal i a0 l h → IsCommit i a0 l h w plan
+    → newer_since i h plan.q plan.mv.steps ≡ None → plan.weighed.broken ≡ Some cause →
+    (next_entry i a0 l h w plan.q).verdict ≡ Refused cause
 unfolding next_entry judge
 broken_is_refused i a0 l h w plan cause start legal commit none is =
     let a = state a0 h (length h) in
     let end = planned_at_end i a0 l h w plan start legal commit none in
     let move : next_move i a0 l h w plan.q ≡ plan.mv = next_is_planned i a0 l h w plan commit in
-    let told : broken_by i a0 a plan.mv.steps ≡ Some cause = sym (broken_of i a0 a plan.mv.steps) ∙ (ap (λ (x : Weighed). x.broken) (sym end.weighed) ∙ is) in
-    let broken : broken_by i a0 a (next_move i a0 l h w plan.q).steps ≡ Some cause = ap (λ (mv : MoveSteps). broken_by i a0 a mv.steps) move ∙ told in
+    let told : broken_by i a0 a plan.mv.steps ≡ Some cause = sym (broken_of i a0 a plan.mv.steps)
+    ∙ (ap (λ (x : Weighed). x.broken) (sym end.weighed) ∙ is) in
+    let broken : broken_by i a0 a (next_move i a0 l h w plan.q).steps ≡ Some cause =
+    ap (λ (mv : MoveSteps). broken_by i a0 a mv.steps) move ∙ told in
     refused_for _ _ cause _ broken

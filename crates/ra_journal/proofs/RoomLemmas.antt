@@ -1,9 +1,12 @@
--- A journal whose entries are numbered has no more entries than the budgets allow, and fewer while a worker has some left.
-use Rattle.std.proofs.Common.{◌≡◌, ℕ, zero, suc, ◌+◌, ◌<◌, ◌≤◌, Bool, true, false, eqb, List, [], ◌∷◌, length, sum_by, sym, refl, ap, ◌∙◌, subst, arith}
+-- A journal whose entries are numbered has no more entries than the budgets allow, and fewer while a worker has some
+-- left.
+use Rattle.std.proofs.Common.{◌≡◌, ℕ, zero, suc, ◌+◌, ◌<◌, ◌≤◌, Bool, true, false, eqb, List, [], ◌∷◌, length, sum_by}
+use Rattle.std.proofs.Common.{sym, refl, ap, ◌∙◌, subst, arith}
 use Rattle.std.proofs.lemmas.Bool.{eqb-true}
 use Rattle.std.proofs.lemmas.List.Sums.{sum_by-cons}
 use Rattle.ra_base.specs.Sums.{total, one_if}
-use Rattle.ra_base.proofs.Sums.{total_none, total_front, total_suc, total_le, total_lt, total_grouped, total_constant, total_part}
+use Rattle.ra_base.proofs.Sums.{total_none, total_front, total_suc, total_le, total_lt, total_grouped, total_constant}
+use Rattle.ra_base.proofs.Sums.{total_part}
 use Rattle.ra_draws.specs.declared.sources.Lot.{Lot}
 use Rattle.ra_draws.specs.declared.budgets.Lots.{Lots}
 use Rattle.ra_draws.specs.Lots.{lot_at, budget_of}
@@ -15,7 +18,8 @@ use Rattle.ra_journal.specs.Legal.{IsNumbered}
 budgets_are : (lots : List Lot) → total (length lots) (budget_of lots) ≡ sum_by (λ (lot : Lot). lot.budget) lots
 unfolding budget_of lot_at total
 budgets_are [] = refl
-budgets_are (lot ∷ rest) = total_front (length rest) (budget_of (lot ∷ rest)) ∙ ap (λ n. lot.budget + n) (budgets_are rest) ∙ sym (sum_by-cons (λ (l : Lot). l.budget) lot rest)
+budgets_are (lot ∷ rest) = total_front (length rest) (budget_of (lot ∷ rest))
+    ∙ ap (λ n. lot.budget + n) (budgets_are rest) ∙ sym (sum_by-cons (λ (l : Lot). l.budget) lot rest)
 
 pub proposals_are : (l : Lots) → proposal_count l ≡ sum_by (λ (lot : Lot). lot.budget) l.lots.items
 unfolding proposal_count worker_count budget
@@ -36,22 +40,40 @@ entries_within l h zero w numbered = omega (arith, total_none (λ j. one_if (eqb
 entries_within l h (suc n) w numbered =
     let e = entry_at h n in
     let is = numbered.each n (omega arith) in
-    let own : eqb e.worker w ≡ true → entries_of h n w < budget l w = λ same. let here : e.worker ≡ w = eqb-true e.worker w same in subst (λ v. entries_of h n v < budget l v) here (omega (arith, is.number, is.budget)) in
-    let more = within_more (eqb e.worker w) (entries_of h n w) (budget l w) (entries_within l h n w (record { each = λ j before. numbered.each j (omega arith) })) own in
+    let own : eqb e.worker w ≡ true → entries_of h n w < budget l w =
+    λ same. let here : e.worker ≡ w = eqb-true e.worker w same in
+    subst (λ v. entries_of h n v < budget l v) here (omega (arith, is.number, is.budget)) in
+    let more = within_more (eqb e.worker w) (entries_of h n w) (budget l w)
+    (entries_within l h n w (record { each = λ j before. numbered.each j (omega arith) })) own in
     omega (arith, total_suc n (λ j. one_if (eqb (entry_at h j).worker w)), more)
 
 -- all entries are entries of the workers
-pub entries_together : (l : Lots) (h : List Entry) (n : ℕ) → AreNumbered l h n → total (worker_count l) (entries_of h n) ≡ n
+pub entries_together : (l : Lots) (h : List Entry) (n : ℕ) → AreNumbered l h n →
+    total (worker_count l) (entries_of h n) ≡ n
 unfolding entries_of
-entries_together l h n numbered = total_grouped (worker_count l) n (λ j. (entry_at h j).worker) (λ j. 1) (λ j before. (numbered.each j before).worker) ∙ omega (arith, total_constant n 1)
+entries_together l h n numbered = total_grouped (worker_count l) n (λ j. (entry_at h j).worker) (λ j. 1)
+    (λ j before. (numbered.each j before).worker) ∙ omega (arith, total_constant n 1)
 
 pub entries_few : (l : Lots) (h : List Entry) (n : ℕ) → AreNumbered l h n → n ≤ proposal_count l
 unfolding proposal_count
-entries_few l h n numbered = omega (arith, entries_together l h n numbered, total_le (worker_count l) (entries_of h n) (budget l) (λ w exists. entries_within l h n w numbered))
+entries_few l h n numbered =
+    omega (
+      arith,
+      entries_together l h n numbered,
+      total_le (worker_count l) (entries_of h n) (budget l)
+          (λ w exists. entries_within l h n w numbered),
+    )
 
-pub entries_fewer : (l : Lots) (h : List Entry) (n w : ℕ) → AreNumbered l h n → w < worker_count l → entries_of h n w < budget l w → n < proposal_count l
+pub entries_fewer : (l : Lots) (h : List Entry) (n w : ℕ) → AreNumbered l h n → w < worker_count l →
+    entries_of h n w < budget l w → n < proposal_count l
 unfolding proposal_count
-entries_fewer l h n w numbered exists left = omega (arith, entries_together l h n numbered, total_lt (worker_count l) w (entries_of h n) (budget l) exists left (λ v there. entries_within l h n v numbered))
+entries_fewer l h n w numbered exists left =
+    omega (
+      arith,
+      entries_together l h n numbered,
+      total_lt (worker_count l) w (entries_of h n) (budget l) exists left
+          (λ v there. entries_within l h n v numbered),
+    )
 
 -- budgets together are few
 pub proposals_few : (l : Lots) → proposal_count l ≤ 1000000

@@ -24,7 +24,11 @@ none_made : (h : List Entry) (w : ℕ) → entries_of h 0 w ≡ 0
 unfolding entries_of
 none_made h w = count_none (λ j. eqb (entry_at h j).worker w)
 
-pub kept_start : (i : Tables) (a0 : List Machine) (l : Lots) (book : Book) → book.entries.items ≡ [] → book.entries.room ≡ proposal_count l → AreZero (machine_count i) (service_count i) book.versions → book.greatest.counts ≡ replicate (service_count i) 0 → book.greatest.limit ≡ process_count i → book.made ≡ replicate 16 0 → book.kept ≡ objective i a0 a0 → book.best_at ≡ 0 → book.best_cost ≡ objective i a0 a0 → IsKept i a0 l book
+pub kept_start : (i : Tables) (a0 : List Machine) (l : Lots) (book : Book) → book.entries.items ≡ [] →
+    book.entries.room ≡ proposal_count l → AreZero (machine_count i) (service_count i) book.versions →
+    book.greatest.counts ≡ replicate (service_count i) 0 → book.greatest.limit ≡ process_count i →
+    book.made ≡ replicate 16 0 → book.kept ≡ objective i a0 a0 → book.best_at ≡ 0 → book.best_cost ≡ objective i a0 a0 →
+    IsKept i a0 l book
 unfolding state kept_cost cost_at best_of
 kept_start i a0 l book entries room zero_versions counts limit made kept best_at best_cost =
     let h = book.entries.items in
@@ -38,12 +42,15 @@ kept_start i a0 l book entries room zero_versions counts limit made kept best_at
       };
       moved = subst (λ n. AreMovedOf i a0 (state a0 h n) book.greatest) none (record {
         one_each = ap (λ (xs : List ℕ). length xs) counts ∙ length-replicate (service_count i) 0;
-        each = λ s within. ap (λ (xs : List ℕ). get_or xs s 0) counts ∙ get_or-replicate (service_count i) s 0 0 within ∙ sym (moved_none i a0 s);
+        each = λ s within. ap (λ (xs : List ℕ). get_or xs s 0) counts ∙ get_or-replicate (service_count i) s 0 0 within
+            ∙ sym (moved_none i a0 s);
         limit = limit;
       });
       made = record {
         long = ap (λ (xs : List ℕ). length xs) made;
-        each = λ w exists. ap (λ (xs : List ℕ). get_or xs w 0) made ∙ get_or-replicate 16 w 0 0 (worker_below l w exists) ∙ sym (none_made h w) ∙ ap (λ n. entries_of h n w) none;
+        each = λ w exists. ap (λ (xs : List ℕ). get_or xs w 0) made
+            ∙ get_or-replicate 16 w 0 0 (worker_below l w exists) ∙ sym (none_made h w)
+            ∙ ap (λ n. entries_of h n w) none;
       };
       cost = kept ∙ ap (kept_cost i a0 h) none;
       best_at = best_at ∙ sym (best_start i a0 h) ∙ ap (best_place i a0 h) none;

@@ -43,7 +43,8 @@ next_entry i a0 l h w q =
       verdict = judge i a0 (state a0 h (length h)) mv.steps (allowed l w k);
     }
 
--- the first guard of a move that the journal has touched since place q, with the place of the last entry that touched it
+-- the first guard of a move that the journal has touched since place q, with the place of the last entry that touched
+-- it
 unfoldable pub newer_since : Tables → List Entry → ℕ → List Step → Option Newer
 newer_since i h q steps = first_newer i steps (version i (made_in h) (length h)) q
 

@@ -70,7 +70,8 @@ pub record IsOpened (inst : Instance) (topo : TopologyLists) (a0 : Listed Machin
   pub lots : lots_in j ≡ l
   pub entries : entries_in j ≡ []
 
--- a journal has answered worker w, which handed in a plan: it is over what it was over, and if a guard of the plan's move
+-- a journal has answered worker w, which handed in a plan: it is over what it was over, and if a guard of the plan's
+-- move
 -- is newer nothing of it changed
 pub record Answers (old new : Journal) (w : ℕ) (plan : Plan) (said : Reply) : Type 0 where
   pub journal : entries_in new ≡ (answer_to old w plan).journal

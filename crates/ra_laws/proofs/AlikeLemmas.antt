@@ -3,7 +3,8 @@ use Rattle.std.proofs.Common.{◌≡◌, ℕ, zero, suc, Bool, List, [], ◌∷�
 use Rattle.ra_base.specs.Listed.{Listed}
 use Rattle.ra_base.specs.declared.causes.Drawing.{Drawing}
 use Rattle.ra_base.specs.declared.ids.Machine.{Machine}
-use Rattle.ra_bounds.specs.Bounds.{required, safety, capacity, overload, load_bound, spare, lack, balance_bound, bound_of}
+use Rattle.ra_bounds.specs.Bounds.{required, safety, capacity, overload, load_bound, spare, lack, balance_bound}
+use Rattle.ra_bounds.specs.Bounds.{bound_of}
 use Rattle.ra_draws.specs.declared.budgets.Lots.{Lots}
 use Rattle.ra_draws.specs.declared.sources.Lot.{Lot}
 use Rattle.ra_draws.specs.Lots.{budget_of, words_of, allowance_of}
@@ -23,15 +24,18 @@ use Rattle.ra_jobs.proofs.RowLemmas.{raw_of, bare_raw, raw_same}
 use Rattle.ra_jobs.proofs.BareLemmas.{bare, bare_closed}
 use Rattle.ra_jobs.proofs.MeaningLemmas.{broken_same}
 use Rattle.ra_jobs.proofs.AlikeLemmas.{opened, whole, along, repaired_same}
-use Rattle.ra_run.proofs.AlikeLemmas.{parts_same, pinned_same, planned_same, judged_same, best_same, legal_same, report_same, wrong_line_same, is_report_same}
+use Rattle.ra_run.proofs.AlikeLemmas.{parts_same, pinned_same, planned_same, judged_same, best_same, legal_same}
+use Rattle.ra_run.proofs.AlikeLemmas.{report_same, wrong_line_same, is_report_same}
 
 -- no room is looked at
 
-bound_bare : (raw : RawInstance) (closed : Option (Listed Bool)) → bound_of (bare (whole raw closed)) ≡ bound_of (whole raw closed)
+bound_bare : (raw : RawInstance) (closed : Option (Listed Bool)) → bound_of (bare (whole raw closed)) ≡
+    bound_of (whole raw closed)
 unfolding opened required safety capacity overload load_bound spare lack balance_bound bound_of
 bound_bare raw closed = refl
 
-solo_bare : (raw : RawInstance) (closed : Option (Listed Bool)) (a0 : List Machine) (l : Lots) → solo (bare (whole raw closed)) a0 l ≡ solo (whole raw closed) a0 l
+solo_bare : (raw : RawInstance) (closed : Option (Listed Bool)) (a0 : List Machine) (l : Lots) →
+    solo (bare (whole raw closed)) a0 l ≡ solo (whole raw closed) a0 l
 unfolding opened judge broken_by option_cost plan_place plan_of solo_entry solo_entries solo
 solo_bare raw None a0 l = refl
 solo_bare raw (Some flags) a0 l = refl
@@ -46,7 +50,8 @@ entry_from i a0 slack drawing lots h k =
 
 entries_from : Tables → List Machine → ℕ → Drawing → List Lot → ℕ → List Entry
 entries_from i a0 slack drawing lots zero = []
-entries_from i a0 slack drawing lots (suc n) = entries_from i a0 slack drawing lots n ++ entry_from i a0 slack drawing lots (entries_from i a0 slack drawing lots n) n ∷ []
+entries_from i a0 slack drawing lots (suc n) = entries_from i a0 slack drawing lots n ++ entry_from i a0 slack drawing
+    lots (entries_from i a0 slack drawing lots n) n ∷ []
 
 solo_from : Tables → List Machine → ℕ → Drawing → List Lot → List Entry
 solo_from i a0 slack drawing lots = entries_from i a0 slack drawing lots (budget_of lots 0)
@@ -70,9 +75,11 @@ flags_alike (Some f) (Some g) e = let same : f.items ≡ g.items = cc in rw same
 bare_alike : (i j : Tables) → AreAlike i j → bare i ≡ bare j
 bare_alike i j same = rw (raw_same i.raw j.raw same.lists, flags_alike i.closed j.closed same.flags) refl
 
-summary_same : (i j : Tables) → bare i ≡ bare j → (a0 : List Machine) (h : List Entry) → summary_text i a0 h ≡ summary_text j a0 h
+summary_same : (i j : Tables) → bare i ≡ bare j → (a0 : List Machine) (h : List Entry) →
+    summary_text i a0 h ≡ summary_text j a0 h
 unfolding summary_text
-summary_same i j same a0 h = rw (best_same i j same a0 h, parts_same i j same a0 (state a0 h (best_of j a0 h)), pinned_same i j same a0) refl
+summary_same i j same a0 h =
+    rw (best_same i j same a0 h, parts_same i j same a0 (state a0 h (best_of j a0 h)), pinned_same i j same a0) refl
 
 -- instances that are one but for their rooms run alike
 run_same : (i j : Tables) → bare i ≡ bare j → RunAlike i j
@@ -87,7 +94,8 @@ run_same i j same = record {
   report = report_same i j same;
   is_report = is_report_same i j same;
   wrong_line = wrong_line_same i j same;
-  alone = λ a0 l k lots. along (λ (t : Tables). solo t a0 l) (λ raw closed. solo_bare raw closed a0 l) i j same ∙ lots_alike j a0 l k lots;
+  alone = λ a0 l k lots. along (λ (t : Tables). solo t a0 l) (λ raw closed. solo_bare raw closed a0 l) i j same
+      ∙ lots_alike j a0 l k lots;
   summary = summary_same i j same;
   repaired = repaired_same i j same;
 }
@@ -97,11 +105,13 @@ alike_run_alike i j same = run_same i j (bare_alike i j same)
 
 -- and they are alike
 
-numbers_bare : (raw : RawInstance) (closed : Option (Listed Bool)) → lists_of (bare (whole raw closed)).raw ≡ lists_of (whole raw closed).raw
+numbers_bare : (raw : RawInstance) (closed : Option (Listed Bool)) → lists_of (bare (whole raw closed)).raw ≡
+    lists_of (whole raw closed).raw
 unfolding raw_of bare_raw
 numbers_bare raw closed = refl
 
-flags_bare : (raw : RawInstance) (closed : Option (Listed Bool)) → flags_of (bare (whole raw closed)).closed ≡ flags_of (whole raw closed).closed
+flags_bare : (raw : RawInstance) (closed : Option (Listed Bool)) → flags_of (bare (whole raw closed)).closed ≡
+    flags_of (whole raw closed).closed
 unfolding flags_of bare_closed
 flags_bare raw None = refl
 flags_bare raw (Some flags) = refl

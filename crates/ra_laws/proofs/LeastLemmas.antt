@@ -16,7 +16,8 @@ first_least n f = record {
 }
 
 -- if each place has a value, the least one is that of its place
-least_of_all : (n : ℕ) (cost : ℕ → ℕ) → IsLeast (suc n) (λ j. Some (cost j)) (least_place (suc n) (λ j. Some (cost j))) (cost (least_place (suc n) (λ j. Some (cost j))))
+least_of_all : (n : ℕ) (cost : ℕ → ℕ) → IsLeast (suc n) (λ j. Some (cost j)) (least_place (suc n) (λ j. Some (cost j)))
+    (cost (least_place (suc n) (λ j. Some (cost j))))
 least_of_all n cost =
     let f = λ (j : ℕ). Some (cost j) in
     let p = least_place (suc n) f in
@@ -33,7 +34,8 @@ least_of_all n cost =
 
 pub plan_is_least : PlanIsLeast
 unfolding plan_of plan_place
-plan_is_least i a0 a x d allowed = (least_place (option_count x (machine_count i) d) (option_cost i a0 a x d allowed), refl, first_least _ _)
+plan_is_least i a0 a x d allowed =
+    (least_place (option_count x (machine_count i) d) (option_cost i a0 a x d allowed), refl, first_least _ _)
 
 pub best_is_least : BestIsLeast
 unfolding best_of best_place

@@ -1,5 +1,6 @@
 -- The version of a guard and the version of its number in the lock.
-use Rattle.std.proofs.Common.{◌≡◌, ℕ, suc, ◌-◌, ◌<◌, ◌≤◌, true, false, List, length, map, slice_get, Option, option_map, Some, None, ap, sym, ◌∙◌, ⊎_elim, arith}
+use Rattle.std.proofs.Common.{◌≡◌, ℕ, suc, ◌-◌, ◌<◌, ◌≤◌, true, false, List, length, map, slice_get, Option, option_map}
+use Rattle.std.proofs.Common.{Some, None, ap, sym, ◌∙◌, ⊎_elim, arith}
 use Rattle.std.proofs.lemmas.Bool.{cases_Bool, cases_lt, cond-true, cond-false}
 use Rattle.std.proofs.lemmas.Option.{slice_get-map, slice_get_cases, get_or_from_slice_get}
 use Rattle.ra_base.specs.declared.ids.Guard.{Guard}
@@ -14,25 +15,32 @@ use Rattle.ra_base.proofs.Greatest.{greatest_at, greatest_least}
 use Rattle.ra_shared.proofs.Agree.{touches_agree}
 
 -- what an entry of a history makes is at its place
-made_there : {N : Type 0} (makes : N → Option (List Step)) (history : List N) (j : ℕ) (x : N) → slice_get history j ≡ Some x → made_at (map makes history) j ≡ makes x
+made_there : {N : Type 0} (makes : N → Option (List Step)) (history : List N) (j : ℕ) (x : N) →
+    slice_get history j ≡ Some x → made_at (map makes history) j ≡ makes x
 unfolding made_at
-made_there makes history j x e = get_or_from_slice_get (map makes history) j (makes x) None (slice_get-map makes history j ∙ ap (option_map makes) e)
+made_there makes history j x e =
+    get_or_from_slice_get (map makes history) j (makes x) None (slice_get-map makes history j ∙ ap (option_map makes) e)
 
-stamp_touched : (i : Tables) (made : List (Option (List Step))) (g : Guard) (j : ℕ) → touches i (made_at made j) g ≡ true → stamp i made g j ≡ suc j
+stamp_touched : (i : Tables) (made : List (Option (List Step))) (g : Guard) (j : ℕ) →
+    touches i (made_at made j) g ≡ true → stamp i made g j ≡ suc j
 unfolding stamp
 stamp_touched i made g j touched = cond-true _ (suc j) 0 touched
 
-stamp_untouched : (i : Tables) (made : List (Option (List Step))) (g : Guard) (j : ℕ) → touches i (made_at made j) g ≡ false → stamp i made g j ≡ 0
+stamp_untouched : (i : Tables) (made : List (Option (List Step))) (g : Guard) (j : ℕ) →
+    touches i (made_at made j) g ≡ false → stamp i made g j ≡ 0
 unfolding stamp
 stamp_untouched i made g j untouched = cond-false _ (suc j) 0 untouched
 
-module _ {N : Type 0} (i : Tables) (makes : N → Option (List Step)) (history : List N) (g : Guard) (v : ℕ) (known : IsKnown i g) (is : IsVersion (λ x. touches_number i (makes x) (number_of i g)) history v) where
+module _ {N : Type 0} (i : Tables) (makes : N → Option (List Step)) (history : List N) (g : Guard) (v : ℕ)
+    (known : IsKnown i g) (is : IsVersion (λ x. touches_number i (makes x) (number_of i g)) history v) where
   abbrev made : List (Option (List Step))
   made = map makes history
 
   -- the entry at a place touches the guard if it touches its number
-  there : (j : ℕ) (x : N) → slice_get history j ≡ Some x → touches i (made_at made j) g ≡ touches_number i (makes x) (number_of i g)
-  there j x e = ap (λ (m : Option (List Step)). touches i m g) (made_there makes history j x e) ∙ sym (touches_agree i (makes x) g known)
+  there : (j : ℕ) (x : N) → slice_get history j ≡ Some x → touches i (made_at made j) g ≡ touches_number i (makes x)
+      (number_of i g)
+  there j x e = ap (λ (m : Option (List Step)). touches i m g) (made_there makes history j x e)
+      ∙ sym (touches_agree i (makes x) g known)
 
   within_at : (j : ℕ) (x : N) → slice_get history j ≡ Some x → stamp i made g j ≤ v
   within_at j x e = ⊎_elim

@@ -1,8 +1,10 @@
--- The limits of an instance's numbers, by their types, with machines closed and with other processes; and what a read of a row gives.
+-- The limits of an instance's numbers, by their types, with machines closed and with other processes; and what a read
+-- of a row gives.
 use native.Mathlib.Numerals.{unary_clauses}
 use Rattle.std.proofs.lemmas.List.{get_or_read, get_or-take, get_or-drop}
 use Rattle.std.proofs.Math.ListN.{take, drop}
-use Rattle.std.proofs.Common.{refl, ap, ◌∙◌, ◌+◌, ◌-◌, ◌*◌, ◌≡◌, ℕ, zero, suc, ◌<◌, ◌≤◌, length, length-take, length-drop, List, Bool, arith}
+use Rattle.std.proofs.Common.{refl, ap, ◌∙◌, ◌+◌, ◌-◌, ◌*◌, ◌≡◌, ℕ, zero, suc, ◌<◌, ◌≤◌, length, length-take}
+use Rattle.std.proofs.Common.{length-drop, List, Bool, arith}
 use Rattle.std.specs.Prelude.{slice_index, slice_index_or}
 use Rattle.ra_base.specs.Listed.{Listed}
 use Rattle.ra_base.specs.declared.ids.Service.{Service}
@@ -14,11 +16,18 @@ use Rattle.ra_model.specs.declared.raw.ProcessRow.{ProcessRow}
 use Rattle.ra_model.specs.declared.raw.ResourceRow.{ResourceRow}
 use Rattle.ra_model.specs.declared.raw.ServiceRow.{ServiceRow}
 use Rattle.ra_model.specs.Limits.{WellFormed, Small, IsSmallTable}
-use Rattle.ra_model.specs.Numbers.{with_closed, resource_row, machine_row, service_row, process_row, balance_row, resource_count, machine_count, service_count, process_count, balance_count, load_weight_of, neighbourhood_of, location_of, capacity_of, safety_of, way_cost_of, spread_of, dependency_end, dependency_start, need_at, need_of, dependency_count, service_of, requirement_of, process_cost_of, first_of, second_of, target_of, balance_weight_of, process_weight_of, service_weight_of, machine_weight_of}
+use Rattle.ra_model.specs.Numbers.{with_closed, resource_row, machine_row, service_row, process_row, balance_row}
+use Rattle.ra_model.specs.Numbers.{resource_count, machine_count, service_count, process_count, balance_count}
+use Rattle.ra_model.specs.Numbers.{load_weight_of, neighbourhood_of, location_of, capacity_of, safety_of, way_cost_of}
+use Rattle.ra_model.specs.Numbers.{spread_of, dependency_end, dependency_start, need_at, need_of, dependency_count}
+use Rattle.ra_model.specs.Numbers.{service_of, requirement_of, process_cost_of, first_of, second_of, target_of}
+use Rattle.ra_model.specs.Numbers.{balance_weight_of, process_weight_of, service_weight_of, machine_weight_of}
 
 -- the numbers of rows are small by their types
-pub small_tables : (i : Tables) → IsSmallTable i.raw.capacities.items → IsSmallTable i.raw.safeties.items → IsSmallTable i.raw.move_costs.items → IsSmallTable i.raw.requirements.items → Small i
-unfolding cell load_weight_of neighbourhood_of location_of capacity_of safety_of way_cost_of spread_of dependency_end requirement_of process_cost_of target_of balance_weight_of process_weight_of service_weight_of machine_weight_of
+pub small_tables : (i : Tables) → IsSmallTable i.raw.capacities.items → IsSmallTable i.raw.safeties.items →
+    IsSmallTable i.raw.move_costs.items → IsSmallTable i.raw.requirements.items → Small i
+unfolding cell load_weight_of neighbourhood_of location_of capacity_of safety_of way_cost_of spread_of dependency_end
+    requirement_of process_cost_of target_of balance_weight_of process_weight_of service_weight_of machine_weight_of
 small_tables i capacities safeties way_costs requirements = record {
   load_weights = λ r. (resource_row i r).small;
   neighbourhoods = λ m. (machine_row i m).small_neighbourhood;
@@ -39,7 +48,9 @@ small_tables i capacities safeties way_costs requirements = record {
 
 -- closing machines changes no number
 pub small_closed : (i : Tables) (flags : Listed Bool) → Small i → Small (with_closed i flags)
-unfolding resource_count machine_count resource_row machine_row service_row process_row balance_row load_weight_of neighbourhood_of location_of capacity_of safety_of way_cost_of spread_of dependency_end requirement_of process_cost_of target_of balance_weight_of process_weight_of service_weight_of machine_weight_of
+unfolding resource_count machine_count resource_row machine_row service_row process_row balance_row load_weight_of
+    neighbourhood_of location_of capacity_of safety_of way_cost_of spread_of dependency_end requirement_of
+    process_cost_of target_of balance_weight_of process_weight_of service_weight_of machine_weight_of
 small_closed i flags h = record {
   load_weights = h.load_weights;
   neighbourhoods = h.neighbourhoods;
@@ -74,8 +85,11 @@ with_lists i j = record j {
 }
 
 -- j is well formed if its lists are those of i, but for processes that fit
-pub well_formed_with : (i j : Tables) → WellFormed i → 1 ≤ process_count j → process_count j ≤ 50000 → length j.raw.requirements.items ≡ process_count j * resource_count i → ((p : ℕ) → p < process_count j → service_of j p < service_count i) → WellFormed (with_lists i j)
-unfolding resource_count machine_count service_count process_count balance_count service_row process_row balance_row dependency_end dependency_start need_at service_of first_of second_of
+pub well_formed_with : (i j : Tables) → WellFormed i → 1 ≤ process_count j → process_count j ≤ 50000 →
+    length j.raw.requirements.items ≡ process_count j * resource_count i →
+    ((p : ℕ) → p < process_count j → service_of j p < service_count i) → WellFormed (with_lists i j)
+unfolding resource_count machine_count service_count process_count balance_count service_row process_row balance_row
+    dependency_end dependency_start need_at service_of first_of second_of
 well_formed_with i j h some few table served = record {
   some_resource = h.some_resource;
   few_resources = h.few_resources;
@@ -102,27 +116,33 @@ well_formed_with i j h some few table served = record {
 
 pub well_formed_closed : (i : Tables) (flags : Listed Bool) → WellFormed i → WellFormed (with_closed i flags)
 unfolding process_count service_of process_row
-well_formed_closed i flags h = well_formed_with i (with_closed i flags) h h.some_process h.few_processes h.requirements h.services
+well_formed_closed i flags h =
+    well_formed_with i (with_closed i flags) h h.some_process h.few_processes h.requirements h.services
 
 -- what a read of a row gives
 
-pub resource_read : (i : Tables) (k : ℕ) (row : ResourceRow) → k < resource_count i → row ≡ slice_index_or i.raw.resources.items k row → row ≡ resource_row i k
+pub resource_read : (i : Tables) (k : ℕ) (row : ResourceRow) → k < resource_count i →
+    row ≡ slice_index_or i.raw.resources.items k row → row ≡ resource_row i k
 unfolding resource_count resource_row
 resource_read i k row within read = get_or_read i.raw.resources.items k row within read _
 
-pub machine_read : (i : Tables) (k : ℕ) (row : MachineRow) → k < machine_count i → row ≡ slice_index_or i.raw.machines.items k row → row ≡ machine_row i k
+pub machine_read : (i : Tables) (k : ℕ) (row : MachineRow) → k < machine_count i →
+    row ≡ slice_index_or i.raw.machines.items k row → row ≡ machine_row i k
 unfolding machine_count machine_row
 machine_read i k row within read = get_or_read i.raw.machines.items k row within read _
 
-pub service_read : (i : Tables) (k : ℕ) (row : ServiceRow) → k < service_count i → row ≡ slice_index_or i.raw.services.items k row → row ≡ service_row i k
+pub service_read : (i : Tables) (k : ℕ) (row : ServiceRow) → k < service_count i →
+    row ≡ slice_index_or i.raw.services.items k row → row ≡ service_row i k
 unfolding service_count service_row
 service_read i k row within read = get_or_read i.raw.services.items k row within read _
 
-pub process_read : (i : Tables) (k : ℕ) (row : ProcessRow) → k < process_count i → row ≡ slice_index_or i.raw.processes.items k row → row ≡ process_row i k
+pub process_read : (i : Tables) (k : ℕ) (row : ProcessRow) → k < process_count i →
+    row ≡ slice_index_or i.raw.processes.items k row → row ≡ process_row i k
 unfolding process_count process_row
 process_read i k row within read = get_or_read i.raw.processes.items k row within read _
 
-pub balance_read : (i : Tables) (k : ℕ) (row : BalanceRow) → k < balance_count i → row ≡ slice_index_or i.raw.balances.items k row → row ≡ balance_row i k
+pub balance_read : (i : Tables) (k : ℕ) (row : BalanceRow) → k < balance_count i →
+    row ≡ slice_index_or i.raw.balances.items k row → row ≡ balance_row i k
 unfolding balance_count balance_row
 balance_read i k row within read = get_or_read i.raw.balances.items k row within read _
 
@@ -152,18 +172,32 @@ start_next i zero some = absurd (omega arith)
 start_next i (suc s) some = simp unary_clauses refl
 
 -- the dependencies of a service, cut out of the list of all
-pub needs_count : (i : Tables) (s : ℕ) (needs : List Service) → needs ≡ i.raw.dependencies.items → dependency_start i s ≤ dependency_end i s → dependency_end i s ≤ length i.raw.dependencies.items → length (take (dependency_end i s - dependency_start i s) (drop (dependency_start i s) needs)) ≡ dependency_count i s
+pub needs_count : (i : Tables) (s : ℕ) (needs : List Service) → needs ≡ i.raw.dependencies.items →
+    dependency_start i s ≤ dependency_end i s → dependency_end i s ≤ length i.raw.dependencies.items →
+    length (take (dependency_end i s - dependency_start i s) (drop (dependency_start i s) needs)) ≡ dependency_count i s
 unfolding dependency_count
 needs_count i s needs all ordered within = rw all (grind (arith, length-take, length-drop))
 
-pub needs_each : (i : Tables) (s : ℕ) (needs : List Service) → needs ≡ i.raw.dependencies.items → (k : ℕ) → k < dependency_count i s → (slice_index_or (take (dependency_end i s - dependency_start i s) (drop (dependency_start i s) needs)) k (record { 0 = 0 })).0 ≡ need_of i s k
+pub needs_each : (i : Tables) (s : ℕ) (needs : List Service) → needs ≡ i.raw.dependencies.items → (k : ℕ) →
+    k < dependency_count i s →
+    (slice_index_or (take (dependency_end i s - dependency_start i s) (drop (dependency_start i s) needs)) k
+    (record { 0 = 0 })).0 ≡ need_of i s k
 unfolding dependency_count need_of need_at
 needs_each i s needs all k within = rw (all, get_or-take, get_or-drop) refl
 
 -- the ways from a machine, cut out of the list of all
-pub ways_count : (i : Tables) (from : ℕ) (ways : List ℕ) → ways ≡ i.raw.move_costs.items → from < machine_count i → length i.raw.move_costs.items ≡ machine_count i * machine_count i → length (take (from * machine_count i + machine_count i - from * machine_count i) (drop (from * machine_count i) ways)) ≡ machine_count i
+pub ways_count : (i : Tables) (from : ℕ) (ways : List ℕ) → ways ≡ i.raw.move_costs.items → from < machine_count i →
+    length i.raw.move_costs.items ≡ machine_count i * machine_count i →
+    length (take (from * machine_count i + machine_count i - from * machine_count i)
+    (drop (from * machine_count i) ways)) ≡ machine_count i
 ways_count i from ways all within whole = rw all (grind (arith, length-take, length-drop, whole, within))
 
-pub ways_each : (i : Tables) (from : ℕ) (ways : List ℕ) → ways ≡ i.raw.move_costs.items → (to : ℕ) → to < machine_count i → slice_index (take (from * machine_count i + machine_count i - from * machine_count i) (drop (from * machine_count i) ways)) to ≡ way_cost_of i from to
+pub ways_each : (i : Tables) (from : ℕ) (ways : List ℕ) → ways ≡ i.raw.move_costs.items → (to : ℕ) →
+    to < machine_count i →
+    slice_index (take (from * machine_count i + machine_count i - from * machine_count i)
+    (drop (from * machine_count i) ways)) to ≡ way_cost_of i from to
 unfolding way_cost_of cell
-ways_each i from ways all to within = rw all (get_or-take {A = ℕ} (from * machine_count i + machine_count i - from * machine_count i) (drop (from * machine_count i) i.raw.move_costs.items) to 0 (omega (arith, within)) ∙ get_or-drop (from * machine_count i) i.raw.move_costs.items to 0)
+ways_each i from ways all to within =
+    rw all (get_or-take {A = ℕ} (from * machine_count i + machine_count i - from * machine_count i)
+    (drop (from * machine_count i) i.raw.move_costs.items) to 0 (omega (arith, within))
+    ∙ get_or-drop (from * machine_count i) i.raw.move_costs.items to 0)

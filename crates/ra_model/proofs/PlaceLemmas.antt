@@ -1,5 +1,6 @@
 -- The first machine with each label.
-use Rattle.std.proofs.Common.{◌≡◌, ℕ, ◌+◌, ◌<◌, ◌≤◌, ◌≢◌, cond, eqb, List, [], ◌∷◌, ◌++◌, length, get_or, Option, Some, None, sym, refl, ap, ap₂, ◌∙◌, ⊎_elim, arith, length-append, eq-eqb, ne_eqb}
+use Rattle.std.proofs.Common.{◌≡◌, ℕ, ◌+◌, ◌<◌, ◌≤◌, ◌≢◌, cond, eqb, List, [], ◌∷◌, ◌++◌, length, get_or, Option, Some}
+use Rattle.std.proofs.Common.{None, sym, refl, ap, ap₂, ◌∙◌, ⊎_elim, arith, length-append, eq-eqb, ne_eqb}
 use Rattle.std.specs.Prelude.{unwrap_or}
 use Rattle.std.proofs.Math.Seq.{get_or-append_seam}
 use Rattle.std.proofs.lemmas.Bool.{cases_lt, cases_eq, cond-true, cond-false}
@@ -32,7 +33,8 @@ labelled_no label x m other = cond-false (eqb (label m) x) (Some (record { 0 = m
 
 labelled_means : (label : ℕ → ℕ) (x m : ℕ) (p : Machine) → labelled label x m ≡ Some p → (label m ≡ x) × (p.0 ≡ m)
 labelled_means label x m p is = ⊎_elim
-    (λ (same : label m ≡ x). let found = labelled_yes label x m same in (same, number_is (record { 0 = m }) p (sym found ∙ is)))
+    (λ (same : label m ≡ x). let found = labelled_yes label x m same in
+    (same, number_is (record { 0 = m }) p (sym found ∙ is)))
     (λ (other : label m ≢ x). absurd (some_not_none p (sym is ∙ labelled_no label x m other)))
     (cases_eq (label m) x)
   where
@@ -42,7 +44,8 @@ labelled_means label x m p is = ⊎_elim
     some_not_none : (p : Machine) → Some p ≡ None → ⊥
     some_not_none p e = cc
 
-first_labelled_more : (label : ℕ → ℕ) (n x : ℕ) → first_labelled label (n + 1) x ≡ or_else (first_labelled label n x) (labelled label x n)
+first_labelled_more : (label : ℕ → ℕ) (n x : ℕ) → first_labelled label (n + 1) x ≡ or_else (first_labelled label n x)
+    (labelled label x n)
 unfolding first_labelled
 first_labelled_more label n x = first_more n (labelled label x)
 
@@ -53,7 +56,8 @@ found_or None m = refl
 found_or (Some p) m = refl
 
 -- machine n is looked up, and is known from then on if no other was
-pub place_found : (label : ℕ → ℕ) (n x : ℕ) (p : Machine) (known : ℕ → Option Machine) → IsKnown label n known → x ≡ label n → p ≡ unwrap_or (known x) (record { 0 = n }) → first_labelled label (n + 1) x ≡ Some p
+pub place_found : (label : ℕ → ℕ) (n x : ℕ) (p : Machine) (known : ℕ → Option Machine) → IsKnown label n known →
+    x ≡ label n → p ≡ unwrap_or (known x) (record { 0 = n }) → first_labelled label (n + 1) x ≡ Some p
 place_found label n x p known h is found =
     first_labelled_more label n x
     ∙ ap₂ or_else (sym (h.each x)) (labelled_yes label x n (sym is))
@@ -64,16 +68,23 @@ pub known_none : (label : ℕ → ℕ) (known : ℕ → Option Machine) → ((x 
 unfolding first_labelled
 known_none label known empty = record { each = λ x. empty x ∙ sym (first_none (labelled label x)) }
 
-pub known_more : (label : ℕ → ℕ) (n x : ℕ) (p : Machine) (known new : ℕ → Option Machine) → IsKnown label n known → x ≡ label n → p ≡ unwrap_or (known x) (record { 0 = n }) → ((q : ℕ) → new q ≡ cond (eqb x q) (Some p) (known q)) → IsKnown label (n + 1) new
+pub known_more : (label : ℕ → ℕ) (n x : ℕ) (p : Machine) (known new : ℕ → Option Machine) → IsKnown label n known →
+    x ≡ label n → p ≡ unwrap_or (known x) (record { 0 = n }) → ((q : ℕ) → new q ≡ cond (eqb x q) (Some p) (known q)) →
+    IsKnown label (n + 1) new
 known_more label n x p known new h is found changed = record {
   each = λ q. changed q ∙ ⊎_elim
-      (λ (same : x ≡ q). cond-true (eqb x q) (Some p) (known q) (eq-eqb x q same) ∙ sym (place_found label n x p known h is found) ∙ ap (first_labelled label (n + 1)) same)
-      (λ (apart : x ≢ q). cond-false (eqb x q) (Some p) (known q) (ne_eqb x q apart) ∙ h.each q ∙ sym (or_else_none_right (first_labelled label n q)) ∙ ap (or_else (first_labelled label n q)) (sym (labelled_no label q n (λ e. apart (is ∙ e)))) ∙ sym (first_labelled_more label n q))
+      (λ (same : x ≡ q). cond-true (eqb x q) (Some p) (known q) (eq-eqb x q same)
+      ∙ sym (place_found label n x p known h is found) ∙ ap (first_labelled label (n + 1)) same)
+      (λ (apart : x ≢ q). cond-false (eqb x q) (Some p) (known q) (ne_eqb x q apart) ∙ h.each q
+      ∙ sym (or_else_none_right (first_labelled label n q))
+      ∙ ap (or_else (first_labelled label n q)) (sym (labelled_no label q n (λ e. apart (is ∙ e))))
+      ∙ sym (first_labelled_more label n q))
       (cases_eq x q);
 }
 
 -- the first one found is the first machine with the label
-first_is : (label : ℕ → ℕ) (n x : ℕ) (p : Machine) → x ≡ label n → first_labelled label (n + 1) x ≡ Some p → IsFirstLike label n p.0
+first_is : (label : ℕ → ℕ) (n x : ℕ) (p : Machine) → x ≡ label n → first_labelled label (n + 1) x ≡ Some p →
+    IsFirstLike label n p.0
 unfolding first_labelled
 first_is label n x p is found =
     let at = first_some_at (n + 1) (labelled label x) p found in
@@ -81,7 +92,8 @@ first_is label n x p is found =
     record {
       alike = ap label means.1 ∙ means.0 ∙ is;
       first = λ j same. ⊎_elim
-          (λ (before : j < at.0). absurd (not_labelled label x j (same ∙ sym is) (first_none_at j at.0 (labelled label x) before at.3)))
+          (λ (before : j < at.0).
+          absurd (not_labelled label x j (same ∙ sym is) (first_none_at j at.0 (labelled label x) before at.3)))
           (λ (after : at.0 ≤ j). omega (arith, means.1))
           (cases_lt j at.0);
     }
@@ -92,16 +104,24 @@ first_is label n x p is found =
 pub places_none : (label : ℕ → ℕ) → AreFirst label 0 []
 places_none label = record { one_each = refl; each = λ m within. absurd (omega arith) }
 
-pub places_more : (label : ℕ → ℕ) (n x : ℕ) (p : Machine) (known : ℕ → Option Machine) (places : List Machine) → IsKnown label n known → AreFirst label n places → x ≡ label n → p ≡ unwrap_or (known x) (record { 0 = n }) → AreFirst label (n + 1) (places ++ p ∷ [])
+pub places_more : (label : ℕ → ℕ) (n x : ℕ) (p : Machine) (known : ℕ → Option Machine) (places : List Machine) →
+    IsKnown label n known → AreFirst label n places → x ≡ label n → p ≡ unwrap_or (known x) (record { 0 = n }) →
+    AreFirst label (n + 1) (places ++ p ∷ [])
 unfolding machine_at
 places_more label n x p known places h before is found = record {
   one_each = omega (arith, length-append places (p ∷ []), before.one_each);
   each = λ m within. ⊎_elim
-      (λ (earlier : m < n). first_at label m (get_or places m (record { 0 = 0 })) (get_or (places ++ p ∷ []) m (record { 0 = 0 })) (sym (get_or_append_left places (p ∷ []) (record { 0 = 0 }) m (omega (arith, before.one_each)))) (before.each m earlier))
+      (λ (earlier : m < n). first_at label m (get_or places m (record { 0 = 0 }))
+      (get_or (places ++ p ∷ []) m (record { 0 = 0 }))
+      (sym (get_or_append_left places (p ∷ []) (record { 0 = 0 }) m (omega (arith, before.one_each))))
+      (before.each m earlier))
       (λ (after : n ≤ m).
       let here : length places ≡ m = omega (arith, before.one_each) in
       let same : n ≡ m = omega arith in
-      first_at label m p (get_or (places ++ p ∷ []) m (record { 0 = 0 })) (sym (get_or-append_seam places p [] (record { 0 = 0 })) ∙ ap (λ k. get_or (places ++ p ∷ []) k (record { 0 = 0 })) here) (first_like label n m p.0 same (first_is label n x p is (place_found label n x p known h is found))))
+      first_at label m p (get_or (places ++ p ∷ []) m (record { 0 = 0 }))
+      (sym (get_or-append_seam places p [] (record { 0 = 0 }))
+      ∙ ap (λ k. get_or (places ++ p ∷ []) k (record { 0 = 0 })) here)
+      (first_like label n m p.0 same (first_is label n x p is (place_found label n x p known h is found))))
       (cases_lt m n);
 }
   where
@@ -112,21 +132,32 @@ places_more label n x p known places h before is found = record {
     first_like label n m k same h = rw (sym same) h
 
 -- a place is a machine, and no later one
-pub place_le : (label : ℕ → ℕ) (n m : ℕ) (places : List Machine) → AreFirst label n places → m < n → machine_at places m ≤ m
+pub place_le : (label : ℕ → ℕ) (n m : ℕ) (places : List Machine) → AreFirst label n places → m < n →
+    machine_at places m ≤ m
 place_le label n m places h within = (h.each m within).first m refl
 
 -- two machines have one place if they have one label, and else two
-pub place_same : (label : ℕ → ℕ) (n m k : ℕ) (places : List Machine) → AreFirst label n places → m < n → k < n → label m ≡ label k → machine_at places m ≡ machine_at places k
+pub place_same : (label : ℕ → ℕ) (n m k : ℕ) (places : List Machine) → AreFirst label n places → m < n → k < n →
+    label m ≡ label k → machine_at places m ≡ machine_at places k
 place_same label n m k places h m_within k_within same =
     let at_m = h.each m m_within in
     let at_k = h.each k k_within in
-    omega (arith, at_m.first (machine_at places k) (at_k.alike ∙ sym same), at_k.first (machine_at places m) (at_m.alike ∙ same))
+    omega (
+      arith,
+      at_m.first (machine_at places k) (at_k.alike ∙ sym same),
+      at_k.first (machine_at places m) (at_m.alike ∙ same),
+    )
 
-pub label_same : (label : ℕ → ℕ) (n m k : ℕ) (places : List Machine) → AreFirst label n places → m < n → k < n → machine_at places m ≡ machine_at places k → label m ≡ label k
-label_same label n m k places h m_within k_within same = sym (h.each m m_within).alike ∙ ap label same ∙ (h.each k k_within).alike
+pub label_same : (label : ℕ → ℕ) (n m k : ℕ) (places : List Machine) → AreFirst label n places → m < n → k < n →
+    machine_at places m ≡ machine_at places k → label m ≡ label k
+label_same label n m k places h m_within k_within same =
+    sym (h.each m m_within).alike ∙ ap label same ∙ (h.each k k_within).alike
 
-pub place_test : (label : ℕ → ℕ) (n m k : ℕ) (places : List Machine) → AreFirst label n places → m < n → k < n → eqb (machine_at places m) (machine_at places k) ≡ eqb (label m) (label k)
+pub place_test : (label : ℕ → ℕ) (n m k : ℕ) (places : List Machine) → AreFirst label n places → m < n → k < n →
+    eqb (machine_at places m) (machine_at places k) ≡ eqb (label m) (label k)
 place_test label n m k places h m_within k_within = ⊎_elim
-    (λ (same : label m ≡ label k). eq-eqb (machine_at places m) (machine_at places k) (place_same label n m k places h m_within k_within same) ∙ sym (eq-eqb (label m) (label k) same))
-    (λ (apart : label m ≢ label k). ne_eqb (machine_at places m) (machine_at places k) (λ e. apart (label_same label n m k places h m_within k_within e)) ∙ sym (ne_eqb (label m) (label k) apart))
+    (λ (same : label m ≡ label k). eq-eqb (machine_at places m) (machine_at places k)
+    (place_same label n m k places h m_within k_within same) ∙ sym (eq-eqb (label m) (label k) same))
+    (λ (apart : label m ≢ label k). ne_eqb (machine_at places m) (machine_at places k)
+    (λ e. apart (label_same label n m k places h m_within k_within e)) ∙ sym (ne_eqb (label m) (label k) apart))
     (cases_eq (label m) (label k))

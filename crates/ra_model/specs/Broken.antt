@@ -7,7 +7,8 @@ use Rattle.ra_base.specs.declared.ids.Machine.{Machine}
 use Rattle.ra_base.specs.declared.causes.Cause.{Cause}
 use Rattle.ra_base.specs.declared.causes.Cause.TheVariants.{Capacity, Transient, Conflict, Spread, Dependency, Closed}
 use Rattle.ra_model.specs.declared.raw.Tables.{Tables}
-use Rattle.ra_model.specs.Numbers.{resource_count, machine_count, service_count, process_count, transient_at, capacity_of, spread_of, dependency_count, need_of, neighbourhood_of, closed_at}
+use Rattle.ra_model.specs.Numbers.{resource_count, machine_count, service_count, process_count, transient_at}
+use Rattle.ra_model.specs.Numbers.{capacity_of, spread_of, dependency_count, need_of, neighbourhood_of, closed_at}
 use Rattle.ra_model.specs.Assignments.{machine_at}
 use Rattle.ra_model.specs.Usage.{use_of, transient_of}
 use Rattle.ra_model.specs.Services.{is_of, on_machine, in_neighbourhood, locations_of}

@@ -1,7 +1,8 @@
 -- The causes that name a broken constraint. The others are of moves: a process named twice, a step that stays, a rise
 -- of the cost.
 use Rattle.ra_base.specs.declared.causes.Cause.{Cause}
-use Rattle.ra_base.specs.declared.causes.Cause.TheVariants.{Repeat, Same, Capacity, Transient, Conflict, Spread, Dependency, Rise, Closed}
+use Rattle.ra_base.specs.declared.causes.Cause.TheVariants.{Repeat, Same, Capacity, Transient, Conflict, Spread}
+use Rattle.ra_base.specs.declared.causes.Cause.TheVariants.{Dependency, Rise, Closed}
 
 abbrev pub IsConstraint : Cause → Type 0
 IsConstraint (Capacity machine resource used cap) = Unit {0}

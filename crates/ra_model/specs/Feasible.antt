@@ -2,7 +2,9 @@
 use Rattle.std.specs.Prelude.{◌≡◌, ◌≢◌, ℕ, ◌<◌, ◌≤◌, List, IsTrue}
 use Rattle.ra_base.specs.declared.ids.Machine.{Machine}
 use Rattle.ra_model.specs.declared.raw.Tables.{Tables}
-use Rattle.ra_model.specs.Numbers.{resource_count, machine_count, service_count, process_count, transient_at, capacity_of, spread_of, dependency_count, need_of, service_of, neighbourhood_of, closed_at}
+use Rattle.ra_model.specs.Numbers.{resource_count, machine_count, service_count, process_count, transient_at}
+use Rattle.ra_model.specs.Numbers.{capacity_of, spread_of, dependency_count, need_of, service_of, neighbourhood_of}
+use Rattle.ra_model.specs.Numbers.{closed_at}
 use Rattle.ra_model.specs.Assignments.{machine_at}
 use Rattle.ra_model.specs.Usage.{use_of, transient_of}
 use Rattle.ra_model.specs.Services.{locations_of}

@@ -5,7 +5,8 @@ use Rattle.std.specs.Prelude.{◌≡◌, ℕ, ◌-◌, ◌*◌, ◌^◌, ◌<◌
 use Rattle.ra_base.specs.Sums.{total}
 use Rattle.ra_base.specs.declared.ids.Machine.{Machine}
 use Rattle.ra_model.specs.declared.raw.Tables.{Tables}
-use Rattle.ra_model.specs.Numbers.{resource_count, machine_count, balance_count, load_weight_of, capacity_of, safety_of, first_of, second_of, target_of, balance_weight_of}
+use Rattle.ra_model.specs.Numbers.{resource_count, machine_count, balance_count, load_weight_of, capacity_of, safety_of}
+use Rattle.ra_model.specs.Numbers.{first_of, second_of, target_of, balance_weight_of}
 use Rattle.ra_model.specs.Limits.{WellFormed, Small}
 use Rattle.ra_model.specs.Usage.{use_of}
 use Rattle.ra_model.specs.Costs.{load_cost, balance_cost}

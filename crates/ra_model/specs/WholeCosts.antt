@@ -4,7 +4,8 @@ use Rattle.ra_base.specs.Sums.{total}
 use Rattle.ra_base.specs.Whole.{above_zero}
 use Rattle.ra_base.specs.declared.ids.Machine.{Machine}
 use Rattle.ra_model.specs.declared.raw.Tables.{Tables}
-use Rattle.ra_model.specs.Numbers.{machine_count, balance_count, capacity_of, first_of, second_of, target_of, balance_weight_of}
+use Rattle.ra_model.specs.Numbers.{machine_count, balance_count, capacity_of, first_of, second_of, target_of}
+use Rattle.ra_model.specs.Numbers.{balance_weight_of}
 use Rattle.ra_model.specs.Limits.{WellFormed}
 use Rattle.ra_model.specs.Usage.{use_of}
 use Rattle.ra_model.specs.Feasible.{Feasible}

@@ -1,5 +1,6 @@
 -- Formats that accept a text, whatever comes behind it.
-use Rattle.std.proofs.Common.{◌≡◌, ℕ, zero, suc, ◌<◌, ◌≤◌, refl, ap, ◌∙◌, sym, List, [], ◌∷◌, ◌++◌, length, map, take, drop, Bool, true, false, None, arith, append_assoc}
+use Rattle.std.proofs.Common.{◌≡◌, ℕ, zero, suc, ◌<◌, ◌≤◌, refl, ap, ◌∙◌, sym, List, [], ◌∷◌, ◌++◌, length, map, take}
+use Rattle.std.proofs.Common.{drop, Bool, true, false, None, arith, append_assoc}
 use Rattle.std.proofs.lemmas.List.{take-append-drop, take-map}
 use Rattle.std.proofs.Math.Seq.{take-append_seam, drop-append_seam}
 use Rattle.ra_base.specs.Sums.{one_if}
@@ -7,7 +8,8 @@ use Rattle.ra_token.specs.declared.answers.Token.{Token}
 use Rattle.ra_token.specs.Values.{value_of}
 use Rattle.ra_model_read.specs.declared.faults.Field.{Field}
 use Rattle.ra_model_read.specs.declared.faults.ModelFault.{ModelFault}
-use Rattle.ra_model_read.specs.Formats.{Left, Read, Format, pure, ◌>>=◌, next_token, take_token, any, field, flag_value, flag, along, ends, take_end}
+use Rattle.ra_model_read.specs.Formats.{Left, Read, Format, pure, ◌>>=◌, next_token, take_token, any, field, flag_value}
+use Rattle.ra_model_read.specs.Formats.{flag, along, ends, take_end}
 use Rattle.ra_model_read.specs.FieldOrder.{joined}
 use Rattle.ra_model_read.proofs.Outcomes.{bind_read}
 use Rattle.ra_model_read.proofs.Limited.{limited_fits}
@@ -39,18 +41,24 @@ drop_map (suc n) (t ∷ ts) = drop_map n ts
 back_of : (ts : List Token) (u v : List ℕ) → map value_of ts ≡ u ++ v → map value_of (drop (length u) ts) ≡ v
 back_of ts u v e = sym (drop_map (length u) ts) ∙ ap (drop (length u)) e ∙ drop-append_seam u v
 
-split_before : (n : ℕ) (ts : List Token) (after : Left) → before ts after ≡ before (take n ts) (before (drop n ts) after)
-split_before n ts after = ap (λ all. record { tokens = all; fault = after.fault }) (ap (λ all. all ++ after.tokens) (sym (take-append-drop n ts)) ∙ append_assoc (take n ts) (drop n ts) after.tokens)
+split_before : (n : ℕ) (ts : List Token) (after : Left) →
+    before ts after ≡ before (take n ts) (before (drop n ts) after)
+split_before n ts after = ap (λ all. record { tokens = all; fault = after.fault })
+    (ap (λ all. all ++ after.tokens) (sym (take-append-drop n ts)) ∙ append_assoc (take n ts) (drop n ts) after.tokens)
 
-pub accepts_bind : {X Y : Type 0} {f : Format X} (next : X → Format Y) {u v : List ℕ} {x : X} {y : Y} → Accepts f u x → Accepts (next x) v y → Accepts (f >>= next) (u ++ v) y
+pub accepts_bind : {X Y : Type 0} {f : Format X} (next : X → Format Y) {u v : List ℕ} {x : X} {y : Y} → Accepts f u x →
+    Accepts (next x) v y → Accepts (f >>= next) (u ++ v) y
 accepts_bind {X} {Y} {f} next {u} {v} {x} {y} one two = record {
   takes = λ ts after e.
       ap (f >>= next) (split_before (length u) ts after)
-      ∙ bind_read f next (before (take (length u) ts) (before (drop (length u) ts) after)) (before (drop (length u) ts) after) x (one.takes (take (length u) ts) (before (drop (length u) ts) after) (front_of ts u v e))
+      ∙ bind_read f next (before (take (length u) ts) (before (drop (length u) ts) after))
+      (before (drop (length u) ts) after) x
+      (one.takes (take (length u) ts) (before (drop (length u) ts) after) (front_of ts u v e))
       ∙ two.takes (drop (length u) ts) after (back_of ts u v e);
 }
 
-pub accepts_then : {X Y : Type 0} {f : Format X} (next : X → Format Y) {u : List ℕ} {x : X} {y : Y} → Accepts f u x → next x ≡ pure y → Accepts (f >>= next) u y
+pub accepts_then : {X Y : Type 0} {f : Format X} (next : X → Format Y) {u : List ℕ} {x : X} {y : Y} → Accepts f u x →
+    next x ≡ pure y → Accepts (f >>= next) u y
 unfolding pure
 accepts_then {X} {Y} {f} next {u} {x} {y} one made = record {
   takes = λ ts after e.
@@ -59,22 +67,27 @@ accepts_then {X} {Y} {f} next {u} {x} {y} one made = record {
 
 -- one token
 
-accepts_token : {X : Type 0} (what : Field) (item v : ℕ) (next : Token → Format X) (x : X) → ((t : Token) → t.value ≡ v → next t ≡ pure x) → Accepts (next_token what item >>= next) (v ∷ []) x
+accepts_token : {X : Type 0} (what : Field) (item v : ℕ) (next : Token → Format X) (x : X) →
+    ((t : Token) → t.value ≡ v → next t ≡ pure x) → Accepts (next_token what item >>= next) (v ∷ []) x
 unfolding next_token take_token pure
 accepts_token {X} what item v next x made = record { takes = one }
   where
-    one : (ts : List Token) (after : Left) → map value_of ts ≡ v ∷ [] → (next_token what item >>= next) (before ts after) ≡ Read x after
+    one : (ts : List Token) (after : Left) → map value_of ts ≡ v ∷ [] →
+        (next_token what item >>= next) (before ts after) ≡ Read x after
     one [] after e = cc
-    one (t ∷ []) after e = let same : t.value ≡ v = cc in bind_read (next_token what item) next (before (t ∷ []) after) after t refl ∙ ap (λ g. g after) (made t same)
+    one (t ∷ []) after e = let same : t.value ≡ v = cc in
+        bind_read (next_token what item) next (before (t ∷ []) after) after t refl ∙ ap (λ g. g after) (made t same)
     one (t ∷ (s ∷ ts)) after e = cc
 
 pub accepts_any : (what : Field) (item v : ℕ) → Accepts (any what item) (v ∷ []) v
 unfolding any
 accepts_any what item v = accepts_token what item v _ v (λ t e. ap pure e)
 
-pub accepts_field : (what : Field) (item least most v : ℕ) → least ≤ v → v ≤ most → Accepts (field what item least most) (v ∷ []) v
+pub accepts_field : (what : Field) (item least most v : ℕ) → least ≤ v → v ≤ most →
+    Accepts (field what item least most) (v ∷ []) v
 unfolding field
-accepts_field what item least most v low high = accepts_token what item v _ v (λ t e. limited_fits what least most t (rw e low) (rw e high) ∙ ap pure e)
+accepts_field what item least most v low high =
+    accepts_token what item v _ v (λ t e. limited_fits what least most t (rw e low) (rw e high) ∙ ap pure e)
 
 flag_is : (b : Bool) (value : ℕ) (fault : ModelFault) → value ≡ one_if b → flag_value value fault ≡ pure b
 unfolding flag_value
@@ -87,21 +100,28 @@ accepts_flag r b = accepts_token _ r (one_if b) _ b (λ t e. flag_is b t.value _
 
 -- steps
 
-pub accepts_along : {X : Type 0} (step : ℕ → X → Format X) (made : ℕ → X) (text : ℕ → List ℕ) (n : ℕ) → ((k : ℕ) → k < n → Accepts (step k (made k)) (text k) (made (suc k))) → Accepts (along n step (made 0)) (joined n text) (made n)
+pub accepts_along : {X : Type 0} (step : ℕ → X → Format X) (made : ℕ → X) (text : ℕ → List ℕ) (n : ℕ) →
+    ((k : ℕ) → k < n → Accepts (step k (made k)) (text k) (made (suc k))) →
+    Accepts (along n step (made 0)) (joined n text) (made n)
 unfolding along joined
 accepts_along step made text zero each = accepts_pure (made 0)
-accepts_along step made text (suc n) each = accepts_bind (step n) (accepts_along step made text n (λ k within. each k (omega arith))) (each n (omega arith))
+accepts_along step made text (suc n) each =
+    accepts_bind (step n) (accepts_along step made text n (λ k within. each k (omega arith))) (each n (omega arith))
 
 -- the whole file
 
 pub record AcceptsAll {X : Type 0} (f : Format X) (text : List ℕ) (x : X) : Type 0 where
-  pub takes : (ts : List Token) → map value_of ts ≡ text → f (record { tokens = ts; fault = None }) ≡ Read x (record { tokens = []; fault = None })
+  pub takes : (ts : List Token) → map value_of ts ≡ text → f (record { tokens = ts; fault = None }) ≡
+      Read x (record { tokens = []; fault = None })
 
-pub all_bind : {X Y : Type 0} {f : Format X} (next : X → Format Y) {u v : List ℕ} {x : X} {y : Y} → Accepts f u x → AcceptsAll (next x) v y → AcceptsAll (f >>= next) (u ++ v) y
+pub all_bind : {X Y : Type 0} {f : Format X} (next : X → Format Y) {u v : List ℕ} {x : X} {y : Y} → Accepts f u x →
+    AcceptsAll (next x) v y → AcceptsAll (f >>= next) (u ++ v) y
 all_bind {X} {Y} {f} next {u} {v} {x} {y} one two = record {
   takes = λ ts e.
       ap (λ all. (f >>= next) (record { tokens = all; fault = None })) (sym (take-append-drop (length u) ts))
-      ∙ bind_read f next (before (take (length u) ts) (record { tokens = drop (length u) ts; fault = None })) (record { tokens = drop (length u) ts; fault = None }) x (one.takes (take (length u) ts) (record { tokens = drop (length u) ts; fault = None }) (front_of ts u v e))
+      ∙ bind_read f next (before (take (length u) ts) (record { tokens = drop (length u) ts; fault = None }))
+      (record { tokens = drop (length u) ts; fault = None }) x
+      (one.takes (take (length u) ts) (record { tokens = drop (length u) ts; fault = None }) (front_of ts u v e))
       ∙ two.takes (drop (length u) ts) (back_of ts u v e);
 }
 
@@ -109,13 +129,17 @@ pub all_ends : {Y : Type 0} (next : Unit {0} → Format Y) (y : Y) → next tt �
 unfolding ends take_end pure
 all_ends {Y} next y made = record { takes = none }
   where
-    none : (ts : List Token) → map value_of ts ≡ [] → (ends >>= next) (record { tokens = ts; fault = None }) ≡ Read y (record { tokens = []; fault = None })
-    none [] e = bind_read ends next (record { tokens = []; fault = None }) (record { tokens = []; fault = None }) tt refl ∙ ap (λ g. g (record { tokens = []; fault = None })) made
+    none : (ts : List Token) → map value_of ts ≡ [] → (ends >>= next) (record { tokens = ts; fault = None }) ≡
+        Read y (record { tokens = []; fault = None })
+    none [] e = bind_read ends next (record { tokens = []; fault = None }) (record { tokens = []; fault = None }) tt
+        refl ∙ ap (λ g. g (record { tokens = []; fault = None })) made
     none (t ∷ ts) e = cc
 
-pub all_then : {X Y : Type 0} {f : Format X} (next : X → Format Y) {u : List ℕ} {x : X} {y : Y} → AcceptsAll f u x → next x ≡ pure y → AcceptsAll (f >>= next) u y
+pub all_then : {X Y : Type 0} {f : Format X} (next : X → Format Y) {u : List ℕ} {x : X} {y : Y} → AcceptsAll f u x →
+    next x ≡ pure y → AcceptsAll (f >>= next) u y
 unfolding pure
 all_then {X} {Y} {f} next {u} {x} {y} one made = record {
   takes = λ ts e.
-      bind_read f next (record { tokens = ts; fault = None }) (record { tokens = []; fault = None }) x (one.takes ts e) ∙ ap (λ g. g (record { tokens = []; fault = None })) made;
+      bind_read f next (record { tokens = ts; fault = None }) (record { tokens = []; fault = None }) x (one.takes ts e)
+      ∙ ap (λ g. g (record { tokens = []; fault = None })) made;
 }

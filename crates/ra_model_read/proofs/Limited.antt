@@ -9,16 +9,20 @@ use Rattle.ra_token.specs.Moments.{Here, Stands}
 use Rattle.ra_model_read.specs.Reading.{Refuses}
 use Rattle.ra_model_read.proofs.Steps.{refuses_here}
 
-pub limited_fits : (what : Field) (least most : ℕ) (t : Token) → least ≤ t.value → t.value ≤ most → limited what least most t ≡ pure t.value
+pub limited_fits : (what : Field) (least most : ℕ) (t : Token) → least ≤ t.value → t.value ≤ most →
+    limited what least most t ≡ pure t.value
 unfolding limited
 limited_fits what least most t low high = grind arith
 
-pub limited_out : (what : Field) (least most : ℕ) (t : Token) → (t.value < least) ⊎ (most < t.value) → limited what least most t ≡ refuse (Range what t.at t.value least most)
+pub limited_out : (what : Field) (least most : ℕ) (t : Token) → (t.value < least) ⊎ (most < t.value) →
+    limited what least most t ≡ refuse (Range what t.at t.value least most)
 unfolding limited
 limited_out what least most t out = grind arith
 
-pub limited_refuses : (what : Field) (least most : ℕ) (t : Token) (a : Here) → Stands a → (t.value < least) ⊎ (most < t.value) → Refuses (limited what least most t) a a (Range what t.at t.value least most)
-limited_refuses what least most t a stands out = refuses_here _ (Range what t.at t.value least most) stands (limited_out what least most t out) (λ e. cc)
+pub limited_refuses : (what : Field) (least most : ℕ) (t : Token) (a : Here) → Stands a → (t.value < least)
+    ⊎ (most < t.value) → Refuses (limited what least most t) a a (Range what t.at t.value least most)
+limited_refuses what least most t a stands out =
+    refuses_here _ (Range what t.at t.value least most) stands (limited_out what least most t out) (λ e. cc)
 
 flag_out : (value : ℕ) (fault : ModelFault) → value ≢ 0 → value ≢ 1 → flag_value value fault ≡ refuse fault
 unfolding flag_value
@@ -26,8 +30,10 @@ flag_out zero fault some more = absurd (some refl)
 flag_out (suc zero) fault some more = absurd (more refl)
 flag_out (suc (suc value)) fault some more = refl
 
-pub flag_refuses : (t : Token) (a : Here) → Stands a → t.value ≢ 0 → t.value ≢ 1 → Refuses (flag_value t.value (Flag t.at t.value)) a a (Flag t.at t.value)
-flag_refuses t a stands some more = refuses_here _ (Flag t.at t.value) stands (flag_out t.value (Flag t.at t.value) some more) (λ e. cc)
+pub flag_refuses : (t : Token) (a : Here) → Stands a → t.value ≢ 0 → t.value ≢ 1 →
+    Refuses (flag_value t.value (Flag t.at t.value)) a a (Flag t.at t.value)
+flag_refuses t a stands some more =
+    refuses_here _ (Flag t.at t.value) stands (flag_out t.value (Flag t.at t.value) some more) (λ e. cc)
 
 pub flag_off : (value : ℕ) (fault : ModelFault) → value ≡ 0 → flag_value value fault ≡ pure false
 unfolding flag_value

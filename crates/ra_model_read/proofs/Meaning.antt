@@ -23,32 +23,48 @@ all_left : (place : ℕ) (bytes : List ℕ) → tokens_before bytes place ≡ 0 
 unfolding left_from all_of
 all_left place bytes start = rw start refl
 
-meant_by : (bytes : List ℕ) (place : ℕ) (lists : Lists) (after : Left) → tokens_before bytes place ≡ 0 → model (left_from place bytes) ≡ Read lists after → model_of bytes ≡ Ok lists
+meant_by : (bytes : List ℕ) (place : ℕ) (lists : Lists) (after : Left) → tokens_before bytes place ≡ 0 →
+    model (left_from place bytes) ≡ Read lists after → model_of bytes ≡ Ok lists
 unfolding model_of answer_of
 meant_by bytes place lists after start e = rw (← all_left place bytes start, e) refl
 
-refused_by : (bytes : List ℕ) (place : ℕ) (fault : ModelFault) → tokens_before bytes place ≡ 0 → model (left_from place bytes) ≡ Refused fault → model_refusal bytes ≡ Some fault
+refused_by : (bytes : List ℕ) (place : ℕ) (fault : ModelFault) → tokens_before bytes place ≡ 0 →
+    model (left_from place bytes) ≡ Refused fault → model_refusal bytes ≡ Some fault
 unfolding model_refusal model_of answer_of
 refused_by bytes place fault start e = rw (← all_left place bytes start, e) refl
 
-told_lists : (told : Option (List ℕ)) (place : ℕ) (lists : Lists) (after : Option Left) → ((bytes : List ℕ) → tokens_before bytes place ≡ 0) → option_map model (option_map (left_from place) told) ≡ option_map (Read lists) after → IfSome told (λ bytes. model_of bytes ≡ Ok lists)
+told_lists : (told : Option (List ℕ)) (place : ℕ) (lists : Lists) (after : Option Left) →
+    ((bytes : List ℕ) → tokens_before bytes place ≡ 0) → option_map model (option_map (left_from place) told) ≡
+    option_map (Read lists) after → IfSome told (λ bytes. model_of bytes ≡ Ok lists)
 told_lists None place lists after start e = tt
 told_lists (Some bytes) place lists None start e = cc
-told_lists (Some bytes) place lists (Some after) start e = let read : model (left_from place bytes) ≡ Read lists after = cc in meant_by bytes place lists after (start bytes) read
+told_lists (Some bytes) place lists (Some after) start e = let read : model (left_from place bytes) ≡
+    Read lists after = cc in meant_by bytes place lists after (start bytes) read
 
-told_refusal : (told : Option (List ℕ)) (place : ℕ) (fault : ModelFault) → ((bytes : List ℕ) → tokens_before bytes place ≡ 0) → option_map model (option_map (left_from place) told) ≡ option_map (λ _. Refused fault) (option_map (left_from place) told) → IfSome told (λ bytes. model_refusal bytes ≡ Some fault)
+told_refusal : (told : Option (List ℕ)) (place : ℕ) (fault : ModelFault) →
+    ((bytes : List ℕ) → tokens_before bytes place ≡ 0) → option_map model (option_map (left_from place) told) ≡
+    option_map (λ _. Refused fault) (option_map (left_from place) told) →
+    IfSome told (λ bytes. model_refusal bytes ≡ Some fault)
 told_refusal None place fault start e = tt
-told_refusal (Some bytes) place fault start e = let refused : model (left_from place bytes) ≡ Refused fault = cc in refused_by bytes place fault (start bytes) refused
+told_refusal (Some bytes) place fault start e = let refused : model (left_from place bytes) ≡ Refused fault = cc in
+    refused_by bytes place fault (start bytes) refused
 
-pub means : (a b : Here) (name : List ℕ) (lists : Lists) → a.tokens.name ≡ name → ((bytes : List ℕ) → tokens_before bytes a.tokens.place ≡ 0) → Gives model a b lists → IfSome (a.held name) (λ bytes. model_of bytes ≡ Ok lists)
+pub means : (a b : Here) (name : List ℕ) (lists : Lists) → a.tokens.name ≡ name →
+    ((bytes : List ℕ) → tokens_before bytes a.tokens.place ≡ 0) → Gives model a b lists →
+    IfSome (a.held name) (λ bytes. model_of bytes ≡ Ok lists)
 unfolding left_of
-means a b name lists e start gives = rw (← e) (told_lists (a.held a.tokens.name) a.tokens.place lists (left_of b) start gives.value)
+means a b name lists e start gives =
+    rw (← e) (told_lists (a.held a.tokens.name) a.tokens.place lists (left_of b) start gives.value)
 
-pub refuses_as : (a b : Here) (name : List ℕ) (fault : ModelFault) → a.tokens.name ≡ name → ((bytes : List ℕ) → tokens_before bytes a.tokens.place ≡ 0) → Refuses model a b fault → is_by_content fault ≡ true → IfSome (a.held name) (λ bytes. model_refusal bytes ≡ Some fault)
+pub refuses_as : (a b : Here) (name : List ℕ) (fault : ModelFault) → a.tokens.name ≡ name →
+    ((bytes : List ℕ) → tokens_before bytes a.tokens.place ≡ 0) → Refuses model a b fault → is_by_content fault ≡ true →
+    IfSome (a.held name) (λ bytes. model_refusal bytes ≡ Some fault)
 unfolding left_of
-refuses_as a b name fault e start refuses by_content = rw (← e) (told_refusal (a.held a.tokens.name) a.tokens.place fault start (refuses.told by_content))
+refuses_as a b name fault e start refuses by_content =
+    rw (← e) (told_refusal (a.held a.tokens.name) a.tokens.place fault start (refuses.told by_content))
 
-pub is_model : (told : Option (List ℕ)) (raw : RawInstance) (i : Tables) → i ≡ all_open raw → IfSome told (λ bytes. model_of bytes ≡ Ok (lists_of raw)) → IfSome told (λ bytes. IsModel bytes i)
+pub is_model : (told : Option (List ℕ)) (raw : RawInstance) (i : Tables) → i ≡ all_open raw →
+    IfSome told (λ bytes. model_of bytes ≡ Ok (lists_of raw)) → IfSome told (λ bytes. IsModel bytes i)
 is_model None raw i e meant = tt
 is_model (Some bytes) raw i e meant = subst (IsModel bytes) (sym e) (record { lists = meant; open_to_all = refl })
 
@@ -59,11 +75,14 @@ no_content e = cc
 
 -- the text of an instance, and the instance of a text
 
-pub has_text : (told : Option (List ℕ)) (raw : RawInstance) (i : Tables) → WellFormed (all_open raw) → i ≡ all_open raw → IfSome told (λ bytes. model_of bytes ≡ Ok (lists_of raw)) → IfSome told (λ bytes. IsTextOf bytes i)
+pub has_text : (told : Option (List ℕ)) (raw : RawInstance) (i : Tables) → WellFormed (all_open raw) →
+    i ≡ all_open raw → IfSome told (λ bytes. model_of bytes ≡ Ok (lists_of raw)) →
+    IfSome told (λ bytes. IsTextOf bytes i)
 has_text None raw i h e meant = tt
 has_text (Some bytes) raw i h e meant = subst (IsTextOf bytes) (sym e) (text_taken raw bytes h meant)
 
-numbers_of_model : (bytes : List ℕ) (raw : RawInstance) → model_of bytes ≡ Ok (lists_of raw) → WellFormed (all_open raw) × IsTextOf bytes (all_open raw)
+numbers_of_model : (bytes : List ℕ) (raw : RawInstance) → model_of bytes ≡ Ok (lists_of raw) → WellFormed (all_open raw)
+    × IsTextOf bytes (all_open raw)
 numbers_of_model bytes raw meant = let h = model_well_formed raw bytes meant in (h, text_taken raw bytes h meant)
 
 pub model_is_its_numbers : (bytes : List ℕ) → ModelIsItsNumbers bytes
@@ -73,11 +92,18 @@ model_is_its_numbers bytes i = (there, back)
     open_is e = ap (λ closed. record { raw = i.raw; closed = closed }) e
 
     there : IsModel bytes i → WellFormed i × (i.closed ≡ None) × IsTextOf bytes i
-    there meant = let both = numbers_of_model bytes i.raw meant.lists in
-        (subst WellFormed (sym (open_is meant.open_to_all)) both.0, meant.open_to_all, subst (IsTextOf bytes) (sym (open_is meant.open_to_all)) both.1)
+    there meant = let both = numbers_of_model bytes i.raw meant.lists in (
+      subst WellFormed (sym (open_is meant.open_to_all)) both.0,
+      meant.open_to_all,
+      subst (IsTextOf bytes) (sym (open_is meant.open_to_all)) both.1,
+    )
 
     back : WellFormed i × (i.closed ≡ None) × IsTextOf bytes i → IsModel bytes i
-    back all = record { lists = text_accepted i.raw bytes (subst WellFormed (open_is all.1) all.0) (subst (IsTextOf bytes) (open_is all.1) all.2); open_to_all = all.1 }
+    back all = record {
+      lists = text_accepted i.raw bytes (subst WellFormed (open_is all.1) all.0)
+          (subst (IsTextOf bytes) (open_is all.1) all.2);
+      open_to_all = all.1;
+    }
 
 pub told_model_is_its_numbers : (told : Option (List ℕ)) → IfSome told ModelIsItsNumbers
 told_model_is_its_numbers None = tt

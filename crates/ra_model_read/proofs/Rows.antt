@@ -1,5 +1,6 @@
 -- One row more at the end of a list of rows.
-use Rattle.std.proofs.Common.{◌≡◌, ℕ, zero, suc, ◌+◌, ◌*◌, ◌^◌, ◌<◌, ◌≤◌, refl, ap, ◌∙◌, sym, subst, List, [], ◌∷◌, ◌++◌, length, map, arith, add-one, ⊎_elim}
+use Rattle.std.proofs.Common.{◌≡◌, ℕ, zero, suc, ◌+◌, ◌*◌, ◌^◌, ◌<◌, ◌≤◌, refl, ap, ◌∙◌, sym, subst, List, [], ◌∷◌}
+use Rattle.std.proofs.Common.{◌++◌, length, map, arith, add-one, ⊎_elim}
 use Rattle.std.proofs.lemmas.List.{map-append, length-map, get_or_append_left, length_push, nil_from_length}
 use Rattle.std.proofs.lemmas.Bool.{cases_lt}
 use Rattle.std.proofs.Math.Nat.{mul-le-mul_right}
@@ -15,21 +16,29 @@ use Rattle.ra_model_read.specs.declared.tables.MachineTables.{MachineTables}
 use Rattle.ra_model_read.specs.declared.tables.ServiceTables.{ServiceTables}
 use Rattle.ra_model_read.specs.declared.tables.ProcessTables.{ProcessTables}
 use Rattle.ra_model_read.specs.Lists.{of_resource, of_machine, of_service, of_process, of_balance}
-use Rattle.ra_model_read.specs.TableShapes.{machine_lists, service_lists, process_lists, HasMachines, HasProcesses, IsMachines, IsServices, IsProcesses, end_in, start_in, needed_in, AreServices, HasDependencies, HasServices, service_in, first_in, second_in, AreBalances, HasBalances}
+use Rattle.ra_model_read.specs.TableShapes.{machine_lists, service_lists, process_lists, HasMachines, HasProcesses}
+use Rattle.ra_model_read.specs.TableShapes.{IsMachines, IsServices, IsProcesses, end_in, start_in, needed_in}
+use Rattle.ra_model_read.specs.TableShapes.{AreServices, HasDependencies, HasServices, service_in, first_in, second_in}
+use Rattle.ra_model_read.specs.TableShapes.{AreBalances, HasBalances}
 
-pub resource_pushed : (rows new : List ResourceRow) (row : ResourceRow) → new ≡ rows ++ row ∷ [] → map of_resource new ≡ map of_resource rows ++ of_resource row ∷ []
+pub resource_pushed : (rows new : List ResourceRow) (row : ResourceRow) → new ≡ rows ++ row ∷ [] →
+    map of_resource new ≡ map of_resource rows ++ of_resource row ∷ []
 resource_pushed rows new row e = ap (map of_resource) e ∙ map-append of_resource rows (row ∷ [])
 
-pub machine_pushed : (rows new : List MachineRow) (row : MachineRow) → new ≡ rows ++ row ∷ [] → map of_machine new ≡ map of_machine rows ++ of_machine row ∷ []
+pub machine_pushed : (rows new : List MachineRow) (row : MachineRow) → new ≡ rows ++ row ∷ [] →
+    map of_machine new ≡ map of_machine rows ++ of_machine row ∷ []
 machine_pushed rows new row e = ap (map of_machine) e ∙ map-append of_machine rows (row ∷ [])
 
-pub service_pushed : (rows new : List ServiceRow) (row : ServiceRow) → new ≡ rows ++ row ∷ [] → map of_service new ≡ map of_service rows ++ of_service row ∷ []
+pub service_pushed : (rows new : List ServiceRow) (row : ServiceRow) → new ≡ rows ++ row ∷ [] →
+    map of_service new ≡ map of_service rows ++ of_service row ∷ []
 service_pushed rows new row e = ap (map of_service) e ∙ map-append of_service rows (row ∷ [])
 
-pub process_pushed : (rows new : List ProcessRow) (row : ProcessRow) → new ≡ rows ++ row ∷ [] → map of_process new ≡ map of_process rows ++ of_process row ∷ []
+pub process_pushed : (rows new : List ProcessRow) (row : ProcessRow) → new ≡ rows ++ row ∷ [] →
+    map of_process new ≡ map of_process rows ++ of_process row ∷ []
 process_pushed rows new row e = ap (map of_process) e ∙ map-append of_process rows (row ∷ [])
 
-pub balance_pushed : (rows new : List BalanceRow) (row : BalanceRow) → new ≡ rows ++ row ∷ [] → map of_balance new ≡ map of_balance rows ++ of_balance row ∷ []
+pub balance_pushed : (rows new : List BalanceRow) (row : BalanceRow) → new ≡ rows ++ row ∷ [] →
+    map of_balance new ≡ map of_balance rows ++ of_balance row ∷ []
 balance_pushed rows new row e = ap (map of_balance) e ∙ map-append of_balance rows (row ∷ [])
 
 -- a count of rows is a count of what stands in them
@@ -38,35 +47,42 @@ counted f rows n e = e ∙ sym (length-map rows f)
 
 -- what holds of each of n, and of the next
 below_next : (P : ℕ → Type 0) (n : ℕ) → ((k : ℕ) → k < n → P k) → P n → (k : ℕ) → k < n + 1 → P k
-below_next P n before here k within = ⊎_elim (λ (h : k < n). before k h) (λ (h : n ≤ k). let e : n ≡ k = omega arith in subst P e here) (cases_lt k n)
+below_next P n before here k within =
+    ⊎_elim (λ (h : k < n). before k h) (λ (h : n ≤ k). let e : n ≡ k = omega arith in subst P e here) (cases_lt k n)
 
 -- machines
 
 pub row_within : (R M m n room : ℕ) → n ≡ m * R → room ≡ M * R → m < M → n + R ≤ room
-row_within R M m n room items all below = let wide : (m + 1) * R ≤ M * R = mul-le-mul_right R (omega arith) in omega (arith, items, all, wide)
+row_within R M m n room items all below =
+    let wide : (m + 1) * R ≤ M * R = mul-le-mul_right R (omega arith) in omega (arith, items, all, wide)
 
 pub row_fits : (R M m : ℕ) → m < M → M ≤ 5000 → R ≤ 5000 → m * R + R < 2 ^ 64
 row_fits R M m below few narrow = let wide : m * R ≤ 5000 * R = mul-le-mul_right R (omega arith) in omega (arith, wide)
 
-pub has_machine : (R M m : ℕ) (t new : MachineTables) (row : MachineRow) → HasMachines R M m t → new.rows.items ≡ t.rows.items ++ row ∷ []
-    → length new.capacities.items ≡ length t.capacities.items + R → length new.safeties.items ≡ length t.safeties.items + R → length new.move_costs.items ≡ length t.move_costs.items + M
-    → new.rows.room ≡ t.rows.room → new.capacities.room ≡ t.capacities.room → new.safeties.room ≡ t.safeties.room → new.move_costs.room ≡ t.move_costs.room → HasMachines R M (m + 1) new
-has_machine R M m t new row h e capacities safeties move_costs rows_room capacities_room safeties_room move_costs_room = record {
-  few_resources = h.few_resources;
-  few = h.few;
-  rows = ap length e ∙ length_push t.rows.items row ∙ ap (λ n. n + 1) h.rows;
-  capacities = omega (arith, h.capacities, capacities);
-  safeties = omega (arith, h.safeties, safeties);
-  move_costs = omega (arith, h.move_costs, move_costs);
-  rows_room = rows_room ∙ h.rows_room;
-  capacities_room = capacities_room ∙ h.capacities_room;
-  safeties_room = safeties_room ∙ h.safeties_room;
-  move_costs_room = move_costs_room ∙ h.move_costs_room;
-}
+pub has_machine : (R M m : ℕ) (t new : MachineTables) (row : MachineRow) → HasMachines R M m t →
+    new.rows.items ≡ t.rows.items ++ row ∷ []
+    → length new.capacities.items ≡ length t.capacities.items + R → length new.safeties.items ≡ length t.safeties.items
+    + R → length new.move_costs.items ≡ length t.move_costs.items + M
+    → new.rows.room ≡ t.rows.room → new.capacities.room ≡ t.capacities.room → new.safeties.room ≡ t.safeties.room →
+    new.move_costs.room ≡ t.move_costs.room → HasMachines R M (m + 1) new
+has_machine R M m t new row h e capacities safeties move_costs rows_room capacities_room safeties_room move_costs_room =
+    record {
+      few_resources = h.few_resources;
+      few = h.few;
+      rows = ap length e ∙ length_push t.rows.items row ∙ ap (λ n. n + 1) h.rows;
+      capacities = omega (arith, h.capacities, capacities);
+      safeties = omega (arith, h.safeties, safeties);
+      move_costs = omega (arith, h.move_costs, move_costs);
+      rows_room = rows_room ∙ h.rows_room;
+      capacities_room = capacities_room ∙ h.capacities_room;
+      safeties_room = safeties_room ∙ h.safeties_room;
+      move_costs_room = move_costs_room ∙ h.move_costs_room;
+    }
 
 -- the services of processes
 
-service_before : (rows : List ProcessRow) (row : ProcessRow) (k : ℕ) → k < length rows → service_in (rows ++ row ∷ []) k ≡ service_in rows k
+service_before : (rows : List ProcessRow) (row : ProcessRow) (k : ℕ) → k < length rows →
+    service_in (rows ++ row ∷ []) k ≡ service_in rows k
 unfolding service_in
 service_before rows row k within = ap (λ r. r.service.0) (get_or_append_left rows (row ∷ []) _ k within)
 
@@ -74,7 +90,10 @@ service_here : (rows : List ProcessRow) (row : ProcessRow) → service_in (rows 
 unfolding service_in
 service_here rows row = ap (λ r. r.service.0) (get_or-append_seam rows row [] _)
 
-pub has_process : (S R P p : ℕ) (t new : ProcessTables) (row : ProcessRow) → HasProcesses S R P p t → new.rows.items ≡ t.rows.items ++ row ∷ [] → length new.requirements.items ≡ length t.requirements.items + R → row.service.0 < S → new.rows.room ≡ t.rows.room → new.requirements.room ≡ t.requirements.room → HasProcesses S R P (p + 1) new
+pub has_process : (S R P p : ℕ) (t new : ProcessTables) (row : ProcessRow) → HasProcesses S R P p t →
+    new.rows.items ≡ t.rows.items ++ row ∷ [] → length new.requirements.items ≡ length t.requirements.items + R →
+    row.service.0 < S → new.rows.room ≡ t.rows.room → new.requirements.room ≡ t.requirements.room →
+    HasProcesses S R P (p + 1) new
 has_process S R P p t new row h e wider here rows_room room = let full : length t.rows.items ≡ p = h.rows in record {
   few_resources = h.few_resources;
   few = h.few;
@@ -89,7 +108,8 @@ has_process S R P p t new row h e wider here rows_room room = let full : length 
 
 -- the resources of balance objectives
 
-first_before : (rows : List BalanceRow) (row : BalanceRow) (k : ℕ) → k < length rows → first_in (rows ++ row ∷ []) k ≡ first_in rows k
+first_before : (rows : List BalanceRow) (row : BalanceRow) (k : ℕ) → k < length rows →
+    first_in (rows ++ row ∷ []) k ≡ first_in rows k
 unfolding first_in
 first_before rows row k within = ap (λ r. r.first.0) (get_or_append_left rows (row ∷ []) _ k within)
 
@@ -97,7 +117,8 @@ first_here : (rows : List BalanceRow) (row : BalanceRow) → first_in (rows ++ r
 unfolding first_in
 first_here rows row = ap (λ r. r.first.0) (get_or-append_seam rows row [] _)
 
-second_before : (rows : List BalanceRow) (row : BalanceRow) (k : ℕ) → k < length rows → second_in (rows ++ row ∷ []) k ≡ second_in rows k
+second_before : (rows : List BalanceRow) (row : BalanceRow) (k : ℕ) → k < length rows →
+    second_in (rows ++ row ∷ []) k ≡ second_in rows k
 unfolding second_in
 second_before rows row k within = ap (λ r. r.second.0) (get_or_append_left rows (row ∷ []) _ k within)
 
@@ -105,7 +126,8 @@ second_here : (rows : List BalanceRow) (row : BalanceRow) → second_in (rows ++
 unfolding second_in
 second_here rows row = ap (λ r. r.second.0) (get_or-append_seam rows row [] _)
 
-balances_pushed : (rows new : List BalanceRow) (row : BalanceRow) (R : ℕ) → new ≡ rows ++ row ∷ [] → AreBalances R rows → row.first.0 < R → row.second.0 < R → AreBalances R new
+balances_pushed : (rows new : List BalanceRow) (row : BalanceRow) (R : ℕ) → new ≡ rows ++ row ∷ [] →
+    AreBalances R rows → row.first.0 < R → row.second.0 < R → AreBalances R new
 balances_pushed rows new row R e before one two = rw e record {
   firsts = rw (length_push rows row) (below_next (λ k. first_in (rows ++ row ∷ []) k < R) (length rows)
       (λ k within. omega (arith, first_before rows row k within, before.firsts k within))
@@ -115,7 +137,8 @@ balances_pushed rows new row R e before one two = rw e record {
       (omega (arith, second_here rows row)));
 }
 
-pub has_balance : (R b : ℕ) (old new : Listed BalanceRow) (row : BalanceRow) → HasBalances R b old → new.items ≡ old.items ++ row ∷ [] → row.first.0 < R → row.second.0 < R → HasBalances R (b + 1) new
+pub has_balance : (R b : ℕ) (old new : Listed BalanceRow) (row : BalanceRow) → HasBalances R b old →
+    new.items ≡ old.items ++ row ∷ [] → row.first.0 < R → row.second.0 < R → HasBalances R (b + 1) new
 has_balance R b old new row h e one two = record {
   rows = ap length e ∙ length_push old.items row ∙ ap (λ n. n + 1) h.rows;
   among = balances_pushed old.items new.items row R e h.among one two;
@@ -132,22 +155,28 @@ has_no_balance R none e = record {
 no_dependency : (S : ℕ) (none : List Service) → none ≡ [] → AreServices S none
 no_dependency S none e = rw e (record { each = λ place within. absurd (omega arith) })
 
-needed_before : (dependencies : List Service) (one : Service) (k : ℕ) → k < length dependencies → needed_in (dependencies ++ one ∷ []) k ≡ needed_in dependencies k
+needed_before : (dependencies : List Service) (one : Service) (k : ℕ) → k < length dependencies →
+    needed_in (dependencies ++ one ∷ []) k ≡ needed_in dependencies k
 unfolding needed_in
 needed_before dependencies one k within = ap (λ r. r.0) (get_or_append_left dependencies (one ∷ []) _ k within)
 
-needed_here : (dependencies : List Service) (one : Service) → needed_in (dependencies ++ one ∷ []) (length dependencies) ≡ one.0
+needed_here : (dependencies : List Service) (one : Service) →
+    needed_in (dependencies ++ one ∷ []) (length dependencies) ≡ one.0
 unfolding needed_in
 needed_here dependencies one = ap (λ r. r.0) (get_or-append_seam dependencies one [] _)
 
-dependency_pushed : (dependencies new : List Service) (one : Service) (S : ℕ) → new ≡ dependencies ++ one ∷ [] → AreServices S dependencies → one.0 < S → AreServices S new
+dependency_pushed : (dependencies new : List Service) (one : Service) (S : ℕ) → new ≡ dependencies ++ one ∷ [] →
+    AreServices S dependencies → one.0 < S → AreServices S new
 dependency_pushed dependencies new one S e before here = rw e record {
-  each = rw (length_push dependencies one) (below_next (λ k. needed_in (dependencies ++ one ∷ []) k < S) (length dependencies)
+  each = rw (length_push dependencies one)
+      (below_next (λ k. needed_in (dependencies ++ one ∷ []) k < S) (length dependencies)
       (λ k within. omega (arith, needed_before dependencies one k within, before.each k within))
       (omega (arith, needed_here dependencies one)));
 }
 
-pub has_dependency : (S : ℕ) (old new : Listed Service) (one : Service) → HasDependencies S old → new.items ≡ old.items ++ one ∷ [] → new.room ≡ old.room → length old.items < 100000 → one.0 < S → HasDependencies S new
+pub has_dependency : (S : ℕ) (old new : Listed Service) (one : Service) → HasDependencies S old →
+    new.items ≡ old.items ++ one ∷ [] → new.room ≡ old.room → length old.items < 100000 → one.0 < S →
+    HasDependencies S new
 has_dependency S old new one h e room below here = record {
   room = room ∙ h.room;
   few = omega (arith, ap length e, length_push old.items one);
@@ -156,7 +185,8 @@ has_dependency S old new one h e room below here = record {
 
 -- where the dependencies of services end
 
-end_before : (rows : List ServiceRow) (row : ServiceRow) (k : ℕ) → k < length rows → end_in (rows ++ row ∷ []) k ≡ end_in rows k
+end_before : (rows : List ServiceRow) (row : ServiceRow) (k : ℕ) → k < length rows →
+    end_in (rows ++ row ∷ []) k ≡ end_in rows k
 unfolding end_in
 end_before rows row k within = ap (λ r. r.dependency_end) (get_or_append_left rows (row ∷ []) _ k within)
 
@@ -164,7 +194,8 @@ end_here : (rows : List ServiceRow) (row : ServiceRow) → end_in (rows ++ row �
 unfolding end_in
 end_here rows row = ap (λ r. r.dependency_end) (get_or-append_seam rows row [] _)
 
-start_before : (rows : List ServiceRow) (row : ServiceRow) (k : ℕ) → k ≤ length rows → start_in (rows ++ row ∷ []) k ≡ start_in rows k
+start_before : (rows : List ServiceRow) (row : ServiceRow) (k : ℕ) → k ≤ length rows →
+    start_in (rows ++ row ∷ []) k ≡ start_in rows k
 unfolding start_in
 start_before rows row zero within = refl
 start_before rows row (suc k) within = end_before rows row k (omega arith)
@@ -173,7 +204,8 @@ start_next : (rows : List ServiceRow) (s : ℕ) → start_in rows (s + 1) ≡ en
 unfolding start_in
 start_next rows s = rw add-one refl
 
-pub has_none : (S : ℕ) (t : ServiceTables) → t.rows.items ≡ [] → t.dependencies.items ≡ [] → t.rows.room ≡ S → t.dependencies.room ≡ 100000 → HasServices S 0 t
+pub has_none : (S : ℕ) (t : ServiceTables) → t.rows.items ≡ [] → t.dependencies.items ≡ [] → t.rows.room ≡ S →
+    t.dependencies.room ≡ 100000 → HasServices S 0 t
 unfolding start_in
 has_none S t none no_need rows_room room = record {
   rows = rw none refl;
@@ -188,23 +220,45 @@ has_none S t none no_need rows_room room = record {
   all_owned = rw no_need refl;
 }
 
-pub has_service : (S s : ℕ) (t new : ServiceTables) (row : ServiceRow) → HasServices S s t → new.rows.items ≡ t.rows.items ++ row ∷ [] → row.dependency_end ≡ length new.dependencies.items → length t.dependencies.items ≤ length new.dependencies.items → new.rows.room ≡ t.rows.room → HasDependencies S new.dependencies → HasServices S (s + 1) new
+pub has_service : (S s : ℕ) (t new : ServiceTables) (row : ServiceRow) → HasServices S s t →
+    new.rows.items ≡ t.rows.items ++ row ∷ [] → row.dependency_end ≡ length new.dependencies.items →
+    length t.dependencies.items ≤ length new.dependencies.items → new.rows.room ≡ t.rows.room →
+    HasDependencies S new.dependencies → HasServices S (s + 1) new
 has_service S s t new row h e ends more rows_room dependencies = let full : length t.rows.items ≡ s = h.rows in record {
   rows = ap length e ∙ length_push t.rows.items row ∙ ap (λ n. n + 1) h.rows;
   rows_room = rows_room ∙ h.rows_room;
   dependencies = dependencies;
   in_order = rw e (below_next (λ k. start_in (t.rows.items ++ row ∷ []) k ≤ end_in (t.rows.items ++ row ∷ []) k) s
-      (λ k within. omega (arith, start_before t.rows.items row k (omega arith), end_before t.rows.items row k (omega arith), h.in_order k within))
-      (rw (← full) (omega (arith, start_before t.rows.items row (length t.rows.items) (omega arith), end_here t.rows.items row, ap (start_in t.rows.items) full, h.all_owned))));
+      (λ k within.
+      omega (
+        arith,
+        start_before t.rows.items row k (omega arith),
+        end_before t.rows.items row k (omega arith),
+        h.in_order k within,
+      ))
+      (rw (← full)
+      (omega (
+        arith,
+        start_before t.rows.items row (length t.rows.items) (omega arith),
+        end_here t.rows.items row,
+        ap (start_in t.rows.items) full,
+        h.all_owned,
+      ))));
   within = rw e (below_next (λ k. end_in (t.rows.items ++ row ∷ []) k ≤ length new.dependencies.items) s
       (λ k within. omega (arith, end_before t.rows.items row k (omega arith), h.within k within))
       (rw (← full) (omega (arith, end_here t.rows.items row))));
-  all_owned = rw e (start_next (t.rows.items ++ row ∷ []) s ∙ ap (end_in (t.rows.items ++ row ∷ [])) (sym full) ∙ end_here t.rows.items row ∙ ends);
+  all_owned = rw e (start_next (t.rows.items ++ row ∷ []) s ∙ ap (end_in (t.rows.items ++ row ∷ [])) (sym full)
+      ∙ end_here t.rows.items row ∙ ends);
 }
 
 -- tables with nothing in them, and with all rows
 
-pub no_machines : (R M : ℕ) (t : MachineTables) → HasMachines R M 0 t → machine_lists t ≡ record { rows = []; capacities = []; safeties = []; move_costs = [] }
+pub no_machines : (R M : ℕ) (t : MachineTables) → HasMachines R M 0 t → machine_lists t ≡ record {
+  rows = [];
+  capacities = [];
+  safeties = [];
+  move_costs = [];
+}
 no_machines R M t h = rw (
   nil_from_length t.rows.items h.rows,
   nil_from_length t.capacities.items (omega (arith, h.capacities)),
@@ -212,28 +266,36 @@ no_machines R M t h = rw (
   nil_from_length t.move_costs.items (omega (arith, h.move_costs)),
 ) refl
 
-pub no_services : (S : ℕ) (t : ServiceTables) → HasServices S 0 t → service_lists t ≡ record { rows = []; dependencies = [] }
+pub no_services : (S : ℕ) (t : ServiceTables) → HasServices S 0 t →
+    service_lists t ≡ record { rows = []; dependencies = [] }
 unfolding start_in
-no_services S t h = rw (nil_from_length t.rows.items h.rows, nil_from_length t.dependencies.items (sym h.all_owned)) refl
+no_services S t h =
+    rw (nil_from_length t.rows.items h.rows, nil_from_length t.dependencies.items (sym h.all_owned)) refl
 
-pub no_processes : (S R P : ℕ) (t : ProcessTables) → HasProcesses S R P 0 t → process_lists t ≡ record { rows = []; requirements = [] }
-no_processes S R P t h = rw (nil_from_length t.rows.items h.rows, nil_from_length t.requirements.items (omega (arith, h.requirements))) refl
+pub no_processes : (S R P : ℕ) (t : ProcessTables) → HasProcesses S R P 0 t →
+    process_lists t ≡ record { rows = []; requirements = [] }
+no_processes S R P t h =
+    rw (nil_from_length t.rows.items h.rows, nil_from_length t.requirements.items (omega (arith, h.requirements))) refl
 
 pub all_machines : (R M m : ℕ) (t : MachineTables) → HasMachines R M m t → M ≤ m → m ≤ M → 1 ≤ M → IsMachines R t
-all_machines R M m t h low high some = let full : M ≡ length t.rows.items = omega (arith, h.rows) in let last : m ≡ length t.rows.items = omega (arith, h.rows) in record {
-  some = omega arith;
-  has = subst (λ n. HasMachines R n (length t.rows.items) t) full (subst (λ k. HasMachines R M k t) last h);
-}
+all_machines R M m t h low high some = let full : M ≡ length t.rows.items = omega (arith, h.rows) in
+    let last : m ≡ length t.rows.items = omega (arith, h.rows) in record {
+      some = omega arith;
+      has = subst (λ n. HasMachines R n (length t.rows.items) t) full (subst (λ k. HasMachines R M k t) last h);
+    }
 
 pub all_services : (S s : ℕ) (t : ServiceTables) → HasServices S s t → S ≤ s → s ≤ S → 1 ≤ S → S ≤ 50000 → IsServices t
-all_services S s t h low high some few = let full : S ≡ length t.rows.items = omega (arith, h.rows) in let last : s ≡ length t.rows.items = omega (arith, h.rows) in record {
-  some = omega arith;
-  few = omega arith;
-  has = subst (λ n. HasServices n (length t.rows.items) t) full (subst (λ k. HasServices S k t) last h);
-}
+all_services S s t h low high some few = let full : S ≡ length t.rows.items = omega (arith, h.rows) in
+    let last : s ≡ length t.rows.items = omega (arith, h.rows) in record {
+      some = omega arith;
+      few = omega arith;
+      has = subst (λ n. HasServices n (length t.rows.items) t) full (subst (λ k. HasServices S k t) last h);
+    }
 
-pub all_processes : (S R P p : ℕ) (t : ProcessTables) → HasProcesses S R P p t → P ≤ p → p ≤ P → 1 ≤ P → IsProcesses S R t
-all_processes S R P p t h low high some = let full : P ≡ length t.rows.items = omega (arith, h.rows) in let last : p ≡ length t.rows.items = omega (arith, h.rows) in record {
-  some = omega arith;
-  has = subst (λ n. HasProcesses S R n (length t.rows.items) t) full (subst (λ k. HasProcesses S R P k t) last h);
-}
+pub all_processes : (S R P p : ℕ) (t : ProcessTables) → HasProcesses S R P p t → P ≤ p → p ≤ P → 1 ≤ P →
+    IsProcesses S R t
+all_processes S R P p t h low high some = let full : P ≡ length t.rows.items = omega (arith, h.rows) in
+    let last : p ≡ length t.rows.items = omega (arith, h.rows) in record {
+      some = omega arith;
+      has = subst (λ n. HasProcesses S R n (length t.rows.items) t) full (subst (λ k. HasProcesses S R P k t) last h);
+    }

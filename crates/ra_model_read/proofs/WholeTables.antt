@@ -2,8 +2,11 @@
 use Rattle.std.proofs.Common.{◌≡◌, ℕ, zero, suc, ◌≤◌, refl, ◌∙◌, length, arith}
 use Rattle.ra_model.specs.declared.raw.RawInstance.{RawInstance}
 use Rattle.ra_model.specs.Limits.{WellFormed}
-use Rattle.ra_model.specs.Numbers.{all_open, resource_count, machine_count, service_count, process_count, balance_count, service_row, process_row, balance_row, dependency_end, dependency_start, need_at, service_of, first_of, second_of}
-use Rattle.ra_model_read.specs.TableShapes.{end_in, start_in, needed_in, service_in, first_in, second_in, AreBalances, IsMachines, IsServices, IsProcesses}
+use Rattle.ra_model.specs.Numbers.{all_open, resource_count, machine_count, service_count, process_count, balance_count}
+use Rattle.ra_model.specs.Numbers.{service_row, process_row, balance_row, dependency_end, dependency_start, need_at}
+use Rattle.ra_model.specs.Numbers.{service_of, first_of, second_of}
+use Rattle.ra_model_read.specs.TableShapes.{end_in, start_in, needed_in, service_in, first_in, second_in, AreBalances}
+use Rattle.ra_model_read.specs.TableShapes.{IsMachines, IsServices, IsProcesses}
 
 start_is : (raw : RawInstance) (s : ℕ) → dependency_start (all_open raw) s ≡ start_in raw.services.items s
 unfolding dependency_start dependency_end service_row start_in end_in
@@ -31,9 +34,17 @@ unfolding second_of balance_row second_in
 second_is raw b = refl
 
 whole : (raw : RawInstance) → 1 ≤ length raw.resources.items → length raw.resources.items ≤ 20
-    → IsMachines (length raw.resources.items) (record { rows = raw.machines; capacities = raw.capacities; safeties = raw.safeties; move_costs = raw.move_costs })
+    → IsMachines (length raw.resources.items) (record {
+      rows = raw.machines;
+      capacities = raw.capacities;
+      safeties = raw.safeties;
+      move_costs = raw.move_costs;
+    })
     → IsServices (record { rows = raw.services; dependencies = raw.dependencies })
-    → IsProcesses (length raw.services.items) (length raw.resources.items) (record { rows = raw.processes; requirements = raw.requirements })
+    → IsProcesses (length raw.services.items) (length raw.resources.items) (record {
+      rows = raw.processes;
+      requirements = raw.requirements;
+    })
     → length raw.balances.items ≤ 10 → AreBalances (length raw.resources.items) raw.balances.items
     → WellFormed (all_open raw)
 unfolding resource_count machine_count service_count process_count balance_count
@@ -63,10 +74,17 @@ whole raw some_resource few_resources machines services processes few_balances b
 
 pub whole_read : (raw : RawInstance) (R S : ℕ) → R ≡ length raw.resources.items → S ≡ length raw.services.items
     → 1 ≤ length raw.resources.items → length raw.resources.items ≤ 20
-    → IsMachines R (record { rows = raw.machines; capacities = raw.capacities; safeties = raw.safeties; move_costs = raw.move_costs })
+    → IsMachines R (record {
+      rows = raw.machines;
+      capacities = raw.capacities;
+      safeties = raw.safeties;
+      move_costs = raw.move_costs;
+    })
     → IsServices (record { rows = raw.services; dependencies = raw.dependencies })
     → IsProcesses S R (record { rows = raw.processes; requirements = raw.requirements })
     → length raw.balances.items ≤ 10 → AreBalances R raw.balances.items
     → WellFormed (all_open raw)
-whole_read raw R S all_resources all_services some_resource few_resources machines services processes few_balances balances =
-    whole raw some_resource few_resources (rw all_resources at machines) services (rw (all_services, all_resources) at processes) few_balances (rw all_resources at balances)
+whole_read raw R S all_resources all_services some_resource few_resources machines services processes few_balances
+    balances =
+    whole raw some_resource few_resources (rw all_resources at machines) services
+    (rw (all_services, all_resources) at processes) few_balances (rw all_resources at balances)

@@ -2,7 +2,11 @@
 use Rattle.std.specs.Prelude.{◌≡◌, ℕ, zero, suc, List, [], ◌∷◌, ◌++◌, map, None}
 use Rattle.ra_base.specs.Sums.{one_if}
 use Rattle.ra_model.specs.declared.raw.Tables.{Tables}
-use Rattle.ra_model.specs.Numbers.{resource_count, machine_count, service_count, process_count, balance_count, transient_at, load_weight_of, neighbourhood_of, location_of, capacity_of, safety_of, way_cost_of, spread_of, dependency_count, need_of, service_of, requirement_of, process_cost_of, first_of, second_of, target_of, balance_weight_of, process_weight_of, service_weight_of, machine_weight_of}
+use Rattle.ra_model.specs.Numbers.{resource_count, machine_count, service_count, process_count, balance_count}
+use Rattle.ra_model.specs.Numbers.{transient_at, load_weight_of, neighbourhood_of, location_of, capacity_of, safety_of}
+use Rattle.ra_model.specs.Numbers.{way_cost_of, spread_of, dependency_count, need_of, service_of, requirement_of}
+use Rattle.ra_model.specs.Numbers.{process_cost_of, first_of, second_of, target_of, balance_weight_of}
+use Rattle.ra_model.specs.Numbers.{process_weight_of, service_weight_of, machine_weight_of}
 use Rattle.ra_token.specs.Faults.{first_fault}
 use Rattle.ra_token.specs.TokenList.{tokens}
 use Rattle.ra_token.specs.Values.{value_of}

@@ -5,10 +5,18 @@ use Rattle.ra_base.specs.declared.ids.Service.{Service}
 use Rattle.ra_model.specs.declared.raw.Tables.{Tables}
 use Rattle.ra_token.specs.Faults.{first_fault}
 use Rattle.ra_token.specs.TokenList.{tokens}
-use Rattle.ra_model_read.specs.declared.faults.Field.TheVariants.{ResourceCount, LoadWeight, MachineCount, Neighbourhood, Location, Capacity, Safety, MoveCost, ServiceCount, SpreadMin, DependencyCount, Dependency, ProcessCount, ProcessService, Requirement, ProcessCost, BalanceCount, BalanceFirst, BalanceSecond, BalanceTarget, BalanceWeight, ProcessWeight, ServiceWeight, MachineWeight}
+use Rattle.ra_model_read.specs.declared.faults.Field.TheVariants.{ResourceCount, LoadWeight, MachineCount}
+use Rattle.ra_model_read.specs.declared.faults.Field.TheVariants.{Neighbourhood, Location, Capacity, Safety, MoveCost}
+use Rattle.ra_model_read.specs.declared.faults.Field.TheVariants.{ServiceCount, SpreadMin, DependencyCount, Dependency}
+use Rattle.ra_model_read.specs.declared.faults.Field.TheVariants.{ProcessCount, ProcessService, Requirement}
+use Rattle.ra_model_read.specs.declared.faults.Field.TheVariants.{ProcessCost, BalanceCount, BalanceFirst}
+use Rattle.ra_model_read.specs.declared.faults.Field.TheVariants.{BalanceSecond, BalanceTarget, BalanceWeight}
+use Rattle.ra_model_read.specs.declared.faults.Field.TheVariants.{ProcessWeight, ServiceWeight, MachineWeight}
 use Rattle.ra_model_read.specs.declared.faults.ModelFault.{ModelFault}
-use Rattle.ra_model_read.specs.Formats.{Left, Outcome, Read, Refused, Format, pure, ◌>>=◌, any, field, flag, along, numbers, ends}
-use Rattle.ra_model_read.specs.Lists.{ResourceNumbers, BalanceNumbers, MachineLists, ServiceLists, ProcessLists, Weights, Rest, Lists, lists_of}
+use Rattle.ra_model_read.specs.Formats.{Left, Outcome, Read, Refused, Format, pure, ◌>>=◌, any, field, flag, along}
+use Rattle.ra_model_read.specs.Formats.{numbers, ends}
+use Rattle.ra_model_read.specs.Lists.{ResourceNumbers, BalanceNumbers, MachineLists, ServiceLists, ProcessLists}
+use Rattle.ra_model_read.specs.Lists.{Weights, Rest, Lists, lists_of}
 
 -- resource r
 unfoldable pub resource : ℕ → List ResourceNumbers → Format (List ResourceNumbers)

@@ -7,7 +7,8 @@ use Rattle.ra_token.specs.Moments.{Here, here, Goes}
 use Rattle.ra_token.specs.Standing.{Standing}
 use Rattle.ra_token.specs.TokenList.{tokens, tokens_before}
 use Rattle.ra_model_read.specs.declared.faults.ModelFault.{ModelFault}
-use Rattle.ra_model_read.specs.declared.faults.ModelFault.TheVariants.{ReadFault, BadByte, TooLarge, TooLong, Missing, Range, Flag, Extra, NoMemory}
+use Rattle.ra_model_read.specs.declared.faults.ModelFault.TheVariants.{ReadFault, BadByte, TooLarge, TooLong, Missing}
+use Rattle.ra_model_read.specs.declared.faults.ModelFault.TheVariants.{Range, Flag, Extra, NoMemory}
 use Rattle.ra_model_read.specs.Formats.{Left, Read, Refused, Format}
 
 -- the files that a call is lent and a reader, at one moment

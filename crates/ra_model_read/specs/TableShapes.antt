@@ -11,7 +11,8 @@ use Rattle.ra_model_read.specs.declared.tables.ServiceTables.{ServiceTables}
 use Rattle.ra_model_read.specs.declared.tables.ProcessTables.{ProcessTables}
 use Rattle.ra_model_read.specs.declared.tables.RestTables.{RestTables}
 use Rattle.ra_model_read.specs.declared.tables.WeightNumbers.{WeightNumbers}
-use Rattle.ra_model_read.specs.Lists.{MachineLists, ServiceLists, ProcessLists, Weights, Rest, of_machine, of_service, of_process, of_balance}
+use Rattle.ra_model_read.specs.Lists.{MachineLists, ServiceLists, ProcessLists, Weights, Rest, of_machine, of_service}
+use Rattle.ra_model_read.specs.Lists.{of_process, of_balance}
 
 -- the lists of tables
 

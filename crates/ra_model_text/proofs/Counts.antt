@@ -2,8 +2,12 @@
 use Rattle.std.proofs.Common.{◌≡◌, ℕ, zero, suc, ◌+◌, ◌*◌, ◌<◌, ◌≤◌, List, [], ◌∷◌, ◌++◌, length, arith, length-append}
 use Rattle.ra_model.specs.declared.raw.Tables.{Tables}
 use Rattle.ra_model.specs.Limits.{WellFormed}
-use Rattle.ra_model.specs.Numbers.{resource_count, machine_count, service_count, process_count, balance_count, capacity_of, safety_of, way_cost_of, dependency_start, dependency_end, dependency_count, need_of, requirement_of, process_cost_of, process_weight_of, service_weight_of, machine_weight_of}
-use Rattle.ra_model_read.specs.FieldOrder.{joined, row_of, counted, resource_numbers, machine_numbers, service_numbers, process_numbers, balance_numbers, numbers_of}
+use Rattle.ra_model.specs.Numbers.{resource_count, machine_count, service_count, process_count, balance_count}
+use Rattle.ra_model.specs.Numbers.{capacity_of, safety_of, way_cost_of, dependency_start, dependency_end}
+use Rattle.ra_model.specs.Numbers.{dependency_count, need_of, requirement_of, process_cost_of, process_weight_of}
+use Rattle.ra_model.specs.Numbers.{service_weight_of, machine_weight_of}
+use Rattle.ra_model_read.specs.FieldOrder.{joined, row_of, counted, resource_numbers, machine_numbers, service_numbers}
+use Rattle.ra_model_read.specs.FieldOrder.{process_numbers, balance_numbers, numbers_of}
 
 length_row : (n : ℕ) (f : ℕ → ℕ) → length (row_of n f) ≡ n
 unfolding joined
@@ -18,7 +22,8 @@ joined_few (suc n) c f each =
     let one : length (f n) ≤ c = each n (omega arith) in
     omega (arith, length-append (joined n f) (f n), before, one)
 
-length_six : (a b c d e f : List ℕ) → length (a ++ (b ++ (c ++ (d ++ (e ++ f))))) ≡ length a + (length b + (length c + (length d + (length e + length f))))
+length_six : (a b c d e f : List ℕ) → length (a ++ (b ++ (c ++ (d ++ (e ++ f))))) ≡ length a
+    + (length b + (length c + (length d + (length e + length f))))
 length_six a b c d e f = simp length-append
 
 module _ (i : Tables) (fits : WellFormed i) where
@@ -32,13 +37,27 @@ module _ (i : Tables) (fits : WellFormed i) where
       let caps = row_of (resource_count i) (capacity_of i m) in
       let safeties = row_of (resource_count i) (safety_of i m) in
       let ways = row_of (machine_count i) (way_cost_of i m) in
-      omega (arith, length-append caps (safeties ++ ways), length-append safeties ways, length_row (resource_count i) (capacity_of i m), length_row (resource_count i) (safety_of i m), length_row (machine_count i) (way_cost_of i m), fits.few_resources, fits.few_machines)
+      omega (
+        arith,
+        length-append caps (safeties ++ ways),
+        length-append safeties ways,
+        length_row (resource_count i) (capacity_of i m),
+        length_row (resource_count i) (safety_of i m),
+        length_row (machine_count i) (way_cost_of i m),
+        fits.few_resources,
+        fits.few_machines,
+      )
 
   process_few : (p : ℕ) → length (process_numbers i p) ≤ 22
   unfolding process_numbers
   process_few p =
       let row = row_of (resource_count i) (requirement_of i p) in
-      omega (arith, length-append row (process_cost_of i p ∷ []), length_row (resource_count i) (requirement_of i p), fits.few_resources)
+      omega (
+        arith,
+        length-append row (process_cost_of i p ∷ []),
+        length_row (resource_count i) (requirement_of i p),
+        fits.few_resources,
+      )
 
   balance_few : (b : ℕ) → length (balance_numbers i b) ≤ 4
   unfolding balance_numbers
@@ -54,17 +73,40 @@ module _ (i : Tables) (fits : WellFormed i) where
   services_many zero within = omega arith
   services_many (suc n) within =
       let ordered : dependency_start i n ≤ dependency_end i n = fits.in_order n (omega arith) in
-      let before : length (joined n (service_numbers i)) ≡ 2 * n + dependency_start i n = services_many n (omega arith) in
+      let before : length (joined n (service_numbers i)) ≡ 2 * n + dependency_start i n =
+      services_many n (omega arith) in
       omega (arith, length-append (joined n (service_numbers i)) (service_numbers i n), before, service_many n, ordered)
 
   pub numbers_few : length (numbers_of i) ≤ 30000000
   unfolding numbers_of
   numbers_few =
       let weights = process_weight_of i ∷ service_weight_of i ∷ machine_weight_of i ∷ [] in
-      let all = length_six (counted (resource_count i) (resource_numbers i)) (counted (machine_count i) (machine_numbers i)) (counted (service_count i) (service_numbers i)) (counted (process_count i) (process_numbers i)) (counted (balance_count i) (balance_numbers i)) weights in
-      let resources : length (joined (resource_count i) (resource_numbers i)) ≤ resource_count i * 2 = joined_few (resource_count i) 2 (resource_numbers i) (λ r within. resource_few r) in
-      let machines : length (joined (machine_count i) (machine_numbers i)) ≤ machine_count i * 5042 = joined_few (machine_count i) 5042 (machine_numbers i) (λ m within. machine_few m) in
-      let services : length (joined (service_count i) (service_numbers i)) ≡ 2 * service_count i + dependency_start i (service_count i) = services_many (service_count i) (omega arith) in
-      let processes : length (joined (process_count i) (process_numbers i)) ≤ process_count i * 22 = joined_few (process_count i) 22 (process_numbers i) (λ p within. process_few p) in
-      let balances : length (joined (balance_count i) (balance_numbers i)) ≤ balance_count i * 4 = joined_few (balance_count i) 4 (balance_numbers i) (λ b within. balance_few b) in
-      omega (arith, all, resources, machines, services, processes, balances, fits.few_resources, fits.few_machines, fits.few_services, fits.few_processes, fits.few_balances, fits.all_owned, fits.few_dependencies)
+      let all = length_six (counted (resource_count i) (resource_numbers i))
+      (counted (machine_count i) (machine_numbers i)) (counted (service_count i) (service_numbers i))
+      (counted (process_count i) (process_numbers i)) (counted (balance_count i) (balance_numbers i)) weights in
+      let resources : length (joined (resource_count i) (resource_numbers i)) ≤ resource_count i * 2 =
+      joined_few (resource_count i) 2 (resource_numbers i) (λ r within. resource_few r) in
+      let machines : length (joined (machine_count i) (machine_numbers i)) ≤ machine_count i * 5042 =
+      joined_few (machine_count i) 5042 (machine_numbers i) (λ m within. machine_few m) in
+      let services : length (joined (service_count i) (service_numbers i)) ≡ 2 * service_count i + dependency_start i
+      (service_count i) = services_many (service_count i) (omega arith) in
+      let processes : length (joined (process_count i) (process_numbers i)) ≤ process_count i * 22 =
+      joined_few (process_count i) 22 (process_numbers i) (λ p within. process_few p) in
+      let balances : length (joined (balance_count i) (balance_numbers i)) ≤ balance_count i * 4 =
+      joined_few (balance_count i) 4 (balance_numbers i) (λ b within. balance_few b) in
+      omega (
+        arith,
+        all,
+        resources,
+        machines,
+        services,
+        processes,
+        balances,
+        fits.few_resources,
+        fits.few_machines,
+        fits.few_services,
+        fits.few_processes,
+        fits.few_balances,
+        fits.all_owned,
+        fits.few_dependencies,
+      )

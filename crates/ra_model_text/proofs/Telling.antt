@@ -1,5 +1,6 @@
 -- Texts that tell numbers, one text after another.
-use Rattle.std.proofs.Common.{◌≡◌, ℕ, zero, suc, ◌+◌, ◌*◌, ◌^◌, ◌<◌, ◌≤◌, List, [], ◌∷◌, ◌++◌, length, map, None, sym, subst, arith, append_assoc, append-nil, length-append}
+use Rattle.std.proofs.Common.{◌≡◌, ℕ, zero, suc, ◌+◌, ◌*◌, ◌^◌, ◌<◌, ◌≤◌, List, [], ◌∷◌, ◌++◌, length, map, None, sym}
+use Rattle.std.proofs.Common.{subst, arith, append_assoc, append-nil, length-append}
 use Rattle.std.proofs.lemmas.List.Elements.{All-nil, All-cons}
 use Rattle.ra_token.specs.declared.answers.TheConstants.{PLACE_LIMIT}
 use Rattle.ra_token.specs.Faults.{first_fault}
@@ -21,7 +22,8 @@ pub record Tells (text numbers : List ℕ) : Type 0 where
 pub tells_line : (n : ℕ) (ns : List ℕ) → Small (n ∷ ns) → Tells (line_text (n ∷ ns)) (n ∷ ns)
 tells_line n ns small = record {
   ahead = λ bytes rest before h. line_ahead bytes (n ∷ ns) rest before small h;
-  short = let few : length (line_text (n ∷ ns)) ≤ 11 * length (n ∷ ns) + 1 = line_short (n ∷ ns) small in omega (arith, few);
+  short = let few : length (line_text (n ∷ ns)) ≤ 11 * length (n ∷ ns) + 1 = line_short (n ∷ ns) small in
+      omega (arith, few);
 }
 
 tells_none : Tells [] []
@@ -48,10 +50,13 @@ tells_append s t xs ys one two =
 tells_joined : (n : ℕ) (f g : ℕ → List ℕ) → ((k : ℕ) → k < n → Tells (f k) (g k)) → Tells (joined n f) (joined n g)
 unfolding joined
 tells_joined zero f g each = tells_none
-tells_joined (suc n) f g each = tells_append (joined n f) (f n) (joined n g) (g n) (tells_joined n f g (λ k within. each k (omega arith))) (each n (omega arith))
+tells_joined (suc n) f g each =
+    tells_append (joined n f) (f n) (joined n g) (g n) (tells_joined n f g (λ k within. each k (omega arith)))
+    (each n (omega arith))
 
 -- a count and n texts
-pub tells_group : (n : ℕ) (f g : ℕ → List ℕ) → n < 2 ^ 32 → ((k : ℕ) → k < n → Tells (f k) (g k)) → Tells (group_text n f) (counted n g)
+pub tells_group : (n : ℕ) (f g : ℕ → List ℕ) → n < 2 ^ 32 → ((k : ℕ) → k < n → Tells (f k) (g k)) →
+    Tells (group_text n f) (counted n g)
 unfolding group_text
 tells_group n f g few each =
     tells_append (line_text (n ∷ [])) (joined n f) (n ∷ []) (joined n g)
@@ -59,7 +64,8 @@ tells_group n f g few each =
     (tells_joined n f g each)
 
 -- the whole text
-pub tells_whole : (text numbers : List ℕ) → Tells text numbers → 12 * length numbers ≤ PLACE_LIMIT → (first_fault text ≡ None) × (map value_of (tokens text) ≡ numbers)
+pub tells_whole : (text numbers : List ℕ) → Tells text numbers → 12 * length numbers ≤ PLACE_LIMIT →
+    (first_fault text ≡ None) × (map value_of (tokens text) ≡ numbers)
 tells_whole text numbers tells few =
     let short : length text ≤ 12 * length numbers = tells.short in
     ahead_none text numbers

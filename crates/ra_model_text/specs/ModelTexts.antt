@@ -2,7 +2,9 @@
 -- numbers with one space between two, and LF.
 use Rattle.std.specs.Prelude.{◌≡◌, ℕ, List, [], ◌∷◌, ◌++◌, None}
 use Rattle.ra_model.specs.declared.raw.Tables.{Tables}
-use Rattle.ra_model.specs.Numbers.{resource_count, machine_count, service_count, process_count, balance_count, first_of, second_of, target_of, balance_weight_of, process_weight_of, service_weight_of, machine_weight_of}
+use Rattle.ra_model.specs.Numbers.{resource_count, machine_count, service_count, process_count, balance_count, first_of}
+use Rattle.ra_model.specs.Numbers.{second_of, target_of, balance_weight_of, process_weight_of, service_weight_of}
+use Rattle.ra_model.specs.Numbers.{machine_weight_of}
 use Rattle.ra_model_read.specs.FieldOrder.{joined, resource_numbers, machine_numbers, service_numbers, process_numbers}
 use Rattle.ra_model_read.specs.Lists.{lists_of}
 use Rattle.ra_model_text.specs.Lines.{line_text}

@@ -14,9 +14,13 @@ use Rattle.ra_moves.specs.Judging.{same_test, same_of}
 use Rattle.ra_moves.proofs.ValueLemmas.{after_before}
 
 -- no step stays where it is
-pub apart_from_none : (steps : List Step) → same_of steps ≡ None → (j : ℕ) → j < length steps → from_in steps j ≢ to_in steps j
+pub apart_from_none : (steps : List Step) → same_of steps ≡ None → (j : ℕ) → j < length steps →
+    from_in steps j ≢ to_in steps j
 unfolding same_of same_test
-apart_from_none steps none j within same = both_ways (eqb (from_in steps j) (to_in steps j)) (cause_none _ _ (first_none_at j (length steps) (same_test steps) within none)) (eq-eqb (from_in steps j) (to_in steps j) same)
+apart_from_none steps none j within same =
+    both_ways (eqb (from_in steps j) (to_in steps j))
+    (cause_none _ _ (first_none_at j (length steps) (same_test steps) within none))
+    (eq-eqb (from_in steps j) (to_in steps j) same)
 
 -- what one of the steps needs, if those before it are done
 pub record IsStep (i : Tables) (b : List Machine) (s : Step) : Type 0 where
@@ -25,11 +29,15 @@ pub record IsStep (i : Tables) (b : List Machine) (s : Step) : Type 0 where
   pub apart : s.from.0 ≢ s.to.0
   pub at_from : machine_at b s.process.0 ≡ s.from.0
 
-pub step_needs : (i : Tables) (a b : List Machine) (steps : List Step) (j : ℕ) (s : Step) → IsAssignment i a → StandsAt from_in steps a → Distinct steps → ((k : ℕ) → k < length steps → from_in steps k ≢ to_in steps k) → ((k : ℕ) → k < length steps → to_in steps k < machine_count i) → j < length steps → b ≡ after_steps a steps j → s ≡ step_at steps j → IsStep i b s
+pub step_needs : (i : Tables) (a b : List Machine) (steps : List Step) (j : ℕ) (s : Step) → IsAssignment i a →
+    StandsAt from_in steps a → Distinct steps → ((k : ℕ) → k < length steps → from_in steps k ≢ to_in steps k) →
+    ((k : ℕ) → k < length steps → to_in steps k < machine_count i) → j < length steps → b ≡ after_steps a steps j →
+    s ≡ step_at steps j → IsStep i b s
 unfolding process_in from_in to_in
 step_needs i a b steps j s fits stand distinct apart reach within made is = record {
   known = omega (arith, ap (λ (x : Step). x.process.0) is, stand.known j within, fits.one_each);
   reach = omega (arith, ap (λ (x : Step). x.to.0) is, reach j within);
   apart = λ same. apart j within (sym (ap (λ (x : Step). x.from.0) is) ∙ same ∙ ap (λ (x : Step). x.to.0) is);
-  at_from = ap (machine_at b) (ap (λ (x : Step). x.process.0) is) ∙ ap (λ xs. machine_at xs (process_in steps j)) made ∙ after_before a steps j within stand distinct ∙ sym (ap (λ (x : Step). x.from.0) is);
+  at_from = ap (machine_at b) (ap (λ (x : Step). x.process.0) is) ∙ ap (λ xs. machine_at xs (process_in steps j)) made
+      ∙ after_before a steps j within stand distinct ∙ sym (ap (λ (x : Step). x.from.0) is);
 }

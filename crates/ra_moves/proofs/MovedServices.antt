@@ -1,5 +1,6 @@
 -- The different services of a move, and their moved counts by place.
-use Rattle.std.proofs.Common.{◌≡◌, ◌≢◌, ℕ, zero, suc, ◌<◌, ◌≤◌, true, false, List, [], ◌∷◌, ◌++◌, length, get_or, Some, None, refl, sym, ap, ◌∙◌, ⊎_elim, arith, length-append}
+use Rattle.std.proofs.Common.{◌≡◌, ◌≢◌, ℕ, zero, suc, ◌<◌, ◌≤◌, true, false, List, [], ◌∷◌, ◌++◌, length, get_or, Some}
+use Rattle.std.proofs.Common.{None, refl, sym, ap, ◌∙◌, ⊎_elim, arith, length-append}
 use Rattle.std.proofs.lemmas.Bool.{cases_Bool, cases_lt, both_ways}
 use Rattle.std.proofs.lemmas.List.{get_or_append_left}
 use Rattle.std.proofs.Math.Seq.{get_or-append_seam}
@@ -13,7 +14,8 @@ use Rattle.ra_moves.specs.Weighing.{moved_count, is_new_service, services_moved,
 
 -- a name is named later too, and one that is named only with the last name is that
 named_later : (n : ℕ) (e : ℕ → ℕ) (m : ℕ) → is_named n e m ≡ true → is_named (suc n) e m ≡ true
-named_later n e m named = let found = is_named_from n e m named in is_named_at (suc n) found.0 e m (omega (arith, found.1)) found.2
+named_later n e m named =
+    let found = is_named_from n e m named in is_named_at (suc n) found.0 e m (omega (arith, found.1)) found.2
 
 named_last : (n : ℕ) (e : ℕ → ℕ) (m : ℕ) → is_named (suc n) e m ≡ true → is_named n e m ≡ false → e n ≡ m
 named_last n e m named not_before =
@@ -23,20 +25,29 @@ named_last n e m named not_before =
     (λ (later : n ≤ found.0). let here : n ≡ found.0 = omega (arith, found.1) in ap e here ∙ found.2)
     (cases_lt found.0 n)
 
-named_pushed : (n : ℕ) (e : ℕ → ℕ) (xs : List ℕ) (k : ℕ) → k < length (xs ++ e n ∷ []) → ((j : ℕ) → j < length xs → is_named n e (get_or xs j 0) ≡ true) → is_named (suc n) e (get_or (xs ++ e n ∷ []) k 0) ≡ true
+named_pushed : (n : ℕ) (e : ℕ → ℕ) (xs : List ℕ) (k : ℕ) → k < length (xs ++ e n ∷ []) →
+    ((j : ℕ) → j < length xs → is_named n e (get_or xs j 0) ≡ true) → is_named (suc n) e (get_or (xs ++ e n ∷ []) k 0) ≡
+    true
 named_pushed n e xs k within earlier = ⊎_elim
-    (λ (before : k < length xs). ap (is_named (suc n) e) (get_or_append_left xs (e n ∷ []) 0 k before) ∙ named_later n e (get_or xs k 0) (earlier k before))
+    (λ (before : k < length xs). ap (is_named (suc n) e) (get_or_append_left xs (e n ∷ []) 0 k before)
+    ∙ named_later n e (get_or xs k 0) (earlier k before))
     (λ (behind : length xs ≤ k).
     let here : k ≡ length xs = omega (arith, length-append xs (e n ∷ [])) in
-    ap (λ j. is_named (suc n) e (get_or (xs ++ e n ∷ []) j 0)) here ∙ ap (is_named (suc n) e) (get_or-append_seam xs (e n) [] 0) ∙ is_named_at (suc n) n e (e n) (omega arith) refl)
+    ap (λ j. is_named (suc n) e (get_or (xs ++ e n ∷ []) j 0)) here
+    ∙ ap (is_named (suc n) e) (get_or-append_seam xs (e n) [] 0) ∙ is_named_at (suc n) n e (e n) (omega arith) refl)
     (cases_lt k (length xs))
 
-apart_pushed : (n : ℕ) (e : ℕ → ℕ) (xs : List ℕ) (j k : ℕ) → j < k → k < length (xs ++ e n ∷ []) → is_named n e (e n) ≡ false → ((j : ℕ) → j < length xs → is_named n e (get_or xs j 0) ≡ true) → ((j k : ℕ) → j < k → k < length xs → get_or xs j 0 ≢ get_or xs k 0) → get_or (xs ++ e n ∷ []) j 0 ≢ get_or (xs ++ e n ∷ []) k 0
+apart_pushed : (n : ℕ) (e : ℕ → ℕ) (xs : List ℕ) (j k : ℕ) → j < k → k < length (xs ++ e n ∷ []) →
+    is_named n e (e n) ≡ false → ((j : ℕ) → j < length xs → is_named n e (get_or xs j 0) ≡ true) →
+    ((j k : ℕ) → j < k → k < length xs → get_or xs j 0 ≢ get_or xs k 0) →
+    get_or (xs ++ e n ∷ []) j 0 ≢ get_or (xs ++ e n ∷ []) k 0
 apart_pushed n e xs j k before within new earlier apart same = ⊎_elim
-    (λ (inside : k < length xs). apart j k before inside (sym (get_or_append_left xs (e n ∷ []) 0 j (omega arith)) ∙ same ∙ get_or_append_left xs (e n ∷ []) 0 k inside))
+    (λ (inside : k < length xs). apart j k before inside (sym (get_or_append_left xs (e n ∷ []) 0 j (omega arith))
+    ∙ same ∙ get_or_append_left xs (e n ∷ []) 0 k inside))
     (λ (behind : length xs ≤ k).
     let here : k ≡ length xs = omega (arith, length-append xs (e n ∷ [])) in
-    let last : get_or xs j 0 ≡ e n = sym (get_or_append_left xs (e n ∷ []) 0 j (omega arith)) ∙ same ∙ ap (λ l. get_or (xs ++ e n ∷ []) l 0) here ∙ get_or-append_seam xs (e n) [] 0 in
+    let last : get_or xs j 0 ≡ e n = sym (get_or_append_left xs (e n ∷ []) 0 j (omega arith)) ∙ same
+    ∙ ap (λ l. get_or (xs ++ e n ∷ []) l 0) here ∙ get_or-append_seam xs (e n) [] 0 in
     both_ways _ (ap (is_named n e) last ∙ new) (earlier j (omega arith)))
     (cases_lt k (length xs))
 
@@ -46,12 +57,14 @@ unfolding services_moved
 services_none i steps = refl
 
 -- one more step, whose service is new
-pub services_new : (i : Tables) (steps : List Step) (n : ℕ) → is_named n (service_in i steps) (service_in i steps n) ≡ false → services_moved i steps (suc n) ≡ services_moved i steps n ++ service_in i steps n ∷ []
+pub services_new : (i : Tables) (steps : List Step) (n : ℕ) → is_named n (service_in i steps) (service_in i steps n) ≡
+    false → services_moved i steps (suc n) ≡ services_moved i steps n ++ service_in i steps n ∷ []
 unfolding services_moved is_new_service
 services_new i steps n new = rw new refl
 
 -- or isn't
-pub services_again : (i : Tables) (steps : List Step) (n : ℕ) → is_named n (service_in i steps) (service_in i steps n) ≡ true → services_moved i steps (suc n) ≡ services_moved i steps n
+pub services_again : (i : Tables) (steps : List Step) (n : ℕ) → is_named n (service_in i steps) (service_in i steps n) ≡
+    true → services_moved i steps (suc n) ≡ services_moved i steps n
 unfolding services_moved is_new_service
 services_again i steps n again = rw again refl
 
@@ -59,16 +72,29 @@ services_again i steps n again = rw again refl
 pub services_few : (i : Tables) (steps : List Step) (n : ℕ) → length (services_moved i steps n) ≤ n
 services_few i steps zero = omega (arith, ap length (services_none i steps))
 services_few i steps (suc n) = ⊎_elim
-    (λ (again : is_named n (service_in i steps) (service_in i steps n) ≡ true). omega (arith, ap length (services_again i steps n again), services_few i steps n))
-    (λ (new : is_named n (service_in i steps) (service_in i steps n) ≡ false). omega (arith, ap length (services_new i steps n new), length-append (services_moved i steps n) (service_in i steps n ∷ []), services_few i steps n))
+    (λ (again : is_named n (service_in i steps) (service_in i steps n) ≡ true).
+    omega (arith, ap length (services_again i steps n again), services_few i steps n))
+    (λ (new : is_named n (service_in i steps) (service_in i steps n) ≡ false).
+    omega (
+      arith,
+      ap length (services_new i steps n new),
+      length-append (services_moved i steps n) (service_in i steps n ∷ []),
+      services_few i steps n,
+    ))
     (cases_Bool (is_named n (service_in i steps) (service_in i steps n)))
 
 -- each is the service of one of the steps
-pub services_named : (i : Tables) (steps : List Step) (n k : ℕ) → k < length (services_moved i steps n) → is_named n (service_in i steps) (get_or (services_moved i steps n) k 0) ≡ true
+pub services_named : (i : Tables) (steps : List Step) (n k : ℕ) → k < length (services_moved i steps n) →
+    is_named n (service_in i steps) (get_or (services_moved i steps n) k 0) ≡ true
 services_named i steps zero k within = absurd (omega (arith, ap length (services_none i steps)))
 services_named i steps (suc n) k within = ⊎_elim
-    (λ (again : is_named n (service_in i steps) (service_in i steps n) ≡ true). let is = services_again i steps n again in rw is (named_later n (service_in i steps) (get_or (services_moved i steps n) k 0) (services_named i steps n k (omega (arith, ap length is)))))
-    (λ (new : is_named n (service_in i steps) (service_in i steps n) ≡ false). let is = services_new i steps n new in rw is (named_pushed n (service_in i steps) (services_moved i steps n) k (omega (arith, ap length is)) (services_named i steps n)))
+    (λ (again : is_named n (service_in i steps) (service_in i steps n) ≡ true).
+    let is = services_again i steps n again in
+    rw is (named_later n (service_in i steps) (get_or (services_moved i steps n) k 0)
+    (services_named i steps n k (omega (arith, ap length is)))))
+    (λ (new : is_named n (service_in i steps) (service_in i steps n) ≡ false). let is = services_new i steps n new in
+    rw is (named_pushed n (service_in i steps) (services_moved i steps n) k (omega (arith, ap length is))
+    (services_named i steps n)))
     (cases_Bool (is_named n (service_in i steps) (service_in i steps n)))
 
 -- and the service of each step is one of them
@@ -91,36 +117,49 @@ placed_last xs x s same = record {
   here = get_or-append_seam xs x [] 0 ∙ same;
 }
 
-pub services_placed : (i : Tables) (steps : List Step) (n s : ℕ) → is_named n (service_in i steps) s ≡ true → IsPlaced (services_moved i steps n) s
+pub services_placed : (i : Tables) (steps : List Step) (n s : ℕ) → is_named n (service_in i steps) s ≡ true →
+    IsPlaced (services_moved i steps n) s
 services_placed i steps zero s named = absurd (both_ways _ (is_named_none (service_in i steps) s) named)
 services_placed i steps (suc n) s named = ⊎_elim
-    (λ (again : is_named n (service_in i steps) (service_in i steps n) ≡ true). rw (services_again i steps n again) (⊎_elim
+    (λ (again : is_named n (service_in i steps) (service_in i steps n) ≡ true).
+    rw (services_again i steps n again) (⊎_elim
     (λ (before : is_named n (service_in i steps) s ≡ true). services_placed i steps n s before)
-    (λ (not_before : is_named n (service_in i steps) s ≡ false). services_placed i steps n s (ap (is_named n (service_in i steps)) (sym (named_last n (service_in i steps) s named not_before)) ∙ again))
+    (λ (not_before : is_named n (service_in i steps) s ≡ false).
+    services_placed i steps n s
+    (ap (is_named n (service_in i steps)) (sym (named_last n (service_in i steps) s named not_before)) ∙ again))
     (cases_Bool (is_named n (service_in i steps) s))))
     (λ (new : is_named n (service_in i steps) (service_in i steps n) ≡ false). rw (services_new i steps n new) (⊎_elim
-    (λ (before : is_named n (service_in i steps) s ≡ true). placed_before (services_moved i steps n) (service_in i steps n) s (services_placed i steps n s before))
-    (λ (not_before : is_named n (service_in i steps) s ≡ false). placed_last (services_moved i steps n) (service_in i steps n) s (named_last n (service_in i steps) s named not_before))
+    (λ (before : is_named n (service_in i steps) s ≡ true). placed_before (services_moved i steps n)
+    (service_in i steps n) s (services_placed i steps n s before))
+    (λ (not_before : is_named n (service_in i steps) s ≡ false). placed_last (services_moved i steps n)
+    (service_in i steps n) s (named_last n (service_in i steps) s named not_before))
     (cases_Bool (is_named n (service_in i steps) s))))
     (cases_Bool (is_named n (service_in i steps) (service_in i steps n)))
 
 -- no two are the same
-pub services_apart : (i : Tables) (steps : List Step) (n j k : ℕ) → j < k → k < length (services_moved i steps n) → get_or (services_moved i steps n) j 0 ≢ get_or (services_moved i steps n) k 0
+pub services_apart : (i : Tables) (steps : List Step) (n j k : ℕ) → j < k → k < length (services_moved i steps n) →
+    get_or (services_moved i steps n) j 0 ≢ get_or (services_moved i steps n) k 0
 services_apart i steps zero j k before within = absurd (omega (arith, ap length (services_none i steps)))
 services_apart i steps (suc n) j k before within = ⊎_elim
-    (λ (again : is_named n (service_in i steps) (service_in i steps n) ≡ true). let is = services_again i steps n again in rw is (services_apart i steps n j k before (omega (arith, ap length is))))
-    (λ (new : is_named n (service_in i steps) (service_in i steps n) ≡ false). let is = services_new i steps n new in rw is (apart_pushed n (service_in i steps) (services_moved i steps n) j k before (omega (arith, ap length is)) new (services_named i steps n) (services_apart i steps n)))
+    (λ (again : is_named n (service_in i steps) (service_in i steps n) ≡ true).
+    let is = services_again i steps n again in
+    rw is (services_apart i steps n j k before (omega (arith, ap length is))))
+    (λ (new : is_named n (service_in i steps) (service_in i steps n) ≡ false). let is = services_new i steps n new in
+    rw is (apart_pushed n (service_in i steps) (services_moved i steps n) j k before
+    (omega (arith, ap length is)) new (services_named i steps n) (services_apart i steps n)))
     (cases_Bool (is_named n (service_in i steps) (service_in i steps n)))
 
 -- the counts by place
 
-pub count_there : (i : Tables) (a0 a : List Machine) (steps : List Step) (services : List ℕ) (k : ℕ) → k < length services → count_at i a0 a steps services k ≡ Some (moved_count i a0 a steps (get_or services k 0))
+pub count_there : (i : Tables) (a0 a : List Machine) (steps : List Step) (services : List ℕ) (k : ℕ) →
+    k < length services → count_at i a0 a steps services k ≡ Some (moved_count i a0 a steps (get_or services k 0))
 unfolding count_at
 count_there i a0 a steps [] k within = absurd (omega arith)
 count_there i a0 a steps (s ∷ rest) zero within = refl
 count_there i a0 a steps (s ∷ rest) (suc k) within = count_there i a0 a steps rest k (omega arith)
 
-pub count_past : (i : Tables) (a0 a : List Machine) (steps : List Step) (services : List ℕ) (k : ℕ) → length services ≤ k → count_at i a0 a steps services k ≡ None
+pub count_past : (i : Tables) (a0 a : List Machine) (steps : List Step) (services : List ℕ) (k : ℕ) →
+    length services ≤ k → count_at i a0 a steps services k ≡ None
 unfolding count_at
 count_past i a0 a steps [] k behind = refl
 count_past i a0 a steps (s ∷ rest) zero behind = absurd (omega arith)

@@ -19,6 +19,7 @@ pub distinct_from_none : (steps : List Step) → repeat_of steps ≡ None → Di
 unfolding repeat_of repeat_test
 distinct_from_none steps none = record {
   apart = λ i j before within same.
-      let unnamed : is_named j (process_in steps) (process_in steps j) ≡ false = no_cause _ _ (first_none_at j (length steps) (repeat_test steps) within none) in
+      let unnamed : is_named j (process_in steps) (process_in steps j) ≡ false =
+      no_cause _ _ (first_none_at j (length steps) (repeat_test steps) within none) in
       both_ways _ unnamed (is_named_at j i (process_in steps) (process_in steps j) before same);
 }

@@ -7,12 +7,14 @@ use Rattle.ra_base.proofs.Searches.{first_same}
 use Rattle.ra_moves.specs.Laws.{OnlyWhere}
 
 -- two searches with one test that agree at the places that pass it find the same
-pub first_agrees : (n : ℕ) (test : ℕ → Bool) (f g : ℕ → Option Cause) → OnlyWhere n test f → OnlyWhere n test g → ((k : ℕ) → k < n → test k ≡ true → f k ≡ g k) → first n f ≡ first n g
+pub first_agrees : (n : ℕ) (test : ℕ → Bool) (f g : ℕ → Option Cause) → OnlyWhere n test f → OnlyWhere n test g →
+    ((k : ℕ) → k < n → test k ≡ true → f k ≡ g k) → first n f ≡ first n g
 first_agrees n test f g one other same = first_same n f g (λ k within. ⊎_elim
     (λ (yes : test k ≡ true). same k within yes)
     (λ (no : test k ≡ false). one.others k within no ∙ sym (other.others k within no))
     (cases_Bool (test k)))
 
 -- the same test in other words
-pub only_tested : (n : ℕ) (test other : ℕ → Bool) (f : ℕ → Option Cause) → ((k : ℕ) → test k ≡ other k) → OnlyWhere n test f → OnlyWhere n other f
+pub only_tested : (n : ℕ) (test other : ℕ → Bool) (f : ℕ → Option Cause) → ((k : ℕ) → test k ≡ other k) →
+    OnlyWhere n test f → OnlyWhere n other f
 only_tested n test other f same only = record { others = λ k within no. only.others k within (same k ∙ no) }

@@ -1,5 +1,6 @@
 -- The verdict on a weighed move, and the cost after it by the sign of its local change.
-use Rattle.std.proofs.Common.{◌≡◌, ℕ, ◌+◌, ◌-◌, ◌*◌, ◌^◌, ◌<◌, ◌≤◌, ℤ, pos, negsuc, ◌≤ℤ◌, ◌<ℤ◌, true, false, Option, Some, None, refl, arith, lt-ltb, le-ltb}
+use Rattle.std.proofs.Common.{◌≡◌, ℕ, ◌+◌, ◌-◌, ◌*◌, ◌^◌, ◌<◌, ◌≤◌, ℤ, pos, negsuc, ◌≤ℤ◌, ◌<ℤ◌, true, false, Option}
+use Rattle.std.proofs.Common.{Some, None, refl, arith, lt-ltb, le-ltb}
 use Rattle.std.specs.Prelude.{FitsSigned, unsigned_abs}
 use Rattle.std.specs.Int.{w128}
 use lib.Signed.{lt_z}
@@ -15,19 +16,23 @@ use Rattle.ra_moves.specs.Settling.{settled_cost}
 
 -- the verdict
 
-pub risen : (before after allowed : ℕ) → before + allowed < after → Refused (Rise allowed before after) ≡ verdict_of (rise_test before after allowed) after
+pub risen : (before after allowed : ℕ) → before + allowed < after → Refused (Rise allowed before after) ≡
+    verdict_of (rise_test before after allowed) after
 unfolding verdict_of rise_test cause_if
 risen before after allowed more = rw (lt-ltb (before + allowed) after more) refl
 
-pub done : (before after allowed : ℕ) → after ≤ before + allowed → Done after ≡ verdict_of (rise_test before after allowed) after
+pub done : (before after allowed : ℕ) → after ≤ before + allowed →
+    Done after ≡ verdict_of (rise_test before after allowed) after
 unfolding verdict_of rise_test cause_if
 done before after allowed few = rw (le-ltb (before + allowed) after few) refl
 
-pub settled_broken : (broken rise : Option Cause) (cause : Cause) (cost : ℕ) → broken ≡ Some cause → Refused cause ≡ verdict_of (or_else broken rise) cost
+pub settled_broken : (broken rise : Option Cause) (cause : Cause) (cost : ℕ) → broken ≡ Some cause →
+    Refused cause ≡ verdict_of (or_else broken rise) cost
 unfolding verdict_of or_else
 settled_broken broken rise cause cost is = rw is refl
 
-pub settled_whole : (broken rise : Option Cause) (cost : ℕ) → broken ≡ None → verdict_of rise cost ≡ verdict_of (or_else broken rise) cost
+pub settled_whole : (broken rise : Option Cause) (cost : ℕ) → broken ≡ None →
+    verdict_of rise cost ≡ verdict_of (or_else broken rise) cost
 unfolding or_else
 settled_whole broken rise cost is = rw is refl
 
@@ -37,30 +42,45 @@ product_small : (a b : ℕ) → a < 2 ^ 32 → b < 2 ^ 32 → a * b < 2 ^ 64
 product_small a b a_small b_small = grind arith
 
 -- if the local change is below zero
-pub fallen : (kept now after weight : ℕ) (local : ℤ) → local <ℤ pos 0 → pos 0 ≤ℤ settled_cost kept now after weight local → (unsigned_abs local + weight * now ≤ kept + weight * after) × (pos (kept + weight * after - (unsigned_abs local + weight * now)) ≡ settled_cost kept now after weight local)
+pub fallen : (kept now after weight : ℕ) (local : ℤ) → local <ℤ pos 0 →
+    pos 0 ≤ℤ settled_cost kept now after weight local → (unsigned_abs local + weight * now ≤ kept + weight * after)
+    × (pos (kept + weight * after - (unsigned_abs local + weight * now)) ≡ settled_cost kept now after weight local)
 unfolding settled_cost
 fallen kept now after weight (pos n) below some = absurd (omega (arith, ints))
 fallen kept now after weight (negsuc n) below some = (omega (arith, ints), omega (arith, ints))
 
 -- if it isn't
-pub grown : (kept now after weight : ℕ) (local : ℤ) → pos 0 ≤ℤ local → pos 0 ≤ℤ settled_cost kept now after weight local → (weight * now ≤ kept + unsigned_abs local + weight * after) × (pos (kept + unsigned_abs local + weight * after - weight * now) ≡ settled_cost kept now after weight local)
+pub grown : (kept now after weight : ℕ) (local : ℤ) → pos 0 ≤ℤ local →
+    pos 0 ≤ℤ settled_cost kept now after weight local → (weight * now ≤ kept + unsigned_abs local + weight * after)
+    × (pos (kept + unsigned_abs local + weight * after - weight * now) ≡ settled_cost kept now after weight local)
 unfolding settled_cost
 grown kept now after weight (pos n) above some = (omega (arith, ints), omega (arith, ints))
 grown kept now after weight (negsuc n) above some = absurd (omega (arith, ints))
 
 -- the cost before a move isn't far above that after it
-pub near : (kept now after weight : ℕ) (local : ℤ) → FitsSigned w128 local → weight < 2 ^ 32 → now < 2 ^ 32 → settled_cost kept now after weight local <ℤ pos (2 ^ 114) → kept < 2 ^ 127 + 2 ^ 115
+pub near : (kept now after weight : ℕ) (local : ℤ) → FitsSigned w128 local → weight < 2 ^ 32 → now < 2 ^ 32 →
+    settled_cost kept now after weight local <ℤ pos (2 ^ 114) → kept < 2 ^ 127 + 2 ^ 115
 unfolding settled_cost
-near kept now after weight (pos n) few weight_small now_small fits = omega (arith, ints, product_small weight now weight_small now_small)
-near kept now after weight (negsuc n) few weight_small now_small fits = omega (arith, ints, product_small weight now weight_small now_small)
+near kept now after weight (pos n) few weight_small now_small fits =
+    omega (arith, ints, product_small weight now weight_small now_small)
+near kept now after weight (negsuc n) few weight_small now_small fits =
+    omega (arith, ints, product_small weight now weight_small now_small)
 
 -- so the sums fit
-pub fallen_fits : (kept now after weight : ℕ) (local : ℤ) → FitsSigned w128 local → weight < 2 ^ 32 → now < 2 ^ 32 → after < 2 ^ 32 → settled_cost kept now after weight local <ℤ pos (2 ^ 114) → kept + weight * after < 2 ^ 128
-fallen_fits kept now after weight local few weight_small now_small after_small fits = omega (arith, near kept now after weight local few weight_small now_small fits, product_small weight after weight_small after_small)
+pub fallen_fits : (kept now after weight : ℕ) (local : ℤ) → FitsSigned w128 local → weight < 2 ^ 32 → now < 2 ^ 32 →
+    after < 2 ^ 32 → settled_cost kept now after weight local <ℤ pos (2 ^ 114) → kept + weight * after < 2 ^ 128
+fallen_fits kept now after weight local few weight_small now_small after_small fits =
+    omega (
+      arith,
+      near kept now after weight local few weight_small now_small fits,
+      product_small weight after weight_small after_small,
+    )
 
-pub grown_fits : (kept now after weight : ℕ) (local : ℤ) → pos 0 ≤ℤ local → weight < 2 ^ 32 → now < 2 ^ 32 → settled_cost kept now after weight local <ℤ pos (2 ^ 114) → kept + unsigned_abs local + weight * after < 2 ^ 128
+pub grown_fits : (kept now after weight : ℕ) (local : ℤ) → pos 0 ≤ℤ local → weight < 2 ^ 32 → now < 2 ^ 32 →
+    settled_cost kept now after weight local <ℤ pos (2 ^ 114) → kept + unsigned_abs local + weight * after < 2 ^ 128
 unfolding settled_cost
-grown_fits kept now after weight (pos n) above weight_small now_small fits = omega (arith, ints, product_small weight now weight_small now_small)
+grown_fits kept now after weight (pos n) above weight_small now_small fits =
+    omega (arith, ints, product_small weight now weight_small now_small)
 grown_fits kept now after weight (negsuc n) above weight_small now_small fits = absurd (omega (arith, ints))
 
 -- what the code reads of the local change

@@ -1,6 +1,9 @@
 -- Marks of the machines on which flagged processes of a service start.
-use Rattle.std.proofs.Common.{◌≡◌, ◌≢◌, ℕ, suc, ◌+◌, ◌<◌, ⊎_elim, Bool, true, false, ◌&&◌, cond, eqb, ltb, List, length, get_or, set, refl, sym, ap, ◌∙◌, arith, length-set, get_or-set_same, get_or-set_other, eq-eqb, ne_eqb}
-use Rattle.std.proofs.lemmas.Bool.{cases_eq, cases_Bool, cond-true, cond-false, and_left, and_parts, both_ways, eqb-true, false_from_ne_true}
+use Rattle.std.proofs.Common.{◌≡◌, ◌≢◌, ℕ, suc, ◌+◌, ◌<◌, ⊎_elim, Bool, true, false, ◌&&◌, cond, eqb, ltb, List, length}
+use Rattle.std.proofs.Common.{get_or, set, refl, sym, ap, ◌∙◌, arith, length-set, get_or-set_same, get_or-set_other}
+use Rattle.std.proofs.Common.{eq-eqb, ne_eqb}
+use Rattle.std.proofs.lemmas.Bool.{cases_eq, cases_Bool, cond-true, cond-false, and_left, and_parts, both_ways}
+use Rattle.std.proofs.lemmas.Bool.{eqb-true, false_from_ne_true}
 use Rattle.std.proofs.lemmas.List.{get_or_read}
 use Rattle.ra_base.specs.declared.ids.Machine.{Machine}
 use Rattle.ra_base.specs.declared.ids.Process.{Process}
@@ -32,73 +35,122 @@ unfolding some_of
 some_same n test fails = ap (ltb 0) (count_no n test fails)
 
 pub set_none : (test : ℕ → ℕ → Bool) (stamp : ℕ) (marks : List ℕ) → IsSet test 0 stamp marks marks
-set_none test stamp marks = record { one_each = refl; each = λ m h. sym (cond-false _ stamp (get_or marks m 0) (some_none (test m))) }
+set_none test stamp marks = record {
+  one_each = refl;
+  each = λ m h. sym (cond-false _ stamp (get_or marks m 0) (some_none (test m)));
+}
 
-pub set_free : (test : ℕ → ℕ → Bool) (n stamp : ℕ) (old new : List ℕ) → ((m : ℕ) → test m n ≡ false) → IsSet test n stamp old new → IsSet test (n + 1) stamp old new
-set_free test n stamp old new fails is = record { one_each = is.one_each; each = λ m h. is.each m h ∙ ap (λ b. cond b stamp (get_or old m 0)) (sym (some_same n (test m) (fails m))) }
+pub set_free : (test : ℕ → ℕ → Bool) (n stamp : ℕ) (old new : List ℕ) → ((m : ℕ) → test m n ≡ false) →
+    IsSet test n stamp old new → IsSet test (n + 1) stamp old new
+set_free test n stamp old new fails is = record {
+  one_each = is.one_each;
+  each = λ m h. is.each m h ∙ ap (λ b. cond b stamp (get_or old m 0)) (sym (some_same n (test m) (fails m)));
+}
 
-pub set_more : (test : ℕ → ℕ → Bool) (n stamp at : ℕ) (old new : List ℕ) → ((m : ℕ) → test m n ≡ eqb at m) → at < length old → IsSet test n stamp old new → IsSet test (n + 1) stamp old (set new at stamp)
+pub set_more : (test : ℕ → ℕ → Bool) (n stamp at : ℕ) (old new : List ℕ) → ((m : ℕ) → test m n ≡ eqb at m) →
+    at < length old → IsSet test n stamp old new → IsSet test (n + 1) stamp old (set new at stamp)
 set_more test n stamp at old new passes within is = record {
   one_each = length-set new at stamp ∙ is.one_each;
   each = λ m h. ⊎_elim
-      (λ (here : m ≡ at). ap (λ k. get_or (set new at stamp) k 0) here ∙ get_or-set_same new at stamp 0 (omega (arith, is.one_each)) ∙ sym (cond-true _ stamp (get_or old m 0) (some_yes (n + 1) n (test m) (omega arith) (passes m ∙ eq-eqb at m (sym here)))))
-      (λ (apart : m ≢ at). get_or-set_other new at m stamp 0 apart ∙ is.each m h ∙ ap (λ b. cond b stamp (get_or old m 0)) (sym (some_same n (test m) (passes m ∙ ne_eqb at m (λ e. apart (sym e))))))
+      (λ (here : m ≡ at). ap (λ k. get_or (set new at stamp) k 0) here
+      ∙ get_or-set_same new at stamp 0 (omega (arith, is.one_each))
+      ∙ sym (cond-true _ stamp (get_or old m 0)
+      (some_yes (n + 1) n (test m) (omega arith) (passes m ∙ eq-eqb at m (sym here)))))
+      (λ (apart : m ≢ at). get_or-set_other new at m stamp 0 apart ∙ is.each m h
+      ∙ ap (λ b. cond b stamp (get_or old m 0))
+      (sym (some_same n (test m) (passes m ∙ ne_eqb at m (λ e. apart (sym e))))))
       (cases_eq m at);
 }
 
-pub seat_flagged : (a0 : List Machine) (flags : List Bool) (processes : List Process) (m k p at : ℕ) (b : Bool) → p ≡ member_at processes k → at ≡ machine_at a0 p → b ≡ flag_at flags p → b ≡ true → is_seat a0 flags processes m k ≡ eqb at m
+pub seat_flagged : (a0 : List Machine) (flags : List Bool) (processes : List Process) (m k p at : ℕ) (b : Bool) →
+    p ≡ member_at processes k → at ≡ machine_at a0 p → b ≡ flag_at flags p → b ≡ true →
+    is_seat a0 flags processes m k ≡ eqb at m
 unfolding is_seat
 seat_flagged a0 flags processes m k p at b p_is at_is flag is_yes = rw (← p_is, ← at_is, ← flag, is_yes) refl
 
-pub seat_free : (a0 : List Machine) (flags : List Bool) (processes : List Process) (m k p : ℕ) (b : Bool) → p ≡ member_at processes k → b ≡ flag_at flags p → b ≡ false → is_seat a0 flags processes m k ≡ false
+pub seat_free : (a0 : List Machine) (flags : List Bool) (processes : List Process) (m k p : ℕ) (b : Bool) →
+    p ≡ member_at processes k → b ≡ flag_at flags p → b ≡ false → is_seat a0 flags processes m k ≡ false
 unfolding is_seat
 seat_free a0 flags processes m k p b p_is flag is_no = and_left _ _ (ap (flag_at flags) (sym p_is) ∙ sym flag ∙ is_no)
 
 -- the members of a service
 
-pub seated : (i : Tables) (a0 : List Machine) (flags : List Bool) (members : List (List Process)) (s size : ℕ) → IsAssignment i a0 → AreMembers members i → s < service_count i → length flags ≡ process_count i → size ≡ machine_count i → AreSeated a0 flags (members_of members s) size
+pub seated : (i : Tables) (a0 : List Machine) (flags : List Bool) (members : List (List Process)) (s size : ℕ) →
+    IsAssignment i a0 → AreMembers members i → s < service_count i → length flags ≡ process_count i →
+    size ≡ machine_count i → AreSeated a0 flags (members_of members s) size
 seated i a0 flags members s size fits are s_in flagged sized = record {
   flagged = λ k h. omega (arith, flagged, (member_within i s (members_of members s) k (are.each s s_in) h).0);
   placed = λ k h. omega (arith, fits.one_each, (member_within i s (members_of members s) k (are.each s s_in) h).0);
-  within = λ k h. omega (arith, sized, fits.in_range (member_at (members_of members s) k) (member_within i s (members_of members s) k (are.each s s_in) h).0);
+  within = λ k h.
+      omega (
+        arith,
+        sized,
+        fits.in_range (member_at (members_of members s) k)
+            (member_within i s (members_of members s) k (are.each s s_in) h).0,
+      );
 }
 
-seats_taken : (i : Tables) (a0 : List Machine) (flags : List Bool) (members : List (List Process)) (s m : ℕ) → AreMembers members i → s < service_count i → some_of (length (members_of members s)) (is_seat a0 flags (members_of members s) m) ≡ taken i a0 (flag_at flags) s m
+seats_taken : (i : Tables) (a0 : List Machine) (flags : List Bool) (members : List (List Process)) (s m : ℕ) →
+    AreMembers members i → s < service_count i →
+    some_of (length (members_of members s)) (is_seat a0 flags (members_of members s) m) ≡ taken i a0 (flag_at flags) s m
 unfolding some_of is_seat taken holds
-seats_taken i a0 flags members s m are s_in = ap (ltb 0) (members_count i s (members_of members s) (λ z. flag_at flags z && eqb (machine_at a0 z) m) (are.each s s_in))
+seats_taken i a0 flags members s m are s_in =
+    ap (ltb 0) (members_count i s (members_of members s) (λ z. flag_at flags z && eqb (machine_at a0 z) m)
+    (are.each s s_in))
 
 -- a mark of the service that was stamped, and of another one
-pub marks_after : (i : Tables) (a0 : List Machine) (flags : List Bool) (members : List (List Process)) (s stamp : ℕ) (old new : List ℕ) → AreMembers members i → s < service_count i → stamp ≡ suc s → AreMarked i a0 flags old → IsSet (is_seat a0 flags (members_of members s)) (length (members_of members s)) stamp old new → AreMarked i a0 flags new
+pub marks_after : (i : Tables) (a0 : List Machine) (flags : List Bool) (members : List (List Process)) (s stamp : ℕ)
+    (old new : List ℕ) → AreMembers members i → s < service_count i → stamp ≡ suc s → AreMarked i a0 flags old →
+    IsSet (is_seat a0 flags (members_of members s)) (length (members_of members s)) stamp old new →
+    AreMarked i a0 flags new
 marks_after i a0 flags members s stamp old new are s_in stamped marked is = record {
   one_each = is.one_each ∙ marked.one_each;
   each = λ m u h mark. ⊎_elim
       (λ (some : some_of (length (members_of members s)) (is_seat a0 flags (members_of members s) m) ≡ true).
-      let same : u ≡ s = omega (arith, mark, stamped, is.each m (omega (arith, marked.one_each)), cond-true _ stamp (get_or old m 0) some) in
+      let same : u ≡ s =
+      omega (
+        arith,
+        mark,
+        stamped,
+        is.each m (omega (arith, marked.one_each)),
+        cond-true _ stamp (get_or old m 0) some,
+      ) in
       ap (λ k. taken i a0 (flag_at flags) k m) same ∙ sym (seats_taken i a0 flags members s m are s_in) ∙ some)
       (λ (none : some_of (length (members_of members s)) (is_seat a0 flags (members_of members s) m) ≡ false).
-      marked.each m u h (omega (arith, mark, is.each m (omega (arith, marked.one_each)), cond-false _ stamp (get_or old m 0) none)))
+      marked.each m u h
+      (omega (arith, mark, is.each m (omega (arith, marked.one_each)), cond-false _ stamp (get_or old m 0) none)))
       (cases_Bool (some_of (length (members_of members s)) (is_seat a0 flags (members_of members s) m)));
 }
 
-pub stamped_after : (i : Tables) (a0 : List Machine) (flags : List Bool) (members : List (List Process)) (s stamp : ℕ) (old new : List ℕ) → AreMembers members i → s < service_count i → stamp ≡ suc s → AreMarked i a0 flags old → IsSet (is_seat a0 flags (members_of members s)) (length (members_of members s)) stamp old new → AreStamped i a0 flags s new
+pub stamped_after : (i : Tables) (a0 : List Machine) (flags : List Bool) (members : List (List Process)) (s stamp : ℕ)
+    (old new : List ℕ) → AreMembers members i → s < service_count i → stamp ≡ suc s → AreMarked i a0 flags old →
+    IsSet (is_seat a0 flags (members_of members s)) (length (members_of members s)) stamp old new →
+    AreStamped i a0 flags s new
 stamped_after i a0 flags members s stamp old new are s_in stamped marked is =
     let after = marks_after i a0 flags members s stamp old new are s_in stamped marked is in
     record {
       each = λ m h. same_tests (eqb (get_or new m 0) (suc s)) (taken i a0 (flag_at flags) s m)
           (λ e. after.each m s h (eqb-true _ _ e))
-          (λ e. eq-eqb _ _ (is.each m (omega (arith, marked.one_each)) ∙ cond-true _ stamp (get_or old m 0) (seats_taken i a0 flags members s m are s_in ∙ e) ∙ stamped));
+          (λ e. eq-eqb _ _ (is.each m (omega (arith, marked.one_each))
+          ∙ cond-true _ stamp (get_or old m 0) (seats_taken i a0 flags members s m are s_in ∙ e)
+          ∙ stamped));
     }
 
 -- a service that isn't touched has no flagged process
-none_taken : (i : Tables) (a0 : List Machine) (flags touched : List Bool) (s m : ℕ) → AreTouched i flags touched → flag_at touched s ≡ false → taken i a0 (flag_at flags) s m ≡ false
+none_taken : (i : Tables) (a0 : List Machine) (flags touched : List Bool) (s m : ℕ) → AreTouched i flags touched →
+    flag_at touched s ≡ false → taken i a0 (flag_at flags) s m ≡ false
 unfolding taken holds is_of
 none_taken i a0 flags touched s m are free = false_from_ne_true _ (λ e.
     let found = some_found (process_count i) (holds i a0 (flag_at flags) s m) e in
-    let outer = and_parts (eqb (service_of i found.0) s) (flag_at flags found.0 && eqb (machine_at a0 found.0) m) found.2 in
+    let outer = and_parts (eqb (service_of i found.0) s) (flag_at flags found.0 && eqb (machine_at a0 found.0) m)
+    found.2 in
     let inner = and_parts (flag_at flags found.0) (eqb (machine_at a0 found.0) m) outer.1 in
-    both_ways (flag_at touched s) free (ap (flag_at touched) (sym (eqb-true (service_of i found.0) s outer.0)) ∙ are.each found.0 found.1 inner.0))
+    both_ways (flag_at touched s) free (ap (flag_at touched) (sym (eqb-true (service_of i found.0) s outer.0))
+    ∙ are.each found.0 found.1 inner.0))
 
-pub stamped_free : (i : Tables) (a0 : List Machine) (flags touched : List Bool) (s : ℕ) (marks : List ℕ) (b : Bool) → AreTouched i flags touched → b ≡ flag_at touched s → b ≡ false → AreMarked i a0 flags marks → AreStamped i a0 flags s marks
+pub stamped_free : (i : Tables) (a0 : List Machine) (flags touched : List Bool) (s : ℕ) (marks : List ℕ) (b : Bool) →
+    AreTouched i flags touched → b ≡ flag_at touched s → b ≡ false → AreMarked i a0 flags marks →
+    AreStamped i a0 flags s marks
 stamped_free i a0 flags touched s marks b are read free marked = record {
   each = λ m h. same_tests (eqb (get_or marks m 0) (suc s)) (taken i a0 (flag_at flags) s m)
       (λ e. marked.each m s h (eqb-true _ _ e))

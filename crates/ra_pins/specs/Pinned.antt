@@ -5,7 +5,8 @@ use Rattle.std.specs.Prelude.{ℕ, zero, suc, ◌+◌, List, Bool, false, if◌t
 use Rattle.ra_base.specs.Sums.{count}
 use Rattle.ra_base.specs.declared.ids.Machine.{Machine}
 use Rattle.ra_model.specs.declared.raw.Tables.{Tables}
-use Rattle.ra_model.specs.Numbers.{resource_count, machine_count, process_count, transient_at, capacity_of, service_of, requirement_of, closed_at}
+use Rattle.ra_model.specs.Numbers.{resource_count, machine_count, process_count, transient_at, capacity_of, service_of}
+use Rattle.ra_model.specs.Numbers.{requirement_of, closed_at}
 use Rattle.ra_model.specs.Assignments.{machine_at, tally}
 use Rattle.ra_model.specs.Usage.{use_of}
 use Rattle.ra_model.specs.Services.{is_of}

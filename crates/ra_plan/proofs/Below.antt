@@ -1,5 +1,6 @@
 -- The best option with one more move, of which a cost below the bound was found or none.
-use Rattle.std.proofs.Common.{◌≡◌, ◌↔◌, ℕ, ◌+◌, ◌<◌, ◌≤◌, arith, Bool, true, false, List, length, Option, Some, None, sym, ap, ap₂, ◌∙◌}
+use Rattle.std.proofs.Common.{◌≡◌, ◌↔◌, ℕ, ◌+◌, ◌<◌, ◌≤◌, arith, Bool, true, false, List, length, Option, Some, None}
+use Rattle.std.proofs.Common.{sym, ap, ap₂, ◌∙◌}
 use Rattle.std.proofs.lemmas.Bool.{both_ways}
 use Rattle.ra_base.specs.Searches.{is_better, least, or_else}
 use Rattle.ra_base.specs.declared.causes.Drawing.{Drawing}
@@ -23,10 +24,17 @@ use Rattle.ra_plan.specs.declared.best.Best.{Best}
 use Rattle.ra_plan.proofs.Bests.{worse_at, better_at, best_within, cost_means, cost_comes}
 
 -- no cost, and a cost
-pub none_below : (w : World) (steps : List Step) (bound : ℕ) → (cause_at w steps ≡ None → bound ≤ cost_at w steps) → IsMoveBelow w steps bound None
-none_below w steps bound high = record { free = λ n is. absurd (cc); found = λ n is. absurd (cc); below = λ n is. absurd (cc); none = λ is free. high free }
+pub none_below : (w : World) (steps : List Step) (bound : ℕ) → (cause_at w steps ≡ None → bound ≤ cost_at w steps) →
+    IsMoveBelow w steps bound None
+none_below w steps bound high = record {
+  free = λ n is. absurd (cc);
+  found = λ n is. absurd (cc);
+  below = λ n is. absurd (cc);
+  none = λ is free. high free;
+}
 
-pub some_below : (w : World) (steps : List Step) (bound cost : ℕ) → cause_at w steps ≡ None → cost ≡ cost_at w steps → cost < bound → IsMoveBelow w steps bound (Some cost)
+pub some_below : (w : World) (steps : List Step) (bound cost : ℕ) → cause_at w steps ≡ None → cost ≡ cost_at w steps →
+    cost < bound → IsMoveBelow w steps bound (Some cost)
 some_below w steps bound cost free is low = record {
   free = λ n same. free;
   found = λ n same. let here : cost ≡ n = cc in sym here ∙ is;
@@ -35,19 +43,26 @@ some_below w steps bound cost free is low = record {
 }
 
 -- if nothing is broken, there is room
-pub room_free : (i : Tables) (a0 a : List Machine) (steps : List Step) → IsMove i a steps → broken_by i a0 a steps ≡ None → HaveRoom i (applied a steps) steps (length steps)
+pub room_free : (i : Tables) (a0 a : List Machine) (steps : List Step) → IsMove i a steps →
+    broken_by i a0 a steps ≡ None → HaveRoom i (applied a steps) steps (length steps)
 unfolding broken_by
 room_free i a0 a steps move none =
     let rest = right_none (repeat_of steps) (or_else (same_of steps) (first_broken i a0 (applied a steps))) none in
-    let fine = fine_from_unbroken i a0 (applied a steps) (right_none (same_of steps) (first_broken i a0 (applied a steps)) rest) in
+    let fine = fine_from_unbroken i a0 (applied a steps)
+    (right_none (same_of steps) (first_broken i a0 (applied a steps)) rest) in
     room_kept i a steps move fine.capacity
 
 -- a test that fails though it holds if nothing is broken
-pub unfit_below : {Fits : Type 0} (w : World) (steps : List Step) (bound : ℕ) (fits : Bool) → (fits ≡ true) ↔ Fits → fits ≡ false → (cause_at w steps ≡ None → Fits) → IsMoveBelow w steps bound None
-unfit_below w steps bound fits (gives, back) unfit holds = none_below w steps bound (λ none. absurd (both_ways fits unfit (back (holds none))))
+pub unfit_below : {Fits : Type 0} (w : World) (steps : List Step) (bound : ℕ) (fits : Bool) → (fits ≡ true) ↔ Fits →
+    fits ≡ false → (cause_at w steps ≡ None → Fits) → IsMoveBelow w steps bound None
+unfit_below w steps bound fits (gives, back) unfit holds =
+    none_below w steps bound (λ none. absurd (both_ways fits unfit (back (holds none))))
 
 -- a move without a cost below the bound changes nothing
-pub move_stays : (w : World) (x : List ℕ) (d : Drawing) (allowed n : ℕ) (steps : List Step) (best : Best) (found : Option ℕ) → IsBest w x d allowed n best → steps_in w x d n ≡ steps → IsMoveBelow w steps (bound_of best.cost (cost_now w + allowed + 1)) found → found ≡ None → IsBest w x d allowed (n + 1) best
+pub move_stays : (w : World) (x : List ℕ) (d : Drawing) (allowed n : ℕ) (steps : List Step) (best : Best)
+    (found : Option ℕ) → IsBest w x d allowed n best → steps_in w x d n ≡ steps →
+    IsMoveBelow w steps (bound_of best.cost (cost_now w + allowed + 1)) found → found ≡ None →
+    IsBest w x d allowed (n + 1) best
 move_stays w x d allowed n steps best found is same below none =
     let f : ℕ → Option ℕ = cost_in w x d allowed in
     let most = cost_now w + allowed + 1 in
@@ -61,13 +76,18 @@ move_stays w x d allowed n steps best found is same below none =
     record { cost = is.cost ∙ sym kept.0; option = is.option ∙ sym kept.1 }
 
 -- and one with such a cost is the best
-pub move_found : (w : World) (x : List ℕ) (d : Drawing) (allowed n cost : ℕ) (steps : List Step) (best : Best) (found : Option ℕ) → IsBest w x d allowed n best → steps_in w x d n ≡ steps → IsMoveBelow w steps (bound_of best.cost (cost_now w + allowed + 1)) found → found ≡ Some cost → IsBest w x d allowed (n + 1) (record { cost = found; option = n })
+pub move_found : (w : World) (x : List ℕ) (d : Drawing) (allowed n cost : ℕ) (steps : List Step) (best : Best)
+    (found : Option ℕ) → IsBest w x d allowed n best → steps_in w x d n ≡ steps →
+    IsMoveBelow w steps (bound_of best.cost (cost_now w + allowed + 1)) found → found ≡ Some cost →
+    IsBest w x d allowed (n + 1) (record { cost = found; option = n })
 move_found w x d allowed n cost steps best found is same below some =
     let f : ℕ → Option ℕ = cost_in w x d allowed in
     let most = cost_now w + allowed + 1 in
     let value = below.found cost some in
     let under = below.below cost some in
-    let low : cost_at w steps ≤ cost_now w + allowed = omega (arith, value, under, best_within w x d allowed n best is) in
-    let here : f n ≡ Some cost = cost_comes w x d allowed n steps same (below.free cost some) low ∙ ap (λ (c : ℕ). Some c) (sym value) in
+    let low : cost_at w steps ≤ cost_now w + allowed =
+    omega (arith, value, under, best_within w x d allowed n best is) in
+    let here : f n ≡ Some cost = cost_comes w x d allowed n steps same (below.free cost some) low
+    ∙ ap (λ (c : ℕ). Some c) (sym value) in
     let better = least_better n f (ap₂ is_better here (sym is.cost) ∙ better_at best.cost cost most under) in
     record { cost = some ∙ sym here ∙ sym better.0; option = sym better.1 }

@@ -1,12 +1,14 @@
 -- The best option so far, one option after another.
-use Rattle.std.proofs.Common.{◌≡◌, ◌≢◌, ◌↔◌, ℕ, ◌+◌, ◌^◌, ◌<◌, ◌≤◌, arith, length, Bool, true, false, cond, ltb, List, [], ◌∷◌, Option, Some, None, refl, sym, ap, ap₂, ◌∙◌}
+use Rattle.std.proofs.Common.{◌≡◌, ◌≢◌, ◌↔◌, ℕ, ◌+◌, ◌^◌, ◌<◌, ◌≤◌, arith, length, Bool, true, false, cond, ltb, List}
+use Rattle.std.proofs.Common.{[], ◌∷◌, Option, Some, None, refl, sym, ap, ap₂, ◌∙◌}
 use Rattle.std.proofs.lemmas.Bool.{ltb-true, ltb-false}
 use Rattle.ra_base.specs.Searches.{is_better, least, least_place, or_else}
 use Rattle.ra_base.specs.declared.causes.Cause.{Cause}
 use Rattle.ra_base.specs.declared.causes.Drawing.{Drawing}
 use Rattle.ra_base.specs.declared.causes.Drawing.TheVariants.{Two}
 use Rattle.ra_base.specs.declared.ids.Machine.{Machine}
-use Rattle.ra_base.proofs.Least.{least_none, least_place_none, least_more, least_place_more, least_better, least_kept, least_means, is_better_none, is_better_some}
+use Rattle.ra_base.proofs.Least.{least_none, least_place_none, least_more, least_place_more, least_better, least_kept}
+use Rattle.ra_base.proofs.Least.{least_means, is_better_none, is_better_some}
 use Rattle.ra_model.specs.declared.raw.Tables.{Tables}
 use Rattle.ra_model.specs.Numbers.{machine_count}
 use Rattle.ra_model.specs.Limits.{WellFormed}
@@ -26,21 +28,25 @@ use Rattle.ra_moves.proofs.OptionLemmas.{option_stands, option_reaches}
 use Rattle.ra_moves.specs.Moving.{IsOffered}
 use Rattle.ra_moves.specs.MoveSteps.{MoveSteps}
 use Rattle.ra_moves.specs.declared.steps.MoveKind.TheVariants.{Shift}
-use Rattle.ra_moves.specs.Options.{kind_of, option_count, drawn, target, leaving, option_at, option_cost, done_cost, plan_place, plan_of}
+use Rattle.ra_moves.specs.Options.{kind_of, option_count, drawn, target, leaving, option_at, option_cost, done_cost}
+use Rattle.ra_moves.specs.Options.{plan_place, plan_of}
 use Rattle.ra_world.specs.declared.world.World.{World}
 use Rattle.ra_plan.specs.Choosing.{IsBest, cost_in, steps_in, bound_of}
 use Rattle.ra_plan.specs.declared.best.Best.{Best}
 use Rattle.ra_plan.proofs.OptionSizes.{option_few, option_some, shift_steps, least_place_below}
 
 -- no option so far
-pub best_none : (w : World) (x : List ℕ) (d : Drawing) (allowed : ℕ) (best : Best) → best.cost ≡ None → best.option ≡ 0 → IsBest w x d allowed 0 best
+pub best_none : (w : World) (x : List ℕ) (d : Drawing) (allowed : ℕ) (best : Best) → best.cost ≡ None →
+    best.option ≡ 0 → IsBest w x d allowed 0 best
 best_none w x d allowed best cost option = record {
   cost = cost ∙ sym (least_none (cost_in w x d allowed));
   option = option ∙ sym (least_place_none (cost_in w x d allowed));
 }
 
 -- the cost of an option from the verdict on it
-cost_of : (w : World) (x : List ℕ) (d : Drawing) (allowed n : ℕ) (verdict : Verdict) → verdict ≡ judge w.inst.now.tables w.start.now.items w.kept.assignment.items (steps_in w x d n) allowed → cost_in w x d allowed n ≡ done_cost verdict
+cost_of : (w : World) (x : List ℕ) (d : Drawing) (allowed n : ℕ) (verdict : Verdict) →
+    verdict ≡ judge w.inst.now.tables w.start.now.items w.kept.assignment.items (steps_in w x d n) allowed →
+    cost_in w x d allowed n ≡ done_cost verdict
 unfolding cost_in option_cost steps_in
 cost_of w x d allowed n verdict is = ap done_cost (sym is)
 
@@ -48,7 +54,8 @@ true_is_not : true ≡ false → ⊥
 true_is_not is = absurd (cc is)
 
 -- an option that isn't done changes nothing
-pub best_skipped : (w : World) (x : List ℕ) (d : Drawing) (allowed n : ℕ) (best : Best) → IsBest w x d allowed n best → cost_in w x d allowed n ≡ None → IsBest w x d allowed (n + 1) best
+pub best_skipped : (w : World) (x : List ℕ) (d : Drawing) (allowed n : ℕ) (best : Best) → IsBest w x d allowed n best →
+    cost_in w x d allowed n ≡ None → IsBest w x d allowed (n + 1) best
 best_skipped w x d allowed n best is none =
     let f : ℕ → Option ℕ = cost_in w x d allowed in
     let worse : is_better (f n) (least n f) ≡ false = rw none (is_better_none (least n f)) in
@@ -57,23 +64,32 @@ best_skipped w x d allowed n best is none =
       option = is.option ∙ sym (least_place_more n f ∙ ap (λ (b : Bool). cond b n (least_place n f)) worse);
     }
 
-pub best_refused : (w : World) (x : List ℕ) (d : Drawing) (allowed n : ℕ) (best : Best) (cause : Cause) → IsBest w x d allowed n best → Refused cause ≡ judge w.inst.now.tables w.start.now.items w.kept.assignment.items (steps_in w x d n) allowed → IsBest w x d allowed (n + 1) best
+pub best_refused : (w : World) (x : List ℕ) (d : Drawing) (allowed n : ℕ) (best : Best) (cause : Cause) →
+    IsBest w x d allowed n best → Refused cause ≡ judge w.inst.now.tables w.start.now.items w.kept.assignment.items
+    (steps_in w x d n) allowed → IsBest w x d allowed (n + 1) best
 unfolding done_cost
-best_refused w x d allowed n best cause is verdict = best_skipped w x d allowed n best is (cost_of w x d allowed n (Refused cause) verdict)
+best_refused w x d allowed n best cause is verdict =
+    best_skipped w x d allowed n best is (cost_of w x d allowed n (Refused cause) verdict)
 
 -- one that is done at a lower cost is the best from then on
-pub best_done : (w : World) (x : List ℕ) (d : Drawing) (allowed n cost : ℕ) (best : Best) → IsBest w x d allowed n best → Done cost ≡ judge w.inst.now.tables w.start.now.items w.kept.assignment.items (steps_in w x d n) allowed → IsBest w x d allowed (n + 1) (cond (is_better (Some cost) best.cost) (record { cost = Some cost; option = n }) best)
+pub best_done : (w : World) (x : List ℕ) (d : Drawing) (allowed n cost : ℕ) (best : Best) →
+    IsBest w x d allowed n best → Done cost ≡ judge w.inst.now.tables w.start.now.items w.kept.assignment.items
+    (steps_in w x d n) allowed →
+    IsBest w x d allowed (n + 1) (cond (is_better (Some cost) best.cost) (record { cost = Some cost; option = n }) best)
 unfolding done_cost
 best_done w x d allowed n cost best is verdict =
     let f : ℕ → Option ℕ = cost_in w x d allowed in
     let here : f n ≡ Some cost = cost_of w x d allowed n (Done cost) verdict in
-    by_test (is_better (Some cost) best.cost) (ap (λ (c : Option ℕ). is_better (Some cost) c) is.cost ∙ ap (λ (c : Option ℕ). is_better c (least n f)) (sym here))
+    by_test (is_better (Some cost) best.cost) (ap (λ (c : Option ℕ). is_better (Some cost) c) is.cost
+    ∙ ap (λ (c : Option ℕ). is_better c (least n f)) (sym here))
   where
-    by_test : (better : Bool) → better ≡ is_better (cost_in w x d allowed n) (least n (cost_in w x d allowed)) → IsBest w x d allowed (n + 1) (cond better (record { cost = Some cost; option = n }) best)
+    by_test : (better : Bool) → better ≡ is_better (cost_in w x d allowed n) (least n (cost_in w x d allowed)) →
+        IsBest w x d allowed (n + 1) (cond better (record { cost = Some cost; option = n }) best)
     by_test true better =
         let f : ℕ → Option ℕ = cost_in w x d allowed in
         record {
-          cost = sym (cost_of w x d allowed n (Done cost) verdict) ∙ sym (least_more n f ∙ ap (λ (b : Bool). cond b (f n) (least n f)) (sym better));
+          cost = sym (cost_of w x d allowed n (Done cost) verdict)
+              ∙ sym (least_more n f ∙ ap (λ (b : Bool). cond b (f n) (least n f)) (sym better));
           option = sym (least_place_more n f ∙ ap (λ (b : Bool). cond b n (least_place n f)) (sym better));
         }
     by_test false better =
@@ -84,21 +100,30 @@ best_done w x d allowed n cost best is verdict =
         }
 
 -- an option that breaks something isn't done
-refused_cost : (cause : Option Cause) (rise : Option Cause) (after : ℕ) → cause ≢ None → done_cost (verdict_of (or_else cause rise) after) ≡ None
+refused_cost : (cause : Option Cause) (rise : Option Cause) (after : ℕ) → cause ≢ None →
+    done_cost (verdict_of (or_else cause rise) after) ≡ None
 unfolding or_else verdict_of done_cost
 refused_cost None rise after there = absurd (there refl)
 refused_cost (Some cause) rise after there = refl
 
-pub broken_cost : (w : World) (x : List ℕ) (d : Drawing) (allowed n : ℕ) → broken_by w.inst.now.tables w.start.now.items w.kept.assignment.items (steps_in w x d n) ≢ None → cost_in w x d allowed n ≡ None
+pub broken_cost : (w : World) (x : List ℕ) (d : Drawing) (allowed n : ℕ) →
+    broken_by w.inst.now.tables w.start.now.items w.kept.assignment.items (steps_in w x d n) ≢ None →
+    cost_in w x d allowed n ≡ None
 unfolding cost_in option_cost steps_in judge
 broken_cost w x d allowed n broken = refused_cost _ _ _ broken
 
 -- the same, of an option that a test has found broken
-pub best_broken : (w : World) (x : List ℕ) (d : Drawing) (allowed n : ℕ) (best : Best) (steps : List Step) (unbroken : Bool) → (unbroken ≡ true) ↔ (broken_by w.inst.now.tables w.start.now.items w.kept.assignment.items steps ≡ None) → unbroken ≡ false → IsBest w x d allowed n best → steps_in w x d n ≡ steps → IsBest w x d allowed (n + 1) best
-best_broken w x d allowed n best steps unbroken (gives, back) unfit is same = best_skipped w x d allowed n best is (broken_cost w x d allowed n (λ none. absurd (true_is_not (sym (back (rw same at none)) ∙ unfit))))
+pub best_broken : (w : World) (x : List ℕ) (d : Drawing) (allowed n : ℕ) (best : Best) (steps : List Step)
+    (unbroken : Bool) →
+    (unbroken ≡ true) ↔ (broken_by w.inst.now.tables w.start.now.items w.kept.assignment.items steps ≡ None) →
+    unbroken ≡ false → IsBest w x d allowed n best → steps_in w x d n ≡ steps → IsBest w x d allowed (n + 1) best
+best_broken w x d allowed n best steps unbroken (gives, back) unfit is same =
+    best_skipped w x d allowed n best is
+    (broken_cost w x d allowed n (λ none. absurd (true_is_not (sym (back (rw same at none)) ∙ unfit))))
 
 -- every option of an assignment can be weighed
-pub option_offered : (i : Tables) (a : List Machine) (x : List ℕ) (d : Drawing) (k : ℕ) → WellFormed i → IsAssignment i a → IsOffered i a (option_at a x (machine_count i) d k).steps
+pub option_offered : (i : Tables) (a : List Machine) (x : List ℕ) (d : Drawing) (k : ℕ) → WellFormed i →
+    IsAssignment i a → IsOffered i a (option_at a x (machine_count i) d k).steps
 option_offered i a x d k formed fits once =
     let some : 0 < length a = omega (arith, fits.one_each, formed.some_process) in
     record {
@@ -106,46 +131,61 @@ option_offered i a x d k formed fits once =
       stands = option_stands a x (machine_count i) d k some formed.some_machine;
       distinct = distinct_from_none _ once;
       few = option_few a x (machine_count i) d k;
-      reaches = option_reaches a x (machine_count i) d k some formed.some_machine (λ p within. fits.in_range p (omega (arith, fits.one_each)));
+      reaches = option_reaches a x (machine_count i) d k some formed.some_machine
+          (λ p within. fits.in_range p (omega (arith, fits.one_each)));
     }
 
 -- the same of steps that are those of an option
-pub steps_offered : (w : World) (x : List ℕ) (d : Drawing) (k : ℕ) (steps : List Step) → steps_in w x d k ≡ steps → IsOffered w.inst.now.tables w.kept.assignment.items steps
+pub steps_offered : (w : World) (x : List ℕ) (d : Drawing) (k : ℕ) (steps : List Step) → steps_in w x d k ≡ steps →
+    IsOffered w.inst.now.tables w.kept.assignment.items steps
 unfolding steps_in
 steps_offered w x d k steps same = rw (← same) (option_offered _ _ x d k w.inst.now.well_formed w.keeps.stand.fits)
 
 -- what is told of the steps of an option is told of the option
-pub judged_in : (w : World) (x : List ℕ) (d : Drawing) (allowed n : ℕ) (steps : List Step) (verdict : Verdict) → steps_in w x d n ≡ steps → verdict ≡ judge w.inst.now.tables w.start.now.items w.kept.assignment.items steps allowed → verdict ≡ judge w.inst.now.tables w.start.now.items w.kept.assignment.items (steps_in w x d n) allowed
+pub judged_in : (w : World) (x : List ℕ) (d : Drawing) (allowed n : ℕ) (steps : List Step) (verdict : Verdict) →
+    steps_in w x d n ≡ steps → verdict ≡ judge w.inst.now.tables w.start.now.items w.kept.assignment.items steps
+    allowed → verdict ≡ judge w.inst.now.tables w.start.now.items w.kept.assignment.items (steps_in w x d n) allowed
 judged_in w x d allowed n steps verdict same is = rw same is
 
 -- what is resolved over m machines is the option
-pub option_in : (w : World) (x : List ℕ) (d : Drawing) (m k : ℕ) (mv : MoveSteps) → m ≡ machine_count w.inst.now.tables → mv ≡ option_at w.kept.assignment.items x m d k → steps_in w x d k ≡ mv.steps
+pub option_in : (w : World) (x : List ℕ) (d : Drawing) (m k : ℕ) (mv : MoveSteps) →
+    m ≡ machine_count w.inst.now.tables → mv ≡ option_at w.kept.assignment.items x m d k → steps_in w x d k ≡ mv.steps
 unfolding steps_in
 option_in w x d m k mv machines is = ap (λ (v : MoveSteps). v.steps) (sym (rw machines at is))
 
-pub shift_in : (w : World) (x : List ℕ) (d : Drawing) (m k p to : ℕ) → m ≡ machine_count w.inst.now.tables → kind_of x ≡ Shift → p ≡ drawn w.kept.assignment.items x 1 → to ≡ target d x m k → steps_in w x d k ≡ leaving w.kept.assignment.items p to ∷ []
+pub shift_in : (w : World) (x : List ℕ) (d : Drawing) (m k p to : ℕ) → m ≡ machine_count w.inst.now.tables →
+    kind_of x ≡ Shift → p ≡ drawn w.kept.assignment.items x 1 → to ≡ target d x m k →
+    steps_in w x d k ≡ leaving w.kept.assignment.items p to ∷ []
 unfolding steps_in
 shift_in w x d m k p to machines is process machine = shift_steps _ x _ d k p to is process (rw machines at machine)
 
 -- the best of all options is the plan
-pub best_planned : (w : World) (x : List ℕ) (d : Drawing) (allowed m : ℕ) (best : Best) (mv : MoveSteps) → m ≡ machine_count w.inst.now.tables → IsBest w x d allowed (option_count x (machine_count w.inst.now.tables) d) best → mv ≡ option_at w.kept.assignment.items x m d best.option → mv ≡ plan_of w.inst.now.tables w.start.now.items w.kept.assignment.items x d allowed
+pub best_planned : (w : World) (x : List ℕ) (d : Drawing) (allowed m : ℕ) (best : Best) (mv : MoveSteps) →
+    m ≡ machine_count w.inst.now.tables → IsBest w x d allowed (option_count x (machine_count w.inst.now.tables) d)
+    best → mv ≡ option_at w.kept.assignment.items x m d best.option →
+    mv ≡ plan_of w.inst.now.tables w.start.now.items w.kept.assignment.items x d allowed
 unfolding plan_of plan_place cost_in
 best_planned w x d allowed m best mv machines is option = rw (machines, is.option) at option
 
 -- and it is one of them
-pub best_below : (w : World) (x : List ℕ) (d : Drawing) (allowed m : ℕ) (best : Best) → m ≡ machine_count w.inst.now.tables → 1 ≤ m → IsBest w x d allowed (option_count x (machine_count w.inst.now.tables) d) best → best.option < option_count x m d
+pub best_below : (w : World) (x : List ℕ) (d : Drawing) (allowed m : ℕ) (best : Best) →
+    m ≡ machine_count w.inst.now.tables → 1 ≤ m →
+    IsBest w x d allowed (option_count x (machine_count w.inst.now.tables) d) best → best.option < option_count x m d
 best_below w x d allowed m best machines some is =
     let n : ℕ = option_count x m d in
     let place : best.option ≡ least_place n (cost_in w x d allowed) = rw machines is.option in
     omega (arith, least_place_below n (cost_in w x d allowed) (option_some x m d some))
 
 -- what it says of a verdict that it has a cost, and when it has one
-by_test : (test : Bool) (cause : Cause) (after cost : ℕ) → done_cost (verdict_of (cause_if test cause) after) ≡ Some cost → (test ≡ false) × (cost ≡ after)
+by_test : (test : Bool) (cause : Cause) (after cost : ℕ) → done_cost (verdict_of (cause_if test cause) after) ≡
+    Some cost → (test ≡ false) × (cost ≡ after)
 unfolding done_cost verdict_of cause_if
 by_test true cause after cost is = absurd (cc)
 by_test false cause after cost is = let same : after ≡ cost = cc in (refl, sym same)
 
-by_cause : (broken : Option Cause) (before after allowed cost : ℕ) → done_cost (verdict_of (or_else broken (rise_test before after allowed)) after) ≡ Some cost → (broken ≡ None) × (cost ≡ after) × (cost ≤ before + allowed)
+by_cause : (broken : Option Cause) (before after allowed cost : ℕ) →
+    done_cost (verdict_of (or_else broken (rise_test before after allowed)) after) ≡ Some cost → (broken ≡ None)
+    × (cost ≡ after) × (cost ≤ before + allowed)
 unfolding done_cost verdict_of or_else rise_test
 by_cause None before after allowed cost is =
     let found = by_test (ltb (before + allowed) after) _ after cost is in
@@ -160,19 +200,32 @@ is_above : (x y : ℕ) (t : Bool) → ltb x y ≡ t → x < y → t ≡ true
 is_above x y true is high = refl
 is_above x y false is high = absurd (omega (arith, ltb-false x y is, high))
 
-done_within : (before after allowed : ℕ) → after ≤ before + allowed → done_cost (verdict_of (or_else None (rise_test before after allowed)) after) ≡ Some after
+done_within : (before after allowed : ℕ) → after ≤ before + allowed →
+    done_cost (verdict_of (or_else None (rise_test before after allowed)) after) ≡ Some after
 unfolding done_cost verdict_of or_else rise_test
-done_within before after allowed low = ap (λ (o : Option Cause). done_cost (verdict_of o after)) (cause_free (ltb (before + allowed) after) _ (not_above (before + allowed) after (ltb (before + allowed) after) refl low))
+done_within before after allowed low = ap (λ (o : Option Cause). done_cost (verdict_of o after))
+    (cause_free (ltb (before + allowed) after) _
+    (not_above (before + allowed) after (ltb (before + allowed) after) refl low))
 
 -- an option with a cost breaks nothing, and the cost is that after it and rises by no more than is allowed
-pub cost_means : (w : World) (x : List ℕ) (d : Drawing) (allowed n cost : ℕ) (steps : List Step) → steps_in w x d n ≡ steps → cost_in w x d allowed n ≡ Some cost → (broken_by w.inst.now.tables w.start.now.items w.kept.assignment.items steps ≡ None) × (cost ≡ objective w.inst.now.tables w.start.now.items (applied w.kept.assignment.items steps)) × (cost ≤ cost_now w + allowed)
+pub cost_means : (w : World) (x : List ℕ) (d : Drawing) (allowed n cost : ℕ) (steps : List Step) →
+    steps_in w x d n ≡ steps → cost_in w x d allowed n ≡ Some cost →
+    (broken_by w.inst.now.tables w.start.now.items w.kept.assignment.items steps ≡ None)
+    × (cost ≡ objective w.inst.now.tables w.start.now.items (applied w.kept.assignment.items steps))
+    × (cost ≤ cost_now w + allowed)
 unfolding cost_in option_cost steps_in judge
 cost_means w x d allowed n cost steps same is =
-    let here = ap (λ (s : List Step). done_cost (judge w.inst.now.tables w.start.now.items w.kept.assignment.items s allowed)) (sym same) ∙ is in
-    by_cause (broken_by w.inst.now.tables w.start.now.items w.kept.assignment.items steps) (cost_now w) (objective w.inst.now.tables w.start.now.items (applied w.kept.assignment.items steps)) allowed cost here
+    let here = ap (λ (s : List Step).
+    done_cost (judge w.inst.now.tables w.start.now.items w.kept.assignment.items s allowed)) (sym same) ∙ is in
+    by_cause (broken_by w.inst.now.tables w.start.now.items w.kept.assignment.items steps) (cost_now w)
+    (objective w.inst.now.tables w.start.now.items (applied w.kept.assignment.items steps)) allowed cost here
 
 -- and one that does so has that cost
-pub cost_comes : (w : World) (x : List ℕ) (d : Drawing) (allowed n : ℕ) (steps : List Step) → steps_in w x d n ≡ steps → broken_by w.inst.now.tables w.start.now.items w.kept.assignment.items steps ≡ None → objective w.inst.now.tables w.start.now.items (applied w.kept.assignment.items steps) ≤ cost_now w + allowed → cost_in w x d allowed n ≡ Some (objective w.inst.now.tables w.start.now.items (applied w.kept.assignment.items steps))
+pub cost_comes : (w : World) (x : List ℕ) (d : Drawing) (allowed n : ℕ) (steps : List Step) → steps_in w x d n ≡ steps →
+    broken_by w.inst.now.tables w.start.now.items w.kept.assignment.items steps ≡ None →
+    objective w.inst.now.tables w.start.now.items (applied w.kept.assignment.items steps) ≤ cost_now w + allowed →
+    cost_in w x d allowed n ≡
+    Some (objective w.inst.now.tables w.start.now.items (applied w.kept.assignment.items steps))
 unfolding cost_in option_cost steps_in judge
 cost_comes w x d allowed n steps same none low =
     let after = objective w.inst.now.tables w.start.now.items (applied w.kept.assignment.items steps) in
@@ -181,13 +234,20 @@ cost_comes w x d allowed n steps same none low =
     ∙ done_within (cost_now w) after allowed low
 
 -- the best so far is one of them
-pub best_means : (w : World) (x : List ℕ) (d : Drawing) (allowed n cost : ℕ) (best : Best) (steps : List Step) → IsBest w x d allowed n best → steps_in w x d best.option ≡ steps → best.cost ≡ Some cost → (broken_by w.inst.now.tables w.start.now.items w.kept.assignment.items steps ≡ None) × (cost ≡ objective w.inst.now.tables w.start.now.items (applied w.kept.assignment.items steps)) × (cost ≤ cost_now w + allowed)
+pub best_means : (w : World) (x : List ℕ) (d : Drawing) (allowed n cost : ℕ) (best : Best) (steps : List Step) →
+    IsBest w x d allowed n best → steps_in w x d best.option ≡ steps → best.cost ≡ Some cost →
+    (broken_by w.inst.now.tables w.start.now.items w.kept.assignment.items steps ≡ None)
+    × (cost ≡ objective w.inst.now.tables w.start.now.items (applied w.kept.assignment.items steps))
+    × (cost ≤ cost_now w + allowed)
 best_means w x d allowed n cost best steps is same there =
     let found = least_means n cost (cost_in w x d allowed) (sym is.cost ∙ there) in
     cost_means w x d allowed best.option cost steps same (ap (cost_in w x d allowed) is.option ∙ found.answer)
 
-pub best_unbroken : (w : World) (x : List ℕ) (d : Drawing) (allowed n cost : ℕ) (best : Best) (steps : List Step) → IsBest w x d allowed n best → steps_in w x d best.option ≡ steps → best.cost ≡ Some cost → broken_by w.inst.now.tables w.start.now.items w.kept.assignment.items steps ≡ None
-best_unbroken w x d allowed n cost best steps is same there = (best_means w x d allowed n cost best steps is same there).0
+pub best_unbroken : (w : World) (x : List ℕ) (d : Drawing) (allowed n cost : ℕ) (best : Best) (steps : List Step) →
+    IsBest w x d allowed n best → steps_in w x d best.option ≡ steps → best.cost ≡ Some cost →
+    broken_by w.inst.now.tables w.start.now.items w.kept.assignment.items steps ≡ None
+best_unbroken w x d allowed n cost best steps is same there =
+    (best_means w x d allowed n cost best steps is same there).0
 
 -- bounds
 bound_low : (o : Option ℕ) (most : ℕ) → ((b : ℕ) → o ≡ Some b → b < most) → bound_of o most ≤ most
@@ -195,14 +255,26 @@ unfolding bound_of
 bound_low None most low = omega arith
 bound_low (Some b) most low = omega (arith, low b refl)
 
-pub best_within : (w : World) (x : List ℕ) (d : Drawing) (allowed n : ℕ) (best : Best) → IsBest w x d allowed n best → bound_of best.cost (cost_now w + allowed + 1) ≤ cost_now w + allowed + 1
-best_within w x d allowed n best is = bound_low best.cost (cost_now w + allowed + 1) (λ b there. omega (arith, (best_means w x d allowed n b best (steps_in w x d best.option) is refl there).2))
+pub best_within : (w : World) (x : List ℕ) (d : Drawing) (allowed n : ℕ) (best : Best) → IsBest w x d allowed n best →
+    bound_of best.cost (cost_now w + allowed + 1) ≤ cost_now w + allowed + 1
+best_within w x d allowed n best is =
+    bound_low best.cost (cost_now w + allowed + 1)
+    (λ b there. omega (arith, (best_means w x d allowed n b best (steps_in w x d best.option) is refl there).2))
 
-pub bound_fits : (w : World) (x : List ℕ) (d : Drawing) (allowed n most : ℕ) (best : Best) → IsBest w x d allowed n best → most ≡ cost_now w + allowed + 1 → allowed < 2 ^ 64 → bound_of best.cost most ≤ 2 ^ 120
-bound_fits w x d allowed n most best is most_is few = rw most_is (omega (arith, best_within w x d allowed n best is, few, objective_under w.inst.now.tables w.start.now.items w.kept.assignment.items w.inst.now.well_formed w.inst.now.small))
+pub bound_fits : (w : World) (x : List ℕ) (d : Drawing) (allowed n most : ℕ) (best : Best) →
+    IsBest w x d allowed n best → most ≡ cost_now w + allowed + 1 → allowed < 2 ^ 64 → bound_of best.cost most ≤ 2 ^ 120
+bound_fits w x d allowed n most best is most_is few =
+    rw most_is (omega (
+      arith,
+      best_within w x d allowed n best is,
+      few,
+      objective_under w.inst.now.tables w.start.now.items w.kept.assignment.items w.inst.now.well_formed
+          w.inst.now.small,
+    ))
 
 -- an option without a cost below the bound changes nothing
-pub worse_at : (here least : Option ℕ) (most : ℕ) → ((c : ℕ) → here ≡ Some c → (bound_of least most ≤ c) × (c < most)) → is_better here least ≡ false
+pub worse_at : (here least : Option ℕ) (most : ℕ) → ((c : ℕ) → here ≡ Some c → (bound_of least most ≤ c) × (c < most)) →
+    is_better here least ≡ false
 unfolding bound_of
 worse_at None least most above = is_better_none least
 worse_at (Some c) None most above = absurd (omega (arith, (above c refl).0, (above c refl).1))
@@ -213,7 +285,10 @@ unfolding bound_of is_better
 better_at None c most below = refl
 better_at (Some b) c most below = is_above c b (ltb c b) refl below
 
-pub best_stays : (w : World) (x : List ℕ) (d : Drawing) (allowed n p to : ℕ) (best : Best) (found : Option ℕ) → IsBest w x d allowed n best → steps_in w x d n ≡ leaving w.kept.assignment.items p to ∷ [] → IsCostBelow w p to (bound_of best.cost (cost_now w + allowed + 1)) found → found ≡ None → IsBest w x d allowed (n + 1) best
+pub best_stays : (w : World) (x : List ℕ) (d : Drawing) (allowed n p to : ℕ) (best : Best) (found : Option ℕ) →
+    IsBest w x d allowed n best → steps_in w x d n ≡ leaving w.kept.assignment.items p to ∷ [] →
+    IsCostBelow w p to (bound_of best.cost (cost_now w + allowed + 1)) found → found ≡ None →
+    IsBest w x d allowed (n + 1) best
 best_stays w x d allowed n p to best found is same below none =
     let f : ℕ → Option ℕ = cost_in w x d allowed in
     let most = cost_now w + allowed + 1 in
@@ -227,19 +302,25 @@ best_stays w x d allowed n p to best found is same below none =
     record { cost = is.cost ∙ sym kept.0; option = is.option ∙ sym kept.1 }
 
 -- and one with such a cost is the best
-pub best_found : (w : World) (x : List ℕ) (d : Drawing) (allowed n p to cost : ℕ) (best : Best) (found : Option ℕ) → IsBest w x d allowed n best → steps_in w x d n ≡ leaving w.kept.assignment.items p to ∷ [] → IsCostBelow w p to (bound_of best.cost (cost_now w + allowed + 1)) found → found ≡ Some cost → IsBest w x d allowed (n + 1) (record { cost = found; option = n })
+pub best_found : (w : World) (x : List ℕ) (d : Drawing) (allowed n p to cost : ℕ) (best : Best) (found : Option ℕ) →
+    IsBest w x d allowed n best → steps_in w x d n ≡ leaving w.kept.assignment.items p to ∷ [] →
+    IsCostBelow w p to (bound_of best.cost (cost_now w + allowed + 1)) found → found ≡ Some cost →
+    IsBest w x d allowed (n + 1) (record { cost = found; option = n })
 best_found w x d allowed n p to cost best found is same below some =
     let f : ℕ → Option ℕ = cost_in w x d allowed in
     let most = cost_now w + allowed + 1 in
     let value = below.found cost some in
     let under = below.below cost some in
-    let low : cost_after w p to ≤ cost_now w + allowed = omega (arith, value, under, best_within w x d allowed n best is) in
-    let here : f n ≡ Some cost = cost_comes w x d allowed n (leaving w.kept.assignment.items p to ∷ []) same (below.free cost some) low ∙ ap (λ (c : ℕ). Some c) (sym value) in
+    let low : cost_after w p to ≤ cost_now w + allowed =
+    omega (arith, value, under, best_within w x d allowed n best is) in
+    let here : f n ≡ Some cost = cost_comes w x d allowed n (leaving w.kept.assignment.items p to ∷ []) same
+    (below.free cost some) low ∙ ap (λ (c : ℕ). Some c) (sym value) in
     let better = least_better n f (ap₂ is_better here (sym is.cost) ∙ better_at best.cost cost most under) in
     record { cost = some ∙ sym here ∙ sym better.0; option = sym better.1 }
 
 -- a cost that was found is the next bound, and lower than the one before
-pub bound_falls : (w : World) (p to most cost : ℕ) (least found : Option ℕ) → IsCostBelow w p to (bound_of least most) found → found ≡ Some cost → bound_of found most ≤ bound_of least most
+pub bound_falls : (w : World) (p to most cost : ℕ) (least found : Option ℕ) →
+    IsCostBelow w p to (bound_of least most) found → found ≡ Some cost → bound_of found most ≤ bound_of least most
 unfolding bound_of
 bound_falls w p to most cost least found below some =
     let low = below.below cost some in

@@ -1,5 +1,6 @@
 -- The options by kind: how many steps each has, and what is read for all of them.
-use Rattle.std.proofs.Common.{◌≡◌, ◌≢◌, ℕ, zero, suc, ◌+◌, ◌*◌, ◌%◌, min, ◌<◌, ◌≤◌, arith, Bool, true, false, cond, [], ◌∷◌, List, length, Option, refl, sym, ap, ◌∙◌}
+use Rattle.std.proofs.Common.{◌≡◌, ◌≢◌, ℕ, zero, suc, ◌+◌, ◌*◌, ◌%◌, min, ◌<◌, ◌≤◌, arith, Bool, true, false, cond, []}
+use Rattle.std.proofs.Common.{◌∷◌, List, length, Option, refl, sym, ap, ◌∙◌}
 use Rattle.std.specs.Prelude.{slice_index}
 use Rattle.ra_base.specs.Searches.{is_better, least, least_place}
 use Rattle.ra_base.specs.declared.ids.Machine.{Machine}
@@ -9,9 +10,11 @@ use Rattle.ra_moves.specs.declared.steps.MoveKind.{MoveKind}
 use Rattle.ra_moves.specs.declared.steps.MoveKind.TheVariants.{Shift, Swap, Chain}
 use Rattle.ra_moves.specs.MoveSteps.{MoveSteps, step_count}
 use Rattle.ra_moves.specs.Steps.{step_at}
-use Rattle.ra_moves.specs.Options.{kind_of, count_of, option_count, drawn, target, leaving, shift_of, swap_of, chain_of, option_of, option_at}
+use Rattle.ra_moves.specs.Options.{kind_of, count_of, option_count, drawn, target, leaving, shift_of, swap_of, chain_of}
+use Rattle.ra_moves.specs.Options.{option_of, option_at}
 
-kind_in : (k : MoveKind) (a : List Machine) (x : List ℕ) (m : ℕ) (d : Drawing) (i : ℕ) → (option_of k a x m d i).kind ≡ k
+kind_in : (k : MoveKind) (a : List Machine) (x : List ℕ) (m : ℕ) (d : Drawing) (i : ℕ) →
+    (option_of k a x m d i).kind ≡ k
 unfolding option_of shift_of swap_of chain_of
 kind_in Shift a x m d i = refl
 kind_in Swap a x m d i = refl
@@ -22,20 +25,24 @@ pub option_kind : (a : List Machine) (x : List ℕ) (m : ℕ) (d : Drawing) (i :
 unfolding option_at
 option_kind a x m d i = kind_in (kind_of x) a x m d i
 
-length_in : (k : MoveKind) (a : List Machine) (x : List ℕ) (m : ℕ) (d : Drawing) (i : ℕ) → length (option_of k a x m d i).steps ≡ step_count k
+length_in : (k : MoveKind) (a : List Machine) (x : List ℕ) (m : ℕ) (d : Drawing) (i : ℕ) →
+    length (option_of k a x m d i).steps ≡ step_count k
 unfolding option_of shift_of swap_of chain_of step_count
 length_in Shift a x m d i = refl
 length_in Swap a x m d i = refl
 length_in Chain a x m d i = refl
 
 -- how many steps it has
-pub option_length : (a : List Machine) (x : List ℕ) (m : ℕ) (d : Drawing) (i : ℕ) → length (option_at a x m d i).steps ≡ step_count (kind_of x)
+pub option_length : (a : List Machine) (x : List ℕ) (m : ℕ) (d : Drawing) (i : ℕ) → length (option_at a x m d i).steps ≡
+    step_count (kind_of x)
 unfolding option_at
 option_length a x m d i = length_in (kind_of x) a x m d i
 
-pub shift_length : (a : List Machine) (x : List ℕ) (m : ℕ) (d : Drawing) (i : ℕ) (mv : MoveSteps) → mv ≡ option_at a x m d i → kind_of x ≡ Shift → length mv.steps ≡ 1
+pub shift_length : (a : List Machine) (x : List ℕ) (m : ℕ) (d : Drawing) (i : ℕ) (mv : MoveSteps) →
+    mv ≡ option_at a x m d i → kind_of x ≡ Shift → length mv.steps ≡ 1
 unfolding step_count
-shift_length a x m d i mv option is = ap (λ (v : MoveSteps). length v.steps) option ∙ option_length a x m d i ∙ ap step_count is
+shift_length a x m d i mv option is =
+    ap (λ (v : MoveSteps). length v.steps) option ∙ option_length a x m d i ∙ ap step_count is
 
 few_steps : (k : MoveKind) → step_count k ≤ 3
 unfolding step_count
@@ -48,13 +55,15 @@ option_few a x m d i = omega (arith, option_length a x m d i, few_steps (kind_of
 
 -- what is read for all options of a swap or a chain but one, if two numbers are read for each step and each of r
 -- resources
-rest_reads_of : (k : MoveKind) (d : Drawing) (m r : ℕ) → k ≢ Shift → count_of k d m * (2 * (step_count k * r)) ≤ 12 * r + 2 * (step_count k * r)
+rest_reads_of : (k : MoveKind) (d : Drawing) (m r : ℕ) → k ≢ Shift → count_of k d m * (2 * (step_count k * r)) ≤ 12 * r
+    + 2 * (step_count k * r)
 unfolding count_of step_count
 rest_reads_of Shift d m r other = absurd (other refl)
 rest_reads_of Swap d m r other = omega arith
 rest_reads_of Chain d m r other = omega arith
 
-pub rest_reads : (x : List ℕ) (m : ℕ) (d : Drawing) (r : ℕ) → kind_of x ≢ Shift → option_count x m d * (2 * (step_count (kind_of x) * r)) ≤ 12 * r + 2 * (step_count (kind_of x) * r)
+pub rest_reads : (x : List ℕ) (m : ℕ) (d : Drawing) (r : ℕ) → kind_of x ≢ Shift →
+    option_count x m d * (2 * (step_count (kind_of x) * r)) ≤ 12 * r + 2 * (step_count (kind_of x) * r)
 unfolding option_count
 rest_reads x m d r other = rest_reads_of (kind_of x) d m r other
 
@@ -70,23 +79,29 @@ unfolding option_count
 option_some x m d some = some_options (kind_of x) d m some
 
 -- a shift's options differ by their machines
-pub shift_steps : (a : List Machine) (x : List ℕ) (m : ℕ) (d : Drawing) (i p to : ℕ) → kind_of x ≡ Shift → p ≡ drawn a x 1 → to ≡ target d x m i → (option_at a x m d i).steps ≡ leaving a p to ∷ []
+pub shift_steps : (a : List Machine) (x : List ℕ) (m : ℕ) (d : Drawing) (i p to : ℕ) → kind_of x ≡ Shift →
+    p ≡ drawn a x 1 → to ≡ target d x m i → (option_at a x m d i).steps ≡ leaving a p to ∷ []
 unfolding option_at option_of shift_of
 shift_steps a x m d i p to is process machine = rw (is, process, machine) refl
 
-first_drawn : (a : List Machine) (x : List ℕ) (m : ℕ) (d : Drawing) (i : ℕ) → kind_of x ≡ Shift → (step_at (option_at a x m d i).steps 0).process.0 ≡ drawn a x 1
+first_drawn : (a : List Machine) (x : List ℕ) (m : ℕ) (d : Drawing) (i : ℕ) → kind_of x ≡ Shift →
+    (step_at (option_at a x m d i).steps 0).process.0 ≡ drawn a x 1
 unfolding option_at option_of shift_of step_at leaving
 first_drawn a x m d i is = rw is refl
 
 -- a resolved shift, and its process
-pub is_shift : (a : List Machine) (x : List ℕ) (m : ℕ) (d : Drawing) (i : ℕ) (mv : MoveSteps) → mv ≡ option_at a x m d i → kind_of x ≡ Shift → mv.kind ≡ Shift
+pub is_shift : (a : List Machine) (x : List ℕ) (m : ℕ) (d : Drawing) (i : ℕ) (mv : MoveSteps) →
+    mv ≡ option_at a x m d i → kind_of x ≡ Shift → mv.kind ≡ Shift
 is_shift a x m d i mv option is = ap (λ (v : MoveSteps). v.kind) option ∙ option_kind a x m d i ∙ is
 
-pub asks_shift : (a : List Machine) (x : List ℕ) (m : ℕ) (d : Drawing) (i : ℕ) (mv : MoveSteps) → mv ≡ option_at a x m d i → mv.kind ≡ Shift → kind_of x ≡ Shift
+pub asks_shift : (a : List Machine) (x : List ℕ) (m : ℕ) (d : Drawing) (i : ℕ) (mv : MoveSteps) →
+    mv ≡ option_at a x m d i → mv.kind ≡ Shift → kind_of x ≡ Shift
 asks_shift a x m d i mv option is = sym (ap (λ (v : MoveSteps). v.kind) option ∙ option_kind a x m d i) ∙ is
 
-pub process_drawn : (a : List Machine) (x : List ℕ) (m : ℕ) (d : Drawing) (i : ℕ) (mv : MoveSteps) → mv ≡ option_at a x m d i → mv.kind ≡ Shift → (step_at mv.steps 0).process.0 ≡ drawn a x 1
-process_drawn a x m d i mv option is = ap (λ (v : MoveSteps). (step_at v.steps 0).process.0) option ∙ first_drawn a x m d i (asks_shift a x m d i mv option is)
+pub process_drawn : (a : List Machine) (x : List ℕ) (m : ℕ) (d : Drawing) (i : ℕ) (mv : MoveSteps) →
+    mv ≡ option_at a x m d i → mv.kind ≡ Shift → (step_at mv.steps 0).process.0 ≡ drawn a x 1
+process_drawn a x m d i mv option is = ap (λ (v : MoveSteps). (step_at v.steps 0).process.0) option
+    ∙ first_drawn a x m d i (asks_shift a x m d i mv option is)
 
 pub drawn_below : (a : List Machine) (x : List ℕ) (j : ℕ) → 0 < length a → drawn a x j < length a
 unfolding drawn
@@ -101,9 +116,11 @@ least_place_below (suc zero) f some = by_test (is_better (f 0) (least 0 f))
     by_test : (better : Bool) → cond better 0 0 < 1
     by_test true = omega arith
     by_test false = omega arith
-least_place_below (suc (suc n)) f some = by_test (is_better (f (suc n)) (least (suc n) f)) (least_place_below (suc n) f (omega arith))
+least_place_below (suc (suc n)) f some =
+    by_test (is_better (f (suc n)) (least (suc n) f)) (least_place_below (suc n) f (omega arith))
   where
-    by_test : (better : Bool) → least_place (suc n) f < suc n → cond better (suc n) (least_place (suc n) f) < suc (suc n)
+    by_test : (better : Bool) → least_place (suc n) f < suc n → cond better (suc n) (least_place (suc n) f) <
+        suc (suc n)
     by_test true before = omega arith
     by_test false before = omega arith
 
@@ -112,6 +129,7 @@ pub window_count : (x : List ℕ) (m : ℕ) → kind_of x ≡ Shift → option_c
 unfolding option_count count_of
 window_count x m is = rw is refl
 
-pub window_target : (x : List ℕ) (m n first k : ℕ) → m ≡ n → first ≡ slice_index x 2 % m → (first + k) % n ≡ target Two x m k
+pub window_target : (x : List ℕ) (m n first k : ℕ) → m ≡ n → first ≡ slice_index x 2 % m →
+    (first + k) % n ≡ target Two x m k
 unfolding target
 window_target x m n first k same is = rw (is, same) refl

@@ -24,14 +24,18 @@ use Rattle.ra_weigh_settle.specs.Settling.{AreMovedOf, IsSettling, HasSettling}
 use Rattle.ra_plan.specs.Weighings.{IsWeighing}
 
 -- the counts that cells keep are the moved counts of their assignment
-pub counts_of_cells : (i : Tables) (a0 a : List Machine) (cells : Cells) (moved : MovedCounts) → StandFor cells i a0 a → moved ≡ cells.greatest → AreMovedOf i a0 a moved
+pub counts_of_cells : (i : Tables) (a0 a : List Machine) (cells : Cells) (moved : MovedCounts) → StandFor cells i a0 a →
+    moved ≡ cells.greatest → AreMovedOf i a0 a moved
 counts_of_cells i a0 a cells moved stand is = rw is (record {
   one_each = cells.counts_there ∙ ap service_count stand.instance;
   each = stand.moved;
   limit = cells.limit_there ∙ ap process_count stand.instance;
 })
 
-pub settling_of : (i : Tables) (a0 a : List Machine) (steps : List Step) (cells : Cells) (moved : MovedCounts) (parts : Parts) (weighed : Weighed) → IsAssignment i a0 → IsAssignment i a → StandFor cells i a0 a → moved ≡ cells.greatest → parts ≡ parts_of i a0 a → IsOffered i a steps → weighed ≡ weighed_of i a0 a steps → IsSettling i a0 a steps moved parts.total weighed
+pub settling_of : (i : Tables) (a0 a : List Machine) (steps : List Step) (cells : Cells) (moved : MovedCounts)
+    (parts : Parts) (weighed : Weighed) → IsAssignment i a0 → IsAssignment i a → StandFor cells i a0 a →
+    moved ≡ cells.greatest → parts ≡ parts_of i a0 a → IsOffered i a steps → weighed ≡ weighed_of i a0 a steps →
+    IsSettling i a0 a steps moved parts.total weighed
 unfolding parts_of
 settling_of i a0 a steps cells moved parts weighed start fits stand is costs offered weighing = record {
   start = start;
@@ -42,7 +46,9 @@ settling_of i a0 a steps cells moved parts weighed start fits stand is costs off
   weighing = weighing;
 }
 
-pub has_settling : (i : Tables) (a0 a : List Machine) (cells : Cells) (moved : MovedCounts) (parts : Parts) (weighed : Weighed) → IsAssignment i a0 → IsAssignment i a → StandFor cells i a0 a → moved ≡ cells.greatest → parts ≡ parts_of i a0 a → IsWeighing i a0 a weighed → HasSettling i moved parts.total weighed
+pub has_settling : (i : Tables) (a0 a : List Machine) (cells : Cells) (moved : MovedCounts) (parts : Parts)
+    (weighed : Weighed) → IsAssignment i a0 → IsAssignment i a → StandFor cells i a0 a → moved ≡ cells.greatest →
+    parts ≡ parts_of i a0 a → IsWeighing i a0 a weighed → HasSettling i moved parts.total weighed
 has_settling i a0 a cells moved parts weighed start fits stand is costs some = record {
   initial = a0;
   assignment = a;
@@ -51,25 +57,36 @@ has_settling i a0 a cells moved parts weighed start fits stand is costs some = r
 }
 
 -- a move that is refused for no cause names no process twice
-pub move_of : (i : Tables) (a0 a : List Machine) (steps : List Step) → IsOffered i a steps → broken_by i a0 a steps ≡ None → IsMove i a steps
+pub move_of : (i : Tables) (a0 a : List Machine) (steps : List Step) → IsOffered i a steps →
+    broken_by i a0 a steps ≡ None → IsMove i a steps
 unfolding broken_by
 move_of i a0 a steps offered none = offered (left_none (repeat_of steps) _ none)
 
 -- a move that is refused for itself, and one that isn't
-pub flawed : (i : Tables) (a0 a : List Machine) (steps : List Step) (cause : Cause) → Some cause ≡ or_else (repeat_of steps) (same_of steps) → broken_by i a0 a steps ≡ Some cause
+pub flawed : (i : Tables) (a0 a : List Machine) (steps : List Step) (cause : Cause) →
+    Some cause ≡ or_else (repeat_of steps) (same_of steps) → broken_by i a0 a steps ≡ Some cause
 unfolding broken_by
-flawed i a0 a steps cause is = sym (or_else_assoc (repeat_of steps) (same_of steps) (first_broken i a0 (applied a steps))) ∙ ap (λ o. or_else o (first_broken i a0 (applied a steps))) (sym is) ∙ or_else_some cause (first_broken i a0 (applied a steps))
+flawed i a0 a steps cause is =
+    sym (or_else_assoc (repeat_of steps) (same_of steps) (first_broken i a0 (applied a steps)))
+    ∙ ap (λ o. or_else o (first_broken i a0 (applied a steps))) (sym is)
+    ∙ or_else_some cause (first_broken i a0 (applied a steps))
 
-pub flawless : (i : Tables) (a0 a : List Machine) (steps : List Step) → None ≡ or_else (repeat_of steps) (same_of steps) → broken_by i a0 a steps ≡ first_broken i a0 (applied a steps)
+pub flawless : (i : Tables) (a0 a : List Machine) (steps : List Step) →
+    None ≡ or_else (repeat_of steps) (same_of steps) → broken_by i a0 a steps ≡ first_broken i a0 (applied a steps)
 unfolding broken_by
-flawless i a0 a steps none = sym (or_else_assoc (repeat_of steps) (same_of steps) (first_broken i a0 (applied a steps))) ∙ ap (λ o. or_else o (first_broken i a0 (applied a steps))) (sym none) ∙ or_else_none (first_broken i a0 (applied a steps))
+flawless i a0 a steps none = sym (or_else_assoc (repeat_of steps) (same_of steps) (first_broken i a0 (applied a steps)))
+    ∙ ap (λ o. or_else o (first_broken i a0 (applied a steps))) (sym none)
+    ∙ or_else_none (first_broken i a0 (applied a steps))
 
-pub flawless_move : (i : Tables) (a : List Machine) (steps : List Step) → IsOffered i a steps → None ≡ or_else (repeat_of steps) (same_of steps) → IsMove i a steps
+pub flawless_move : (i : Tables) (a : List Machine) (steps : List Step) → IsOffered i a steps →
+    None ≡ or_else (repeat_of steps) (same_of steps) → IsMove i a steps
 flawless_move i a steps offered none = offered (left_none (repeat_of steps) (same_of steps) (sym none))
 
 -- the requirements of a move are read for at most three processes
-pub reads_few : (i : Tables) (a : List Machine) (steps : List Step) → IsMove i a steps → length steps * resource_count i ≤ 3 * resource_count i
+pub reads_few : (i : Tables) (a : List Machine) (steps : List Step) → IsMove i a steps →
+    length steps * resource_count i ≤ 3 * resource_count i
 reads_few i a steps move = mul-le-mul_right (resource_count i) move.few
 
-pub processes_known : (i : Tables) (a : List Machine) (steps : List Step) → IsMove i a steps → (j : ℕ) → j < length steps → process_in steps j < process_count i
+pub processes_known : (i : Tables) (a : List Machine) (steps : List Step) → IsMove i a steps → (j : ℕ) →
+    j < length steps → process_in steps j < process_count i
 processes_known i a steps move j within = omega (arith, move.stands.known j within, move.fits.one_each)

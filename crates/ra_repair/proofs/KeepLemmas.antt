@@ -13,7 +13,9 @@ use Rattle.ra_repair.specs.Touched.{touched}
 use Rattle.ra_repair.proofs.BoundLemmas.{penalty_few}
 use Rattle.ra_repair.proofs.StepLemmas.{Goes, penalty_set}
 
-pub stands_on : (kept : Kept) (i : Tables) (a0 a : List Machine) → kept.assignment.items ≡ a → IsAssignment i a → kept.rows.tables ≡ i → kept.rows.start ≡ a0 → rows.StandFor kept.rows a → cells.StandFor kept.cells i a0 a → Stands kept i a0
+pub stands_on : (kept : Kept) (i : Tables) (a0 a : List Machine) → kept.assignment.items ≡ a → IsAssignment i a →
+    kept.rows.tables ≡ i → kept.rows.start ≡ a0 → rows.StandFor kept.rows a → cells.StandFor kept.cells i a0 a →
+    Stands kept i a0
 stands_on kept i a0 a is fits tables start by_rows by_cells = record {
   fits = rw is fits;
   tables = tables;
@@ -23,9 +25,16 @@ stands_on kept i a0 a is fits tables start by_rows by_cells = record {
 }
 
 -- the penalty is kept anew
-pub keeps_on : (kept : Kept) (now : ℕ) (i : Tables) (a0 : List Machine) → Stands kept i a0 → now ≡ penalty i a0 kept.assignment.items → Keeps (record kept { penalty = now }) i a0
+pub keeps_on : (kept : Kept) (now : ℕ) (i : Tables) (a0 : List Machine) → Stands kept i a0 →
+    now ≡ penalty i a0 kept.assignment.items → Keeps (record kept { penalty = now }) i a0
 keeps_on kept now i a0 stands is = record {
-  stands = record { fits = stands.fits; tables = stands.tables; start = stands.start; rows = stands.rows; cells = stands.cells };
+  stands = record {
+    fits = stands.fits;
+    tables = stands.tables;
+    start = stands.start;
+    rows = stands.rows;
+    cells = stands.cells;
+  };
   penalty_is = is;
 }
 
@@ -35,7 +44,9 @@ pub record Renews (i : Tables) (a0 b : List Machine) (now before after : ℕ) : 
   pub enough : before ≤ now + after
   pub renewed : now + after - before ≡ penalty i a0 b
 
-pub renews : (i : Tables) (a0 a b : List Machine) (p from : ℕ) (to : Machine) (now before after : ℕ) → WellFormed i → Small i → Goes i a p from to → b ≡ set a p to → now ≡ penalty i a0 a → before ≡ touched i a0 a p from to.0 → after ≡ touched i a0 b p from to.0 → after ≤ 2 ^ 60 → Renews i a0 b now before after
+pub renews : (i : Tables) (a0 a b : List Machine) (p from : ℕ) (to : Machine) (now before after : ℕ) → WellFormed i →
+    Small i → Goes i a p from to → b ≡ set a p to → now ≡ penalty i a0 a → before ≡ touched i a0 a p from to.0 →
+    after ≡ touched i a0 b p from to.0 → after ≤ 2 ^ 60 → Renews i a0 b now before after
 renews i a0 a b p from to now before after limits small goes is now_is before_is after_is few =
     let change = penalty_set i a0 a p from to limits small goes in
     let same : penalty i a0 b ≡ penalty i a0 (set a p to) = ap (penalty i a0) is in

@@ -4,7 +4,8 @@ use Rattle.std.specs.Prelude.{ℕ, ◌+◌, ◌-◌, List, if◌then◌else◌, 
 use Rattle.ra_base.specs.Sums.{total, one_if}
 use Rattle.ra_base.specs.declared.ids.Machine.{Machine}
 use Rattle.ra_model.specs.declared.raw.Tables.{Tables}
-use Rattle.ra_model.specs.Numbers.{resource_count, machine_count, service_count, process_count, transient_at, capacity_of, spread_of, dependency_count, closed_at}
+use Rattle.ra_model.specs.Numbers.{resource_count, machine_count, service_count, process_count, transient_at}
+use Rattle.ra_model.specs.Numbers.{capacity_of, spread_of, dependency_count, closed_at}
 use Rattle.ra_model.specs.Assignments.{machine_at, tally}
 use Rattle.ra_model.specs.Usage.{use_of, transient_of}
 use Rattle.ra_model.specs.Services.{is_of, on_machine, locations_of}

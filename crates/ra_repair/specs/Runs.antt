@@ -1,6 +1,7 @@
 -- The run of tries: at each try one move is chosen among the options that the words of the lot's next proposal name,
 -- and is taken unless the penalty rises by it.
-use Rattle.std.specs.Prelude.{ℕ, zero, suc, List, [], ◌∷◌, ◌++◌, Bool, false, if◌then◌else◌, ◌==◌, nat_le, Option, Some, None, unwrap_or}
+use Rattle.std.specs.Prelude.{ℕ, zero, suc, List, [], ◌∷◌, ◌++◌, Bool, false, if◌then◌else◌, ◌==◌, nat_le, Option, Some}
+use Rattle.std.specs.Prelude.{None, unwrap_or}
 use Rattle.ra_base.specs.Searches.{or_else, least, least_place}
 use Rattle.ra_base.specs.declared.causes.Cause.{Cause}
 use Rattle.ra_base.specs.declared.causes.Drawing.TheVariants.{Two}

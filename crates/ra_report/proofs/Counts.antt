@@ -1,5 +1,6 @@
 -- Every entry is done or refused.
-use Rattle.std.proofs.Common.{◌≡◌, ℕ, ◌+◌, ◌-◌, ◌<◌, Bool, true, false, not, cond, List, [], ◌∷◌, length, take, get_or, arith, ap, ap₂, ◌∙◌, sym}
+use Rattle.std.proofs.Common.{◌≡◌, ℕ, ◌+◌, ◌-◌, ◌<◌, Bool, true, false, not, cond, List, [], ◌∷◌, length, take, get_or}
+use Rattle.std.proofs.Common.{arith, ap, ap₂, ◌∙◌, sym}
 use Rattle.std.proofs.lemmas.List.{get_or_default}
 use Rattle.std.proofs.lemmas.List.Sums.{sum_by-cons, sum_by_more}
 use Rattle.ra_journal.specs.declared.entries.Entry.{Entry}
@@ -21,10 +22,12 @@ done_or_refused (e ∷ h) =
     omega arith
 
 -- one more entry
-pub counted_more : (h : List Entry) (n : ℕ) (e : Entry) (done one : ℕ) → n < length h → e ≡ entry_at h n → done ≡ done_count (take n h) → one ≡ cond (is_done e.verdict) 1 0 → done + one ≡ done_count (take (n + 1) h)
+pub counted_more : (h : List Entry) (n : ℕ) (e : Entry) (done one : ℕ) → n < length h → e ≡ entry_at h n →
+    done ≡ done_count (take n h) → one ≡ cond (is_done e.verdict) 1 0 → done + one ≡ done_count (take (n + 1) h)
 unfolding done_count entry_at
 counted_more h n e done one within read so_far here =
-    let there : one ≡ cond (is_done (get_or h n e).verdict) 1 0 = here ∙ ap (λ (x : Entry). cond (is_done x.verdict) 1 0) (read ∙ get_or_default h n _ e within) in
+    let there : one ≡ cond (is_done (get_or h n e).verdict) 1 0 = here
+    ∙ ap (λ (x : Entry). cond (is_done x.verdict) 1 0) (read ∙ get_or_default h n _ e within) in
     ap₂ (λ (a b : ℕ). a + b) so_far there ∙ sym (sum_by_more (λ (x : Entry). cond (is_done x.verdict) 1 0) h n e within)
 
 -- those that are not done are refused

@@ -1,8 +1,10 @@
 -- The texts of a journal's entries tell them: each word tells what it says and where it ends.
-use Rattle.std.proofs.Common.{◌≡◌, ℕ, ◌+◌, ◌*◌, ◌<◌, List, [], ◌∷◌, ◌++◌, length, get_or, drop, refl, sym, ◌∙◌, ap, arith, append_assoc, codes}
+use Rattle.std.proofs.Common.{◌≡◌, ℕ, ◌+◌, ◌*◌, ◌<◌, List, [], ◌∷◌, ◌++◌, length, get_or, drop, refl, sym, ◌∙◌, ap}
+use Rattle.std.proofs.Common.{arith, append_assoc, codes}
 use Rattle.std.proofs.lemmas.List.{append_cancel_left}
 use Rattle.ra_base.specs.declared.causes.Cause.{Cause}
-use Rattle.ra_base.specs.declared.causes.Cause.TheVariants.{Repeat, Same, Capacity, Transient, Conflict, Spread, Dependency, Rise, Closed}
+use Rattle.ra_base.specs.declared.causes.Cause.TheVariants.{Repeat, Same, Capacity, Transient, Conflict, Spread}
+use Rattle.ra_base.specs.declared.causes.Cause.TheVariants.{Dependency, Rise, Closed}
 use Rattle.ra_moves.specs.declared.steps.MoveKind.{MoveKind}
 use Rattle.ra_moves.specs.declared.steps.MoveKind.TheVariants.{Shift, Swap, Chain}
 use Rattle.ra_moves.specs.declared.steps.Step.{Step}
@@ -39,35 +41,44 @@ unfolding is_digit
 arrow x = record { no_digit = refl }
 
 -- a space, a number and what follows
-spaced_then : (a b : ℕ) (x y : List ℕ) → Ends x → Ends y → 32 ∷ (number_text a ++ x) ≡ 32 ∷ (number_text b ++ y) → (a ≡ b) × (x ≡ y)
+spaced_then : (a b : ℕ) (x y : List ℕ) → Ends x → Ends y → 32 ∷ (number_text a ++ x) ≡ 32 ∷ (number_text b ++ y) →
+    (a ≡ b) × (x ≡ y)
 spaced_then a b x y ends stops e = number_then a b x y ends stops (byte_then 32 _ _ e)
 
 -- a number and a space before what follows
 number_spaced : (a b : ℕ) (x y : List ℕ) → number_text a ++ 32 ∷ x ≡ number_text b ++ 32 ∷ y → (a ≡ b) × (x ≡ y)
 number_spaced a b x y e = let p = number_then a b (32 ∷ x) (32 ∷ y) (blank x) (blank y) e in (p.0, byte_then 32 x y p.1)
 
-more_parts : (text : List ℕ) (n : ℕ) (x : List ℕ) → (text ++ space ++ number_text n) ++ x ≡ text ++ (32 ∷ (number_text n ++ x))
+more_parts : (text : List ℕ) (n : ℕ) (x : List ℕ) → (text ++ space ++ number_text n) ++ x ≡
+    text ++ (32 ∷ (number_text n ++ x))
 more_parts text n x = append_assoc (text ++ space) (number_text n) x ∙ append_assoc text space (number_text n ++ x)
 
-one_then : (word : List ℕ) (a b : ℕ) (x y : List ℕ) → Ends x → Ends y → with_one word a ++ x ≡ with_one word b ++ y → (a ≡ b) × (x ≡ y)
+one_then : (word : List ℕ) (a b : ℕ) (x y : List ℕ) → Ends x → Ends y → with_one word a ++ x ≡ with_one word b ++ y →
+    (a ≡ b) × (x ≡ y)
 one_then word a b x y ends stops e =
     spaced_then a b x y ends stops (behind word _ _ (sym (more_parts word a x) ∙ (e ∙ more_parts word b y)))
 
-two_then : (word : List ℕ) (a b c d : ℕ) (x y : List ℕ) → Ends x → Ends y → with_two word a c ++ x ≡ with_two word b d ++ y → (a ≡ b) × (c ≡ d) × (x ≡ y)
+two_then : (word : List ℕ) (a b c d : ℕ) (x y : List ℕ) → Ends x → Ends y →
+    with_two word a c ++ x ≡ with_two word b d ++ y → (a ≡ b) × (c ≡ d) × (x ≡ y)
 two_then word a b c d x y ends stops e =
-    let p = one_then word a b (32 ∷ (number_text c ++ x)) (32 ∷ (number_text d ++ y)) (blank _) (blank _) (sym (more_parts (with_one word a) c x) ∙ (e ∙ more_parts (with_one word b) d y)) in
+    let p = one_then word a b (32 ∷ (number_text c ++ x)) (32 ∷ (number_text d ++ y)) (blank _) (blank _)
+    (sym (more_parts (with_one word a) c x) ∙ (e ∙ more_parts (with_one word b) d y)) in
     let q = spaced_then c d x y ends stops p.1 in
     (p.0, q.0, q.1)
 
-three_then : (word : List ℕ) (a b c d f g : ℕ) (x y : List ℕ) → Ends x → Ends y → with_three word a c f ++ x ≡ with_three word b d g ++ y → (a ≡ b) × (c ≡ d) × (f ≡ g) × (x ≡ y)
+three_then : (word : List ℕ) (a b c d f g : ℕ) (x y : List ℕ) → Ends x → Ends y →
+    with_three word a c f ++ x ≡ with_three word b d g ++ y → (a ≡ b) × (c ≡ d) × (f ≡ g) × (x ≡ y)
 three_then word a b c d f g x y ends stops e =
-    let p = two_then word a b c d (32 ∷ (number_text f ++ x)) (32 ∷ (number_text g ++ y)) (blank _) (blank _) (sym (more_parts (with_two word a c) f x) ∙ (e ∙ more_parts (with_two word b d) g y)) in
+    let p = two_then word a b c d (32 ∷ (number_text f ++ x)) (32 ∷ (number_text g ++ y)) (blank _) (blank _)
+    (sym (more_parts (with_two word a c) f x) ∙ (e ∙ more_parts (with_two word b d) g y)) in
     let q = spaced_then f g x y ends stops p.2 in
     (p.0, p.1, q.0, q.1)
 
-four_then : (word : List ℕ) (a b c d f g k l : ℕ) (x y : List ℕ) → Ends x → Ends y → with_four word a c f k ++ x ≡ with_four word b d g l ++ y → (a ≡ b) × (c ≡ d) × (f ≡ g) × (k ≡ l) × (x ≡ y)
+four_then : (word : List ℕ) (a b c d f g k l : ℕ) (x y : List ℕ) → Ends x → Ends y →
+    with_four word a c f k ++ x ≡ with_four word b d g l ++ y → (a ≡ b) × (c ≡ d) × (f ≡ g) × (k ≡ l) × (x ≡ y)
 four_then word a b c d f g k l x y ends stops e =
-    let p = three_then word a b c d f g (32 ∷ (number_text k ++ x)) (32 ∷ (number_text l ++ y)) (blank _) (blank _) (sym (more_parts (with_three word a c f) k x) ∙ (e ∙ more_parts (with_three word b d g) l y)) in
+    let p = three_then word a b c d f g (32 ∷ (number_text k ++ x)) (32 ∷ (number_text l ++ y)) (blank _) (blank _)
+    (sym (more_parts (with_three word a c f) k x) ∙ (e ∙ more_parts (with_three word b d g) l y)) in
     let q = spaced_then k l x y ends stops p.3 in
     (p.0, p.1, p.2, q.0, q.1)
 
@@ -86,7 +97,8 @@ same_two f a b c d g h = cc
 same_three : {X : Type 0} (f : ℕ → ℕ → ℕ → X) (a b c d k l : ℕ) → a ≡ b → c ≡ d → k ≡ l → f a c k ≡ f b d l
 same_three f a b c d k l g h i = cc
 
-same_four : {X : Type 0} (f : ℕ → ℕ → ℕ → ℕ → X) (a b c d k l m n : ℕ) → a ≡ b → c ≡ d → k ≡ l → m ≡ n → f a c k m ≡ f b d l n
+same_four : {X : Type 0} (f : ℕ → ℕ → ℕ → ℕ → X) (a b c d k l m n : ℕ) → a ≡ b → c ≡ d → k ≡ l → m ≡ n →
+    f a c k m ≡ f b d l n
 same_four f a b c d k l m n g h i j = cc
 
 -- causes of their numbers
@@ -148,10 +160,14 @@ cause_then (Closed p m) (Closed q n) x y ends stops e =
     record { same = same_two closed_cause _ _ _ _ u.0 u.1; rest = u.2 }
 cause_then c d x y ends stops e = absurd (omega (arith, ap two_bytes e))
 
-verdict_then : (v w : Verdict) (x y : List ℕ) → Ends x → Ends y → verdict_text v ++ x ≡ verdict_text w ++ y → Both v w x y
+verdict_then : (v w : Verdict) (x y : List ℕ) → Ends x → Ends y → verdict_text v ++ x ≡ verdict_text w ++ y →
+    Both v w x y
 unfolding verdict_text
-verdict_then (Done a) (Done b) x y ends stops e = let s = one_then (codes "done") a b x y ends stops e in record { same = ap Done s.0; rest = s.1 }
-verdict_then (Refused c) (Refused d) x y ends stops e = let s = cause_then c d x y ends stops (behind (codes "refused ") _ _ e) in record { same = ap Refused s.same; rest = s.rest }
+verdict_then (Done a) (Done b) x y ends stops e =
+    let s = one_then (codes "done") a b x y ends stops e in record { same = ap Done s.0; rest = s.1 }
+verdict_then (Refused c) (Refused d) x y ends stops e =
+    let s = cause_then c d x y ends stops (behind (codes "refused ") _ _ e) in
+    record { same = ap Refused s.same; rest = s.rest }
 verdict_then v w x y ends stops e = absurd (omega (arith, ap two_bytes e))
 
 verdict_ends : (v : Verdict) (x : List ℕ) → Ends (verdict_text v ++ x)
@@ -166,7 +182,8 @@ kind_then Swap Swap x y e = record { same = refl; rest = behind (codes "swap") x
 kind_then Chain Chain x y e = record { same = refl; rest = behind (codes "chain") x y e }
 kind_then k l x y e = absurd (omega (arith, ap two_bytes e))
 
-step_parts : (s : Step) (x : List ℕ) → step_text s ++ x ≡ number_text s.process.0 ++ 58 ∷ (number_text s.from.0 ++ 62 ∷ (number_text s.to.0 ++ x))
+step_parts : (s : Step) (x : List ℕ) →
+    step_text s ++ x ≡ number_text s.process.0 ++ 58 ∷ (number_text s.from.0 ++ 62 ∷ (number_text s.to.0 ++ x))
 unfolding step_text
 step_parts s x = simp append_assoc
 
@@ -183,9 +200,11 @@ step_then s t x y ends stops e =
     let r = number_then s.to.0 t.to.0 x y ends stops (byte_then 62 _ _ q.1) in
     record { same = step_same _ _ _ _ _ _ p.0 q.0 r.0; rest = r.1 }
 
-steps_parts : (s : Step) (ss : List Step) (x : List ℕ) → steps_text (s ∷ ss) ++ x ≡ step_text s ++ 32 ∷ (steps_text ss ++ x)
+steps_parts : (s : Step) (ss : List Step) (x : List ℕ) →
+    steps_text (s ∷ ss) ++ x ≡ step_text s ++ 32 ∷ (steps_text ss ++ x)
 unfolding steps_text
-steps_parts s ss x = append_assoc (step_text s ++ space) (steps_text ss) x ∙ append_assoc (step_text s) space (steps_text ss ++ x)
+steps_parts s ss x =
+    append_assoc (step_text s ++ space) (steps_text ss) x ∙ append_assoc (step_text s) space (steps_text ss ++ x)
 
 steps_start : (s : Step) (ss : List Step) (x : List ℕ) → Starts (steps_text (s ∷ ss) ++ x)
 steps_start s ss x = rw (steps_parts s ss x, step_parts s (32 ∷ (steps_text ss ++ x))) (number_starts s.process.0 _)
@@ -199,17 +218,30 @@ steps_then [] [] x y ends stops e = record { same = refl; rest = e }
 steps_then [] (t ∷ ts) x y ends stops e = absurd (apart x _ ends (steps_start t ts y) e)
 steps_then (s ∷ ss) [] x y ends stops e = absurd (apart y _ stops (steps_start s ss x) (sym e))
 steps_then (s ∷ ss) (t ∷ ts) x y ends stops e =
-    let p = step_then s t (32 ∷ (steps_text ss ++ x)) (32 ∷ (steps_text ts ++ y)) (blank _) (blank _) (sym (steps_parts s ss x) ∙ (e ∙ steps_parts t ts y)) in
+    let p = step_then s t (32 ∷ (steps_text ss ++ x)) (32 ∷ (steps_text ts ++ y)) (blank _) (blank _)
+    (sym (steps_parts s ss x) ∙ (e ∙ steps_parts t ts y)) in
     let q = steps_then ss ts x y ends stops (byte_then 32 _ _ p.rest) in
     record { same = let a = p.same in let b = q.same in (cc); rest = q.rest }
 
 abbrev entry_of : ℕ → ℕ → ℕ → MoveKind → List Step → Verdict → Entry
-entry_of w k q kind steps v = record { worker = w; k = k; q = q; mv = record { kind = kind; steps = steps }; verdict = v }
+entry_of w k q kind steps v = record {
+  worker = w;
+  k = k;
+  q = q;
+  mv = record { kind = kind; steps = steps };
+  verdict = v;
+}
 
-entry_same : (w x k l q r : ℕ) (a b : MoveKind) (s t : List Step) (u v : Verdict) → w ≡ x → k ≡ l → q ≡ r → a ≡ b → s ≡ t → u ≡ v → entry_of w k q a s u ≡ entry_of x l r b t v
+entry_same : (w x k l q r : ℕ) (a b : MoveKind) (s t : List Step) (u v : Verdict) → w ≡ x → k ≡ l → q ≡ r → a ≡ b →
+    s ≡ t → u ≡ v → entry_of w k q a s u ≡ entry_of x l r b t v
 entry_same w x k l q r a b s t u v c d e f g h = cc
 
-pub entry_parts : (j : ℕ) (e : Entry) (x : List ℕ) → entry_line j e ++ x ≡ number_text j ++ 32 ∷ (number_text e.worker ++ 32 ∷ (number_text e.k ++ 32 ∷ (number_text e.q ++ 32 ∷ (kind_text e.mv.kind ++ 32 ∷ (steps_text e.mv.steps ++ (verdict_text e.verdict ++ 10 ∷ x))))))
+pub entry_parts : (j : ℕ) (e : Entry) (x : List ℕ) →
+    entry_line j e ++ x ≡ number_text j ++ 32 ∷
+    (number_text e.worker ++ 32 ∷
+    (number_text e.k ++ 32 ∷
+    (number_text e.q ++ 32 ∷
+    (kind_text e.mv.kind ++ 32 ∷ (steps_text e.mv.steps ++ (verdict_text e.verdict ++ 10 ∷ x))))))
 unfolding entry_line entry_front
 entry_parts j e x = simp append_assoc
 
@@ -220,9 +252,13 @@ entry_then j e f x y same =
     let k = number_spaced e.k f.k _ _ worker.1 in
     let q = number_spaced e.q f.q _ _ k.1 in
     let kind = kind_then e.mv.kind f.mv.kind _ _ q.1 in
-    let steps = steps_then e.mv.steps f.mv.steps _ _ (verdict_ends e.verdict _) (verdict_ends f.verdict _) (byte_then 32 _ _ kind.rest) in
+    let steps = steps_then e.mv.steps f.mv.steps _ _ (verdict_ends e.verdict _) (verdict_ends f.verdict _)
+    (byte_then 32 _ _ kind.rest) in
     let verdict = verdict_then e.verdict f.verdict (10 ∷ x) (10 ∷ y) (lf x) (lf y) steps.rest in
-    record { same = entry_same _ _ _ _ _ _ _ _ _ _ _ _ worker.0 k.0 q.0 kind.same steps.same verdict.same; rest = byte_then 10 x y verdict.rest }
+    record {
+      same = entry_same _ _ _ _ _ _ _ _ _ _ _ _ worker.0 k.0 q.0 kind.same steps.same verdict.same;
+      rest = byte_then 10 x y verdict.rest;
+    }
 
 starts_some : (y : List ℕ) → Starts y → 0 < length y
 unfolding is_digit

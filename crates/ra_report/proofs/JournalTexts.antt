@@ -1,5 +1,6 @@
 -- The lines of a journal tell it, and a report tells the lines of its journal.
-use Rattle.std.proofs.Common.{◌≡◌, ℕ, zero, suc, ◌+◌, ◌<◌, ⊎_elim, List, [], ◌++◌, length, Option, refl, sym, ◌∙◌, ap, arith, append_assoc, length-append, subst, add-one, eq-or-lt_of_le, le_of_suc-le-suc}
+use Rattle.std.proofs.Common.{◌≡◌, ℕ, zero, suc, ◌+◌, ◌<◌, ⊎_elim, List, [], ◌++◌, length, Option, refl, sym, ◌∙◌, ap}
+use Rattle.std.proofs.Common.{arith, append_assoc, length-append, subst, add-one, eq-or-lt_of_le, le_of_suc-le-suc}
 use Rattle.std.proofs.lemmas.List.{append-nil, ext_get_or}
 use Rattle.ra_journal.specs.declared.entries.Entry.{Entry}
 use Rattle.ra_journal.specs.Entries.{entry_at}
@@ -18,18 +19,24 @@ pub record AllSame (h k : List Entry) (n : ℕ) (x y : List ℕ) : Type 0 where
   pub same : SameBelow h k n
   pub rest : x ≡ y
 
-one_line_more : (h : List Entry) (n : ℕ) (x : List ℕ) → entries_text h (suc n) ++ x ≡ entries_text h n ++ (entry_line n (entry_at h n) ++ x)
+one_line_more : (h : List Entry) (n : ℕ) (x : List ℕ) →
+    entries_text h (suc n) ++ x ≡ entries_text h n ++ (entry_line n (entry_at h n) ++ x)
 unfolding entries_text
 one_line_more h n x = append_assoc (entries_text h n) (entry_line n (entry_at h n)) x
 
 below_next : (h k : List Entry) (n : ℕ) → SameBelow h k n → entry_at h n ≡ entry_at k n → SameBelow h k (suc n)
-below_next h k n below here = record { each = λ j within. ⊎_elim (λ (last : j ≡ n). rw last here) (λ (less : j < n). below.each j less) (eq-or-lt_of_le (le_of_suc-le-suc within)) }
+below_next h k n below here = record {
+  each = λ j within. ⊎_elim (λ (last : j ≡ n). rw last here) (λ (less : j < n). below.each j less)
+      (eq-or-lt_of_le (le_of_suc-le-suc within));
+}
 
-lines_then : (h k : List Entry) (n : ℕ) (x y : List ℕ) → entries_text h n ++ x ≡ entries_text k n ++ y → AllSame h k n x y
+lines_then : (h k : List Entry) (n : ℕ) (x y : List ℕ) → entries_text h n ++ x ≡ entries_text k n ++ y →
+    AllSame h k n x y
 unfolding entries_text
 lines_then h k zero x y e = record { same = record { each = λ j within. absurd (omega arith) }; rest = e }
 lines_then h k (suc n) x y e =
-    let before = lines_then h k n (entry_line n (entry_at h n) ++ x) (entry_line n (entry_at k n) ++ y) (sym (one_line_more h n x) ∙ (e ∙ one_line_more k n y)) in
+    let before = lines_then h k n (entry_line n (entry_at h n) ++ x) (entry_line n (entry_at k n) ++ y)
+    (sym (one_line_more h n x) ∙ (e ∙ one_line_more k n y)) in
     let here = entry_then n (entry_at h n) (entry_at k n) x y before.rest in
     record { same = below_next h k n before.same here.same; rest = here.rest }
 
@@ -57,7 +64,8 @@ longer_by_more h n m l = record {
 
 longer : (h : List Entry) (n m : ℕ) → n < m → Longer h n m
 longer h n zero less = absurd (omega arith)
-longer h n (suc m) less = ⊎_elim (longer_by_one h n m) (λ (within : n < m). longer_by_more h n m (longer h n m within)) (eq-or-lt_of_le (le_of_suc-le-suc less))
+longer h n (suc m) less = ⊎_elim (longer_by_one h n m) (λ (within : n < m). longer_by_more h n m (longer h n m within))
+    (eq-or-lt_of_le (le_of_suc-le-suc less))
 
 -- no journal has the lines of a longer one
 not_longer : (h k : List Entry) (n m : ℕ) → n < m → entries_text h n ≡ entries_text k m → ⊥
@@ -81,14 +89,18 @@ all_same h k n below one two = ext_get_or _ h k (one ∙ sym two) (λ j within. 
 pub same_lines_same_journal : (h k : List Entry) → entries_text h (length h) ≡ entries_text k (length k) → h ≡ k
 same_lines_same_journal h k e =
     let long : length h ≡ length k = same_long h k (length h) (length k) e in
-    let all = lines_then h k (length h) [] [] (append-nil _ ∙ (e ∙ (ap (entries_text k) (sym long) ∙ sym (append-nil _)))) in
+    let all = lines_then h k (length h) [] []
+    (append-nil _ ∙ (e ∙ (ap (entries_text k) (sym long) ∙ sym (append-nil _)))) in
     all_same h k (length h) all.same refl (sym long)
 
 pub one_journal_of_bytes : (bytes : List ℕ) (h k : List Entry) → IsJournalOf bytes h → IsJournalOf bytes k → h ≡ k
 one_journal_of_bytes bytes h k one two = same_lines_same_journal h k (let e = sym one ∙ two in (cc))
 
 -- one more line
-pub adds_line : {O : Type 0} (taken : O → Option (List ℕ)) (faults : O → ℕ) (h : List Entry) (n : ℕ) (a b c : Gathered O)
-    → Adds taken faults a b (entries_text h n) → Adds taken faults b c (entry_line n (entry_at h n)) → Adds taken faults a c (entries_text h (n + 1))
+pub adds_line : {O : Type 0} (taken : O → Option (List ℕ)) (faults : O → ℕ) (h : List Entry) (n : ℕ)
+    (a b c : Gathered O)
+    → Adds taken faults a b (entries_text h n) → Adds taken faults b c (entry_line n (entry_at h n)) →
+    Adds taken faults a c (entries_text h (n + 1))
 unfolding entries_text
-adds_line taken faults h n a b c first next = rw add-one (adds_more taken faults a b c (entries_text h n) (entry_line n (entry_at h n)) first next)
+adds_line taken faults h n a b c first next =
+    rw add-one (adds_more taken faults a b c (entries_text h n) (entry_line n (entry_at h n)) first next)

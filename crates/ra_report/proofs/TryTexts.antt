@@ -12,22 +12,33 @@ use Rattle.ra_report.specs.RepairTexts.{state_line, try_line, tries_text, repair
 use Rattle.ra_report_text.proofs.GatheringLemmas.{adds_more}
 
 -- one more line
-pub adds_try : {O : Type 0} (taken : O → Option (List ℕ)) (faults : O → ℕ) (tries : List Try) (n : ℕ) (a b c : Gathered O)
-    → Adds taken faults a b (tries_text tries n) → Adds taken faults b c (try_line (try_in tries n)) → Adds taken faults a c (tries_text tries (n + 1))
+pub adds_try : {O : Type 0} (taken : O → Option (List ℕ)) (faults : O → ℕ) (tries : List Try) (n : ℕ)
+    (a b c : Gathered O)
+    → Adds taken faults a b (tries_text tries n) → Adds taken faults b c (try_line (try_in tries n)) →
+    Adds taken faults a c (tries_text tries (n + 1))
 unfolding tries_text
-adds_try taken faults tries n a b c first next = rw add-one (adds_more taken faults a b c (tries_text tries n) (try_line (try_in tries n)) first next)
+adds_try taken faults tries n a b c first next =
+    rw add-one (adds_more taken faults a b c (tries_text tries n) (try_line (try_in tries n)) first next)
 
 -- the lines with the first broken constraint are the output
-pub repair_told : (r : Repair) (broken : Option Cause) → broken ≡ first_broken r.inst.now.tables r.start.now.items r.kept.assignment.items → text_of_repair r ≡ repair_lines broken r.kept.assignment.items r.tries.items
+pub repair_told : (r : Repair) (broken : Option Cause) →
+    broken ≡ first_broken r.inst.now.tables r.start.now.items r.kept.assignment.items →
+    text_of_repair r ≡ repair_lines broken r.kept.assignment.items r.tries.items
 unfolding text_of_repair
 repair_told r broken is = rw is refl
 
 -- the line of the state, that of the list and those of the tries are the output
-pub adds_repair : {O : Type 0} (taken : O → Option (List ℕ)) (faults : O → ℕ) (r : Repair) (broken : Option Cause) (a b c d : Gathered O)
-    → broken ≡ first_broken r.inst.now.tables r.start.now.items r.kept.assignment.items → Adds taken faults a b (state_line broken)
-    → Adds taken faults b c (assignment_line r.kept.assignment.items) → Adds taken faults c d (tries_text r.tries.items (length r.tries.items)) → Adds taken faults a d (text_of_repair r)
+pub adds_repair : {O : Type 0} (taken : O → Option (List ℕ)) (faults : O → ℕ) (r : Repair) (broken : Option Cause)
+    (a b c d : Gathered O)
+    → broken ≡ first_broken r.inst.now.tables r.start.now.items r.kept.assignment.items →
+    Adds taken faults a b (state_line broken)
+    → Adds taken faults b c (assignment_line r.kept.assignment.items) →
+    Adds taken faults c d (tries_text r.tries.items (length r.tries.items)) →
+    Adds taken faults a d (text_of_repair r)
 unfolding repair_lines
 adds_repair taken faults r broken a b c d is state listed tries =
     let last = assignment_line r.kept.assignment.items in
     let lines = tries_text r.tries.items (length r.tries.items) in
-    rw (repair_told r broken is) (adds_more taken faults a b d (state_line broken) (last ++ lines) state (adds_more taken faults b c d last lines listed tries))
+    rw (repair_told r broken is)
+    (adds_more taken faults a b d (state_line broken) (last ++ lines) state
+    (adds_more taken faults b c d last lines listed tries))

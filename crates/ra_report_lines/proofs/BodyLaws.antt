@@ -1,5 +1,6 @@
 -- Bytes without LF, and the LF behind them.
-use Rattle.std.proofs.Common.{◌≡◌, ℕ, suc, ◌+◌, ◌<◌, ◌≤◌, Bool, true, false, cond, eqb, List, [], ◌∷◌, ◌++◌, length, take, drop, get_or, refl, sym, ◌∙◌, ap, arith, length-append}
+use Rattle.std.proofs.Common.{◌≡◌, ℕ, suc, ◌+◌, ◌<◌, ◌≤◌, Bool, true, false, cond, eqb, List, [], ◌∷◌, ◌++◌, length}
+use Rattle.std.proofs.Common.{take, drop, get_or, refl, sym, ◌∙◌, ap, arith, length-append}
 use Rattle.std.proofs.lemmas.List.{append-nil, take_more, take-append-drop}
 use Rattle.std.proofs.Math.Seq.{drop-cons}
 use Rattle.ra_report_lines.specs.Lines.{ends_line, body_of, HasNoEnd, end_count}
@@ -9,7 +10,8 @@ pub record NoEndFirst (byte : ℕ) (bytes : List ℕ) : Type 0 where
   pub first : eqb byte 10 ≡ false
   pub rest : HasNoEnd bytes
 
-first_test : (is : Bool) (byte : ℕ) (bytes : List ℕ) → eqb byte 10 ≡ is → cond is [] (byte ∷ body_of bytes) ≡ byte ∷ bytes → NoEndFirst byte bytes
+first_test : (is : Bool) (byte : ℕ) (bytes : List ℕ) → eqb byte 10 ≡ is → cond is [] (byte ∷ body_of bytes) ≡
+    byte ∷ bytes → NoEndFirst byte bytes
 first_test true byte bytes test e = absurd (let none : 0 ≡ suc (length bytes) = ap length e in omega arith)
 first_test false byte bytes test e = record { first = test; rest = ap (drop 1) e }
 
@@ -71,16 +73,22 @@ no_end_ends (a ∷ []) none = (no_end_first a [] none).first
 no_end_ends (a ∷ b ∷ t) none = no_end_ends (b ∷ t) (no_end_first a (b ∷ t) none).rest
 
 -- the first i bytes have no LF, and the next is none either, or is one
-pub no_end_next : (bytes : List ℕ) (i byte : ℕ) → i < length bytes → byte ≡ get_or bytes i 0 → eqb byte 10 ≡ false → HasNoEnd (take i bytes) → HasNoEnd (take (i + 1) bytes)
+pub no_end_next : (bytes : List ℕ) (i byte : ℕ) → i < length bytes → byte ≡ get_or bytes i 0 → eqb byte 10 ≡ false →
+    HasNoEnd (take i bytes) → HasNoEnd (take (i + 1) bytes)
 no_end_next bytes i byte within read test none =
-    rw (take_more bytes i 0 within) (no_end_more (take i bytes) (get_or bytes i 0) none (ap (λ (b : ℕ). eqb b 10) (sym read) ∙ test))
+    rw (take_more bytes i 0 within)
+    (no_end_more (take i bytes) (get_or bytes i 0) none (ap (λ (b : ℕ). eqb b 10) (sym read) ∙ test))
 
-cut_at : (bytes : List ℕ) (i : ℕ) → i < length bytes → get_or bytes i 0 ≡ 10 → bytes ≡ take i bytes ++ 10 ∷ drop (suc i) bytes
+cut_at : (bytes : List ℕ) (i : ℕ) → i < length bytes → get_or bytes i 0 ≡ 10 →
+    bytes ≡ take i bytes ++ 10 ∷ drop (suc i) bytes
 cut_at bytes i within is =
-    sym (take-append-drop i bytes) ∙ ap (λ xs. take i bytes ++ xs) (drop-cons bytes i 0 within ∙ ap (λ (b : ℕ). b ∷ drop (suc i) bytes) is)
+    sym (take-append-drop i bytes)
+    ∙ ap (λ xs. take i bytes ++ xs) (drop-cons bytes i 0 within ∙ ap (λ (b : ℕ). b ∷ drop (suc i) bytes) is)
 
-pub body_found : (bytes : List ℕ) (i : ℕ) → i < length bytes → get_or bytes i 0 ≡ 10 → HasNoEnd (take i bytes) → take i bytes ≡ body_of bytes
-body_found bytes i within is none = sym (ap body_of (cut_at bytes i within is) ∙ body_before (take i bytes) (drop (suc i) bytes) none)
+pub body_found : (bytes : List ℕ) (i : ℕ) → i < length bytes → get_or bytes i 0 ≡ 10 → HasNoEnd (take i bytes) →
+    take i bytes ≡ body_of bytes
+body_found bytes i within is none =
+    sym (ap body_of (cut_at bytes i within is) ∙ body_before (take i bytes) (drop (suc i) bytes) none)
 
 -- one more byte, and how many LF there are
 pub count_none : end_count [] ≡ 0
@@ -94,20 +102,26 @@ count_cons false c n m e = e
 pub count_more : (t : List ℕ) (b : ℕ) → end_count (t ++ b ∷ []) ≡ end_count t + cond (eqb b 10) 1 0
 unfolding end_count
 count_more [] b = omega arith
-count_more (a ∷ t) b = count_cons (eqb a 10) (cond (eqb b 10) 1 0) (end_count (t ++ b ∷ [])) (end_count t) (count_more t b)
+count_more (a ∷ t) b =
+    count_cons (eqb a 10) (cond (eqb b 10) 1 0) (end_count (t ++ b ∷ [])) (end_count t) (count_more t b)
 
-one_more : (bytes : List ℕ) (i byte : ℕ) (is : Bool) → i < length bytes → byte ≡ get_or bytes i 0 → eqb byte 10 ≡ is → end_count (take (i + 1) bytes) ≡ end_count (take i bytes) + cond is 1 0
+one_more : (bytes : List ℕ) (i byte : ℕ) (is : Bool) → i < length bytes → byte ≡ get_or bytes i 0 → eqb byte 10 ≡ is →
+    end_count (take (i + 1) bytes) ≡ end_count (take i bytes) + cond is 1 0
 one_more bytes i byte is within read test =
     ap end_count (take_more bytes i 0 within)
     ∙ count_more (take i bytes) (get_or bytes i 0)
     ∙ ap (λ (t : Bool). end_count (take i bytes) + cond t 1 0) (ap (λ (b : ℕ). eqb b 10) (sym read) ∙ test)
 
-pub count_next : (bytes : List ℕ) (i byte n : ℕ) → i < length bytes → byte ≡ get_or bytes i 0 → eqb byte 10 ≡ false → n ≡ end_count (take i bytes) → n ≡ end_count (take (i + 1) bytes)
+pub count_next : (bytes : List ℕ) (i byte n : ℕ) → i < length bytes → byte ≡ get_or bytes i 0 → eqb byte 10 ≡ false →
+    n ≡ end_count (take i bytes) → n ≡ end_count (take (i + 1) bytes)
 count_next bytes i byte n within read test before =
-    let more : end_count (take (i + 1) bytes) ≡ end_count (take i bytes) + 0 = one_more bytes i byte false within read test in
+    let more : end_count (take (i + 1) bytes) ≡ end_count (take i bytes) + 0 =
+    one_more bytes i byte false within read test in
     omega arith
 
-pub count_end : (bytes : List ℕ) (i byte n : ℕ) → i < length bytes → byte ≡ get_or bytes i 0 → eqb byte 10 ≡ true → n ≡ end_count (take i bytes) → n + 1 ≡ end_count (take (i + 1) bytes)
+pub count_end : (bytes : List ℕ) (i byte n : ℕ) → i < length bytes → byte ≡ get_or bytes i 0 → eqb byte 10 ≡ true →
+    n ≡ end_count (take i bytes) → n + 1 ≡ end_count (take (i + 1) bytes)
 count_end bytes i byte n within read test before =
-    let more : end_count (take (i + 1) bytes) ≡ end_count (take i bytes) + 1 = one_more bytes i byte true within read test in
+    let more : end_count (take (i + 1) bytes) ≡ end_count (take i bytes) + 1 =
+    one_more bytes i byte true within read test in
     omega arith

@@ -1,16 +1,21 @@
 -- The first line of bytes, and the lines behind it.
-use Rattle.std.proofs.Common.{◌≡◌, ℕ, ◌<◌, Bool, true, false, cond, eqb, List, [], ◌∷◌, ◌++◌, length, refl, sym, ◌∙◌, ap, arith}
+use Rattle.std.proofs.Common.{◌≡◌, ℕ, ◌<◌, Bool, true, false, cond, eqb, List, [], ◌∷◌, ◌++◌, length, refl, sym, ◌∙◌}
+use Rattle.std.proofs.Common.{ap, arith}
 use Rattle.ra_report_lines.specs.Lines.{onto_first, lines_of, joined_lines, ends_line, HasNoEnd}
 use Rattle.ra_report_lines.proofs.BodyLaws.{no_end_first}
 
 -- a byte that is no LF stands in the first line of what follows
-pub lines_onto : (byte : ℕ) (bytes : List ℕ) → eqb byte 10 ≡ false → lines_of (byte ∷ bytes) ≡ onto_first byte (lines_of bytes)
+pub lines_onto : (byte : ℕ) (bytes : List ℕ) → eqb byte 10 ≡ false →
+    lines_of (byte ∷ bytes) ≡ onto_first byte (lines_of bytes)
 unfolding lines_of
-lines_onto byte bytes test = ap (λ (is : Bool). cond is ((byte ∷ []) ∷ lines_of bytes) (onto_first byte (lines_of bytes))) test
+lines_onto byte bytes test =
+    ap (λ (is : Bool). cond is ((byte ∷ []) ∷ lines_of bytes) (onto_first byte (lines_of bytes))) test
 
-pub lines_end : (byte : ℕ) (bytes : List ℕ) → eqb byte 10 ≡ true → lines_of (byte ∷ bytes) ≡ (byte ∷ []) ∷ lines_of bytes
+pub lines_end : (byte : ℕ) (bytes : List ℕ) → eqb byte 10 ≡ true →
+    lines_of (byte ∷ bytes) ≡ (byte ∷ []) ∷ lines_of bytes
 unfolding lines_of
-lines_end byte bytes test = ap (λ (is : Bool). cond is ((byte ∷ []) ∷ lines_of bytes) (onto_first byte (lines_of bytes))) test
+lines_end byte bytes test =
+    ap (λ (is : Bool). cond is ((byte ∷ []) ∷ lines_of bytes) (onto_first byte (lines_of bytes))) test
 
 -- bytes without LF, and an LF, are the first line
 pub line_first : (t rest : List ℕ) → HasNoEnd t → lines_of (t ++ 10 ∷ rest) ≡ (t ++ 10 ∷ []) ∷ lines_of rest
@@ -33,7 +38,8 @@ pub record FirstLineHas (t bytes : List ℕ) : Type 0 where
   pub others : List (List ℕ)
   pub lines : lines_of bytes ≡ (t ++ more) ∷ others
 
-onto_has : (b : ℕ) (bytes : List ℕ) (lines : List (List ℕ)) → lines_of (b ∷ bytes) ≡ onto_first b lines → FirstLineHas (b ∷ []) (b ∷ bytes)
+onto_has : (b : ℕ) (bytes : List ℕ) (lines : List (List ℕ)) → lines_of (b ∷ bytes) ≡ onto_first b lines →
+    FirstLineHas (b ∷ []) (b ∷ bytes)
 onto_has b bytes [] e = record { more = []; others = []; lines = e }
 onto_has b bytes (l ∷ ls) e = record { more = l; others = ls; lines = e }
 
@@ -42,7 +48,11 @@ line_begins b [] rest none = onto_has b rest (lines_of rest) (lines_onto b rest 
 line_begins b (c ∷ t) rest none =
     let p = no_end_first b (c ∷ t) none in
     let q = line_begins c t rest p.rest in
-    record { more = q.more; others = q.others; lines = lines_onto b ((c ∷ t) ++ rest) p.first ∙ ap (onto_first b) q.lines }
+    record {
+      more = q.more;
+      others = q.others;
+      lines = lines_onto b ((c ∷ t) ++ rest) p.first ∙ ap (onto_first b) q.lines;
+    }
 
 -- one after another the lines are the bytes
 join_onto : (b : ℕ) (ls : List (List ℕ)) → joined_lines (onto_first b ls) ≡ b ∷ joined_lines ls
@@ -55,7 +65,8 @@ unfolding joined_lines lines_of
 joined_back [] = refl
 joined_back (b ∷ bytes) = either (eqb b 10) (lines_of bytes) (joined_back bytes)
   where
-    either : (is : Bool) (ls : List (List ℕ)) → joined_lines ls ≡ bytes → joined_lines (cond is ((b ∷ []) ∷ ls) (onto_first b ls)) ≡ b ∷ bytes
+    either : (is : Bool) (ls : List (List ℕ)) → joined_lines ls ≡ bytes →
+        joined_lines (cond is ((b ∷ []) ∷ ls) (onto_first b ls)) ≡ b ∷ bytes
     either true ls e = ap (λ xs. b ∷ xs) e
     either false ls e = join_onto b ls ∙ ap (λ xs. b ∷ xs) e
 
@@ -76,14 +87,18 @@ some_lines b bytes = either (eqb b 10) (lines_of bytes)
 -- bytes have no line only if there are none
 pub lines_none : (bytes : List ℕ) → lines_of bytes ≡ [] → bytes ≡ []
 lines_none [] e = refl
-lines_none (b ∷ bytes) e = absurd (let some : 0 < length (lines_of (b ∷ bytes)) = some_lines b bytes in let none : length (lines_of (b ∷ bytes)) ≡ 0 = ap length e in omega arith)
+lines_none (b ∷ bytes) e =
+    absurd (let some : 0 < length (lines_of (b ∷ bytes)) = some_lines b bytes in
+    let none : length (lines_of (b ∷ bytes)) ≡ 0 = ap length e in omega arith)
 
 pub lines_append : (a b : List ℕ) → ends_line a ≡ true → lines_of (a ++ b) ≡ lines_of a ++ lines_of b
 unfolding lines_of ends_line
 lines_append [] b ended = absurd (let e : false ≡ true = ended in (cc))
 lines_append (x ∷ []) b ended = lines_end x b ended ∙ sym (ap (λ ls. ls ++ lines_of b) (lines_end x [] ended))
-lines_append (x ∷ y ∷ a) b ended = either (eqb x 10) (lines_of ((y ∷ a) ++ b)) (lines_of (y ∷ a)) (some_lines y a) (lines_append (y ∷ a) b ended)
+lines_append (x ∷ y ∷ a) b ended =
+    either (eqb x 10) (lines_of ((y ∷ a) ++ b)) (lines_of (y ∷ a)) (some_lines y a) (lines_append (y ∷ a) b ended)
   where
-    either : (is : Bool) (all ls : List (List ℕ)) → 0 < length ls → all ≡ ls ++ lines_of b → cond is ((x ∷ []) ∷ all) (onto_first x all) ≡ cond is ((x ∷ []) ∷ ls) (onto_first x ls) ++ lines_of b
+    either : (is : Bool) (all ls : List (List ℕ)) → 0 < length ls → all ≡ ls ++ lines_of b →
+        cond is ((x ∷ []) ∷ all) (onto_first x all) ≡ cond is ((x ∷ []) ∷ ls) (onto_first x ls) ++ lines_of b
     either true all ls some e = ap (λ more. (x ∷ []) ∷ more) e
     either false all ls some e = ap (onto_first x) e ∙ onto_some x ls (lines_of b) some

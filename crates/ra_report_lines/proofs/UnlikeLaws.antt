@@ -1,5 +1,6 @@
 -- The first line at which two texts differ that are the same up to a byte.
-use Rattle.std.proofs.Common.{◌≡◌, ◌≢◌, ℕ, zero, suc, ◌<◌, Bool, true, false, cond, eqb, List, [], ◌∷◌, ◌++◌, drop, slice_get, Option, Some, None, refl, sym, ◌∙◌, ap, arith}
+use Rattle.std.proofs.Common.{◌≡◌, ◌≢◌, ℕ, zero, suc, ◌<◌, Bool, true, false, cond, eqb, List, [], ◌∷◌, ◌++◌, drop}
+use Rattle.std.proofs.Common.{slice_get, Option, Some, None, refl, sym, ◌∙◌, ap, arith}
 use Rattle.std.proofs.lemmas.Option.{none-some}
 use Rattle.ra_report_lines.specs.Lines.{onto_first, lines_of, line_at, end_count, FirstUnlike}
 use Rattle.ra_report_lines.proofs.SplitLaws.{lines_onto, lines_end}
@@ -14,7 +15,8 @@ unfolding line_at lines_of
 line_start [] = refl
 line_start (b ∷ z) = either (eqb b 10) (lines_of z)
   where
-    either : (is : Bool) (ls : List (List ℕ)) → start_of (slice_get (cond is ((b ∷ []) ∷ ls) (onto_first b ls)) 0) ≡ Some b
+    either : (is : Bool) (ls : List (List ℕ)) → start_of (slice_get (cond is ((b ∷ []) ∷ ls) (onto_first b ls)) 0) ≡
+        Some b
     either true ls = refl
     either false [] = refl
     either false (l ∷ ls) = refl
@@ -53,14 +55,17 @@ abbrev value_of : Option (List ℕ) → List ℕ
 value_of None = []
 value_of (Some line) = line
 
-onto_same : (b n : ℕ) (o p : Option (List ℕ)) → (o ≡ Some [] → ⊥) → (p ≡ Some [] → ⊥) → onto_line b n o ≡ onto_line b n p → o ≡ p
+onto_same : (b n : ℕ) (o p : Option (List ℕ)) → (o ≡ Some [] → ⊥) → (p ≡ Some [] → ⊥) →
+    onto_line b n o ≡ onto_line b n p → o ≡ p
 onto_same b (suc n) o p some there e = e
 onto_same b zero None None some there e = refl
-onto_same b zero None (Some l) some there e = absurd (there (ap (λ xs. Some xs) (sym (ap (λ q. drop 1 (value_of q)) e))))
+onto_same b zero None (Some l) some there e =
+    absurd (there (ap (λ xs. Some xs) (sym (ap (λ q. drop 1 (value_of q)) e))))
 onto_same b zero (Some l) None some there e = absurd (some (ap (λ xs. Some xs) (ap (λ q. drop 1 (value_of q)) e)))
 onto_same b zero (Some l) (Some m) some there e = ap (λ xs. Some xs) (ap (λ q. drop 1 (value_of q)) e)
 
-same_onto : (b n : ℕ) (x y : List ℕ) → onto_line b n (line_at n x) ≡ onto_line b n (line_at n y) → line_at n x ≡ line_at n y
+same_onto : (b n : ℕ) (x y : List ℕ) → onto_line b n (line_at n x) ≡ onto_line b n (line_at n y) →
+    line_at n x ≡ line_at n y
 same_onto b zero x y e = onto_same b 0 (line_at 0 x) (line_at 0 y) (no_empty x) (no_empty y) e
 same_onto b (suc n) x y e = e
 
@@ -89,6 +94,7 @@ unlike_at [] x y other = record {
 }
 unlike_at (b ∷ p) x y other = either (eqb b 10) refl (unlike_at p x y other)
   where
-    either : (is : Bool) → eqb b 10 ≡ is → FirstUnlike (p ++ x) (p ++ y) (end_count p) → FirstUnlike (b ∷ (p ++ x)) (b ∷ (p ++ y)) (cond is (suc (end_count p)) (end_count p))
+    either : (is : Bool) → eqb b 10 ≡ is → FirstUnlike (p ++ x) (p ++ y) (end_count p) →
+        FirstUnlike (b ∷ (p ++ x)) (b ∷ (p ++ y)) (cond is (suc (end_count p)) (end_count p))
     either true test u = unlike_end b (p ++ x) (p ++ y) (end_count p) test u
     either false test u = unlike_onto b (p ++ x) (p ++ y) (end_count p) test u

@@ -1,5 +1,6 @@
 -- What a buffer of a file holds ready.
-use Rattle.std.specs.Prelude.{◌≡◌, ℕ, ◌+◌, ◌-◌, ◌<◌, ◌≤◌, Bool, true, false, List, [], ◌∷◌, ◌++◌, length, take, drop, Result, Ok, IfSome, IfOk, OnErr}
+use Rattle.std.specs.Prelude.{◌≡◌, ℕ, ◌+◌, ◌-◌, ◌<◌, ◌≤◌, Bool, true, false, List, [], ◌∷◌, ◌++◌, length, take, drop}
+use Rattle.std.specs.Prelude.{Result, Ok, IfSome, IfOk, OnErr}
 use Rattle.ra_base.specs.declared.lists.Fixed.{Fixed}
 use Rattle.ra_io.specs.Outside.{Reading, ReadFailed}
 use Rattle.ra_report_lines.specs.declared.buffer.Buffer.{Buffer}

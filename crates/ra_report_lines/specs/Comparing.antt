@@ -1,5 +1,6 @@
 -- Bytes that are compared with those that are expected.
-use Rattle.std.specs.Prelude.{◌≡◌, ℕ, ◌<◌, ◌⊎◌, Bool, ◌&&◌, nat_lt, nat_eq, List, [], ◌∷◌, ◌++◌, take, length, get_or, Option, Some, None}
+use Rattle.std.specs.Prelude.{◌≡◌, ℕ, ◌<◌, ◌⊎◌, Bool, ◌&&◌, nat_lt, nat_eq, List, [], ◌∷◌, ◌++◌, take, length, get_or}
+use Rattle.std.specs.Prelude.{Option, Some, None}
 
 -- the byte at a place
 abbrev pub is_byte_at : List ℕ → ℕ → ℕ → Bool

@@ -1,5 +1,6 @@
 -- A reader of lines, and what comes next of the bytes that it has not given.
-use Rattle.std.specs.Prelude.{◌≡◌, ℕ, ◌+◌, ◌-◌, ◌≤◌, true, false, List, [], ◌∷◌, ◌++◌, length, take, drop, Option, Result, Ok, IfSome, IfOk, OnErr}
+use Rattle.std.specs.Prelude.{◌≡◌, ℕ, ◌+◌, ◌-◌, ◌≤◌, true, false, List, [], ◌∷◌, ◌++◌, length, take, drop, Option}
+use Rattle.std.specs.Prelude.{Result, Ok, IfSome, IfOk, OnErr}
 use Rattle.ra_base.specs.declared.lists.Fixed.{Fixed}
 use Rattle.ra_io.specs.Outside.{Reading, ReadFailed}
 use Rattle.ra_report_lines.specs.declared.answers.Next.{Next}

@@ -1,5 +1,6 @@
 -- One text is written in front of another.
-use Rattle.std.proofs.Common.{◌≡◌, ℕ, ◌+◌, ◌-◌, ◌^◌, ◌<◌, ◌≤◌, List, [], ◌++◌, length, drop, refl, sym, ◌∙◌, ap, append_assoc, arith, length-append, length-drop}
+use Rattle.std.proofs.Common.{◌≡◌, ℕ, ◌+◌, ◌-◌, ◌^◌, ◌<◌, ◌≤◌, List, [], ◌++◌, length, drop, refl, sym, ◌∙◌, ap}
+use Rattle.std.proofs.Common.{append_assoc, arith, length-append, length-drop}
 use Rattle.std.proofs.lemmas.List.{append-nil}
 use Rattle.std.proofs.lemmas.Fmt.{length-decimal-le}
 use Rattle.std.specs.Fmt.{decimal}
@@ -11,7 +12,8 @@ pub in_front : {a b c s t : List ℕ} {m n : ℕ} → Prepends a b s m → Prepe
 in_front {a} {b} {c} {s} {t} {m} {n} first next =
     record {
       line = next.line ∙ (ap (λ (l : List ℕ). t ++ l) first.line ∙ sym (append_assoc t s a));
-      short = let h : length c ≤ n + length b = next.short in let k : length b ≤ m + length a = first.short in omega arith;
+      short = let h : length c ≤ n + length b = next.short in let k : length b ≤ m + length a = first.short in
+          omega arith;
     }
 
 -- the same within more room
@@ -29,10 +31,14 @@ alone {a} {b} {s} none before = before.line ∙ (ap (λ (l : List ℕ). s ++ l) 
 
 -- the text stands in front of what stood there
 pub before_is : {a b s : List ℕ} {m : ℕ} → b ≡ s ++ a → length s ≤ m → Prepends a b s m
-before_is {a} {b} {s} {m} is few = record { line = is; short = let h : length b ≡ length s + length a = ap length is ∙ length-append s a in omega arith }
+before_is {a} {b} {s} {m} is few = record {
+  line = is;
+  short = let h : length b ≡ length s + length a = ap length is ∙ length-append s a in omega arith;
+}
 
 -- there is room in front of what stands there
-pub room_before : (bytes line : List ℕ) (from more : ℕ) → length bytes ≡ 400 → from ≤ 400 → drop from bytes ≡ line → more + length line ≤ 400 → more ≤ from
+pub room_before : (bytes line : List ℕ) (from more : ℕ) → length bytes ≡ 400 → from ≤ 400 → drop from bytes ≡ line →
+    more + length line ≤ 400 → more ≤ from
 room_before bytes line from more all within is room =
     let long : length line ≡ length bytes - from = ap length (sym is) ∙ length-drop from bytes in omega arith
 
@@ -41,7 +47,9 @@ pub twenty_digits : (n : ℕ) → n < 2 ^ 64 → length (decimal n) ≤ 20
 twenty_digits n fits = length-decimal-le 20 n (omega arith) (omega arith) fits
 
 -- a number stands in front of what stood there
-pub number_before : (bytes : List ℕ) (from : ℕ) {line new : List ℕ} (n : ℕ) → n < 2 ^ 64 → drop from bytes ≡ line → new ≡ decimal n ++ drop from bytes → Prepends line new (number_text n) 20
+pub number_before : (bytes : List ℕ) (from : ℕ) {line new : List ℕ} (n : ℕ) → n < 2 ^ 64 → drop from bytes ≡ line →
+    new ≡ decimal n ++ drop from bytes → Prepends line new (number_text n) 20
 number_before bytes from {line} {new} n fits is written =
     let same : decimal n ≡ number_text n = decimal_number n (omega arith) in
-    before_is (written ∙ (ap (λ (l : List ℕ). decimal n ++ l) is ∙ ap (λ (l : List ℕ). l ++ line) same)) (rw (← same) (twenty_digits n fits))
+    before_is (written ∙ (ap (λ (l : List ℕ). decimal n ++ l) is ∙ ap (λ (l : List ℕ). l ++ line) same))
+    (rw (← same) (twenty_digits n fits))

@@ -1,5 +1,7 @@
 -- The decimal text of a number tells the number, whatever follows that begins with no digit.
-use Rattle.std.proofs.Common.{◌≡◌, ℕ, zero, suc, ◌+◌, ◌-◌, ◌*◌, ◌/◌, ◌%◌, ◌^◌, ◌<◌, ◌≤◌, Bool, true, false, cond, eqb, List, [], ◌∷◌, ◌++◌, get_or, refl, sym, ◌∙◌, ap, arith, lt-ltb, eqb-true, pow-add, mul_comm, div-lt_iff_lt-mul, lt_trans}
+use Rattle.std.proofs.Common.{◌≡◌, ℕ, zero, suc, ◌+◌, ◌-◌, ◌*◌, ◌/◌, ◌%◌, ◌^◌, ◌<◌, ◌≤◌, Bool, true, false, cond, eqb}
+use Rattle.std.proofs.Common.{List, [], ◌∷◌, ◌++◌, get_or, refl, sym, ◌∙◌, ap, arith, lt-ltb, eqb-true, pow-add}
+use Rattle.std.proofs.Common.{mul_comm, div-lt_iff_lt-mul, lt_trans}
 use Rattle.std.proofs.lemmas.Bool.Decides.{nat_tests}
 use Rattle.std.proofs.Math.Nat.{pow-succ', div-eq_of_lt}
 use Rattle.std.specs.Fmt.{digits_onto, digit_glyph, decimal, digits}
@@ -19,7 +21,8 @@ unfolding is_digit
 digit_of d small = grind (arith, nat_tests)
 
 pub glyph_of : (n : ℕ) → digit_glyph false (n % 10) ≡ 48 + n % 10
-glyph_of n = let small : n % 10 < 10 = omega arith in ap (λ (b : Bool). cond b (48 + n % 10) (87 + n % 10)) (lt-ltb (n % 10) 10 small)
+glyph_of n = let small : n % 10 < 10 = omega arith in ap (λ (b : Bool). cond b (48 + n % 10) (87 + n % 10))
+    (lt-ltb (n % 10) 10 small)
 
 glyph_digit : (n : ℕ) → is_digit (digit_glyph false (n % 10)) ≡ true
 glyph_digit n = ap is_digit (glyph_of n) ∙ digit_of (n % 10) (omega arith)
@@ -45,25 +48,34 @@ unfolding past
 past_glyph n x = ap (λ (t : Bool). cond t (past x) (digit_glyph false (n % 10) ∷ x)) (glyph_digit n)
 
 -- what doesn't look at a digit in front doesn't look at the digits of a number
-pub skipped : {X : Type 0} (f : List ℕ → X) → ((n : ℕ) (x : List ℕ) → f (digit_glyph false (n % 10) ∷ x) ≡ f x) → (k n : ℕ) (x : List ℕ) → f (digits_onto k 10 false n x) ≡ f x
+pub skipped : {X : Type 0} (f : List ℕ → X) → ((n : ℕ) (x : List ℕ) → f (digit_glyph false (n % 10) ∷ x) ≡ f x) →
+    (k n : ℕ) (x : List ℕ) → f (digits_onto k 10 false n x) ≡ f x
 skipped f skip zero n x = refl
-skipped {X} f skip (suc k) n x = either (eqb (n / 10) 0) _ _ (skip n x) (skipped f skip k (n / 10) (digit_glyph false (n % 10) ∷ x) ∙ skip n x)
+skipped {X} f skip (suc k) n x =
+    either (eqb (n / 10) 0) _ _ (skip n x) (skipped f skip k (n / 10) (digit_glyph false (n % 10) ∷ x) ∙ skip n x)
   where
     either : (b : Bool) (xs ys : List ℕ) {z : X} → f xs ≡ z → f ys ≡ z → f (cond b xs ys) ≡ z
     either true xs ys p q = p
     either false xs ys p q = q
 
 -- digits in front of a text: the last one, or more digits and it
-either_told : (k n : ℕ) (x : List ℕ) → n < 10 ^ suc k → (told 0 (digits_onto k 10 false (n / 10) (digit_glyph false (n % 10) ∷ x)) ≡ told (n / 10) (digit_glyph false (n % 10) ∷ x)) → (b : Bool) → eqb (n / 10) 0 ≡ b → told 0 (cond b (digit_glyph false (n % 10) ∷ x) (digits_onto k 10 false (n / 10) (digit_glyph false (n % 10) ∷ x))) ≡ told n x
-either_told k n x few next true last = let none : n / 10 ≡ 0 = eqb-true _ _ last in told_glyph 0 n x ∙ ap (λ (m : ℕ). told m x) {x = 10 * 0 + n % 10} {y = n} (omega arith)
-either_told k n x few next false more = next ∙ (told_glyph (n / 10) n x ∙ ap (λ (m : ℕ). told m x) {x = 10 * (n / 10) + n % 10} {y = n} (omega arith))
+either_told : (k n : ℕ) (x : List ℕ) → n < 10 ^ suc k →
+    (told 0 (digits_onto k 10 false (n / 10) (digit_glyph false (n % 10) ∷ x)) ≡
+    told (n / 10) (digit_glyph false (n % 10) ∷ x)) → (b : Bool) → eqb (n / 10) 0 ≡ b →
+    told 0 (cond b (digit_glyph false (n % 10) ∷ x)
+    (digits_onto k 10 false (n / 10) (digit_glyph false (n % 10) ∷ x))) ≡ told n x
+either_told k n x few next true last = let none : n / 10 ≡ 0 = eqb-true _ _ last in told_glyph 0 n x
+    ∙ ap (λ (m : ℕ). told m x) {x = 10 * 0 + n % 10} {y = n} (omega arith)
+either_told k n x few next false more =
+    next ∙ (told_glyph (n / 10) n x ∙ ap (λ (m : ℕ). told m x) {x = 10 * (n / 10) + n % 10} {y = n} (omega arith))
 
 fewer : (k n : ℕ) → n < 10 ^ suc k → n / 10 < 10 ^ k
 fewer k n few = let h : n < 10 * 10 ^ k = rw pow-succ' at few in omega arith
 
 told_onto : (k n : ℕ) (x : List ℕ) → n < 10 ^ k → told 0 (digits_onto k 10 false n x) ≡ told n x
 told_onto zero n x few = ap (λ (m : ℕ). told m x) {x = 0} {y = n} (omega arith)
-told_onto (suc k) n x few = either_told k n x few (told_onto k (n / 10) (digit_glyph false (n % 10) ∷ x) (fewer k n few)) (eqb (n / 10) 0) refl
+told_onto (suc k) n x few =
+    either_told k n x few (told_onto k (n / 10) (digit_glyph false (n % 10) ∷ x) (fewer k n few)) (eqb (n / 10) 0) refl
 
 starts_onto : (k n : ℕ) (x : List ℕ) → Starts x → Starts (digits_onto k 10 false n x)
 starts_onto zero n x starts = starts
@@ -99,7 +111,9 @@ over (suc q) = rw pow-succ' (let h : q + 1 ≤ 10 ^ q = over q in omega arith)
 
 -- there are enough digits
 enough : (n : ℕ) → n < 10 ^ (64 + n / 10 ^ 64)
-enough n = rw (pow-add, mul_comm) ((div-lt_iff_lt-mul (let some : 0 < 10 ^ 64 = omega arith in some)).0 (let h : n / 10 ^ 64 + 1 ≤ 10 ^ (n / 10 ^ 64) = over (n / 10 ^ 64) in omega arith))
+enough n = rw (pow-add, mul_comm)
+    ((div-lt_iff_lt-mul (let some : 0 < 10 ^ 64 = omega arith in some)).0
+    (let h : n / 10 ^ 64 + 1 ≤ 10 ^ (n / 10 ^ 64) = over (n / 10 ^ 64) in omega arith))
 
 text_onto : (n : ℕ) (x : List ℕ) → number_text n ++ x ≡ digits_onto (64 + n / 10 ^ 64) 10 false n x
 unfolding number_text
@@ -108,7 +122,8 @@ text_onto n x = onto_append (64 + n / 10 ^ 64) n [] x
 pub number_starts : (n : ℕ) (x : List ℕ) → Starts (number_text n ++ x)
 number_starts n x = rw (text_onto n x) (starts_some (64 + n / 10 ^ 64) n x (omega arith))
 
-pub number_skipped : {X : Type 0} (f : List ℕ → X) → ((n : ℕ) (x : List ℕ) → f (digit_glyph false (n % 10) ∷ x) ≡ f x) → (n : ℕ) (x : List ℕ) → f (number_text n ++ x) ≡ f x
+pub number_skipped : {X : Type 0} (f : List ℕ → X) → ((n : ℕ) (x : List ℕ) → f (digit_glyph false (n % 10) ∷ x) ≡ f x) →
+    (n : ℕ) (x : List ℕ) → f (number_text n ++ x) ≡ f x
 number_skipped f skip n x = ap f (text_onto n x) ∙ skipped f skip (64 + n / 10 ^ 64) n x
 
 pub number_told : (n : ℕ) (x : List ℕ) → Ends x → told 0 (number_text n ++ x) ≡ n
@@ -118,9 +133,13 @@ pub number_past : (n : ℕ) (x : List ℕ) → Ends x → past (number_text n ++
 number_past n x ends = number_skipped past past_glyph n x ∙ past_ends x ends
 
 -- the same number, and the same behind it
-pub number_then : (n m : ℕ) (x y : List ℕ) → Ends x → Ends y → number_text n ++ x ≡ number_text m ++ y → (n ≡ m) × (x ≡ y)
-number_then n m x y ends stops e =
-    (sym (number_told n x ends) ∙ (ap (told 0) e ∙ number_told m y stops), sym (number_past n x ends) ∙ (ap past e ∙ number_past m y stops))
+pub number_then : (n m : ℕ) (x y : List ℕ) → Ends x → Ends y → number_text n ++ x ≡ number_text m ++ y → (n ≡ m)
+    × (x ≡ y)
+number_then n m x y ends stops e = (
+  sym (number_told n x ends) ∙ (ap (told 0) e ∙ number_told m y stops),
+  sym (number_past n x ends)
+      ∙ (ap past e ∙ number_past m y stops),
+)
 
 -- below 10 ^ 64 it is the text that std writes
 pub number_decimal : (n : ℕ) → n < 10 ^ 64 → number_text n ≡ decimal n

@@ -15,7 +15,8 @@ Moves false true old new before after waited waits text =
 Moves true false old new before after waited waits text = ⊥
 Moves true true old new before after waited waits text = (new ≡ old) × (after ≡ before)
 
--- the text was added: it waits, or it was put, or a put failed. The sink is the same, and its count of faults never fell
+-- the text was added: it waits, or it was put, or a put failed. The sink is the same, and its count of faults never
+-- fell
 abbrev pub Adds : {O : Type 0} → (O → Option (List ℕ)) → (O → ℕ) → Gathered O → Gathered O → List ℕ
     → Type 0
 Adds taken faults old new text =

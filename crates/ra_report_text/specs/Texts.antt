@@ -3,7 +3,8 @@ use Rattle.std.specs.Prelude.{ℕ, ◌+◌, ◌/◌, ◌^◌, false, List, [], �
 use Rattle.std.specs.Fmt.{digits_onto}
 use Rattle.std.specs.List.{flat_map}
 use Rattle.ra_base.specs.declared.causes.Cause.{Cause}
-use Rattle.ra_base.specs.declared.causes.Cause.TheVariants.{Repeat, Same, Capacity, Transient, Conflict, Spread, Dependency, Rise, Closed}
+use Rattle.ra_base.specs.declared.causes.Cause.TheVariants.{Repeat, Same, Capacity, Transient, Conflict, Spread}
+use Rattle.ra_base.specs.declared.causes.Cause.TheVariants.{Dependency, Rise, Closed}
 use Rattle.ra_base.specs.declared.costs.Parts.{Parts}
 use Rattle.ra_base.specs.declared.ids.Machine.{Machine}
 

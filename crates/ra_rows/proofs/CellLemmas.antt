@@ -1,5 +1,6 @@
 -- One cell is changed: what that says of a column; and a row as it is read.
-use Rattle.std.proofs.Common.{◌≡◌, ◌≢◌, ℕ, ◌+◌, ◌-◌, ◌*◌, ◌<◌, ◌≤◌, inl, inr, ⊎_elim, List, length, get_or, set, refl, sym, ◌∙◌, arith, eq-eqb, ne_eqb, length-set, length-take, length-drop}
+use Rattle.std.proofs.Common.{◌≡◌, ◌≢◌, ℕ, ◌+◌, ◌-◌, ◌*◌, ◌<◌, ◌≤◌, inl, inr, ⊎_elim, List, length, get_or, set, refl}
+use Rattle.std.proofs.Common.{sym, ◌∙◌, arith, eq-eqb, ne_eqb, length-set, length-take, length-drop}
 use Rattle.std.proofs.lemmas.Bool.{cases_eq, cond-true, cond-false}
 use Rattle.std.proofs.lemmas.List.{get_or-take, get_or-drop}
 use Rattle.std.specs.List.{slice_range}
@@ -26,26 +27,56 @@ unfolding away_row
 away_row_other home at amount m apart = cond-false _ _ _ (ne_eqb home at apart)
 
 -- a number of a column is written
-write_column : (width row column value extra m : ℕ) (table : List ℕ) → column < width → row * width + column < length table → value ≡ cell width table row column + extra → cell width (set table (row * width + column) value) m column ≡ cell width table m column + at_row row extra m
+write_column : (width row column value extra m : ℕ) (table : List ℕ) → column < width →
+    row * width + column < length table → value ≡ cell width table row column + extra →
+    cell width (set table (row * width + column) value) m column ≡ cell width table m column + at_row row extra m
 write_column width row column value extra m table inside within is = ⊎_elim
-    (λ (here : m ≡ row). rw here (omega (arith, cell_write_same width table row column value within, is, at_row_here row extra row refl)))
-    (λ (apart : m ≢ row). omega (arith, cell_write_other width table row column value m column inside inside (inl apart), at_row_elsewhere row extra m (λ e. apart (sym e))))
+    (λ (here : m ≡ row).
+    rw here (omega (
+      arith,
+      cell_write_same width table row column value within,
+      is,
+      at_row_here row extra row refl,
+    )))
+    (λ (apart : m ≢ row).
+    omega (
+      arith,
+      cell_write_other width table row column value m column inside inside (inl apart),
+      at_row_elsewhere row extra m (λ e. apart (sym e)),
+    ))
     (cases_eq m row)
 
-lower_column : (width row column value less m : ℕ) (table : List ℕ) → column < width → row * width + column < length table → value + less ≡ cell width table row column → cell width table m column ≡ cell width (set table (row * width + column) value) m column + at_row row less m
+lower_column : (width row column value less m : ℕ) (table : List ℕ) → column < width →
+    row * width + column < length table → value + less ≡ cell width table row column →
+    cell width table m column ≡ cell width (set table (row * width + column) value) m column + at_row row less m
 lower_column width row column value less m table inside within is = ⊎_elim
-    (λ (here : m ≡ row). rw here (omega (arith, cell_write_same width table row column value within, is, at_row_here row less row refl)))
-    (λ (apart : m ≢ row). omega (arith, cell_write_other width table row column value m column inside inside (inl apart), at_row_elsewhere row less m (λ e. apart (sym e))))
+    (λ (here : m ≡ row).
+    rw here (omega (
+      arith,
+      cell_write_same width table row column value within,
+      is,
+      at_row_here row less row refl,
+    )))
+    (λ (apart : m ≢ row).
+    omega (
+      arith,
+      cell_write_other width table row column value m column inside inside (inl apart),
+      at_row_elsewhere row less m (λ e. apart (sym e)),
+    ))
     (cases_eq m row)
 
-pub cell_raised : (width row column value amount : ℕ) (old new : List ℕ) → column < width → row * width + column < length old → value ≡ cell width old row column + amount → new ≡ set old (row * width + column) value → HasMore width column (at_row row amount) old new
+pub cell_raised : (width row column value amount : ℕ) (old new : List ℕ) → column < width →
+    row * width + column < length old → value ≡ cell width old row column + amount →
+    new ≡ set old (row * width + column) value → HasMore width column (at_row row amount) old new
 cell_raised width row column value amount old new inside within is written = rw written (record {
   here = λ m. write_column width row column value amount m old inside within is;
   others = λ m r w apart. cell_write_other width old row column value m r inside w (inr apart);
   same_length = length-set old (row * width + column) value;
 })
 
-pub cell_lowered : (width row column value amount : ℕ) (old new : List ℕ) → column < width → row * width + column < length old → value + amount ≡ cell width old row column → new ≡ set old (row * width + column) value → HasMore width column (at_row row amount) new old
+pub cell_lowered : (width row column value amount : ℕ) (old new : List ℕ) → column < width →
+    row * width + column < length old → value + amount ≡ cell width old row column →
+    new ≡ set old (row * width + column) value → HasMore width column (at_row row amount) new old
 cell_lowered width row column value amount old new inside within is written = rw written (record {
   here = λ m. lower_column width row column value amount m old inside within is;
   others = λ m r w apart. sym (cell_write_other width old row column value m r inside w (inr apart));
@@ -53,7 +84,8 @@ cell_lowered width row column value amount old new inside within is written = rw
 })
 
 -- a part leaves one row, and another comes to another row
-pub moved : (width column : ℕ) (left come : ℕ → ℕ) (old mid new : List ℕ) → HasMore width column left mid old → HasMore width column come mid new → Moves width column left come old new
+pub moved : (width column : ℕ) (left come : ℕ → ℕ) (old mid new : List ℕ) → HasMore width column left mid old →
+    HasMore width column come mid new → Moves width column left come old new
 moved width column left come old mid new lower raise = record {
   here = λ m. omega (arith, lower.here m, raise.here m);
   others = λ m r w apart. raise.others m r w apart ∙ sym (lower.others m r w apart);
@@ -61,14 +93,16 @@ moved width column left come old mid new lower raise = record {
 }
 
 -- the home row keeps what it has
-pub more_at_home : (width column home at amount : ℕ) (table : List ℕ) → home ≡ at → HasMore width column (away_row home at amount) table table
+pub more_at_home : (width column home at amount : ℕ) (table : List ℕ) → home ≡ at →
+    HasMore width column (away_row home at amount) table table
 more_at_home width column home at amount table here = record {
   here = λ m. omega (arith, away_row_home home at amount m here);
   others = λ m r w apart. refl;
   same_length = refl;
 }
 
-pub more_away : (width column home at amount : ℕ) (low high : List ℕ) → home ≢ at → HasMore width column (at_row at amount) low high → HasMore width column (away_row home at amount) low high
+pub more_away : (width column home at amount : ℕ) (low high : List ℕ) → home ≢ at →
+    HasMore width column (at_row at amount) low high → HasMore width column (away_row home at amount) low high
 more_away width column home at amount low high apart more = record {
   here = λ m. omega (arith, more.here m, away_row_other home at amount m apart);
   others = more.others;
@@ -77,18 +111,23 @@ more_away width column home at amount low high apart more = record {
 
 -- a row, as it is read
 
-pub row_length : (width row : ℕ) (table : List ℕ) → row * width + width ≤ length table → length (slice_range table (row * width) (row * width + width)) ≡ width
+pub row_length : (width row : ℕ) (table : List ℕ) → row * width + width ≤ length table →
+    length (slice_range table (row * width) (row * width + width)) ≡ width
 row_length width row table within = omega (arith, length-take {A = ℕ}, length-drop {A = ℕ})
 
-pub row_cell : (width row column : ℕ) (table : List ℕ) → column < width → get_or (slice_range table (row * width) (row * width + width)) column 0 ≡ cell width table row column
+pub row_cell : (width row column : ℕ) (table : List ℕ) → column < width →
+    get_or (slice_range table (row * width) (row * width + width)) column 0 ≡ cell width table row column
 row_cell width row column table inside =
-    get_or-take (row * width + width - row * width) _ column 0 (omega arith) ∙ get_or-drop (row * width) table column 0 ∙ sym (cell_is width table row column)
+    get_or-take (row * width + width - row * width) _ column 0 (omega arith) ∙ get_or-drop (row * width) table column 0
+    ∙ sym (cell_is width table row column)
 
 pub ruleset rows = (row_length, row_cell)
 
 -- a place within a grid
-pub grid_place : (height width row column size : ℕ) → size ≡ height * width → row < height → column < width → row * width + column < size
-grid_place height width row column size grid row_in column_in = rw grid (place_within row column height width row_in column_in)
+pub grid_place : (height width row column size : ℕ) → size ≡ height * width → row < height → column < width →
+    row * width + column < size
+grid_place height width row column size grid row_in column_in =
+    rw grid (place_within row column height width row_in column_in)
 
 pub grid_row : (height width row size : ℕ) → size ≡ height * width → row < height → row * width + width ≤ size
 grid_row height width row size grid row_in = rw grid (grind arith)

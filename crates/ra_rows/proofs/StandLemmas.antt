@@ -1,5 +1,6 @@
 -- What rows stand for, when they are made and when a process is put on another machine.
-use Rattle.std.proofs.Common.{◌≡◌, ◌≢◌, ℕ, ◌*◌, ◌^◌, ◌<◌, ◌≤◌, ⊎_elim, List, length, set, refl, sym, ap, ◌∙◌, arith, eq-eqb, ne_eqb, eqb}
+use Rattle.std.proofs.Common.{◌≡◌, ◌≢◌, ℕ, ◌*◌, ◌^◌, ◌<◌, ◌≤◌, ⊎_elim, List, length, set, refl, sym, ap, ◌∙◌, arith}
+use Rattle.std.proofs.Common.{eq-eqb, ne_eqb, eqb}
 use Rattle.std.proofs.lemmas.Bool.{cases_eq, cond-true, cond-false, or_left, or_right, or_from}
 use Rattle.ra_base.specs.Tables.{cell}
 use Rattle.ra_base.specs.declared.ids.Machine.{Machine}
@@ -20,34 +21,47 @@ rows_of i start used between = record { tables = i; start = start; used = used; 
 
 -- at the start each process is at home, so transient use is use
 
-share_at_home : (i : Tables) (a0 : List Machine) (m r p : ℕ) → transient_share i a0 m r p (machine_at a0 p) ≡ use_share i m r p (machine_at a0 p)
+share_at_home : (i : Tables) (a0 : List Machine) (m r p : ℕ) → transient_share i a0 m r p (machine_at a0 p) ≡
+    use_share i m r p (machine_at a0 p)
 unfolding transient_share use_share
 share_at_home i a0 m r p = ⊎_elim
-    (λ (here : machine_at a0 p ≡ m). cond-true _ _ _ (or_left _ _ (eq-eqb (machine_at a0 p) m here)) ∙ sym (cond-true _ _ _ (eq-eqb (machine_at a0 p) m here)))
-    (λ (apart : machine_at a0 p ≢ m). cond-false _ _ _ (or_from _ _ (ne_eqb (machine_at a0 p) m apart) (ne_eqb (machine_at a0 p) m apart)) ∙ sym (cond-false _ _ _ (ne_eqb (machine_at a0 p) m apart)))
+    (λ (here : machine_at a0 p ≡ m). cond-true _ _ _ (or_left _ _ (eq-eqb (machine_at a0 p) m here))
+    ∙ sym (cond-true _ _ _ (eq-eqb (machine_at a0 p) m here)))
+    (λ (apart : machine_at a0 p ≢ m).
+    cond-false _ _ _ (or_from _ _ (ne_eqb (machine_at a0 p) m apart) (ne_eqb (machine_at a0 p) m apart))
+    ∙ sym (cond-false _ _ _ (ne_eqb (machine_at a0 p) m apart)))
     (cases_eq (machine_at a0 p) m)
 
 transient_at_start : (i : Tables) (a0 : List Machine) (m r : ℕ) → transient_of i a0 a0 m r ≡ use_of i a0 m r
 unfolding transient_of use_of
-transient_at_start i a0 m r = tally_same (process_count i) (transient_share i a0 m r) (use_share i m r) a0 a0 (λ p h. share_at_home i a0 m r p)
+transient_at_start i a0 m r =
+    tally_same (process_count i) (transient_share i a0 m r) (use_share i m r) a0 a0 (λ p h. share_at_home i a0 m r p)
 
-pub stand_at_start : (i : Tables) (a0 : List Machine) (used between : List ℕ) → IsAssignment i a0 → IsTally (resource_count i) (process_count i) (use_share i) a0 used → between ≡ used → StandFor (rows_of i a0 used between) a0
+pub stand_at_start : (i : Tables) (a0 : List Machine) (used between : List ℕ) → IsAssignment i a0 →
+    IsTally (resource_count i) (process_count i) (use_share i) a0 used → between ≡ used →
+    StandFor (rows_of i a0 used between) a0
 unfolding use_of
 stand_at_start i a0 used between fits sums copied = record {
   fits = fits;
   usage = sums.each;
-  transient = λ m r w. ap (λ t. cell (resource_count i) t m r) copied ∙ sums.each m r w ∙ sym (transient_at_start i a0 m r);
+  transient = λ m r w. ap (λ t. cell (resource_count i) t m r) copied ∙ sums.each m r w
+      ∙ sym (transient_at_start i a0 m r);
 }
 
 -- what stands for an assignment is small
 
-pub stands_below : (i : Tables) (start a : List Machine) (used between : List ℕ) → WellFormed i → Small i → StandFor (rows_of i start used between) a → (IsBelow (resource_count i) (2 ^ 48) used) × (IsBelow (resource_count i) (2 ^ 48) between)
+pub stands_below : (i : Tables) (start a : List Machine) (used between : List ℕ) → WellFormed i → Small i →
+    StandFor (rows_of i start used between) a → (IsBelow (resource_count i) (2 ^ 48) used)
+    × (IsBelow (resource_count i) (2 ^ 48) between)
 stands_below i start a used between formed small stands = (
   record { each = λ m r w. omega (arith, stands.usage m r w, use_under i a m r formed small) },
   record { each = λ m r w. omega (arith, stands.transient m r w, transient_under i start a m r formed small) },
 )
 
-pub are_rows : (i : Tables) (start a : List Machine) (used between : List ℕ) → WellFormed i → Small i → IsAssignment i start → length used ≡ machine_count i * resource_count i → length between ≡ machine_count i * resource_count i → StandFor (rows_of i start used between) a → AreRows (rows_of i start used between)
+pub are_rows : (i : Tables) (start a : List Machine) (used between : List ℕ) → WellFormed i → Small i →
+    IsAssignment i start → length used ≡ machine_count i * resource_count i →
+    length between ≡ machine_count i * resource_count i → StandFor (rows_of i start used between) a →
+    AreRows (rows_of i start used between)
 are_rows i start a used between formed small fits used_grid between_grid stands = record {
   start = fits;
   used_grid = used_grid;
@@ -66,31 +80,78 @@ transient_share_own : (i : Tables) (a0 : List Machine) (m r p : ℕ) → transie
 unfolding transient_share
 transient_share_own i a0 m r p = cond-true _ _ _ (or_right (eqb (machine_at a0 p) m) (eqb m m) (eq-eqb m m refl))
 
-used_within : (i : Tables) (a : List Machine) (p at r : ℕ) → p < process_count i → machine_at a p ≡ at → requirement_of i p r ≤ use_of i a at r
+used_within : (i : Tables) (a : List Machine) (p at r : ℕ) → p < process_count i → machine_at a p ≡ at →
+    requirement_of i p r ≤ use_of i a at r
 unfolding use_of
-used_within i a p at r there is = omega (arith, use_share_own i at r p, tally_term (process_count i) p (use_share i at r) a there, ap (use_share i at r p) is)
+used_within i a p at r there is =
+    omega (
+      arith,
+      use_share_own i at r p,
+      tally_term (process_count i) p (use_share i at r) a there,
+      ap (use_share i at r p) is,
+    )
 
-transient_within : (i : Tables) (a0 a : List Machine) (p at r : ℕ) → p < process_count i → machine_at a p ≡ at → requirement_of i p r ≤ transient_of i a0 a at r
+transient_within : (i : Tables) (a0 a : List Machine) (p at r : ℕ) → p < process_count i → machine_at a p ≡ at →
+    requirement_of i p r ≤ transient_of i a0 a at r
 unfolding transient_of
-transient_within i a0 a p at r there is = omega (arith, transient_share_own i a0 at r p, tally_term (process_count i) p (transient_share i a0 at r) a there, ap (transient_share i a0 at r p) is)
+transient_within i a0 a p at r there is =
+    omega (
+      arith,
+      transient_share_own i a0 at r p,
+      tally_term (process_count i) p (transient_share i a0 at r) a there,
+      ap (transient_share i a0 at r p) is,
+    )
 
-pub used_enough : (rows : RowTables) (p from : ℕ) → p < process_count rows.tables → HasAt rows p from → HasRoomFor rows.tables p from rows.used
-used_enough rows p from there has = record { each = λ r w. omega (arith, has.stands.usage from r w, used_within rows.tables has.assignment p from r there has.at) }
+pub used_enough : (rows : RowTables) (p from : ℕ) → p < process_count rows.tables → HasAt rows p from →
+    HasRoomFor rows.tables p from rows.used
+used_enough rows p from there has = record {
+  each = λ r w. omega (arith, has.stands.usage from r w, used_within rows.tables has.assignment p from r there has.at);
+}
 
-pub transient_enough : (rows : RowTables) (p from : ℕ) → p < process_count rows.tables → HasAt rows p from → HasRoomFor rows.tables p from rows.between
-transient_enough rows p from there has = record { each = λ r w. omega (arith, has.stands.transient from r w, transient_within rows.tables rows.start has.assignment p from r there has.at) }
+pub transient_enough : (rows : RowTables) (p from : ℕ) → p < process_count rows.tables → HasAt rows p from →
+    HasRoomFor rows.tables p from rows.between
+transient_enough rows p from there has = record {
+  each = λ r w.
+      omega (
+        arith,
+        has.stands.transient from r w,
+        transient_within rows.tables rows.start has.assignment p from r there
+            has.at,
+      );
+}
 
 -- after a shift
 
-pub stand_after : (i : Tables) (start a : List Machine) (p from : ℕ) (to : Machine) (used between used_then between_then : List ℕ) → p < process_count i → to.0 < machine_count i → Shifts (resource_count i) (use_share i) p from to.0 used used_then → Shifts (resource_count i) (transient_share i start) p from to.0 between between_then → StandFor (rows_of i start used between) a → machine_at a p ≡ from → StandFor (rows_of i start used_then between_then) (set a p to)
-stand_after i start a p from to used between used_then between_then there within use_shifts transient_shifts stands is = record {
-  fits = fits_set i a p to stands.fits there within;
-  usage = λ m r w. omega (arith, use_shifts.each m r w, stands.usage m r w, use_set i a p to m r stands.fits there, ap (use_share i m r p) is);
-  transient = λ m r w. omega (arith, transient_shifts.each m r w, stands.transient m r w, transient_set i start a p to m r stands.fits there, ap (transient_share i start m r p) is);
-}
+pub stand_after : (i : Tables) (start a : List Machine) (p from : ℕ) (to : Machine)
+    (used between used_then between_then : List ℕ) → p < process_count i → to.0 < machine_count i →
+    Shifts (resource_count i) (use_share i) p from to.0 used used_then →
+    Shifts (resource_count i) (transient_share i start) p from to.0 between between_then →
+    StandFor (rows_of i start used between) a → machine_at a p ≡ from →
+    StandFor (rows_of i start used_then between_then) (set a p to)
+stand_after i start a p from to used between used_then between_then there within use_shifts transient_shifts stands is =
+    record {
+      fits = fits_set i a p to stands.fits there within;
+      usage = λ m r w. omega (
+        arith,
+        use_shifts.each m r w,
+        stands.usage m r w,
+        use_set i a p to m r stands.fits there,
+        ap (use_share i m r p) is,
+      );
+      transient = λ m r w.
+          omega (
+            arith,
+            transient_shifts.each m r w,
+            stands.transient m r w,
+            transient_set i start a p to m r stands.fits there,
+            ap (transient_share i start m r p) is,
+          );
+    }
 
 -- then the process is where it was put
-pub has_after : (rows then : RowTables) (p from : ℕ) (to : Machine) → p < process_count rows.tables → HasAt rows p from → ((a : List Machine) → StandFor rows a → machine_at a p ≡ from → StandFor then (set a p to)) → HasAt then p to.0
+pub has_after : (rows then : RowTables) (p from : ℕ) (to : Machine) → p < process_count rows.tables →
+    HasAt rows p from → ((a : List Machine) → StandFor rows a → machine_at a p ≡ from → StandFor then (set a p to)) →
+    HasAt then p to.0
 has_after rows then p from to there has after = record {
   assignment = set has.assignment p to;
   stands = after has.assignment has.stands has.at;

@@ -3,7 +3,8 @@
 use Rattle.std.specs.Prelude.{ℕ, ◌-◌, ◌*◌, List}
 use Rattle.ra_base.specs.declared.ids.Machine.{Machine}
 use Rattle.ra_model.specs.declared.raw.Tables.{Tables}
-use Rattle.ra_model.specs.Numbers.{load_weight_of, safety_of, first_of, second_of, target_of, balance_weight_of, requirement_of}
+use Rattle.ra_model.specs.Numbers.{load_weight_of, safety_of, first_of, second_of, target_of, balance_weight_of}
+use Rattle.ra_model.specs.Numbers.{requirement_of}
 use Rattle.ra_model.specs.Usage.{use_of}
 use Rattle.ra_model.specs.Costs.{available}
 

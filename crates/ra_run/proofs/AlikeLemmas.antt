@@ -23,44 +23,56 @@ use Rattle.ra_model.specs.Relations.{depends, are_joined}
 use Rattle.ra_moves.specs.declared.steps.Step.{Step}
 use Rattle.ra_moves.specs.Judging.{broken_by, judge}
 use Rattle.ra_moves.specs.Options.{option_cost, plan_place, plan_of}
-use Rattle.ra_pins.specs.Pinned.{flagged_share, flagged_use, lacks, lacks_between, holds, taken, blocked, is_open, stuck, round, rounds, is_pinned, pinned_load}
+use Rattle.ra_pins.specs.Pinned.{flagged_share, flagged_use, lacks, lacks_between, holds, taken, blocked, is_open}
+use Rattle.ra_pins.specs.Pinned.{stuck, round, rounds, is_pinned, pinned_load}
 use Rattle.ra_report.specs.JournalTexts.{report_text}
-use Rattle.ra_verify.specs.WrongLines.{AreRight, AreAllRight, IsWrongEntry, IsCutOff, IsWrongHead, IsWrongLine, IsReport}
+use Rattle.ra_verify.specs.WrongLines.{AreRight, AreAllRight, IsWrongEntry, IsCutOff, IsWrongHead, IsWrongLine}
+use Rattle.ra_verify.specs.WrongLines.{IsReport}
 use Rattle.ra_jobs.proofs.BareLemmas.{bare}
 use Rattle.ra_jobs.proofs.AlikeLemmas.{opened, whole, along}
 
 -- no room is looked at
 
-parts_bare : (raw : RawInstance) (closed : Option (Listed Bool)) (a0 a : List Machine) → parts_of (bare (whole raw closed)) a0 a ≡ parts_of (whole raw closed) a0 a
+parts_bare : (raw : RawInstance) (closed : Option (Listed Bool)) (a0 a : List Machine) →
+    parts_of (bare (whole raw closed)) a0 a ≡ parts_of (whole raw closed) a0 a
 unfolding opened
 parts_bare raw closed a0 a = refl
 
-pinned_bound_bare : (raw : RawInstance) (closed : Option (Listed Bool)) (a0 : List Machine) → pinned_bound_of (bare (whole raw closed)) a0 ≡ pinned_bound_of (whole raw closed) a0
-unfolding opened required safety capacity overload spare lack balance_bound pinned_excess pinned_overload pinned_load_bound pinned_bound_of flagged_share flagged_use lacks lacks_between holds taken blocked is_open stuck round rounds is_pinned pinned_load
+pinned_bound_bare : (raw : RawInstance) (closed : Option (Listed Bool)) (a0 : List Machine) →
+    pinned_bound_of (bare (whole raw closed)) a0 ≡ pinned_bound_of (whole raw closed) a0
+unfolding opened required safety capacity overload spare lack balance_bound pinned_excess pinned_overload
+    pinned_load_bound pinned_bound_of flagged_share flagged_use lacks lacks_between holds taken blocked is_open stuck
+    round rounds is_pinned pinned_load
 pinned_bound_bare raw None a0 = refl
 pinned_bound_bare raw (Some flags) a0 = refl
 
-plan_bare : (raw : RawInstance) (closed : Option (Listed Bool)) (a0 a : List Machine) (x : List ℕ) (drawing : Drawing) (allowed : ℕ) → plan_of (bare (whole raw closed)) a0 a x drawing allowed ≡ plan_of (whole raw closed) a0 a x drawing allowed
+plan_bare : (raw : RawInstance) (closed : Option (Listed Bool)) (a0 a : List Machine) (x : List ℕ) (drawing : Drawing)
+    (allowed : ℕ) → plan_of (bare (whole raw closed)) a0 a x drawing allowed ≡ plan_of (whole raw closed) a0 a x drawing
+    allowed
 unfolding opened judge broken_by option_cost plan_place plan_of
 plan_bare raw None a0 a x drawing allowed = refl
 plan_bare raw (Some flags) a0 a x drawing allowed = refl
 
-judge_bare : (raw : RawInstance) (closed : Option (Listed Bool)) (a0 a : List Machine) (steps : List Step) (allowed : ℕ) → judge (bare (whole raw closed)) a0 a steps allowed ≡ judge (whole raw closed) a0 a steps allowed
+judge_bare : (raw : RawInstance) (closed : Option (Listed Bool)) (a0 a : List Machine) (steps : List Step)
+    (allowed : ℕ) → judge (bare (whole raw closed)) a0 a steps allowed ≡ judge (whole raw closed) a0 a steps allowed
 unfolding opened judge broken_by
 judge_bare raw None a0 a steps allowed = refl
 judge_bare raw (Some flags) a0 a steps allowed = refl
 
-guards_bare : (raw : RawInstance) (closed : Option (Listed Bool)) (steps : List Step) (g : Guard) → is_guard (bare (whole raw closed)) steps g ≡ is_guard (whole raw closed) steps g
+guards_bare : (raw : RawInstance) (closed : Option (Listed Bool)) (steps : List Step) (g : Guard) →
+    is_guard (bare (whole raw closed)) steps g ≡ is_guard (whole raw closed) steps g
 unfolding opened depends are_joined service_in moves_service reads_service writes reads is_guard
 guards_bare raw closed steps (guard.Machine m) = refl
 guards_bare raw closed steps (guard.Service s) = refl
 
-version_bare : (raw : RawInstance) (closed : Option (Listed Bool)) (made : List (Option (List Step))) (n : ℕ) (g : Guard) → version (bare (whole raw closed)) made n g ≡ version (whole raw closed) made n g
+version_bare : (raw : RawInstance) (closed : Option (Listed Bool)) (made : List (Option (List Step))) (n : ℕ)
+    (g : Guard) → version (bare (whole raw closed)) made n g ≡ version (whole raw closed) made n g
 unfolding opened service_in moves_service writes touches stamp version
 version_bare raw closed made n (guard.Machine m) = refl
 version_bare raw closed made n (guard.Service s) = refl
 
-best_bare : (raw : RawInstance) (closed : Option (Listed Bool)) (a0 : List Machine) (h : List Entry) → best_of (bare (whole raw closed)) a0 h ≡ best_of (whole raw closed) a0 h
+best_bare : (raw : RawInstance) (closed : Option (Listed Bool)) (a0 : List Machine) (h : List Entry) →
+    best_of (bare (whole raw closed)) a0 h ≡ best_of (whole raw closed) a0 h
 unfolding opened cost_at best_place best_of
 best_bare raw closed a0 h = refl
 
@@ -71,25 +83,36 @@ module _ (i j : Tables) (same : bare i ≡ bare j) where
   pub pinned_same : (a0 : List Machine) → pinned_bound_of i a0 ≡ pinned_bound_of j a0
   pinned_same a0 = along (λ (t : Tables). pinned_bound_of t a0) (λ raw closed. pinned_bound_bare raw closed a0) i j same
 
-  pub planned_same : (a0 a : List Machine) (x : List ℕ) (drawing : Drawing) (allowed : ℕ) → plan_of i a0 a x drawing allowed ≡ plan_of j a0 a x drawing allowed
-  planned_same a0 a x drawing allowed = along (λ (t : Tables). plan_of t a0 a x drawing allowed) (λ raw closed. plan_bare raw closed a0 a x drawing allowed) i j same
+  pub planned_same : (a0 a : List Machine) (x : List ℕ) (drawing : Drawing) (allowed : ℕ) →
+      plan_of i a0 a x drawing allowed ≡ plan_of j a0 a x drawing allowed
+  planned_same a0 a x drawing allowed = along (λ (t : Tables). plan_of t a0 a x drawing allowed)
+      (λ raw closed. plan_bare raw closed a0 a x drawing allowed) i j same
 
-  pub judged_same : (a0 a : List Machine) (steps : List Step) (allowed : ℕ) → judge i a0 a steps allowed ≡ judge j a0 a steps allowed
-  judged_same a0 a steps allowed = along (λ (t : Tables). judge t a0 a steps allowed) (λ raw closed. judge_bare raw closed a0 a steps allowed) i j same
+  pub judged_same : (a0 a : List Machine) (steps : List Step) (allowed : ℕ) →
+      judge i a0 a steps allowed ≡ judge j a0 a steps allowed
+  judged_same a0 a steps allowed =
+      along (λ (t : Tables). judge t a0 a steps allowed) (λ raw closed. judge_bare raw closed a0 a steps allowed) i j
+      same
 
   pub best_same : (a0 : List Machine) (h : List Entry) → best_of i a0 h ≡ best_of j a0 h
   best_same a0 h = along (λ (t : Tables). best_of t a0 h) (λ raw closed. best_bare raw closed a0 h) i j same
 
   guards_same : (steps : List Step) (g : Guard) → is_guard j steps g ≡ is_guard i steps g
-  guards_same steps g = along (λ (t : Tables). is_guard t steps g) (λ raw closed. guards_bare raw closed steps g) j i (sym same)
+  guards_same steps g =
+      along (λ (t : Tables). is_guard t steps g) (λ raw closed. guards_bare raw closed steps g) j i (sym same)
 
   version_same : (made : List (Option (List Step))) (n : ℕ) (g : Guard) → version i made n g ≡ version j made n g
-  version_same made n g = along (λ (t : Tables). version t made n g) (λ raw closed. version_bare raw closed made n g) i j same
+  version_same made n g =
+      along (λ (t : Tables). version t made n g) (λ raw closed. version_bare raw closed made n g) i j same
 
-  untouched_same : (made : List (Option (List Step))) (q n : ℕ) (steps : List Step) → Untouched i made q n steps → Untouched j made q n steps
-  untouched_same made q n steps u = record { each = λ g is. rw (version_same made n g) at (u.each g (sym (guards_same steps g) ∙ is)) }
+  untouched_same : (made : List (Option (List Step))) (q n : ℕ) (steps : List Step) → Untouched i made q n steps →
+      Untouched j made q n steps
+  untouched_same made q n steps u = record {
+    each = λ g is. rw (version_same made n g) at (u.each g (sym (guards_same steps g) ∙ is));
+  }
 
-  legal_at_same : (a0 : List Machine) (l : Lots) (h : List Entry) (n : ℕ) (e : Entry) → IsLegalAt i a0 l h n e → IsLegalAt j a0 l h n e
+  legal_at_same : (a0 : List Machine) (l : Lots) (h : List Entry) (n : ℕ) (e : Entry) → IsLegalAt i a0 l h n e →
+      IsLegalAt j a0 l h n e
   legal_at_same a0 l h n e is = record {
     numbered = is.numbered;
     placed = is.placed;
@@ -108,13 +131,16 @@ module _ (i j : Tables) (same : bare i ≡ bare j) where
 -- a report's lines are judged the same
 
 module _ (i j : Tables) (same : bare i ≡ bare j) where
-  right_same : (a0 : List Machine) (l : Lots) (bytes : List ℕ) (h : List Entry) → AreRight i a0 l bytes h → AreRight j a0 l bytes h
+  right_same : (a0 : List Machine) (l : Lots) (bytes : List ℕ) (h : List Entry) → AreRight i a0 l bytes h →
+      AreRight j a0 l bytes h
   right_same a0 l bytes h is = record { legal = legal_same i j same a0 l h is.legal; lines = is.lines }
 
-  all_right_same : (a0 : List Machine) (l : Lots) (bytes : List ℕ) (h : List Entry) → AreAllRight i a0 l bytes h → AreAllRight j a0 l bytes h
+  all_right_same : (a0 : List Machine) (l : Lots) (bytes : List ℕ) (h : List Entry) → AreAllRight i a0 l bytes h →
+      AreAllRight j a0 l bytes h
   all_right_same a0 l bytes h is = record { right = right_same a0 l bytes h is.right; all = is.all }
 
-  entry_same : (a0 : List Machine) (l : Lots) (bytes : List ℕ) (n : ℕ) → IsWrongEntry i a0 l bytes n → IsWrongEntry j a0 l bytes n
+  entry_same : (a0 : List Machine) (l : Lots) (bytes : List ℕ) (n : ℕ) → IsWrongEntry i a0 l bytes n →
+      IsWrongEntry j a0 l bytes n
   entry_same a0 l bytes n is = record {
     short = is.short;
     journal = is.journal;
@@ -124,10 +150,18 @@ module _ (i j : Tables) (same : bare i ≡ bare j) where
     number = is.number;
   }
 
-  cut_off_same : (a0 : List Machine) (l : Lots) (bytes : List ℕ) (n : ℕ) → IsCutOff i a0 l bytes n → IsCutOff j a0 l bytes n
-  cut_off_same a0 l bytes n is = record { short = is.short; journal = is.journal; right = all_right_same a0 l bytes is.journal is.right; not_whole = is.not_whole; number = is.number }
+  cut_off_same : (a0 : List Machine) (l : Lots) (bytes : List ℕ) (n : ℕ) → IsCutOff i a0 l bytes n →
+      IsCutOff j a0 l bytes n
+  cut_off_same a0 l bytes n is = record {
+    short = is.short;
+    journal = is.journal;
+    right = all_right_same a0 l bytes is.journal is.right;
+    not_whole = is.not_whole;
+    number = is.number;
+  }
 
-  head_same : (a0 : List Machine) (l : Lots) (bytes : List ℕ) (n : ℕ) → IsWrongHead i a0 l bytes n → IsWrongHead j a0 l bytes n
+  head_same : (a0 : List Machine) (l : Lots) (bytes : List ℕ) (n : ℕ) → IsWrongHead i a0 l bytes n →
+      IsWrongHead j a0 l bytes n
   head_same a0 l bytes n is = record {
     short = is.short;
     journal = is.journal;
@@ -139,7 +173,8 @@ module _ (i j : Tables) (same : bare i ≡ bare j) where
     number = is.number;
   }
 
-  pub wrong_line_same : (a0 : List Machine) (l : Lots) (bytes : List ℕ) (line : Option ℕ) → IsWrongLine i a0 l bytes line → IsWrongLine j a0 l bytes line
+  pub wrong_line_same : (a0 : List Machine) (l : Lots) (bytes : List ℕ) (line : Option ℕ) →
+      IsWrongLine i a0 l bytes line → IsWrongLine j a0 l bytes line
   wrong_line_same a0 l bytes None is = record {
     short = is.short;
     journal = is.journal;
@@ -152,7 +187,8 @@ module _ (i j : Tables) (same : bare i ≡ bare j) where
   wrong_line_same a0 l bytes (Some n) (inr (inr (inl cut_off))) = inr (inr (inl (cut_off_same a0 l bytes n cut_off)))
   wrong_line_same a0 l bytes (Some n) (inr (inr (inr head))) = inr (inr (inr (head_same a0 l bytes n head)))
 
-  pub is_report_same : (a0 : List Machine) (l : Lots) (bytes : List ℕ) (n : ℕ) → IsReport i a0 l bytes n → IsReport j a0 l bytes n
+  pub is_report_same : (a0 : List Machine) (l : Lots) (bytes : List ℕ) (n : ℕ) → IsReport i a0 l bytes n →
+      IsReport j a0 l bytes n
   is_report_same a0 l bytes n is = record {
     journal = is.journal;
     legal = legal_same i j same a0 l is.journal is.legal;

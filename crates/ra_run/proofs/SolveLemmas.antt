@@ -1,5 +1,6 @@
 -- What is printed of a run meets the headline.
-use Rattle.std.proofs.Common.{◌≡◌, ℕ, suc, List, length, Option, Some, IsSome, refl, sym, ap₂, ◌∙◌, arith, Result, IfSome}
+use Rattle.std.proofs.Common.{◌≡◌, ℕ, suc, List, length, Option, Some, IsSome, refl, sym, ap₂, ◌∙◌, arith, Result}
+use Rattle.std.proofs.Common.{IfSome}
 use Rattle.ra_base.specs.Searches.{least_place}
 use Rattle.ra_base.specs.declared.ids.Machine.{Machine}
 use Rattle.ra_base.proofs.Least.{least_means, least_there}
@@ -40,7 +41,8 @@ use Rattle.ra_run.specs.Headline.{IsFirstLeast, SolvePrinted, solving}
 use Rattle.ra_run.specs.Solving.{IsReported, RunReason}
 
 -- the report of a run is that of its journal
-pub run_told : (i : Tables) (a0 : List Machine) (l : Lots) (run : Run) (sent : List ℕ → Type 0) → IsRun i a0 l run → Feasible i a0 a0 → sent (text_of run.journal) → IsReported i a0 l sent
+pub run_told : (i : Tables) (a0 : List Machine) (l : Lots) (run : Run) (sent : List ℕ → Type 0) → IsRun i a0 l run →
+    Feasible i a0 a0 → sent (text_of run.journal) → IsReported i a0 l sent
 unfolding text_of
 run_told i a0 l run sent is start text = record {
   start = start;
@@ -51,12 +53,14 @@ run_told i a0 l run sent is start text = record {
 }
 
 -- what the report asks for is what is known of a run
-pub best_told : (i : Tables) (a0 : List Machine) (l : Lots) (run : Run) → IsRun i a0 l run → run.best.items ≡ best_state run.journal
+pub best_told : (i : Tables) (a0 : List Machine) (l : Lots) (run : Run) → IsRun i a0 l run →
+    run.best.items ≡ best_state run.journal
 unfolding best_state
 best_told i a0 l run is = is.best ∙ rw (sym is.instance, sym is.initial) refl
 
 -- the bound of the instance and the start is that of the run's journal
-pub bound_told : (i : Tables) (a0 : List Machine) (l : Lots) (run : Run) (bound : Bound) → IsRun i a0 l run → bound ≡ pinned_bound_of i a0 → bound ≡ pinned_bound_of run.journal.inst.now.tables run.journal.a0.now.items
+pub bound_told : (i : Tables) (a0 : List Machine) (l : Lots) (run : Run) (bound : Bound) → IsRun i a0 l run →
+    bound ≡ pinned_bound_of i a0 → bound ≡ pinned_bound_of run.journal.inst.now.tables run.journal.a0.now.items
 bound_told i a0 l run bound is told = told ∙ ap₂ pinned_bound_of (sym is.instance) (sym is.initial)
 
 -- the best place of a journal is the first of least objective
@@ -74,7 +78,9 @@ first_least i a0 h =
       first = λ k before. omega (arith, cost, is.earliest k (cost_at i a0 h k) before refl);
     }
 
-unfoldable pub solved : (held : Held) (names : Names) (i : Tables) (a0 : List Machine) (l : Lots) (sent : List ℕ → Type 0) → WellFormed i → IsStart held names i a0 → IsReported i a0 l sent → SolvePrinted held names l sent
+unfoldable pub solved : (held : Held) (names : Names) (i : Tables) (a0 : List Machine) (l : Lots)
+    (sent : List ℕ → Type 0) → WellFormed i → IsStart held names i a0 → IsReported i a0 l sent →
+    SolvePrinted held names l sent
 unfolding report_text
 solved held names i a0 l sent limits start told =
     let h = told.journal in
@@ -88,7 +94,8 @@ solved held names i a0 l sent limits start told =
       text = told.text;
       report = refl;
       told = report_tells_its_journal i a0 l h;
-      only = λ other tells. one_journal_of_bytes (report_text i a0 l h) other h tells (report_tells_its_journal i a0 l h);
+      only = λ other tells. one_journal_of_bytes (report_text i a0 l h) other h tells
+          (report_tells_its_journal i a0 l h);
       legal = told.legal;
       whole = told.whole;
       alone = λ one. (one_lot i a0 l one).no_other h (record { legal = told.legal; whole = told.whole });
@@ -100,35 +107,69 @@ solved held names i a0 l sent limits start told =
     }
 
 -- the reason of a refusal of a run, of the files
-pub reason_run : (held : Held) (names : Names) (i : Tables) (a0 : List Machine) (l : Lots) (first now : Faults) (sent : List ℕ → Type 0) → IsSome names.initial → WellFormed i → IsStart held names i a0 → (refusal : Refusal) → RunReason i a0 (IsReported i a0 l sent) refusal → Reason held names first now (Judges held names (SolvePrinted held names l sent)) refusal
-reason_run held names i a0 l first now sent has_initial limits start (Broken role.Initial cause) reason = record { tables = i; a0 = a0; a = a0; named = has_initial; accepts = start.accepts; broken = reason }
-reason_run held names i a0 l first now sent has_initial limits start Write reason = solved held names i a0 l sent limits start reason
+pub reason_run : (held : Held) (names : Names) (i : Tables) (a0 : List Machine) (l : Lots) (first now : Faults)
+    (sent : List ℕ → Type 0) → IsSome names.initial → WellFormed i → IsStart held names i a0 → (refusal : Refusal) →
+    RunReason i a0 (IsReported i a0 l sent) refusal →
+    Reason held names first now (Judges held names (SolvePrinted held names l sent)) refusal
+reason_run held names i a0 l first now sent has_initial limits start (Broken role.Initial cause) reason = record {
+  tables = i;
+  a0 = a0;
+  a = a0;
+  named = has_initial;
+  accepts = start.accepts;
+  broken = reason;
+}
+reason_run held names i a0 l first now sent has_initial limits start Write reason =
+    solved held names i a0 l sent limits start reason
 reason_run held names i a0 l first now sent has_initial limits start Memory reason = tt
 reason_run held names i a0 l first now sent has_initial limits start refusal reason = absurd reason
 
 -- what was printed of a run, whole or in part, is of files that were accepted, and of a list that is feasible
-pub solved_went : (held : Held) (model : List ℕ) (closed : Option (List ℕ)) (initial : List ℕ) (l : Lots) (sent : List ℕ → Type 0) → SolvePrinted held (solve_names model initial closed) l sent → Went held (solve_names model initial closed)
-solved_went held model closed initial l sent p = record { listed = record { tables = p.tables; a0 = p.a0; a = p.a0; accepts = p.accepts }; initial = λ named. p.start; changed = λ named. absurd (cc) }
+pub solved_went : (held : Held) (model : List ℕ) (closed : Option (List ℕ)) (initial : List ℕ) (l : Lots)
+    (sent : List ℕ → Type 0) → SolvePrinted held (solve_names model initial closed) l sent →
+    Went held (solve_names model initial closed)
+solved_went held model closed initial l sent p = record {
+  listed = record { tables = p.tables; a0 = p.a0; a = p.a0; accepts = p.accepts };
+  initial = λ named. p.start;
+  changed = λ named. absurd (cc);
+}
 
 -- the reason of a refusal of some lots, of these
-pub reason_these : (held : Held) (names : Names) (l : Lots) (before now : Faults) (sent : List ℕ → Type 0) (refusal : Refusal) → Reason held names before now (Judges held names (SolvePrinted held names l sent)) refusal → Reason held names before now (Judges held names ((k : Lots) × These l k × SolvePrinted held names k sent)) refusal
-reason_these held names l before now sent = reason_more held names before now (Judges held names (SolvePrinted held names l sent)) (Judges held names ((k : Lots) × These l k × SolvePrinted held names k sent)) (judges_more held names (SolvePrinted held names l sent) ((k : Lots) × These l k × SolvePrinted held names k sent) (λ s. (l, refl, s)))
+pub reason_these : (held : Held) (names : Names) (l : Lots) (before now : Faults) (sent : List ℕ → Type 0)
+    (refusal : Refusal) → Reason held names before now (Judges held names (SolvePrinted held names l sent)) refusal →
+    Reason held names before now (Judges held names ((k : Lots) × These l k × SolvePrinted held names k sent)) refusal
+reason_these held names l before now sent =
+    reason_more held names before now (Judges held names (SolvePrinted held names l sent))
+    (Judges held names ((k : Lots) × These l k × SolvePrinted held names k sent))
+    (judges_more held names (SolvePrinted held names l sent) ((k : Lots) × These l k × SolvePrinted held names k sent)
+    (λ s. (l, refl, s)))
 
 -- what the command does
 
-pub solve_so : (model : List ℕ) (closed : Option (List ℕ)) (initial : List ℕ) (asked : Lots → Type 0) (files : Reading) (out err : Output) (ended : Result (Unit {0}) Refusal) (status : Status) → Tries (over (solving (solve_names model initial closed) asked)) files out ended → Finishes (solve_names model initial closed) ended err status → Does (over (solving (solve_names model initial closed) asked)) files out err status
+pub solve_so : (model : List ℕ) (closed : Option (List ℕ)) (initial : List ℕ) (asked : Lots → Type 0) (files : Reading)
+    (out err : Output) (ended : Result (Unit {0}) Refusal) (status : Status) →
+    Tries (over (solving (solve_names model initial closed) asked)) files out ended →
+    Finishes (solve_names model initial closed) ended err status →
+    Does (over (solving (solve_names model initial closed) asked)) files out err status
 solve_so model closed initial asked files out err ended status tries finishes =
     let names = solve_names model initial closed in
-    judged_so names (solving names asked).prints files out err ended status tries finishes (λ sent p. solved_went files.held model closed initial p.0 sent p.2) (λ sent p. (_, p.2.text))
+    judged_so names (solving names asked).prints files out err ended status tries finishes
+    (λ sent p. solved_went files.held model closed initial p.0 sent p.2) (λ sent p. (_, p.2.text))
 
-pub solve_more : (names : Names) (asked more : Lots → Type 0) (files : Reading) (out err : Output) (status : Status) → ((l : Lots) → asked l → more l) → Does (over (solving names asked)) files out err status → Does (over (solving names more)) files out err status
+pub solve_more : (names : Names) (asked more : Lots → Type 0) (files : Reading) (out err : Output) (status : Status) →
+    ((l : Lots) → asked l → more l) → Does (over (solving names asked)) files out err status →
+    Does (over (solving names more)) files out err status
 solve_more names asked more files out err status step does =
     let c = solving names asked in
     let d = solving names more in
     does_more names c.prints d.prints c.refuses d.refuses c.own_comes d.own_comes c.valid c.answers files out err status
     (λ p. (p.0, step p.0 p.1, p.2))
-    (judges_more files.held names (c.prints files.held (BrokeOff out.sink)) (d.prints files.held (BrokeOff out.sink)) (λ p. (p.0, step p.0 p.1, p.2)))
+    (judges_more files.held names (c.prints files.held (BrokeOff out.sink)) (d.prints files.held (BrokeOff out.sink))
+    (λ p. (p.0, step p.0 p.1, p.2)))
     (λ own. own) does
 
-pub solve_memory : (names : Names) (asked : Lots → Type 0) (files : Reading) (out err : Output) (status : Status) → status ≡ NoMemory → ((names : Names) → Put err.sink (refusal_line names Memory)) → out.same → Leaves files out err → Does (over (solving names asked)) files out err status
-solve_memory names asked files out err status is line same leaves = judged_memory names (solving names asked).prints files out err status is line same leaves
+pub solve_memory : (names : Names) (asked : Lots → Type 0) (files : Reading) (out err : Output) (status : Status) →
+    status ≡ NoMemory → ((names : Names) → Put err.sink (refusal_line names Memory)) → out.same → Leaves files out err →
+    Does (over (solving names asked)) files out err status
+solve_memory names asked files out err status is line same leaves =
+    judged_memory names (solving names asked).prints files out err status is line same leaves

@@ -1,5 +1,7 @@
 -- What a trial reads is the instance of its number and its start; and how it ends.
-use Rattle.std.proofs.Common.{◌≡◌, ◌⊎◌, ℕ, zero, suc, ◌*◌, ◌<◌, sum_by, List, [], ◌∷◌, length, codes, Option, Some, None, IfSome, inr, ⊎_elim, refl, sym, ◌∙◌, subst, ap, arith, Result, Ok, Err, OnOk, IfErr, inl, true, false}
+use Rattle.std.proofs.Common.{◌≡◌, ◌⊎◌, ℕ, zero, suc, ◌*◌, ◌<◌, sum_by, List, [], ◌∷◌, length, codes, Option, Some}
+use Rattle.std.proofs.Common.{None, IfSome, inr, ⊎_elim, refl, sym, ◌∙◌, subst, ap, arith, Result, Ok, Err, OnOk, IfErr}
+use Rattle.std.proofs.Common.{inl, true, false}
 use Rattle.ra_base.specs.Listed.{Listed}
 use Rattle.ra_base.specs.declared.ids.Machine.{Machine}
 use Rattle.ra_model.specs.Assignments.{IsAssignment}
@@ -43,7 +45,8 @@ use Rattle.ra_jobs.specs.Stages.{IsStart}
 use Rattle.ra_jobs.proofs.CompleteLemmas.{never_rose, own_left}
 use Rattle.ra_run.specs.declared.trial.TrialFault.{TrialFault}
 use Rattle.ra_run.specs.declared.trial.TrialFault.TheVariants as fault
-use Rattle.ra_run.specs.Trials.{HoldsTrial, IsTrialStart, IsTrialLots, IsSummarized, TrialPrinted, TrialReason, no_names, trial_command}
+use Rattle.ra_run.specs.Trials.{HoldsTrial, IsTrialStart, IsTrialLots, IsSummarized, TrialPrinted, TrialReason}
+use Rattle.ra_run.specs.Trials.{no_names, trial_command}
 
 -- what is told is so of what is told
 told : (told : Option (List ℕ)) (bytes : List ℕ) (P : List ℕ → Type 0) → told ≡ Some bytes → IfSome told P → P bytes
@@ -51,18 +54,25 @@ told None bytes P is p = cc
 told (Some other) bytes P is p = let same : other ≡ bytes = cc in subst P same p
 
 -- the instance that is read is that of the number
-instance_read : (number : ℕ) (held : Held) (i : Tables) → HoldsTrial number held → InstanceIs held (codes "model") None i → IsTrial (trial_word number) i
+instance_read : (number : ℕ) (held : Held) (i : Tables) → HoldsTrial number held →
+    InstanceIs held (codes "model") None i → IsTrial (trial_word number) i
 unfolding model_text
 instance_read number held i holds instance =
-    let is : IsModel (model_text number) instance.model = told (held (codes "model")) (model_text number) (λ bytes. IsModel bytes instance.model) holds.model instance.read in
+    let is : IsModel (model_text number) instance.model =
+    told (held (codes "model")) (model_text number) (λ bytes. IsModel bytes instance.model) holds.model
+    instance.read in
     subst (IsTrial (trial_word number)) (sym instance.closed) ((text_is_trial (trial_word number) instance.model).0 is)
 
 -- the list that is read is the start
-list_read : (number : ℕ) (held : Held) (i : Tables) (a0 : List Machine) → HoldsTrial number held → IsTrial (trial_word number) i → ListIs held (codes "start") i a0 → a0 ≡ start_list
+list_read : (number : ℕ) (held : Held) (i : Tables) (a0 : List Machine) → HoldsTrial number held →
+    IsTrial (trial_word number) i → ListIs held (codes "start") i a0 → a0 ≡ start_list
 list_read number held i a0 holds is list =
-    (start_text_is_start (trial_word number) i is a0).0 (told (held (codes "start")) start_text (λ bytes. IsAssignmentOf bytes i a0) holds.start list)
+    (start_text_is_start (trial_word number) i is a0).0
+    (told (held (codes "start")) start_text (λ bytes. IsAssignmentOf bytes i a0) holds.start list)
 
-pub start_read : (number : ℕ) (held : Held) (model start : List ℕ) (i : Tables) (a0 : List Machine) → HoldsTrial number held → model ≡ codes "model" → start ≡ codes "start" → IsStart held (solve_names model start None) i a0 → IsTrialStart number i a0
+pub start_read : (number : ℕ) (held : Held) (model start : List ℕ) (i : Tables) (a0 : List Machine) →
+    HoldsTrial number held → model ≡ codes "model" → start ≡ codes "start" →
+    IsStart held (solve_names model start None) i a0 → IsTrialStart number i a0
 start_read number held model start i a0 holds model_is start_is read =
     let instance = subst (λ (name : List ℕ). InstanceIs held name None i) model_is read.accepts.instance in
     let list = subst (λ (name : List ℕ). ListIs held name i a0) start_is read.accepts.initial in
@@ -70,15 +80,19 @@ start_read number held model start i a0 holds model_is start_is read =
     record { trial = is; initial = list_read number held i a0 holds is list }
 
 -- both texts are accepted, and files in memory have no fault: so only memory can be refused
-accepted : (number : ℕ) (held : Held) → HoldsTrial number held → AreAccepted held (solve_names (codes "model") (codes "start") None)
+accepted : (number : ℕ) (held : Held) → HoldsTrial number held →
+    AreAccepted held (solve_names (codes "model") (codes "start") None)
 unfolding model_text
 accepted number held holds = record {
   model = (model_text number, holds.model, text_accepted_whole (trial_word number));
   closed = λ name named. absurd (cc);
   initial = λ name named i instance.
       let is = instance_read number held i holds instance in
-      let same : codes "start" ≡ name = cc in
-      (start_text, subst (λ (n : List ℕ). held n ≡ Some start_text) same holds.start, (assign_accepts start_text i).1 ((start_text_is_start (trial_word number) i is start_list).1 refl).file);
+      let same : codes "start" ≡ name = cc in (
+        start_text,
+        subst (λ (n : List ℕ). held n ≡ Some start_text) same holds.start,
+        (assign_accepts start_text i).1 ((start_text_is_start (trial_word number) i is start_list).1 refl).file,
+      );
   changed = λ name named. absurd (cc);
 }
 
@@ -87,29 +101,39 @@ unfolding status_of
 memory_alone Memory is = refl
 memory_alone refusal is = cc
 
-pub only_memory : (number : ℕ) (held : Held) (model start : List ℕ) (refusal : Refusal) → HoldsTrial number held → model ≡ codes "model" → start ≡ codes "start" → Reason held (solve_names model start None) (λ name. 0) (λ name. 0) Nothing refusal → refusal ≡ Memory
+pub only_memory : (number : ℕ) (held : Held) (model start : List ℕ) (refusal : Refusal) → HoldsTrial number held →
+    model ≡ codes "model" → start ≡ codes "start" → Reason held (solve_names model start None) (λ name. 0) (λ name. 0)
+    Nothing refusal → refusal ≡ Memory
 only_memory number held model start refusal holds model_is start_is reason =
-    let valid = subst (λ (name : List ℕ). AreAccepted held (solve_names (codes "model") name None)) (sym start_is) (accepted number held holds) in
+    let valid = subst (λ (name : List ℕ). AreAccepted held (solve_names (codes "model") name None)) (sym start_is)
+    (accepted number held holds) in
     let named = subst (λ (name : List ℕ). AreAccepted held (solve_names name start None)) (sym model_is) valid in
     memory_alone refusal (⊎_elim (λ (none : ⊥). absurd none) (λ (memory : status_of refusal ≡ NoMemory). memory)
-    (own_left held (solve_names model start None) (λ name. 0) (λ name. 0) Nothing named (λ f is rose. never_rose rose) refusal reason))
+    (own_left held (solve_names model start None) (λ name. 0) (λ name. 0) Nothing named (λ f is rose. never_rose rose)
+    refusal reason))
 
 -- the start fits its instance and breaks nothing
 pub start_fitting : (number : ℕ) (i : Tables) (a0 : List Machine) → IsTrialStart number i a0 → IsAssignment i a0
 start_fitting number i a0 start =
-    subst (λ (a : List Machine). IsAssignment i a) (sym start.initial) (start_fits (trial_word number) i (has_numbers (trial_word number) i start.trial))
+    subst (λ (a : List Machine). IsAssignment i a) (sym start.initial)
+    (start_fits (trial_word number) i (has_numbers (trial_word number) i start.trial))
 
 pub start_good : (number : ℕ) (i : Tables) (a0 : List Machine) → IsTrialStart number i a0 → first_broken i a0 a0 ≡ None
 start_good number i a0 start =
-    subst (λ (a : List Machine). first_broken i a a ≡ None) (sym start.initial) (unbroken_from_feasible i start_list start_list (start_feasible (trial_word number) i (has_numbers (trial_word number) i start.trial)))
+    subst (λ (a : List Machine). first_broken i a a ≡ None) (sym start.initial)
+    (unbroken_from_feasible i start_list start_list
+    (start_feasible (trial_word number) i (has_numbers (trial_word number) i start.trial)))
 
 -- the lot of a number
-one_fits : (number w : ℕ) → w < 1 → (words : Listed ℕ) → (lot_at (record { source = Seed number; budget = 2000 } ∷ []) w).source ≡ Written words → length words.items ≡ 8 * (lot_at (record { source = Seed number; budget = 2000 } ∷ []) w).budget
+one_fits : (number w : ℕ) → w < 1 → (words : Listed ℕ) →
+    (lot_at (record { source = Seed number; budget = 2000 } ∷ []) w).source ≡ Written words →
+    length words.items ≡ 8 * (lot_at (record { source = Seed number; budget = 2000 } ∷ []) w).budget
 unfolding lot_at
 one_fits number zero within words written = absurd (let e : Seed number ≡ Written words = written in cc)
 one_fits number (suc w) within words written = absurd (omega arith)
 
-pub trial_lots_fit : (number : ℕ) (lots : List Lot) → lots ≡ record { source = Seed number; budget = 2000 } ∷ [] → IsLots lots
+pub trial_lots_fit : (number : ℕ) (lots : List Lot) → lots ≡ record { source = Seed number; budget = 2000 } ∷ [] →
+    IsLots lots
 trial_lots_fit number lots is =
     let one : List Lot = record { source = Seed number; budget = 2000 } ∷ [] in
     let long : length one ≡ 1 = refl in
@@ -127,13 +151,16 @@ unfolding worker_count
 one_worker number l is = ap length is.lots
 
 -- the journal of a run of one lot is that of the worker alone
-pub summarized : (i : Tables) (a0 : List Machine) (l : Lots) (run : Run) (sent : List ℕ → Type 0) → IsRun i a0 l run → worker_count l ≡ 1 → sent (summary_of run.journal) → IsSummarized i a0 l sent
+pub summarized : (i : Tables) (a0 : List Machine) (l : Lots) (run : Run) (sent : List ℕ → Type 0) → IsRun i a0 l run →
+    worker_count l ≡ 1 → sent (summary_of run.journal) → IsSummarized i a0 l sent
 unfolding summary_of
 summarized i a0 l run sent is one text =
-    let alone : run.journal.book.entries.items ≡ solo i a0 l = (one_lot i a0 l one).no_other run.journal.book.entries.items (record { legal = is.legal; whole = is.whole }) in
+    let alone : run.journal.book.entries.items ≡ solo i a0 l =
+    (one_lot i a0 l one).no_other run.journal.book.entries.items (record { legal = is.legal; whole = is.whole }) in
     rw (is.instance, is.initial, alone) at text
 
-pub trial_printed : (number : ℕ) (i : Tables) (a0 : List Machine) (l : Lots) (sent : List ℕ → Type 0) → IsTrialStart number i a0 → IsTrialLots number l → IsSummarized i a0 l sent → TrialPrinted number sent
+pub trial_printed : (number : ℕ) (i : Tables) (a0 : List Machine) (l : Lots) (sent : List ℕ → Type 0) →
+    IsTrialStart number i a0 → IsTrialLots number l → IsSummarized i a0 l sent → TrialPrinted number sent
 trial_printed number i a0 l sent start lots text = record {
   tables = i;
   lots = l;
@@ -142,21 +169,27 @@ trial_printed number i a0 l sent start lots text = record {
   text = subst (λ (a : List Machine). IsSummarized i a l sent) start.initial text;
 }
 
-pub trial_reason : (number : ℕ) (i : Tables) (a0 : List Machine) (l : Lots) (sent : List ℕ → Type 0) → IsTrialStart number i a0 → IsTrialLots number l → (why : TrialFault) → TrialReason (IsSummarized i a0 l sent) why → TrialReason (TrialPrinted number sent) why
+pub trial_reason : (number : ℕ) (i : Tables) (a0 : List Machine) (l : Lots) (sent : List ℕ → Type 0) →
+    IsTrialStart number i a0 → IsTrialLots number l → (why : TrialFault) → TrialReason (IsSummarized i a0 l sent) why →
+    TrialReason (TrialPrinted number sent) why
 trial_reason number i a0 l sent start lots fault.Write reason = trial_printed number i a0 l sent start lots reason
 trial_reason number i a0 l sent start lots fault.Memory reason = tt
 
-pub ok_then : (result : Result (Unit {0}) TrialFault) (known follows : Type 0) → (known → follows) → OnOk result known → OnOk result follows
+pub ok_then : (result : Result (Unit {0}) TrialFault) (known follows : Type 0) → (known → follows) → OnOk result known →
+    OnOk result follows
 ok_then (Ok x) known follows step is = step is
 ok_then (Err e) known follows step is = tt
 
-pub err_then : (result : Result (Unit {0}) TrialFault) (known follows : TrialFault → Type 0) → ((why : TrialFault) → known why → follows why) → IfErr result known → IfErr result follows
+pub err_then : (result : Result (Unit {0}) TrialFault) (known follows : TrialFault → Type 0) →
+    ((why : TrialFault) → known why → follows why) → IfErr result known → IfErr result follows
 err_then (Ok x) known follows step is = tt
 err_then (Err e) known follows step is = step e is
 
 -- ---- how it ends
 
-pub trial_done : (number : ℕ) (files : Reading) (out err : Output) (status : Status) → status ≡ Done → TrialPrinted number (Took out.sink) → err.same → Leaves files out err → Does (trial_command number) files out err status
+pub trial_done : (number : ℕ) (files : Reading) (out err : Output) (status : Status) → status ≡ Done →
+    TrialPrinted number (Took out.sink) → err.same → Leaves files out err →
+    Does (trial_command number) files out err status
 trial_done number files out err status is printed no_line leaves = record {
   printed = λ _. printed;
   no_line = λ _. no_line;
@@ -167,19 +200,29 @@ trial_done number files out err status is printed no_line leaves = record {
   leaves = leaves;
 }
 
-pub trial_broke : (number : ℕ) (files : Reading) (out err : Output) (status : Status) → status ≡ WriteFault → TrialPrinted number (BrokeOff out.sink) → ((names : Names) → Put err.sink (refusal_line names Write)) → Leaves files out err → Does (trial_command number) files out err status
+pub trial_broke : (number : ℕ) (files : Reading) (out err : Output) (status : Status) → status ≡ WriteFault →
+    TrialPrinted number (BrokeOff out.sink) → ((names : Names) → Put err.sink (refusal_line names Write)) →
+    Leaves files out err → Does (trial_command number) files out err status
 unfolding status_of
 trial_broke number files out err status is broken line leaves = record {
   printed = λ e. absurd (let both : WriteFault ≡ Done = sym is ∙ e in cc);
   no_line = λ e. absurd (let both : WriteFault ≡ Done = sym is ∙ e in cc);
-  refused = λ _. record { refusal = Write; reason = broken; is = is; line = line no_names; no_output = λ first. absurd (let both : true ≡ false = first in cc) };
+  refused = λ _. record {
+    refusal = Write;
+    reason = broken;
+    is = is;
+    line = line no_names;
+    no_output = λ first. absurd (let both : true ≡ false = first in cc);
+  };
   not_usage = λ e. let both : WriteFault ≡ Usage = sym is ∙ e in cc;
   comes = inr (inl is);
   complete = λ _ wrote. absurd (wrote broken.text.1);
   leaves = leaves;
 }
 
-pub trial_memory : (number : ℕ) (files : Reading) (out err : Output) (status : Status) → status ≡ NoMemory → ((names : Names) → Put err.sink (refusal_line names Memory)) → out.same → Leaves files out err → Does (trial_command number) files out err status
+pub trial_memory : (number : ℕ) (files : Reading) (out err : Output) (status : Status) → status ≡ NoMemory →
+    ((names : Names) → Put err.sink (refusal_line names Memory)) → out.same → Leaves files out err →
+    Does (trial_command number) files out err status
 unfolding status_of
 trial_memory number files out err status is line same leaves = record {
   printed = λ e. absurd (let both : NoMemory ≡ Done = sym is ∙ e in cc);

@@ -1,5 +1,6 @@
 -- How `verify` ends, from how its stages end.
-use Rattle.std.proofs.Common.{◌≡◌, ◌≢◌, ◌⊎◌, ℕ, ◌≤◌, List, Option, Some, None, Result, Err, IfSome, IsSome, inl, inr, ⊎_elim, refl, sym, ◌∙◌, subst}
+use Rattle.std.proofs.Common.{◌≡◌, ◌≢◌, ◌⊎◌, ℕ, ◌≤◌, List, Option, Some, None, Result, Err, IfSome, IsSome, inl, inr}
+use Rattle.std.proofs.Common.{⊎_elim, refl, sym, ◌∙◌, subst}
 use Rattle.ra_base.specs.declared.causes.Cause.{Cause}
 use Rattle.ra_base.specs.declared.ids.Machine.{Machine}
 use Rattle.ra_draws.specs.declared.budgets.Lots.{Lots}
@@ -17,7 +18,8 @@ use Rattle.ra_verify.proofs.LimitLemmas.{report_has_none_wrong}
 use Rattle.ra_io.specs.Outside.{Reading, Took}
 use Rattle.ra_jobs.specs.declared.refusals.File.TheVariants as file
 use Rattle.ra_jobs.specs.declared.refusals.Refusal.{Refusal}
-use Rattle.ra_jobs.specs.declared.refusals.Refusal.TheVariants.{Read, Model, Closed, Assign, Broken, Wrong as WrongLine, Write, Memory}
+use Rattle.ra_jobs.specs.declared.refusals.Refusal.TheVariants.{Read, Model, Closed, Assign, Broken, Wrong as WrongLine}
+use Rattle.ra_jobs.specs.declared.refusals.Refusal.TheVariants.{Write, Memory}
 use Rattle.ra_jobs.specs.declared.refusals.Role.{Role}
 use Rattle.ra_jobs.specs.declared.refusals.Role.TheVariants as role
 use Rattle.ra_jobs.specs.declared.status.Status.{Status}
@@ -40,48 +42,89 @@ use Rattle.ra_jobs.proofs.EndLemmas.{Ends, EndsOver, finished, left_so}
 use Rattle.ra_jobs.proofs.RepairLemmas.{of_these}
 use Rattle.ra_jobs.proofs.MeaningLemmas.{no_model, no_closed, no_initial, no_initial_break, instances_same, lists_same}
 use Rattle.ra_jobs.proofs.StageLemmas.{can_tell, rose_later, reason_more}
-use Rattle.ra_run.specs.Verifying.{CountReason, IsCounted, IsRead, IsRightAt, IsRightReport, IsSolved, IsWrongAt, IsWrongReport, ReportWrong, VerdictComes, VerifyPrinted, VerifyOwn, refused_by, verifying}
+use Rattle.ra_run.specs.Verifying.{CountReason, IsCounted, IsRead, IsRightAt, IsRightReport, IsSolved, IsWrongAt}
+use Rattle.ra_run.specs.Verifying.{IsWrongReport, ReportWrong, VerdictComes, VerifyPrinted, VerifyOwn, refused_by}
+use Rattle.ra_run.specs.Verifying.{verifying}
 use Rattle.ra_run.proofs.AlikeLemmas.{wrong_line_same, is_report_same}
 use Rattle.ra_run.proofs.SolveLemmas.{solved}
 
 -- ---- the stages
 
-pub start_for : (held : Held) (model : List ℕ) (closed : Option (List ℕ)) (initial report : List ℕ) (i : Tables) (a0 : List Machine) → IsStart held (solve_names model initial closed) i a0 → IsStart held (verify_names model initial report closed) i a0
-start_for held model closed initial report i a0 start = record { accepts = record { instance = start.accepts.instance; initial = start.accepts.initial; changed = tt }; fits = start.fits }
+pub start_for : (held : Held) (model : List ℕ) (closed : Option (List ℕ)) (initial report : List ℕ) (i : Tables)
+    (a0 : List Machine) → IsStart held (solve_names model initial closed) i a0 →
+    IsStart held (verify_names model initial report closed) i a0
+start_for held model closed initial report i a0 start = record {
+  accepts = record { instance = start.accepts.instance; initial = start.accepts.initial; changed = tt };
+  fits = start.fits;
+}
 
 -- a refusal of the files before the report
-pub reason_before : (held : Held) (model : List ℕ) (closed : Option (List ℕ)) (initial report : List ℕ) (before now : Faults) (own : Refusal → Type 0) (refusal : Refusal) → Reason held (solve_names model initial closed) before now Nothing refusal → Reason held (verify_names model initial report closed) before now own refusal
+pub reason_before : (held : Held) (model : List ℕ) (closed : Option (List ℕ)) (initial report : List ℕ)
+    (before now : Faults) (own : Refusal → Type 0) (refusal : Refusal) →
+    Reason held (solve_names model initial closed) before now Nothing refusal →
+    Reason held (verify_names model initial report closed) before now own refusal
 unfolding name_of
-reason_before held model closed initial report before now own (Read file.Model) reason = record { earlier = tt; named = tt; rose = reason.rose }
-reason_before held model closed initial report before now own (Read file.Closed) reason = record { earlier = reason.earlier; named = reason.named; rose = reason.rose }
-reason_before held model closed initial report before now own (Read file.Initial) reason = record { earlier = reason.earlier; named = reason.named; rose = reason.rose }
-reason_before held model closed initial report before now own (Read file.Changed) reason = absurd (let none = reason.named in cc)
-reason_before held model closed initial report before now own (Read file.Report) reason = absurd (let none = reason.named in cc)
-reason_before held model closed initial report before now own (Read file.Edits) reason = absurd (let none = reason.named in cc)
+reason_before held model closed initial report before now own (Read file.Model) reason =
+    record { earlier = tt; named = tt; rose = reason.rose }
+reason_before held model closed initial report before now own (Read file.Closed) reason = record {
+  earlier = reason.earlier;
+  named = reason.named;
+  rose = reason.rose;
+}
+reason_before held model closed initial report before now own (Read file.Initial) reason = record {
+  earlier = reason.earlier;
+  named = reason.named;
+  rose = reason.rose;
+}
+reason_before held model closed initial report before now own (Read file.Changed) reason =
+    absurd (let none = reason.named in cc)
+reason_before held model closed initial report before now own (Read file.Report) reason =
+    absurd (let none = reason.named in cc)
+reason_before held model closed initial report before now own (Read file.Edits) reason =
+    absurd (let none = reason.named in cc)
 reason_before held model closed initial report before now own (Model fault) reason = reason
 reason_before held model closed initial report before now own (Closed fault) reason = reason
-reason_before held model closed initial report before now own (Assign role.Initial fault) reason = record { tables = reason.tables; instance = reason.instance; name = reason.name; named = reason.named; refused = reason.refused }
-reason_before held model closed initial report before now own (Assign role.Changed fault) reason = absurd (let none = reason.named in cc)
+reason_before held model closed initial report before now own (Assign role.Initial fault) reason = record {
+  tables = reason.tables;
+  instance = reason.instance;
+  name = reason.name;
+  named = reason.named;
+  refused = reason.refused;
+}
+reason_before held model closed initial report before now own (Assign role.Changed fault) reason =
+    absurd (let none = reason.named in cc)
 reason_before held model closed initial report before now own Memory reason = tt
 reason_before held model closed initial report before now own refusal reason = absurd reason
 
-passes_from : (held : Held) (names : Names) (i : Tables) (a0 : List Machine) → IsStart held names i a0 → Feasible i a0 a0 → Passes held names i a0 a0
+passes_from : (held : Held) (names : Names) (i : Tables) (a0 : List Machine) → IsStart held names i a0 →
+    Feasible i a0 a0 → Passes held names i a0 a0
 passes_from held names i a0 start feasible = record { accepts = start.accepts; initial = feasible; changed = feasible }
 
 -- a right report is one of `solve`
-solved_so : (held : Held) (names : Names) (i : Tables) (a0 : List Machine) (l : Lots) (n : ℕ) (bytes : List ℕ) → WellFormed i → IsStart held names i a0 → Feasible i a0 a0 → IsRightAt i a0 l n bytes → IsSolved held names l n bytes
+solved_so : (held : Held) (names : Names) (i : Tables) (a0 : List Machine) (l : Lots) (n : ℕ) (bytes : List ℕ) →
+    WellFormed i → IsStart held names i a0 → Feasible i a0 a0 → IsRightAt i a0 l n bytes → IsSolved held names l n bytes
 unfolding solved
 solved_so held names i a0 l n bytes limits start feasible right = record {
-  solved = solved held names i a0 l (λ text. text ≡ bytes) limits start (record { start = feasible; journal = right.report.journal; legal = right.report.legal; whole = right.report.whole; text = sym right.report.text });
+  solved = solved held names i a0 l (λ text. text ≡ bytes) limits start (record {
+    start = feasible;
+    journal = right.report.journal;
+    legal = right.report.legal;
+    whole = right.report.whole;
+    text = sym right.report.text;
+  });
   number = right.report.number;
   none_wrong = right.none_wrong;
 }
 
-some_then : (told : Option (List ℕ)) (P Q : List ℕ → Type 0) → ((bytes : List ℕ) → P bytes → Q bytes) → IfSome told P → IfSome told Q
+some_then : (told : Option (List ℕ)) (P Q : List ℕ → Type 0) → ((bytes : List ℕ) → P bytes → Q bytes) → IfSome told P →
+    IfSome told Q
 some_then None P Q step is = tt
 some_then (Some bytes) P Q step is = step bytes is
 
-pub read_so : (held later : Held) (model : List ℕ) (closed : Option (List ℕ)) (initial report : List ℕ) (i : Tables) (a0 : List Machine) (l : Lots) (n : ℕ) → ((other : List ℕ) → later other ≡ held other) → WellFormed i → IsStart held (solve_names model initial closed) i a0 → IsCounted later report i a0 l n → IsRead held (verify_names model initial report closed) l n
+pub read_so : (held later : Held) (model : List ℕ) (closed : Option (List ℕ)) (initial report : List ℕ) (i : Tables)
+    (a0 : List Machine) (l : Lots) (n : ℕ) → ((other : List ℕ) → later other ≡ held other) → WellFormed i →
+    IsStart held (solve_names model initial closed) i a0 → IsCounted later report i a0 l n →
+    IsRead held (verify_names model initial report closed) l n
 unfolding name_of
 read_so held later model closed initial report i a0 l n same limits read counted =
     let names = verify_names model initial report closed in
@@ -90,185 +133,323 @@ read_so held later model closed initial report i a0 l n same limits read counted
       tables = i;
       a0 = a0;
       passes = passes_from held names i a0 start counted.start;
-      report = some_then (held report) (IsRightAt i a0 l n) (IsSolved held names l n) (λ bytes right. solved_so held names i a0 l n bytes limits start counted.start right) (rw (sym (same report)) counted.report);
+      report = some_then (held report) (IsRightAt i a0 l n) (IsSolved held names l n)
+          (λ bytes right. solved_so held names i a0 l n bytes limits start counted.start right)
+          (rw (sym (same report)) counted.report);
     }
 
-pub reason_count : (held later : Held) (model : List ℕ) (closed : Option (List ℕ)) (initial report : List ℕ) (i : Tables) (a0 : List Machine) (l : Lots) (first before now : Faults) (written : Type 0) → ((other : List ℕ) → later other ≡ held other) → ((other : List ℕ) → first other ≤ before other) → IsStart held (solve_names model initial closed) i a0 → (refusal : Refusal) → CountReason later report i a0 l before now refusal
-    → Reason held (verify_names model initial report closed) first now (VerifyOwn held (verify_names model initial report closed) l written) refusal
+pub reason_count : (held later : Held) (model : List ℕ) (closed : Option (List ℕ)) (initial report : List ℕ)
+    (i : Tables) (a0 : List Machine) (l : Lots) (first before now : Faults) (written : Type 0) →
+    ((other : List ℕ) → later other ≡ held other) → ((other : List ℕ) → first other ≤ before other) →
+    IsStart held (solve_names model initial closed) i a0 → (refusal : Refusal) →
+    CountReason later report i a0 l before now refusal
+    → Reason held (verify_names model initial report closed) first now
+    (VerifyOwn held (verify_names model initial report closed) l written) refusal
 unfolding name_of
-reason_count held later model closed initial report i a0 l first before now written same never_fell read (Broken role.Initial cause) reason =
+reason_count held later model closed initial report i a0 l first before now written same never_fell read
+    (Broken role.Initial cause) reason =
     let start = start_for held model closed initial report i a0 read in
     record { tables = i; a0 = a0; a = a0; named = refl; accepts = start.accepts; broken = reason }
-reason_count held later model closed initial report i a0 l first before now written same never_fell read (Read file.Report) reason =
+reason_count held later model closed initial report i a0 l first before now written same never_fell read
+    (Read file.Report) reason =
     let start = start_for held model closed initial report i a0 read in
-    record { earlier = (i, a0, passes_from held (verify_names model initial report closed) i a0 start reason.0); named = refl; rose = rose_later (first report) (before report) (now report) (never_fell report) reason.1 }
-reason_count held later model closed initial report i a0 l first before now written same never_fell read (WrongLine line) reason =
+    record {
+      earlier = (i, a0, passes_from held (verify_names model initial report closed) i a0 start reason.0);
+      named = refl;
+      rose = rose_later (first report) (before report) (now report) (never_fell report) reason.1;
+    }
+reason_count held later model closed initial report i a0 l first before now written same never_fell read
+    (WrongLine line) reason =
     let start = start_for held model closed initial report i a0 read in
-    record { tables = i; a0 = a0; passes = passes_from held (verify_names model initial report closed) i a0 start reason.0; wrong = rw (sym (same report)) reason.1 }
-reason_count held later model closed initial report i a0 l first before now written same never_fell read Memory reason = tt
-reason_count held later model closed initial report i a0 l first before now written same never_fell read refusal reason = absurd reason
+    record {
+      tables = i;
+      a0 = a0;
+      passes = passes_from held (verify_names model initial report closed) i a0 start reason.0;
+      wrong = rw (sym (same report)) reason.1;
+    }
+reason_count held later model closed initial report i a0 l first before now written same never_fell read Memory reason =
+    tt
+reason_count held later model closed initial report i a0 l first before now written same never_fell read refusal
+    reason = absurd reason
 
-pub wrong_so : (i : Tables) (a0 : List Machine) (l : Lots) (told : Option (List ℕ)) (line : ℕ) → WellFormed i → Small i → IsAssignment i a0 → Feasible i a0 a0 → IfSome told (λ bytes. IsWrongLine i a0 l bytes (Some line)) → IfSome told (IsWrongAt i a0 l line)
+pub wrong_so : (i : Tables) (a0 : List Machine) (l : Lots) (told : Option (List ℕ)) (line : ℕ) → WellFormed i →
+    Small i → IsAssignment i a0 → Feasible i a0 a0 → IfSome told (λ bytes. IsWrongLine i a0 l bytes (Some line)) →
+    IfSome told (IsWrongAt i a0 l line)
 wrong_so i a0 l None line limits small fits start wrong = tt
 wrong_so i a0 l (Some bytes) line limits small fits start wrong = record {
   first = wrong;
-  no_report = λ n report. let both : Some line ≡ None = one_wrong_line i a0 l bytes (Some line) None wrong (report_has_none_wrong i a0 l bytes n limits small fits start report) in cc;
+  no_report = λ n report. let both : Some line ≡ None = one_wrong_line i a0 l bytes (Some line) None wrong
+      (report_has_none_wrong i a0 l bytes n limits small fits start report) in cc;
 }
 
 -- the reason of its fault, as a refusal
-pub fault_so : (held : Held) (name : List ℕ) (i : Tables) (a0 : List Machine) (l : Lots) (before now : Faults) (told : Result ℕ VerifyFault) (why : VerifyFault) → WellFormed i → Small i → IsAssignment i a0 → Feasible i a0 a0 → told ≡ Err why → IfSome (held name) (λ bytes. (n : ℕ) → told ≡ Err (fault.Wrong n) → IsWrongLine i a0 l bytes (Some n)) → (told ≡ Err fault.ReadFault → Rose (before name) (now name)) → CountReason held name i a0 l before now (refused_by why)
+pub fault_so : (held : Held) (name : List ℕ) (i : Tables) (a0 : List Machine) (l : Lots) (before now : Faults)
+    (told : Result ℕ VerifyFault) (why : VerifyFault) → WellFormed i → Small i → IsAssignment i a0 → Feasible i a0 a0 →
+    told ≡ Err why →
+    IfSome (held name) (λ bytes. (n : ℕ) → told ≡ Err (fault.Wrong n) → IsWrongLine i a0 l bytes (Some n)) →
+    (told ≡ Err fault.ReadFault → Rose (before name) (now name)) →
+    CountReason held name i a0 l before now (refused_by why)
 fault_so held name i a0 l before now told fault.ReadFault limits small fits start is wrong rose = (start, rose is)
-fault_so held name i a0 l before now told (fault.Wrong line) limits small fits start is wrong rose =
-    (start, wrong_so i a0 l (held name) line limits small fits start (some_then (held name) (λ bytes. (n : ℕ) → told ≡ Err (fault.Wrong n) → IsWrongLine i a0 l bytes (Some n)) (λ bytes. IsWrongLine i a0 l bytes (Some line)) (λ bytes each. each line is) wrong))
+fault_so held name i a0 l before now told (fault.Wrong line) limits small fits start is wrong rose = (
+  start,
+  wrong_so i a0 l (held name) line limits small fits start
+      (some_then (held name) (λ bytes. (n : ℕ) → told ≡ Err (fault.Wrong n) → IsWrongLine i a0 l bytes (Some n))
+      (λ bytes. IsWrongLine i a0 l bytes (Some line)) (λ bytes each. each line is) wrong),
+)
 fault_so held name i a0 l before now told fault.NoMemory limits small fits start is wrong rose = tt
 
 -- ---- its own refusals
 
-pub own_more : (held : Held) (names : Names) (l : Lots) (written more : Type 0) → (written → more) → (refusal : Refusal) → VerifyOwn held names l written refusal → VerifyOwn held names l more refusal
+pub own_more : (held : Held) (names : Names) (l : Lots) (written more : Type 0) → (written → more) →
+    (refusal : Refusal) → VerifyOwn held names l written refusal → VerifyOwn held names l more refusal
 own_more held names l written more step (Broken role.Initial cause) reason = reason
 own_more held names l written more step (WrongLine line) reason = reason
 own_more held names l written more step Write reason = step reason
 own_more held names l written more step refusal reason = reason
 
-pub own_tells : (held : Held) (names : Names) (l : Lots) (written : Type 0) (refusal : Refusal) → VerifyOwn held names l written refusal → CanTell names refusal
+pub own_tells : (held : Held) (names : Names) (l : Lots) (written : Type 0) (refusal : Refusal) →
+    VerifyOwn held names l written refusal → CanTell names refusal
 own_tells held names l written (Broken role.Initial cause) reason = reason.named
 own_tells held names l written (WrongLine line) reason = tt
 own_tells held names l written Write reason = tt
 own_tells held names l written refusal reason = absurd reason
 
-pub verified_went : (held : Held) (names : Names) (l : Lots) (sent : List ℕ → Type 0) → VerifyPrinted held names l sent → Went held names
+pub verified_went : (held : Held) (names : Names) (l : Lots) (sent : List ℕ → Type 0) →
+    VerifyPrinted held names l sent → Went held names
 verified_went held names l sent v = passed_went held names v.read.tables v.read.a0 v.read.a0 v.read.passes
 
-pub own_listed : (held : Held) (names : Names) (l : Lots) (written : Type 0) → (written → Went held names) → (refusal : Refusal) → VerifyOwn held names l written refusal → Listed held names
-own_listed held names l written went (Broken role.Initial cause) reason = record { tables = reason.tables; a0 = reason.a0; a = reason.a; accepts = reason.accepts }
-own_listed held names l written went (WrongLine line) reason = record { tables = reason.tables; a0 = reason.a0; a = reason.a0; accepts = reason.passes.accepts }
+pub own_listed : (held : Held) (names : Names) (l : Lots) (written : Type 0) → (written → Went held names) →
+    (refusal : Refusal) → VerifyOwn held names l written refusal → Listed held names
+own_listed held names l written went (Broken role.Initial cause) reason = record {
+  tables = reason.tables;
+  a0 = reason.a0;
+  a = reason.a;
+  accepts = reason.accepts;
+}
+own_listed held names l written went (WrongLine line) reason = record {
+  tables = reason.tables;
+  a0 = reason.a0;
+  a = reason.a0;
+  accepts = reason.passes.accepts;
+}
 own_listed held names l written went Write reason = (went reason).listed
 own_listed held names l written went refusal reason = absurd reason
 
-own_stops : (held : Held) (names : Names) (l : Lots) (written : Type 0) → (written → Went held names) → (Went held names → ⊥) → (refusal : Refusal) → VerifyOwn held names l written refusal → status_of refusal ≡ Infeasible
+own_stops : (held : Held) (names : Names) (l : Lots) (written : Type 0) → (written → Went held names) →
+    (Went held names → ⊥) → (refusal : Refusal) → VerifyOwn held names l written refusal →
+    status_of refusal ≡ Infeasible
 unfolding status_of
 own_stops held names l written went never (Broken role.Initial cause) reason = refl
-own_stops held names l written went never (WrongLine line) reason = absurd (never (passed_went held names reason.tables reason.a0 reason.a0 reason.passes))
+own_stops held names l written went never (WrongLine line) reason =
+    absurd (never (passed_went held names reason.tables reason.a0 reason.a0 reason.passes))
 own_stops held names l written went never Write reason = absurd (never (went reason))
 own_stops held names l written went never refusal reason = absurd reason
 
-own_broke : (held : Held) (names : Names) (l : Lots) (written : Type 0) (before now : Faults) (refusal : Refusal) → Reason held names before now (VerifyOwn held names l written) refusal → status_of refusal ≡ Infeasible → (which : Role) × (cause : Cause) × RoleBreaks held names which cause
+own_broke : (held : Held) (names : Names) (l : Lots) (written : Type 0) (before now : Faults) (refusal : Refusal) →
+    Reason held names before now (VerifyOwn held names l written) refusal → status_of refusal ≡ Infeasible →
+    (which : Role) × (cause : Cause) × RoleBreaks held names which cause
 unfolding status_of
 own_broke held names l written before now (Broken role.Initial cause) reason e = (role.Initial, cause, reason)
 own_broke held names l written before now (Broken role.Changed cause) reason e = absurd reason
 own_broke held names l written before now refusal reason e = absurd (cc)
 
-pub verify_infeasible : {held : Held} {names : Names} {before now : Faults} {output : Type 0} {l : Lots} {written : Type 0} {tells : List ℕ → Type 0} {out_same err_same : Type 0} {status : Status} → Ends held names before now output (VerifyOwn held names l written) tells out_same err_same status → (output → Went held names) → (written → Went held names) → InfeasibleComes held names before now status
-verify_infeasible {held} {names} {before} {now} {output} {l} {written} ends printed went = infeasible_of ends printed (own_broke held names l written before now) (λ never. own_stops held names l written went never)
+pub verify_infeasible : {held : Held} {names : Names} {before now : Faults} {output : Type 0} {l : Lots}
+    {written : Type 0} {tells : List ℕ → Type 0} {out_same err_same : Type 0} {status : Status} →
+    Ends held names before now output (VerifyOwn held names l written) tells out_same err_same status →
+    (output → Went held names) → (written → Went held names) → InfeasibleComes held names before now status
+verify_infeasible {held} {names} {before} {now} {output} {l} {written} ends printed went =
+    infeasible_of ends printed (own_broke held names l written before now)
+    (λ never. own_stops held names l written went never)
 
-own_wrong : (held : Held) (names : Names) (l : Lots) (written : Type 0) (before now : Faults) (refusal : Refusal) → Reason held names before now (VerifyOwn held names l written) refusal → status_of refusal ≡ Wrong → (line : ℕ) × ReportWrong held names l line
+own_wrong : (held : Held) (names : Names) (l : Lots) (written : Type 0) (before now : Faults) (refusal : Refusal) →
+    Reason held names before now (VerifyOwn held names l written) refusal → status_of refusal ≡ Wrong → (line : ℕ)
+    × ReportWrong held names l line
 unfolding status_of
 own_wrong held names l written before now (WrongLine line) reason e = (line, reason)
 own_wrong held names l written before now refusal reason e = absurd (cc)
 
 -- over known files that pass, a refusal is one of its own or of memory
-own_left : (held : Held) (model : List ℕ) (closed : Option (List ℕ)) (initial report : List ℕ) (before now : Faults) (own : Refusal → Type 0) (i : Tables) (a0 : List Machine) → Passes held (verify_names model initial report closed) i a0 a0 → KnownTo held (verify_names model initial report closed) before now file.Report → (refusal : Refusal) → Reason held (verify_names model initial report closed) before now own refusal → own refusal ⊎ (status_of refusal ≡ NoMemory)
+own_left : (held : Held) (model : List ℕ) (closed : Option (List ℕ)) (initial report : List ℕ) (before now : Faults)
+    (own : Refusal → Type 0) (i : Tables) (a0 : List Machine) →
+    Passes held (verify_names model initial report closed) i a0 a0 →
+    KnownTo held (verify_names model initial report closed) before now file.Report → (refusal : Refusal) →
+    Reason held (verify_names model initial report closed) before now own refusal → own refusal
+    ⊎ (status_of refusal ≡ NoMemory)
 unfolding name_of status_of
-own_left held model closed initial report before now own i a0 passes known (Read file.Model) reason = absurd ((known.0 tt).1 reason.rose)
-own_left held model closed initial report before now own i a0 passes known (Read file.Closed) reason = absurd ((known.1 reason.named).1 reason.rose)
-own_left held model closed initial report before now own i a0 passes known (Read file.Initial) reason = absurd ((known.2 reason.named).1 reason.rose)
-own_left held model closed initial report before now own i a0 passes known (Read file.Changed) reason = absurd (let none = reason.named in cc)
-own_left held model closed initial report before now own i a0 passes known (Read file.Report) reason = absurd ((known.3 reason.named).1 reason.rose)
-own_left held model closed initial report before now own i a0 passes known (Read file.Edits) reason = absurd (let none = reason.named in cc)
-own_left held model closed initial report before now own i a0 passes known (Model fault) reason = absurd (no_model held model (known.0 tt).0 fault reason passes.accepts.instance.model passes.accepts.instance.read)
-own_left held model closed initial report before now own i a0 passes known (Closed fault) reason = absurd (no_closed held model closed (known.0 tt).0 (told_of held closed _ known.1) fault reason i passes.accepts.instance)
+own_left held model closed initial report before now own i a0 passes known (Read file.Model) reason =
+    absurd ((known.0 tt).1 reason.rose)
+own_left held model closed initial report before now own i a0 passes known (Read file.Closed) reason =
+    absurd ((known.1 reason.named).1 reason.rose)
+own_left held model closed initial report before now own i a0 passes known (Read file.Initial) reason =
+    absurd ((known.2 reason.named).1 reason.rose)
+own_left held model closed initial report before now own i a0 passes known (Read file.Changed) reason =
+    absurd (let none = reason.named in cc)
+own_left held model closed initial report before now own i a0 passes known (Read file.Report) reason =
+    absurd ((known.3 reason.named).1 reason.rose)
+own_left held model closed initial report before now own i a0 passes known (Read file.Edits) reason =
+    absurd (let none = reason.named in cc)
+own_left held model closed initial report before now own i a0 passes known (Model fault) reason =
+    absurd (no_model held model (known.0 tt).0 fault reason passes.accepts.instance.model passes.accepts.instance.read)
+own_left held model closed initial report before now own i a0 passes known (Closed fault) reason =
+    absurd (no_closed held model closed (known.0 tt).0 (told_of held closed _ known.1) fault reason i
+    passes.accepts.instance)
 own_left held model closed initial report before now own i a0 passes known (Assign role.Initial fault) reason =
-    absurd (no_initial held (verify_names model initial report closed) (known.0 tt).0 (told_of held closed _ known.1) (told_of held (Some initial) _ known.2) fault reason i a0 passes.accepts.instance passes.accepts.initial)
-own_left held model closed initial report before now own i a0 passes known (Assign role.Changed fault) reason = absurd (let none = reason.named in cc)
+    absurd (no_initial held (verify_names model initial report closed) (known.0 tt).0 (told_of held closed _ known.1)
+    (told_of held (Some initial) _ known.2) fault reason i a0 passes.accepts.instance passes.accepts.initial)
+own_left held model closed initial report before now own i a0 passes known (Assign role.Changed fault) reason =
+    absurd (let none = reason.named in cc)
 own_left held model closed initial report before now own i a0 passes known Memory reason = inr refl
 own_left held model closed initial report before now own i a0 passes known refusal reason = inl reason
 
 -- a told report has one wrong line, or none
-told_not : (told : Option (List ℕ)) → IsSome told → (P Q : List ℕ → Type 0) → ((bytes : List ℕ) → P bytes → Q bytes → ⊥) → IfSome told P → IfSome told Q → ⊥
+told_not : (told : Option (List ℕ)) → IsSome told → (P Q : List ℕ → Type 0) →
+    ((bytes : List ℕ) → P bytes → Q bytes → ⊥) → IfSome told P → IfSome told Q → ⊥
 told_not None some P Q never p q = absurd (cc)
 told_not (Some bytes) some P Q never p q = never bytes p q
 
-solved_passes : (held : Held) (names : Names) (l : Lots) (n : ℕ) (bytes : List ℕ) (s : IsSolved held names l n bytes) → Passes held names s.solved.tables s.solved.a0 s.solved.a0
-solved_passes held names l n bytes s = record { accepts = s.solved.accepts; initial = s.solved.start; changed = s.solved.start }
+solved_passes : (held : Held) (names : Names) (l : Lots) (n : ℕ) (bytes : List ℕ) (s : IsSolved held names l n bytes) →
+    Passes held names s.solved.tables s.solved.a0 s.solved.a0
+solved_passes held names l n bytes s = record {
+  accepts = s.solved.accepts;
+  initial = s.solved.start;
+  changed = s.solved.start;
+}
 
 -- what is wrong or right for one instance that the other files mean is so for each
 
 abbrev AllWrong : Held → Names → Lots → ℕ → Type 0
-AllWrong held names l line = (i : Tables) (a0 : List Machine) → Passes held names i a0 a0 → IsWrongReport held names i a0 l line
+AllWrong held names l line =
+    (i : Tables) (a0 : List Machine) → Passes held names i a0 a0 → IsWrongReport held names i a0 l line
 
 abbrev AllRight : Held → Names → Lots → Type 0
 AllRight held names l = (i : Tables) (a0 : List Machine) → Passes held names i a0 a0 → IsRightReport held names i a0 l
 
-module _ (held : Held) (model : List ℕ) (closed : Option (List ℕ)) (initial report : List ℕ) (before now : Faults) (i : Tables) (a0 : List Machine) (passes : Passes held (verify_names model initial report closed) i a0 a0) (known : KnownTo held (verify_names model initial report closed) before now file.Report) where
+module _ (held : Held) (model : List ℕ) (closed : Option (List ℕ)) (initial report : List ℕ) (before now : Faults)
+    (i : Tables) (a0 : List Machine) (passes : Passes held (verify_names model initial report closed) i a0 a0)
+    (known : KnownTo held (verify_names model initial report closed) before now file.Report) where
   abbrev these : Names
   these = verify_names model initial report closed
 
   instance_same : (j : Tables) (b0 : List Machine) → Passes held these j b0 b0 → bare i ≡ bare j
   unfolding name_of
-  instance_same j b0 other = instances_same held model closed (known.0 tt).0 (told_of held closed _ known.1) i j passes.accepts.instance other.accepts.instance
+  instance_same j b0 other = instances_same held model closed (known.0 tt).0 (told_of held closed _ known.1) i j
+      passes.accepts.instance other.accepts.instance
 
   start_same : (j : Tables) (b0 : List Machine) → Passes held these j b0 b0 → a0 ≡ b0
   unfolding name_of
-  start_same j b0 other = lists_same held (Some initial) (told_of held (Some initial) _ known.2) refl i j a0 b0 passes.accepts.initial other.accepts.initial
+  start_same j b0 other = lists_same held (Some initial) (told_of held (Some initial) _ known.2) refl i j a0 b0
+      passes.accepts.initial other.accepts.initial
 
   all_wrong : (l : Lots) (line : ℕ) → IsWrongReport held these i a0 l line → AllWrong held these l line
-  all_wrong l line wrong j b0 other = some_then (held (name_of these file.Report)) (λ bytes. IsWrongLine i a0 l bytes (Some line)) (λ bytes. IsWrongLine j b0 l bytes (Some line))
-      (λ bytes is. subst (λ (a : List Machine). IsWrongLine j a l bytes (Some line)) (start_same j b0 other) (wrong_line_same i j (instance_same j b0 other) a0 l bytes (Some line) is)) wrong
+  all_wrong l line wrong j b0 other =
+      some_then (held (name_of these file.Report)) (λ bytes. IsWrongLine i a0 l bytes (Some line))
+      (λ bytes. IsWrongLine j b0 l bytes (Some line))
+      (λ bytes is. subst (λ (a : List Machine). IsWrongLine j a l bytes (Some line)) (start_same j b0 other)
+      (wrong_line_same i j (instance_same j b0 other) a0 l bytes (Some line) is)) wrong
 
   all_right : (l : Lots) → IsRightReport held these i a0 l → AllRight held these l
-  all_right l right j b0 other = some_then (held (name_of these file.Report)) (λ bytes. (n : ℕ) × IsReport i a0 l bytes n) (λ bytes. (n : ℕ) × IsReport j b0 l bytes n)
-      (λ bytes is. (is.0, subst (λ (a : List Machine). IsReport j a l bytes is.0) (start_same j b0 other) (is_report_same i j (instance_same j b0 other) a0 l bytes is.0 is.1))) right
+  all_right l right j b0 other =
+      some_then (held (name_of these file.Report)) (λ bytes. (n : ℕ) × IsReport i a0 l bytes n)
+      (λ bytes. (n : ℕ) × IsReport j b0 l bytes n)
+      (λ bytes is. (
+        is.0,
+        subst (λ (a : List Machine). IsReport j a l bytes is.0) (start_same j b0 other)
+            (is_report_same i j (instance_same j b0 other) a0 l bytes is.0 is.1),
+      )) right
 
 -- no report is accepted that has a wrong line
-read_not : (held : Held) (names : Names) (l : Lots) (line n : ℕ) → IsSome (held (name_of names file.Report)) → AllWrong held names l line → IsRead held names l n → ⊥
+read_not : (held : Held) (names : Names) (l : Lots) (line n : ℕ) → IsSome (held (name_of names file.Report)) →
+    AllWrong held names l line → IsRead held names l n → ⊥
 read_not held names l line n told wrong read = go (held (name_of names file.Report)) told read.report wrong
   where
-    go : (o : Option (List ℕ)) → IsSome o → IfSome o (IsSolved held names l n) → ((i : Tables) (a0 : List Machine) → Passes held names i a0 a0 → IfSome o (λ bytes. IsWrongLine i a0 l bytes (Some line))) → ⊥
+    go : (o : Option (List ℕ)) → IsSome o → IfSome o (IsSolved held names l n) →
+        ((i : Tables) (a0 : List Machine) → Passes held names i a0 a0 →
+        IfSome o (λ bytes. IsWrongLine i a0 l bytes (Some line))) → ⊥
     go None some is first = absurd (cc)
     go (Some bytes) some is first =
-        let both : None ≡ Some line = one_wrong_line is.solved.tables is.solved.a0 l bytes None (Some line) is.none_wrong (first is.solved.tables is.solved.a0 (solved_passes held names l n bytes is)) in
+        let both : None ≡ Some line = one_wrong_line is.solved.tables is.solved.a0 l bytes None (Some line)
+        is.none_wrong (first is.solved.tables is.solved.a0 (solved_passes held names l n bytes is)) in
         cc
 
 -- and none is wrong that is right
-wrong_not : (held : Held) (names : Names) (l : Lots) (line : ℕ) → IsSome (held (name_of names file.Report)) → AllRight held names l → ReportWrong held names l line → ⊥
-wrong_not held names l line told right wrong = told_not (held (name_of names file.Report)) told (IsWrongAt wrong.tables wrong.a0 l line) (λ bytes. (n : ℕ) × IsReport wrong.tables wrong.a0 l bytes n)
+wrong_not : (held : Held) (names : Names) (l : Lots) (line : ℕ) → IsSome (held (name_of names file.Report)) →
+    AllRight held names l → ReportWrong held names l line → ⊥
+wrong_not held names l line told right wrong =
+    told_not (held (name_of names file.Report)) told (IsWrongAt wrong.tables wrong.a0 l line)
+    (λ bytes. (n : ℕ) × IsReport wrong.tables wrong.a0 l bytes n)
     (λ bytes is report. is.no_report report.0 report.1) wrong.wrong (right wrong.tables wrong.a0 wrong.passes)
 
-wrong_own : (held : Held) (model : List ℕ) (closed : Option (List ℕ)) (initial report : List ℕ) (before now : Faults) (l : Lots) (sent : List ℕ → Type 0) (i : Tables) (a0 : List Machine) → Passes held (verify_names model initial report closed) i a0 a0 → KnownTo held (verify_names model initial report closed) before now file.Report → (line : ℕ) → AllWrong held (verify_names model initial report closed) l line
-    → (refusal : Refusal) → VerifyOwn held (verify_names model initial report closed) l (VerifyPrinted held (verify_names model initial report closed) l sent) refusal → status_of refusal ≡ Wrong
+wrong_own : (held : Held) (model : List ℕ) (closed : Option (List ℕ)) (initial report : List ℕ) (before now : Faults)
+    (l : Lots) (sent : List ℕ → Type 0) (i : Tables) (a0 : List Machine) →
+    Passes held (verify_names model initial report closed) i a0 a0 →
+    KnownTo held (verify_names model initial report closed) before now file.Report → (line : ℕ) →
+    AllWrong held (verify_names model initial report closed) l line
+    → (refusal : Refusal) → VerifyOwn held (verify_names model initial report closed) l
+    (VerifyPrinted held (verify_names model initial report closed) l sent) refusal → status_of refusal ≡ Wrong
 unfolding name_of status_of
-wrong_own held model closed initial report before now l sent i a0 passes known line wrong (Broken role.Initial cause) reason =
-    absurd (no_initial_break held (verify_names model initial report closed) (known.0 tt).0 (told_of held closed _ known.1) (told_of held (Some initial) _ known.2) cause reason i a0 a0 passes.accepts passes.initial)
-wrong_own held model closed initial report before now l sent i a0 passes known line wrong (WrongLine other) reason = refl
-wrong_own held model closed initial report before now l sent i a0 passes known line wrong Write reason = absurd (read_not held (verify_names model initial report closed) l line reason.entries (known.3 refl).0 wrong reason.read)
+wrong_own held model closed initial report before now l sent i a0 passes known line wrong (Broken role.Initial cause)
+    reason =
+    absurd (no_initial_break held (verify_names model initial report closed) (known.0 tt).0
+    (told_of held closed _ known.1) (told_of held (Some initial) _ known.2) cause reason i a0 a0 passes.accepts
+    passes.initial)
+wrong_own held model closed initial report before now l sent i a0 passes known line wrong (WrongLine other) reason =
+    refl
+wrong_own held model closed initial report before now l sent i a0 passes known line wrong Write reason =
+    absurd (read_not held (verify_names model initial report closed) l line reason.entries (known.3 refl).0 wrong
+    reason.read)
 wrong_own held model closed initial report before now l sent i a0 passes known line wrong refusal reason = absurd reason
 
-right_own : (held : Held) (model : List ℕ) (closed : Option (List ℕ)) (initial report : List ℕ) (before now : Faults) (l : Lots) (sent : List ℕ → Type 0) (i : Tables) (a0 : List Machine) → Passes held (verify_names model initial report closed) i a0 a0 → KnownTo held (verify_names model initial report closed) before now file.Report → AllRight held (verify_names model initial report closed) l
-    → (refusal : Refusal) → VerifyOwn held (verify_names model initial report closed) l (VerifyPrinted held (verify_names model initial report closed) l sent) refusal → status_of refusal ≡ WriteFault
+right_own : (held : Held) (model : List ℕ) (closed : Option (List ℕ)) (initial report : List ℕ) (before now : Faults)
+    (l : Lots) (sent : List ℕ → Type 0) (i : Tables) (a0 : List Machine) →
+    Passes held (verify_names model initial report closed) i a0 a0 →
+    KnownTo held (verify_names model initial report closed) before now file.Report →
+    AllRight held (verify_names model initial report closed) l
+    → (refusal : Refusal) → VerifyOwn held (verify_names model initial report closed) l
+    (VerifyPrinted held (verify_names model initial report closed) l sent) refusal → status_of refusal ≡ WriteFault
 unfolding name_of status_of
-right_own held model closed initial report before now l sent i a0 passes known right (Broken role.Initial cause) reason =
-    absurd (no_initial_break held (verify_names model initial report closed) (known.0 tt).0 (told_of held closed _ known.1) (told_of held (Some initial) _ known.2) cause reason i a0 a0 passes.accepts passes.initial)
-right_own held model closed initial report before now l sent i a0 passes known right (WrongLine line) reason = absurd (wrong_not held (verify_names model initial report closed) l line (known.3 refl).0 right reason)
+right_own held model closed initial report before now l sent i a0 passes known right (Broken role.Initial cause)
+    reason =
+    absurd (no_initial_break held (verify_names model initial report closed) (known.0 tt).0
+    (told_of held closed _ known.1) (told_of held (Some initial) _ known.2) cause reason i a0 a0 passes.accepts
+    passes.initial)
+right_own held model closed initial report before now l sent i a0 passes known right (WrongLine line) reason =
+    absurd (wrong_not held (verify_names model initial report closed) l line (known.3 refl).0 right reason)
 right_own held model closed initial report before now l sent i a0 passes known right Write reason = refl
 right_own held model closed initial report before now l sent i a0 passes known right refusal reason = absurd reason
 
-pub verify_verdict : {held : Held} {before now : Faults} {tells : List ℕ → Type 0} {out_same err_same : Type 0} {status : Status} (model : List ℕ) (closed : Option (List ℕ)) (initial report : List ℕ) (l : Lots) (asked : Lots → Type 0) (prints breaks : List ℕ → Type 0) → asked l
-    → Ends held (verify_names model initial report closed) before now (VerifyPrinted held (verify_names model initial report closed) l prints) (VerifyOwn held (verify_names model initial report closed) l (VerifyPrinted held (verify_names model initial report closed) l breaks)) tells out_same err_same status
+pub verify_verdict : {held : Held} {before now : Faults} {tells : List ℕ → Type 0} {out_same err_same : Type 0}
+    {status : Status} (model : List ℕ) (closed : Option (List ℕ)) (initial report : List ℕ) (l : Lots)
+    (asked : Lots → Type 0) (prints breaks : List ℕ → Type 0) → asked l
+    → Ends held (verify_names model initial report closed) before now
+    (VerifyPrinted held (verify_names model initial report closed) l prints)
+    (VerifyOwn held (verify_names model initial report closed) l
+    (VerifyPrinted held (verify_names model initial report closed) l breaks)) tells out_same err_same status
     → VerdictComes held (verify_names model initial report closed) asked before now status
 unfolding name_of
-verify_verdict {held} {before} {now} {tells} {out_same} {err_same} {status} model closed initial report l asked prints breaks is ends =
+verify_verdict {held} {before} {now} {tells} {out_same} {err_same} {status} model closed initial report l asked prints
+    breaks is ends =
     let names = verify_names model initial report closed in
     let own : Refusal → Type 0 = VerifyOwn held names l (VerifyPrinted held names l breaks) in
     record {
       wrong = λ (told : status ≡ Wrong).
-          let refused = ends.refused (λ (done : status ≡ Done). let e : Done ≡ Wrong = sym done ∙ told in cc) in
-          (l, is, own_wrong held names l (VerifyPrinted held names l breaks) before now refused.refusal refused.reason (sym refused.is ∙ told));
+          let refused = ends.refused (λ (done : status ≡ Done). let e : Done ≡ Wrong = sym done ∙ told in cc) in (
+            l,
+            is,
+            own_wrong held names l (VerifyPrinted held names l breaks) before now refused.refusal refused.reason
+                (sym refused.is ∙ told),
+          );
       is_wrong = λ i a0 passes known line wrong. ⊎_elim
-          (λ (done : status ≡ Done). let v = ends.printed done in absurd (read_not held names l line v.entries (known.3 refl).0 (all_wrong held model closed initial report before now i a0 passes known l line (wrong l is)) v.read))
+          (λ (done : status ≡ Done). let v = ends.printed done in
+          absurd (read_not held names l line v.entries (known.3 refl).0
+          (all_wrong held model closed initial report before now i a0 passes known l line (wrong l is))
+          v.read))
           (λ (other : status ≢ Done).
           let refused = ends.refused other in
           ⊎_elim
-          (λ (reason : own refused.refusal). inl (refused.is ∙ wrong_own held model closed initial report before now l breaks i a0 passes known line (all_wrong held model closed initial report before now i a0 passes known l line (wrong l is)) refused.refusal reason))
+          (λ (reason : own refused.refusal).
+          inl (refused.is ∙ wrong_own held model closed initial report before now l breaks i a0 passes known
+          line (all_wrong held model closed initial report before now i a0 passes known l line (wrong l is))
+          refused.refusal reason))
           (λ (memory : status_of refused.refusal ≡ NoMemory). inr (refused.is ∙ memory))
           (own_left held model closed initial report before now own i a0 passes known refused.refusal refused.reason))
           (is_done status);
@@ -277,48 +458,66 @@ verify_verdict {held} {before} {now} {tells} {out_same} {err_same} {status} mode
           (λ (other : status ≢ Done).
           let refused = ends.refused other in
           ⊎_elim
-          (λ (reason : own refused.refusal). inr (inl (refused.is ∙ right_own held model closed initial report before now l breaks i a0 passes known (all_right held model closed initial report before now i a0 passes known l (right l is)) refused.refusal reason)))
+          (λ (reason : own refused.refusal).
+          inr (inl (refused.is ∙ right_own held model closed initial report before now l breaks i a0 passes
+          known (all_right held model closed initial report before now i a0 passes known l (right l is))
+          refused.refusal reason)))
           (λ (memory : status_of refused.refusal ≡ NoMemory). inr (inr (refused.is ∙ memory)))
           (own_left held model closed initial report before now own i a0 passes known refused.refusal refused.reason))
           (is_done status);
     }
 
 -- over valid files a verdict is told
-valid_own : (held : Held) (names : Names) (l : Lots) (written : Type 0) → AreValid held names → (written → ⊥) → (refusal : Refusal) → VerifyOwn held names l written refusal → status_of refusal ≡ Wrong
+valid_own : (held : Held) (names : Names) (l : Lots) (written : Type 0) → AreValid held names → (written → ⊥) →
+    (refusal : Refusal) → VerifyOwn held names l written refusal → status_of refusal ≡ Wrong
 unfolding status_of
 valid_own held names l written valid wrote (Broken role.Initial cause) reason =
-    let none = unbroken_from_feasible reason.tables reason.a0 reason.a0 (valid.initial reason.named reason.tables reason.a0 reason.a reason.accepts) in
+    let none = unbroken_from_feasible reason.tables reason.a0 reason.a0
+    (valid.initial reason.named reason.tables reason.a0 reason.a reason.accepts) in
     absurd (let both : None ≡ Some cause = sym none ∙ reason.broken in cc)
 valid_own held names l written valid wrote (WrongLine line) reason = refl
 valid_own held names l written valid wrote Write reason = absurd (wrote reason)
 valid_own held names l written valid wrote refusal reason = absurd reason
 
-pub verify_complete : (held : Held) (names : Names) (l : Lots) (written : Type 0) (status : Status) → AreValid held names → (written → ⊥) → (status ≡ Done) ⊎ ((status ≡ NoMemory) ⊎ OwnRefused (VerifyOwn held names l written) status) → (status ≡ Done) ⊎ ((status ≡ Wrong) ⊎ (status ≡ NoMemory))
+pub verify_complete : (held : Held) (names : Names) (l : Lots) (written : Type 0) (status : Status) →
+    AreValid held names → (written → ⊥) → (status ≡ Done)
+    ⊎ ((status ≡ NoMemory) ⊎ OwnRefused (VerifyOwn held names l written) status) → (status ≡ Done)
+    ⊎ ((status ≡ Wrong) ⊎ (status ≡ NoMemory))
 verify_complete held names l written status valid wrote ended = ⊎_elim
     (λ (done : status ≡ Done). inl done)
     (λ (other : (status ≡ NoMemory) ⊎ OwnRefused (VerifyOwn held names l written) status). inr (⊎_elim
     (λ (memory : status ≡ NoMemory). inr memory)
-    (λ (refused : OwnRefused (VerifyOwn held names l written) status). inl (refused.is ∙ valid_own held names l written valid wrote refused.refusal refused.reason))
+    (λ (refused : OwnRefused (VerifyOwn held names l written) status).
+    inl (refused.is ∙ valid_own held names l written valid wrote refused.refusal refused.reason))
     other))
     ended
 
 -- for other words of the lots
-pub verdict_more : (held : Held) (names : Names) (asked more : Lots → Type 0) (before now : Faults) (status : Status) → ((l : Lots) → asked l → more l) → VerdictComes held names asked before now status → VerdictComes held names more before now status
+pub verdict_more : (held : Held) (names : Names) (asked more : Lots → Type 0) (before now : Faults) (status : Status) →
+    ((l : Lots) → asked l → more l) → VerdictComes held names asked before now status →
+    VerdictComes held names more before now status
 verdict_more held names asked more before now status step v = record {
   wrong = λ told. let w = v.wrong told in (w.0, step w.0 w.1, w.2);
   is_wrong = λ i a0 passes known line wrong. v.is_wrong i a0 passes known line (λ l is. wrong l (step l is));
   is_right = λ i a0 passes known right. v.is_right i a0 passes known (λ l is. right l (step l is));
 }
 
-pub can_tell_verdict : (held : Held) (names : Names) (before now : Faults) (l : Lots) (written : Type 0) (refusal : Refusal) → Reason held names before now (VerifyOwn held names l written) refusal → CanTell names refusal
-can_tell_verdict held names before now l written = can_tell held names before now (VerifyOwn held names l written) (own_tells held names l written)
+pub can_tell_verdict : (held : Held) (names : Names) (before now : Faults) (l : Lots) (written : Type 0)
+    (refusal : Refusal) → Reason held names before now (VerifyOwn held names l written) refusal → CanTell names refusal
+can_tell_verdict held names before now l written =
+    can_tell held names before now (VerifyOwn held names l written) (own_tells held names l written)
 
 -- a refusal before anything was written
-pub reason_unwritten_verdict : (held : Held) (names : Names) (before now : Faults) (l : Lots) (written : Type 0) (refusal : Refusal) → Reason held names before now (VerifyOwn held names l ⊥) refusal → Reason held names before now (VerifyOwn held names l written) refusal
-reason_unwritten_verdict held names before now l written refusal reason = reason_more held names before now (VerifyOwn held names l ⊥) (VerifyOwn held names l written) (own_more held names l ⊥ written (λ none. absurd none)) refusal reason
+pub reason_unwritten_verdict : (held : Held) (names : Names) (before now : Faults) (l : Lots) (written : Type 0)
+    (refusal : Refusal) → Reason held names before now (VerifyOwn held names l ⊥) refusal →
+    Reason held names before now (VerifyOwn held names l written) refusal
+reason_unwritten_verdict held names before now l written refusal reason =
+    reason_more held names before now (VerifyOwn held names l ⊥) (VerifyOwn held names l written)
+    (own_more held names l ⊥ written (λ none. absurd none)) refusal reason
 
 -- if memory was refused before the words were read
-pub verdict_not : (held : Held) (names : Names) (asked : Lots → Type 0) (before now : Faults) (status : Status) → status ≡ NoMemory → VerdictComes held names asked before now status
+pub verdict_not : (held : Held) (names : Names) (asked : Lots → Type 0) (before now : Faults) (status : Status) →
+    status ≡ NoMemory → VerdictComes held names asked before now status
 verdict_not held names asked before now status is = record {
   wrong = λ told. absurd (let both : NoMemory ≡ Wrong = sym is ∙ told in cc);
   is_wrong = λ i a0 passes known line wrong. inr is;
@@ -328,10 +527,18 @@ verdict_not held names asked before now status is = record {
 -- what the command does
 
 -- a refusal of these lots, as one of some
-pub reason_these_lots : (held : Held) (names : Names) (l : Lots) (before now : Faults) (sent : List ℕ → Type 0) (refusal : Refusal) → Reason held names before now (VerifyOwn held names l (VerifyPrinted held names l sent)) refusal → Reason held names before now ((verifying names (These l)).refuses held sent sent) refusal
-reason_these_lots held names l before now sent = reason_more held names before now (VerifyOwn held names l (VerifyPrinted held names l sent)) ((verifying names (These l)).refuses held sent sent) (λ r own. (l, refl, own))
+pub reason_these_lots : (held : Held) (names : Names) (l : Lots) (before now : Faults) (sent : List ℕ → Type 0)
+    (refusal : Refusal) → Reason held names before now (VerifyOwn held names l (VerifyPrinted held names l sent))
+    refusal → Reason held names before now ((verifying names (These l)).refuses held sent sent) refusal
+reason_these_lots held names l before now sent =
+    reason_more held names before now (VerifyOwn held names l (VerifyPrinted held names l sent))
+    ((verifying names (These l)).refuses held sent sent) (λ r own. (l, refl, own))
 
-pub verify_so : (model : List ℕ) (closed : Option (List ℕ)) (initial report : List ℕ) (l : Lots) (files : Reading) (out err : Output) (ended : Result (Unit {0}) Refusal) (status : Status) → Tries (over (verifying (verify_names model initial report closed) (These l))) files out ended → Finishes (verify_names model initial report closed) ended err status → Does (over (verifying (verify_names model initial report closed) (These l))) files out err status
+pub verify_so : (model : List ℕ) (closed : Option (List ℕ)) (initial report : List ℕ) (l : Lots) (files : Reading)
+    (out err : Output) (ended : Result (Unit {0}) Refusal) (status : Status) →
+    Tries (over (verifying (verify_names model initial report closed) (These l))) files out ended →
+    Finishes (verify_names model initial report closed) ended err status →
+    Does (over (verifying (verify_names model initial report closed) (These l))) files out err status
 verify_so model closed initial report l files out err ended status tries finishes =
     let held = files.held in
     let names = verify_names model initial report closed in
@@ -340,12 +547,16 @@ verify_so model closed initial report l files out err ended status tries finishe
     let breaks : List ℕ → Type 0 = BrokeOff out.sink in
     let written = VerifyPrinted held names l breaks in
     let ends : EndsOver c files out err status = finished c files out err ended status tries finishes in
-    let exact : Ends held names files.before files.after (VerifyPrinted held names l prints) (VerifyOwn held names l written) (Put err.sink) out.same err.same status = record {
+    let exact : Ends held names files.before files.after (VerifyPrinted held names l prints)
+    (VerifyOwn held names l written) (Put err.sink) out.same err.same status = record {
       printed = λ done. of_these {P = λ k. VerifyPrinted held names k prints} l (ends.printed done);
       no_line = ends.no_line;
       refused = λ other. let r = ends.refused other in record {
         refusal = r.refusal;
-        reason = reason_more held names files.before files.after (c.refuses held prints breaks) (VerifyOwn held names l written) (λ refusal reason. of_these {P = λ k. VerifyOwn held names k (VerifyPrinted held names k breaks) refusal} l reason) r.refusal r.reason;
+        reason = reason_more held names files.before files.after (c.refuses held prints breaks)
+            (VerifyOwn held names l written)
+            (λ refusal reason. of_these {P = λ k. VerifyOwn held names k (VerifyPrinted held names k breaks) refusal} l
+            reason) r.refusal r.reason;
         is = r.is;
         line = r.line;
         no_output = r.no_output;
@@ -353,18 +564,29 @@ verify_so model closed initial report l files out err ended status tries finishe
     } in
     does_so c files out err status ends
     (λ p. (verified_went held names p.0 prints p.2).listed)
-    (λ r p. own_listed held names p.0 (VerifyPrinted held names p.0 breaks) (verified_went held names p.0 breaks) r p.2)
-    (verify_infeasible exact (verified_went held names l prints) (verified_went held names l breaks), verify_verdict model closed initial report l (These l) prints breaks refl exact)
-    (λ valid sound wrote. verify_complete held names l written status valid (λ broken. wrote broken.text.1) (complete_own exact valid.accepted sound))
+    (λ r p. own_listed held names p.0 (VerifyPrinted held names p.0 breaks) (verified_went held names p.0 breaks) r p.2) (
+      verify_infeasible exact (verified_went held names l prints) (verified_went held names l breaks),
+      verify_verdict model closed initial report l (These l) prints breaks refl exact,
+    )
+    (λ valid sound wrote. verify_complete held names l written status valid (λ broken. wrote broken.text.1)
+    (complete_own exact valid.accepted sound))
     (left_so c files out err ended status tries finishes)
 
-pub verify_more : (names : Names) (asked more : Lots → Type 0) (files : Reading) (out err : Output) (status : Status) → ((l : Lots) → asked l → more l) → Does (over (verifying names asked)) files out err status → Does (over (verifying names more)) files out err status
+pub verify_more : (names : Names) (asked more : Lots → Type 0) (files : Reading) (out err : Output) (status : Status) →
+    ((l : Lots) → asked l → more l) → Does (over (verifying names asked)) files out err status →
+    Does (over (verifying names more)) files out err status
 verify_more names asked more files out err status step does =
     let c = verifying names asked in
     let d = verifying names more in
     does_more names c.prints d.prints c.refuses d.refuses c.own_comes d.own_comes c.valid c.answers files out err status
-    (λ p. (p.0, step p.0 p.1, p.2)) (λ r p. (p.0, step p.0 p.1, p.2)) (λ own. (own.0, verdict_more files.held names asked more files.before files.after status step own.1)) does
+    (λ p. (p.0, step p.0 p.1, p.2)) (λ r p. (p.0, step p.0 p.1, p.2))
+    (λ own. (own.0, verdict_more files.held names asked more files.before files.after status step own.1)) does
 
-pub verify_memory : (names : Names) (asked : Lots → Type 0) (files : Reading) (out err : Output) (status : Status) → status ≡ NoMemory → ((names : Names) → Put err.sink (refusal_line names Memory)) → out.same → Leaves files out err → Does (over (verifying names asked)) files out err status
+pub verify_memory : (names : Names) (asked : Lots → Type 0) (files : Reading) (out err : Output) (status : Status) →
+    status ≡ NoMemory → ((names : Names) → Put err.sink (refusal_line names Memory)) → out.same → Leaves files out err →
+    Does (over (verifying names asked)) files out err status
 verify_memory names asked files out err status is line same leaves =
-    memory_refused (verifying names asked) files out err status is line same leaves (infeasible_not files.held names files.before files.after status is, verdict_not files.held names asked files.before files.after status is) (inr (inr is))
+    memory_refused (verifying names asked) files out err status is line same leaves (
+      infeasible_not files.held names files.before files.after status is,
+      verdict_not files.held names asked files.before files.after status is,
+    ) (inr (inr is))

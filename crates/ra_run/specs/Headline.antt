@@ -17,13 +17,15 @@ use Rattle.ra_report.specs.JournalTexts.{report_lines, report_text, IsJournalOf}
 use Rattle.ra_jobs.specs.Commands.{Command, OverFiles, over, judged}
 use Rattle.ra_jobs.specs.Files.{Held, Names, Accepts, solve_names}
 
--- the state at place j of a journal is the first of least objective: no state costs less, and each earlier one costs more
+-- the state at place j of a journal is the first of least objective: no state costs less, and each earlier one costs
+-- more
 pub record IsFirstLeast (i : Tables) (a0 : List Machine) (h : List Entry) (j : ℕ) : Type 0 where
   pub within : j ≤ length h
   pub least : (n : ℕ) → n ≤ length h → cost_at i a0 h j ≤ cost_at i a0 h n
   pub first : (n : ℕ) → n < j → cost_at i a0 h j < cost_at i a0 h n
 
--- `solve`, the headline: the printed journal is one legal history in which every proposal of every worker stands exactly
+-- `solve`, the headline: the printed journal is one legal history in which every proposal of every worker stands
+-- exactly
 -- once; every state in it meets all constraints, and its kept cost is the challenge's objective computed afresh; the
 -- printed assignment is the first of least cost among those states, its parts are exact, and no feasible assignment
 -- costs less than the printed bound
@@ -47,7 +49,8 @@ pub record SolvePrinted (held : Held) (names : Names) (l : Lots) (sent : List �
   pub alone : worker_count l ≡ 1 → journal ≡ solo tables a0 l
   -- every state is a feasible assignment, and the kept cost there is its objective
   pub sound : (j : ℕ) → j ≤ length journal → IsSound tables a0 journal j
-  -- the first of least cost among those states is at this place; the lines tell its parts, the bound's total, the place,
+  -- the first of least cost among those states is at this place; the lines tell its parts, the bound's total, the
+  -- place,
   -- the state and the drawing, and then the journal
   pub best_at : ℕ
   pub best : IsFirstLeast tables a0 journal best_at

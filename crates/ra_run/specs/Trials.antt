@@ -32,7 +32,8 @@ pub record IsTrialStart (number : ℕ) (i : Tables) (a0 : List Machine) : Type 0
   pub trial : IsTrial (trial_word number) i
   pub initial : a0 ≡ start_list
 
--- the one lot of a number: its words are those of the generator that the number seeds, and it makes 2,000 proposals; the
+-- the one lot of a number: its words are those of the generator that the number seeds, and it makes 2,000 proposals;
+-- the
 -- slack is 1,000, and the drawing is the second
 pub record IsTrialLots (number : ℕ) (l : Lots) : Type 0 where
   pub slack : l.slack ≡ 1000
@@ -43,7 +44,8 @@ pub record IsTrialLots (number : ℕ) (l : Lots) : Type 0 where
 abbrev pub IsSummarized : Tables → List Machine → Lots → (List ℕ → Type 0) → Type 0
 IsSummarized i a0 l sent = sent (summary_text i a0 (solo i a0 l))
 
--- `trial`: so was that of the trial of a number, from its instance, its start and its lot. Which instance and which lots
+-- `trial`: so was that of the trial of a number, from its instance, its start and its lot. Which instance and which
+-- lots
 -- of the number these are is no matter: they differ in rooms alone, and the text rests on the number (`ra_laws`,
 -- `trials_have_one_text`)
 pub record TrialPrinted (number : ℕ) (sent : List ℕ → Type 0) : Type 0 where
@@ -58,7 +60,8 @@ abbrev pub TrialReason : Type 0 → TrialFault → Type 0
 TrialReason written Write = written
 TrialReason written Memory = Unit {0}
 
--- the reasons of its refusals: the output broke off behind a front of the summary, or memory was refused. There is no other
+-- the reasons of its refusals: the output broke off behind a front of the summary, or memory was refused. There is no
+-- other
 abbrev pub TrialRefused : ℕ → (List ℕ → Type 0) → Refusal → Type 0
 TrialRefused number broke_off refusal.Write = TrialPrinted number broke_off
 TrialRefused number broke_off refusal.Memory = Unit {0}

@@ -8,24 +8,30 @@ use Rattle.ra_model.specs.Numbers.{machine_count}
 use Rattle.ra_moves.specs.declared.steps.Step.{Step}
 use Rattle.ra_guards.specs.Order.{IsKnown}
 use Rattle.ra_guards.specs.Versions.{touches}
-use Rattle.ra_shared.specs.Numbers.{first_number, place_count, place_of, touches_place, guard_count, number_of, touches_number}
+use Rattle.ra_shared.specs.Numbers.{first_number, place_count, place_of, touches_place, guard_count, number_of}
+use Rattle.ra_shared.specs.Numbers.{touches_number}
 use Rattle.ra_shared.specs.Laws.{TouchesAgree, NoneAbove}
 
 -- a place below the machine count is a machine's
-of_machine : (i : Tables) (made : Option (List Step)) (n : ℕ) → n < machine_count i → touches_place i made n ≡ touches i made (guard.Machine (record { 0 = n }))
+of_machine : (i : Tables) (made : Option (List Step)) (n : ℕ) → n < machine_count i →
+    touches_place i made n ≡ touches i made (guard.Machine (record { 0 = n }))
 unfolding touches_place
 of_machine i made n lt = cond-true (nat_lt n (machine_count i)) _ _ (lt-ltb n (machine_count i) lt)
 
 -- a place from there on and below the place count is a service's
-of_service : (i : Tables) (made : Option (List Step)) (n : ℕ) → machine_count i ≤ n → n < place_count i → touches_place i made n ≡ touches i made (guard.Service (record { 0 = n - machine_count i }))
+of_service : (i : Tables) (made : Option (List Step)) (n : ℕ) → machine_count i ≤ n → n < place_count i →
+    touches_place i made n ≡ touches i made (guard.Service (record { 0 = n - machine_count i }))
 unfolding touches_place
-of_service i made n le lt = cond-false (nat_lt n (machine_count i)) _ _ (le-ltb n (machine_count i) le) ∙ cond-true (nat_lt n (place_count i)) _ _ (lt-ltb n (place_count i) lt)
+of_service i made n le lt = cond-false (nat_lt n (machine_count i)) _ _ (le-ltb n (machine_count i) le)
+    ∙ cond-true (nat_lt n (place_count i)) _ _ (lt-ltb n (place_count i) lt)
 
 none_behind : (i : Tables) (made : Option (List Step)) (n : ℕ) → place_count i ≤ n → touches_place i made n ≡ false
 unfolding touches_place place_count
-none_behind i made n le = cond-false (nat_lt n (machine_count i)) _ _ (le-ltb n (machine_count i) (omega arith)) ∙ cond-false (nat_lt n (place_count i)) _ _ (le-ltb n (place_count i) le)
+none_behind i made n le = cond-false (nat_lt n (machine_count i)) _ _ (le-ltb n (machine_count i) (omega arith))
+    ∙ cond-false (nat_lt n (place_count i)) _ _ (le-ltb n (place_count i) le)
 
-places_agree : (i : Tables) (made : Option (List Step)) (g : Guard) → IsKnown i g → touches_place i made (place_of i g) ≡ touches i made g
+places_agree : (i : Tables) (made : Option (List Step)) (g : Guard) → IsKnown i g →
+    touches_place i made (place_of i g) ≡ touches i made g
 unfolding place_of IsKnown place_count
 places_agree i made (guard.Machine m) known = of_machine i made m.0 known
 places_agree i made (guard.Service s) known =
@@ -38,7 +44,8 @@ pub none_before : (i : Tables) (made : Option (List Step)) (n : ℕ) → n < fir
 unfolding touches_number
 none_before i made n lt = cond-true (nat_lt n first_number) _ _ (lt-ltb n first_number lt)
 
-pub of_place : (i : Tables) (made : Option (List Step)) (n : ℕ) → first_number ≤ n → touches_number i made n ≡ touches_place i made (n - first_number)
+pub of_place : (i : Tables) (made : Option (List Step)) (n : ℕ) → first_number ≤ n →
+    touches_number i made n ≡ touches_place i made (n - first_number)
 unfolding touches_number
 of_place i made n le = cond-false (nat_lt n first_number) _ _ (le-ltb n first_number le)
 
@@ -50,4 +57,5 @@ pub touches_agree : TouchesAgree
 unfolding number_of
 touches_agree i made g known =
     let back : (first_number + place_of i g) - first_number ≡ place_of i g = omega arith in
-    of_place i made (first_number + place_of i g) (omega arith) ∙ ap (touches_place i made) back ∙ places_agree i made g known
+    of_place i made (first_number + place_of i g) (omega arith) ∙ ap (touches_place i made) back
+    ∙ places_agree i made g known

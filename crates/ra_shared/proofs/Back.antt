@@ -1,5 +1,6 @@
 -- A guard that was held round a turn is given back.
-use Rattle.std.proofs.Common.{◌≡◌, ℕ, ◌+◌, ◌<◌, ◌≤◌, true, List, [], ◌∷◌, ◌++◌, length, drop, All, Contains, Option, Some, None, IfSome, IfNone, refl, ap, ap₂, sym, subst, ◌∙◌, ⊎_elim, arith}
+use Rattle.std.proofs.Common.{◌≡◌, ℕ, ◌+◌, ◌<◌, ◌≤◌, true, List, [], ◌∷◌, ◌++◌, length, drop, All, Contains, Option}
+use Rattle.std.proofs.Common.{Some, None, IfSome, IfNone, refl, ap, ap₂, sym, subst, ◌∙◌, ⊎_elim, arith}
 use mathlib.Core.List.{IsPrefix}
 use Rattle.ra_base.specs.declared.ids.Guard.{Guard}
 use Rattle.ra_moves.specs.declared.verdicts.Plan.{Plan}
@@ -25,13 +26,17 @@ use Rattle.ra_shared.proofs.Handing.{answered, version_then}
 use Rattle.ra_shared.proofs.Own.{later_commit, prefix_length}
 
 -- what was seen begins what is then seen
-pub prefix_then : (o : Opening) (w : ℕ) (plan : Plan) (seen mine seen' mine' : List Entry) (reply : Reply) → KnowsOwn w seen mine → IsCommitOf o seen w plan → IsCommitted o w plan.q seen mine seen' mine' reply → IsPrefix seen seen'
+pub prefix_then : (o : Opening) (w : ℕ) (plan : Plan) (seen mine seen' mine' : List Entry) (reply : Reply) →
+    KnowsOwn w seen mine → IsCommitOf o seen w plan → IsCommitted o w plan.q seen mine seen' mine' reply →
+    IsPrefix seen seen'
 prefix_then o w plan seen mine seen' mine' reply own commit done =
     let h = done.history in
     ⊎_elim
     (λ stale. subst (IsPrefix seen) (sym (done.journal ∙ stale.1.journal)) done.later)
-    (λ more. subst (IsPrefix seen) (sym (done.journal ∙ more.1.journal)) (prefix_longer seen h (more.0 ∷ []) done.later))
-    (answered o h w plan (later_commit w seen h mine done.later own done.own o.inst.tables o.a0.items o.lots plan commit))
+    (λ more. subst (IsPrefix seen) (sym (done.journal ∙ more.1.journal))
+    (prefix_longer seen h (more.0 ∷ []) done.later))
+    (answered o h w plan
+    (later_commit w seen h mine done.later own done.own o.inst.tables o.a0.items o.lots plan commit))
 
 none_version : (v n : ℕ) → then_version None v n ≡ v
 unfolding then_version
@@ -39,51 +44,74 @@ none_version v n = refl
 
 module _ {g : Ghosts Book Entry Opening} (s : Shared) (plan : Plan) (p q r n : Pass Book Entry Opening g) where
   -- after the turn the guards are those before it
-  pub grips_back : (reply : Option Reply) → IfSome reply (IsHandedIn s plan q r) → IfNone reply (IsHeldUp s plan q r) → grips_of r ≡ grips_of q
+  pub grips_back : (reply : Option Reply) → IfSome reply (IsHandedIn s plan q r) → IfNone reply (IsHeldUp s plan q r) →
+      grips_of r ≡ grips_of q
   grips_back (Some reply) done none = done.grips
   grips_back None done none = none.grips
 
-  pub ready_back : (reply : Option Reply) → IfSome reply (IsHandedIn s plan q r) → IfNone reply (IsHeldUp s plan q r) → IsPassOf s.turn r
+  pub ready_back : (reply : Option Reply) → IfSome reply (IsHandedIn s plan q r) → IfNone reply (IsHeldUp s plan q r) →
+      IsPassOf s.turn r
   ready_back (Some reply) done none = done.ready.0
   ready_back None done none = none.ready.0
 
-  pub longer_back : (reply : Option Reply) → KnowsOwn q.number (seen_by q) (made_by q) → IsCommitOf (start_of s) (seen_by q) q.number plan → IfSome reply (IsHandedIn s plan q r) → IfNone reply (IsHeldUp s plan q r) → length (seen_by q) ≤ length (seen_by r)
-  longer_back (Some reply) own commit done none = prefix_length (seen_by q) (seen_by r) (prefix_then (start_of s) q.number plan (seen_by q) (made_by q) (seen_by r) (made_by r) reply own commit done.committed)
+  pub longer_back : (reply : Option Reply) → KnowsOwn q.number (seen_by q) (made_by q) →
+      IsCommitOf (start_of s) (seen_by q) q.number plan → IfSome reply (IsHandedIn s plan q r) →
+      IfNone reply (IsHeldUp s plan q r) → length (seen_by q) ≤ length (seen_by r)
+  longer_back (Some reply) own commit done none =
+      prefix_length (seen_by q) (seen_by r)
+      (prefix_then (start_of s) q.number plan (seen_by q) (made_by q) (seen_by r) (made_by r) reply own commit
+      done.committed)
   longer_back None own commit done none = (let same = ap length none.same.0 in omega arith)
 
   -- and the version of a write guard is the one that is kept with it
-  pub version_back : (x : Guard) (v : ℕ) → IsKnown (start_of s).inst.tables x → writes (start_of s).inst.tables plan.mv.steps x ≡ true
-      → (reply : Option Reply) (S : Type 0) → IfSome reply (λ _. S) → (S → OnlyBy (touching entry_touches (start_of s) (number_of (start_of s).inst.tables x)) (λ (e : Entry). e.worker) r.number (seen_by r) v)
-      → IfSome reply (IsHandedIn s plan q r) → IfNone reply (IsHeldUp s plan q r) → KnowsOwn q.number (seen_by q) (made_by q) → IsCommitOf (start_of s) (seen_by q) q.number plan → v ≤ length (seen_by q)
+  pub version_back : (x : Guard) (v : ℕ) → IsKnown (start_of s).inst.tables x →
+      writes (start_of s).inst.tables plan.mv.steps x ≡ true
+      → (reply : Option Reply) (S : Type 0) → IfSome reply (λ _. S) →
+      (S → OnlyBy (touching entry_touches (start_of s) (number_of (start_of s).inst.tables x))
+      (λ (e : Entry). e.worker) r.number (seen_by r) v)
+      → IfSome reply (IsHandedIn s plan q r) → IfNone reply (IsHeldUp s plan q r) →
+      KnowsOwn q.number (seen_by q) (made_by q) → IsCommitOf (start_of s) (seen_by q) q.number plan →
+      v ≤ length (seen_by q)
       → IsVersion (touching entry_touches (start_of s) (number_of (start_of s).inst.tables x)) (seen_by q) v
-      → IsVersion (touching entry_touches (start_of s) (number_of (start_of s).inst.tables x)) (seen_by r) (then_version reply v (length (seen_by r)))
+      → IsVersion (touching entry_touches (start_of s) (number_of (start_of s).inst.tables x)) (seen_by r)
+      (then_version reply v (length (seen_by r)))
   version_back x v known written (Some reply) S shut only done none own commit le before =
-      version_then (start_of s) q.number plan x known written (seen_by q) (made_by q) (seen_by r) (made_by r) reply v own commit done.committed le before
-      (subst (λ (w : ℕ). OnlyBy (touching entry_touches (start_of s) (number_of (start_of s).inst.tables x)) (λ (e : Entry). e.worker) w (seen_by r) v) done.number (only shut))
+      version_then (start_of s) q.number plan x known written (seen_by q) (made_by q) (seen_by r) (made_by r) reply v
+      own commit done.committed le before
+      (subst (λ (w : ℕ). OnlyBy (touching entry_touches (start_of s) (number_of (start_of s).inst.tables x))
+      (λ (e : Entry). e.worker) w (seen_by r) v) done.number (only shut))
   version_back x v known written None S shut only done none own commit le before =
-      subst (IsVersion (touching entry_touches (start_of s) (number_of (start_of s).inst.tables x)) (seen_by r)) (sym (none_version v (length (seen_by r))))
-      (subst (λ (xs : List Entry). IsVersion (touching entry_touches (start_of s) (number_of (start_of s).inst.tables x)) xs v) (sym none.same.0) before)
+      subst (IsVersion (touching entry_touches (start_of s) (number_of (start_of s).inst.tables x)) (seen_by r))
+      (sym (none_version v (length (seen_by r))))
+      (subst (λ (xs : List Entry).
+      IsVersion (touching entry_touches (start_of s) (number_of (start_of s).inst.tables x)) xs v)
+      (sym none.same.0) before)
 
-  module _ (guard v : ℕ) (same : IsSamePass p q) (knows : KnowsSame p q) (held : grips_of q ≡ grips_of p ++ grip guard v ∷ []) (below : All (λ k. k.guard < guard) (grips_of p))
-      (idle : IsIdle n) (back : IsSamePass r n) (still : KnowsSame r n) (news : news_of n ≡ news_of r) (given : grips_of n ≡ without guard (grips_of r)) where
+  module _ (guard v : ℕ) (same : IsSamePass p q) (knows : KnowsSame p q)
+      (held : grips_of q ≡ grips_of p ++ grip guard v ∷ []) (below : All (λ k. k.guard < guard) (grips_of p))
+      (idle : IsIdle n) (back : IsSamePass r n) (still : KnowsSame r n) (news : news_of n ≡ news_of r)
+      (given : grips_of n ≡ without guard (grips_of r)) where
     regained : grips_of r ≡ grips_of q → grips_of n ≡ grips_of p
     regained e = given ∙ (ap (without guard) (e ∙ held) ∙ without_last guard v (grips_of p) below)
 
     still_of : IsPassOf s.turn r → IsPassOf s.turn n
     still_of of = (back.0 ∙ of.0, back.3 ∙ of.1)
 
-    moved : (reply : Reply) → IsCommitted (start_of s) q.number plan.q (seen_by q) (made_by q) (seen_by r) (made_by r) reply → IsCommitted (start_of s) p.number plan.q (seen_by p) (made_by p) (seen_by n) (made_by n) reply
+    moved : (reply : Reply) → IsCommitted (start_of s) q.number plan.q (seen_by q) (made_by q) (seen_by r) (made_by r)
+        reply → IsCommitted (start_of s) p.number plan.q (seen_by p) (made_by p) (seen_by n) (made_by n) reply
     moved reply d = record {
       history = d.history;
       later = subst (λ (xs : List Entry). IsPrefix xs d.history) knows.0 d.later;
-      own = subst (λ (ms : List Entry). KnowsOwn p.number d.history ms) knows.1 (subst (λ (w : ℕ). KnowsOwn w d.history (made_by q)) same.2 d.own);
+      own = subst (λ (ms : List Entry). KnowsOwn p.number d.history ms) knows.1
+          (subst (λ (w : ℕ). KnowsOwn w d.history (made_by q)) same.2 d.own);
       legal = d.legal;
       journal = still.0 ∙ (d.journal ∙ ap (λ (w : ℕ). (committed_in (start_of s) d.history w plan.q).journal) same.2);
       answer = d.answer ∙ ap (λ (w : ℕ). (committed_in (start_of s) d.history w plan.q).reply) same.2;
       made = still.1 ∙ (d.made ∙ ap₂ (λ (ms xs : List Entry). ms ++ drop (length d.history) xs) knows.1 (sym still.0));
     }
 
-    pub handed_back : (reply : Option Reply) → IfSome reply (IsHandedIn s plan q r) → IfSome reply (IsHandedIn s plan p n)
+    pub handed_back : (reply : Option Reply) → IfSome reply (IsHandedIn s plan q r) →
+        IfSome reply (IsHandedIn s plan p n)
     handed_back (Some reply) h = record {
       ready = (still_of h.ready.0, idle);
       number = back.2 ∙ (h.number ∙ same.2);
@@ -106,6 +134,8 @@ module _ {g : Ghosts Book Entry Opening} (s : Shared) (plan : Plan) (p q r n : P
         version = h.newer.version;
         written = h.newer.written;
         above = h.newer.above;
-        told = subst (λ (ks : List Grip). Contains ks (grip (number_of (start_of s).inst.tables h.newer.guard) h.newer.version)) (sym news) h.newer.told;
+        told = subst (λ (ks : List Grip).
+            Contains ks (grip (number_of (start_of s).inst.tables h.newer.guard) h.newer.version))
+            (sym news) h.newer.told;
       };
     }

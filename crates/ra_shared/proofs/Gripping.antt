@@ -1,8 +1,12 @@
 -- The guards that a pass holds for a move, and what they say of the history.
-use Rattle.std.proofs.Common.{◌≡◌, ◌⊎◌, ℕ, suc, ◌+◌, ◌-◌, ◌<◌, ◌≤◌, not, eqb, Bool, true, false, cond, ltb, List, [], ◌∷◌, ◌++◌, length, slice_get, filter, All, Contains, get_or, Option, Some, None, refl, ap, sym, subst, ◌∙◌, ⊎_elim, arith}
-use Rattle.std.proofs.lemmas.Bool.{cases_lt, cases_Bool, or_left, both_ways, ltb-true, eq-eqb, ne_eqb, cond-true, cond-false}
+use Rattle.std.proofs.Common.{◌≡◌, ◌⊎◌, ℕ, suc, ◌+◌, ◌-◌, ◌<◌, ◌≤◌, not, eqb, Bool, true, false, cond, ltb, List, []}
+use Rattle.std.proofs.Common.{◌∷◌, ◌++◌, length, slice_get, filter, All, Contains, get_or, Option, Some, None, refl, ap}
+use Rattle.std.proofs.Common.{sym, subst, ◌∙◌, ⊎_elim, arith}
+use Rattle.std.proofs.lemmas.Bool.{cases_lt, cases_Bool, or_left, both_ways, ltb-true, eq-eqb, ne_eqb, cond-true}
+use Rattle.std.proofs.lemmas.Bool.{cond-false}
 use Rattle.std.proofs.lemmas.List.{append-nil, length_push, get_or_default}
-use Rattle.std.proofs.lemmas.List.Elements.{All-push, All-contains, Contains-get_or, Contains-append_left, Contains-push, filter-append, All-head, All-tail}
+use Rattle.std.proofs.lemmas.List.Elements.{All-push, All-contains, Contains-get_or, Contains-append_left}
+use Rattle.std.proofs.lemmas.List.Elements.{Contains-push, filter-append, All-head, All-tail}
 use Rattle.ra_base.specs.declared.ids.Guard.{Guard}
 use Rattle.ra_base.specs.declared.ids.Guard.TheVariants as guard
 use Rattle.ra_base.proofs.Greatest.{greatest_at, greatest_least}
@@ -33,9 +37,11 @@ use Rattle.ra_shared.proofs.Agree.{none_above, touches_agree, none_before}
 use Rattle.ra_shared.proofs.Own.{entry_get, get_entry}
 
 -- a write guard is one of the instance
-pub written_known : (i : Tables) (steps : List Step) (g : Guard) → WellFormed i → AreWithin i steps → writes i steps g ≡ true → IsKnown i g
+pub written_known : (i : Tables) (steps : List Step) (g : Guard) → WellFormed i → AreWithin i steps →
+    writes i steps g ≡ true → IsKnown i g
 unfolding is_guard
-written_known i steps g limits within written = guard_known i steps g limits within (or_left (writes i steps g) (reads i steps g) written)
+written_known i steps g limits within written =
+    guard_known i steps g limits within (or_left (writes i steps g) (reads i steps g) written)
 
 -- its number is below the guard count
 place_below : (i : Tables) (g : Guard) → IsKnown i g → place_of i g < place_count i
@@ -76,7 +82,8 @@ number_back : (i : Tables) (n : ℕ) → first_number ≤ n → number_of i (gua
 unfolding number_of
 number_back i n le = omega (arith, place_back i (n - first_number))
 
-number_known : (i : Tables) (n : ℕ) → first_number ≤ n → n < guard_count i → IsKnown i (guard_of (machine_count i) (n - first_number))
+number_known : (i : Tables) (n : ℕ) → first_number ≤ n → n < guard_count i →
+    IsKnown i (guard_of (machine_count i) (n - first_number))
 unfolding guard_count place_count
 number_known i n le below = known_number i (n - first_number) (omega arith)
 
@@ -87,18 +94,24 @@ touched_from i made n is = ⊎_elim
     (λ (from : first_number ≤ n). from)
     (cases_lt n first_number)
 
-touched_guard : (i : Tables) (made : Option (List Step)) (n : ℕ) → touches_number i made n ≡ true → IsTouchedGuard i made n
+touched_guard : (i : Tables) (made : Option (List Step)) (n : ℕ) → touches_number i made n ≡ true →
+    IsTouchedGuard i made n
 touched_guard i made n is = ⊎_elim
     (λ (below : n < guard_count i).
     let from = touched_from i made n is in
     let g = guard_of (machine_count i) (n - first_number) in
     let number = number_back i n from in
-    record { guard = g; number = number; touched = sym (touches_agree i made g (number_known i n from below)) ∙ (ap (touches_number i made) number ∙ is) })
+    record {
+      guard = g;
+      number = number;
+      touched = sym (touches_agree i made g (number_known i n from below)) ∙ (ap (touches_number i made) number ∙ is);
+    })
     (λ (above : guard_count i ≤ n). absurd (both_ways (touches_number i made n) (none_above i made n above) is))
     (cases_lt n (guard_count i))
 
 -- what an entry touches its move writes
-verdict_writes : (i : Tables) (verdict : Verdict) (steps : List Step) (g : Guard) → touches i (steps_made verdict steps) g ≡ true → writes i steps g ≡ true
+verdict_writes : (i : Tables) (verdict : Verdict) (steps : List Step) (g : Guard) →
+    touches i (steps_made verdict steps) g ≡ true → writes i steps g ≡ true
 unfolding touches steps_made
 verdict_writes i (Done cost) steps g is = is
 verdict_writes i (Refused cause) steps g is = absurd (cc is)
@@ -108,7 +121,8 @@ unfolding made_by
 entry_writes i e g is = verdict_writes i e.verdict e.mv.steps g is
 
 -- the entry of a move whose write guards are held touches none but these
-pub holds_touched : (o : Opening) (e : Entry) (q : ℕ) (grips : List Grip) → HoldsWrites o.inst.tables e.mv.steps q grips → HoldsAll entry_touches o grips e
+pub holds_touched : (o : Opening) (e : Entry) (q : ℕ) (grips : List Grip) →
+    HoldsWrites o.inst.tables e.mv.steps q grips → HoldsAll entry_touches o grips e
 holds_touched o e q grips holds n is =
     let t = touched_guard o.inst.tables (made_by e) n is in
     let held = holds.each t.guard (entry_writes o.inst.tables e t.guard t.touched) in
@@ -116,33 +130,48 @@ holds_touched o e q grips holds n is =
 
 -- holding guard after guard
 
-module _ (i : Tables) (steps : List Step) (guards : List Guard) (q : ℕ) (limits : WellFormed i) (within : AreWithin i steps) (are : AreWrites i steps guards) where
+module _ (i : Tables) (steps : List Step) (guards : List Guard) (q : ℕ) (limits : WellFormed i)
+    (within : AreWithin i steps) (are : AreWrites i steps guards) where
   pub listed_known : (k : ℕ) → k < length guards → IsKnown i (guard_at guards k)
   unfolding guard_at
-  listed_known k lt = written_known i steps (guard_at guards k) limits within ((are.exactly (guard_at guards k)).0 (Contains-get_or guards k _ lt))
+  listed_known k lt = written_known i steps (guard_at guards k) limits within
+      ((are.exactly (guard_at guards k)).0 (Contains-get_or guards k _ lt))
 
   pub listed_written : (k : ℕ) → k < length guards → writes i steps (guard_at guards k) ≡ true
   unfolding guard_at
   listed_written k lt = (are.exactly (guard_at guards k)).0 (Contains-get_or guards k _ lt)
 
   pub holds_none : HoldsFirst i guards q 0 []
-  holds_none = record { count = refl; held = λ j lt. absurd (omega arith); below = λ j ge lt k d inside. absurd (omega arith) }
+  holds_none = record {
+    count = refl;
+    held = λ j lt. absurd (omega arith);
+    below = λ j ge lt k d inside. absurd (omega arith);
+  }
 
-  pub holds_more : (k : ℕ) (grips : List Grip) (v : ℕ) → HoldsFirst i guards q k grips → k < length guards → v ≤ q → HoldsFirst i guards q (k + 1) (grips ++ grip (number_at i guards k) v ∷ [])
+  pub holds_more : (k : ℕ) (grips : List Grip) (v : ℕ) → HoldsFirst i guards q k grips → k < length guards → v ≤ q →
+      HoldsFirst i guards q (k + 1) (grips ++ grip (number_at i guards k) v ∷ [])
   holds_more k grips v holds lt le =
       let new : Grip = grip (number_at i guards k) v in
       record {
         count = omega (arith, length_push grips new, holds.count);
         held = λ j below. ⊎_elim
-            (λ (before : j < k). let h = holds.held j before in (h.0, h.1, Contains-append_left grips (new ∷ []) (grip (number_at i guards j) h.0) h.2))
-            (λ (after : k ≤ j). let here : k ≡ j = omega arith in
-            (v, le, subst (λ (m : ℕ). Contains (grips ++ new ∷ []) (grip (number_at i guards m) v)) here (Contains-push grips new)))
+            (λ (before : j < k). let h = holds.held j before in
+            (h.0, h.1, Contains-append_left grips (new ∷ []) (grip (number_at i guards j) h.0) h.2))
+            (λ (after : k ≤ j). let here : k ≡ j = omega arith in (
+              v,
+              le,
+              subst (λ (m : ℕ). Contains (grips ++ new ∷ []) (grip (number_at i guards m) v)) here
+                  (Contains-push grips new),
+            ))
             (cases_lt j k);
-        below = λ j ge inside. All-push (λ g. g.guard < number_at i guards j) grips new (holds.below j (omega arith) inside)
-            (before_less i (guard_at guards k) (guard_at guards j) (listed_known k lt) (are.ascend k j (omega arith) inside));
+        below = λ j ge inside. All-push (λ g. g.guard < number_at i guards j) grips new
+            (holds.below j (omega arith) inside)
+            (before_less i (guard_at guards k) (guard_at guards j) (listed_known k lt)
+            (are.ascend k j (omega arith) inside));
       }
 
-  pub holds_all : (k : ℕ) (grips : List Grip) → HoldsFirst i guards q k grips → k ≡ length guards → HoldsWrites i steps q grips
+  pub holds_all : (k : ℕ) (grips : List Grip) → HoldsFirst i guards q k grips → k ≡ length guards →
+      HoldsWrites i steps q grips
   unfolding guard_at
   holds_all k grips holds all = record {
     each = λ g written. (let has = (are.exactly g).1 written in
@@ -162,13 +191,16 @@ without_other : (n : ℕ) (ks : List Grip) → All (λ k. k.guard < n) ks → wi
 without_other n [] all = refl
 without_other n (k ∷ ks) all =
     let less : k.guard < n = All-head (λ (g : Grip). g.guard < n) k ks all in
-    kept_grip (eqb k.guard n) k ks (without n ks) (ne_eqb k.guard n (λ e. omega arith)) (without_other n ks (All-tail (λ (g : Grip). g.guard < n) k ks all))
+    kept_grip (eqb k.guard n) k ks (without n ks) (ne_eqb k.guard n (λ e. omega arith))
+    (without_other n ks (All-tail (λ (g : Grip). g.guard < n) k ks all))
 
 pub without_last : (n v : ℕ) (ks : List Grip) → All (λ k. k.guard < n) ks → without n (ks ++ grip n v ∷ []) ≡ ks
 without_last n v ks all =
     let test : Grip → Bool = λ k. not (eqb k.guard n) in
     let gone : eqb n n ≡ true = eq-eqb n n refl in
-    filter-append test ks (grip n v ∷ []) ∙ (ap (λ (b : Bool). filter test ks ++ cond (not b) (grip n v ∷ []) []) gone ∙ (append-nil (filter test ks) ∙ without_other n ks all))
+    filter-append test ks (grip n v ∷ [])
+    ∙ (ap (λ (b : Bool). filter test ks ++ cond (not b) (grip n v ∷ []) []) gone
+    ∙ (append-nil (filter test ks) ∙ without_other n ks all))
 
 -- what the entries of a history do to a guard, by its number
 
@@ -180,36 +212,47 @@ module _ (o : Opening) (h : List Entry) (g : Guard) (known : IsKnown o.inst.tabl
   touched_by = touching entry_touches o (number_of o.inst.tables g)
 
   same_touch : (j : ℕ) → touches i (made_at (made_in h) j) g ≡ touched_by (entry_at h j)
-  same_touch j = ap (λ (m : Option (List Step)). touches i m g) (made_place h j) ∙ sym (touches_agree i (made_by (entry_at h j)) g known)
+  same_touch j = ap (λ (m : Option (List Step)). touches i m g) (made_place h j)
+      ∙ sym (touches_agree i (made_by (entry_at h j)) g known)
 
   pub touched_stamp : (j : ℕ) → TouchedAt touched_by h j → stamp i (made_in h) g j ≡ suc j
   touched_stamp j t = stamp_touched i (made_in h) g j (same_touch j ∙ (ap touched_by (get_entry h j t.0 t.1) ∙ t.2))
 
   -- if only worker w's entries touch it from a place on that isn't behind q, and all of these are before q, its version
   -- is at most q
-  pub held_version : (w q v : ℕ) → v ≤ q → OnlyBy touched_by (λ (e : Entry). e.worker) w h v → ((j : ℕ) → j < length h → (entry_at h j).worker ≡ w → j < q) → version i (made_in h) (length h) g ≤ q
+  pub held_version : (w q v : ℕ) → v ≤ q → OnlyBy touched_by (λ (e : Entry). e.worker) w h v →
+      ((j : ℕ) → j < length h → (entry_at h j).worker ≡ w → j < q) → version i (made_in h) (length h) g ≤ q
   unfolding version
   held_version w q v le only before = greatest_least (length h) q (stamp i (made_in h) g) (λ j lt. ⊎_elim
       (λ (touched : touches i (made_at (made_in h) j) g ≡ true). ⊎_elim
       (λ (early : j < q). omega (arith, stamp_touched i (made_in h) g j touched))
-      (λ (late : q ≤ j). let early = before j lt (only j (entry_at h j) (omega arith) (entry_get h j lt) (sym (same_touch j) ∙ touched)) in absurd (omega arith))
+      (λ (late : q ≤ j).
+      let early = before j lt
+      (only j (entry_at h j) (omega arith) (entry_get h j lt) (sym (same_touch j) ∙ touched)) in
+      absurd (omega arith))
       (cases_lt j q))
-      (λ (untouched : touches i (made_at (made_in h) j) g ≡ false). omega (arith, stamp_untouched i (made_in h) g j untouched))
+      (λ (untouched : touches i (made_at (made_in h) j) g ≡ false).
+      omega (arith, stamp_untouched i (made_in h) g j untouched))
       (cases_Bool (touches i (made_at (made_in h) j) g)))
 
   -- if an entry at place q or later touches a write guard of a move, some guard of it is newer
-  pub newer_there : (q v : ℕ) (steps : List Step) → WellFormed i → AreWithin i steps → writes i steps g ≡ true → q < v → v - 1 < length h → TouchedAt touched_by h (v - 1) → newer_since i h q steps ≡ None → ⊥
+  pub newer_there : (q v : ℕ) (steps : List Step) → WellFormed i → AreWithin i steps → writes i steps g ≡ true → q < v →
+      v - 1 < length h → TouchedAt touched_by h (v - 1) → newer_since i h q steps ≡ None → ⊥
   unfolding version is_guard
   newer_there q v steps limits within written above inside t none =
-      let quiet = (untouched_since i h q steps limits within none).each g (or_left (writes i steps g) (reads i steps g) written) in
+      let quiet = (untouched_since i h q steps limits within none).each g
+      (or_left (writes i steps g) (reads i steps g) written) in
       let most = greatest_at (length h) (v - 1) (stamp i (made_in h) g) inside in
       omega (arith, touched_stamp (v - 1) t)
 
 -- no write guard of a move was touched since place q, if all are held and the worker's own entries are before q
-pub are_held : (o : Opening) (h : List Entry) (w q : ℕ) (steps : List Step) (grips : List Grip) → WellFormed o.inst.tables → AreWithin o.inst.tables steps → HoldsWrites o.inst.tables steps q grips
-    → ShutBy entry_touches o (λ (e : Entry). e.worker) w h grips → ((j : ℕ) → j < length h → (entry_at h j).worker ≡ w → j < q) → AreHeld o.inst.tables h q steps
+pub are_held : (o : Opening) (h : List Entry) (w q : ℕ) (steps : List Step) (grips : List Grip) →
+    WellFormed o.inst.tables → AreWithin o.inst.tables steps → HoldsWrites o.inst.tables steps q grips
+    → ShutBy entry_touches o (λ (e : Entry). e.worker) w h grips →
+    ((j : ℕ) → j < length h → (entry_at h j).worker ≡ w → j < q) → AreHeld o.inst.tables h q steps
 are_held o h w q steps grips limits within holds shut before = record {
   each = λ g written. (let held = holds.each g written in
-      let only = All-contains (λ k. OnlyBy (touching entry_touches o k.guard) (λ (e : Entry). e.worker) w h k.version) grips (grip (number_of o.inst.tables g) held.0) shut held.2 in
+      let only = All-contains (λ k. OnlyBy (touching entry_touches o k.guard) (λ (e : Entry). e.worker) w h k.version)
+      grips (grip (number_of o.inst.tables g) held.0) shut held.2 in
       held_version o h g (written_known o.inst.tables steps g limits within written) w q held.0 held.1 only before);
 }

@@ -1,5 +1,7 @@
 -- What a turn in which a worker hands in its plan leaves.
-use Rattle.std.proofs.Common.{◌≡◌, ◌⊎◌, ℕ, ◌+◌, ◌-◌, ◌<◌, ◌≤◌, ◌&&◌, cond, ltb, Bool, true, false, List, [], ◌∷◌, ◌++◌, length, drop, slice_get, Option, Some, None, refl, ap, sym, subst, ◌∙◌, ⊎_elim, inl, inr, lt-ltb, le-ltb, arith}
+use Rattle.std.proofs.Common.{◌≡◌, ◌⊎◌, ℕ, ◌+◌, ◌-◌, ◌<◌, ◌≤◌, ◌&&◌, cond, ltb, Bool, true, false, List, [], ◌∷◌, ◌++◌}
+use Rattle.std.proofs.Common.{length, drop, slice_get, Option, Some, None, refl, ap, sym, subst, ◌∙◌, ⊎_elim, inl, inr}
+use Rattle.std.proofs.Common.{lt-ltb, le-ltb, arith}
 use Rattle.std.proofs.Math.Seq.{drop-append_seam, drop-length}
 use Rattle.std.proofs.lemmas.Bool.{cases_lt, cases_Bool, cond-true, cond-false, and_parts, ltb-true}
 use Rattle.std.proofs.lemmas.List.{append-nil, length_push}
@@ -52,7 +54,8 @@ use Rattle.ra_shared.proofs.Own.{later_commit}
 
 -- the entry that is added if no guard is newer
 
-module _ (i : Tables) (a0 : List Machine) (l : Lots) (h : List Entry) (w : ℕ) (plan : Plan) (commit : IsCommit i a0 l h w plan) where
+module _ (i : Tables) (a0 : List Machine) (l : Lots) (h : List Entry) (w : ℕ) (plan : Plan)
+    (commit : IsCommit i a0 l h w plan) where
   abbrev pub added : Entry
   added = next_entry i a0 l h w plan.q
 
@@ -91,10 +94,18 @@ pub record IsRecordedAt (o : Opening) (h : List Entry) (w : ℕ) (plan : Plan) (
 abbrev pub Answered : Opening → List Entry → ℕ → Plan → Type 0
 Answered o h w plan = ((newer : Newer) × IsStaleAt o h w plan newer) ⊎ ((e : Entry) × IsRecordedAt o h w plan e)
 
-answered_by : (o : Opening) (h : List Entry) (w : ℕ) (plan : Plan) (found : Option Newer) → IsCommitOf o h w plan → newer_since o.inst.tables h plan.q plan.mv.steps ≡ found → Answered o h w plan
+answered_by : (o : Opening) (h : List Entry) (w : ℕ) (plan : Plan) (found : Option Newer) → IsCommitOf o h w plan →
+    newer_since o.inst.tables h plan.q plan.mv.steps ≡ found → Answered o h w plan
 answered_by o h w plan (Some newer) commit is =
     let all = committed_stale o.inst.tables o.a0.items o.lots h w plan newer commit is in
-    inl (newer, record { newer_is = is; journal = ap (λ (x : Committed). x.journal) all; reply = ap (λ (x : Committed). x.reply) all })
+    inl (
+      newer,
+      record {
+        newer_is = is;
+        journal = ap (λ (x : Committed). x.journal) all;
+        reply = ap (λ (x : Committed). x.reply) all;
+      },
+    )
 answered_by o h w plan None commit is =
     let i = o.inst.tables in let a0 = o.a0.items in let l = o.lots in
     let all = committed_recorded i a0 l h w plan commit is in
@@ -117,9 +128,11 @@ answered o h w plan commit = answered_by o h w plan (newer_since o.inst.tables h
 
 -- what may be given back: the entries that were seen, or one more, whose guards are held
 abbrev pub MayGive : Opening → List Grip → ℕ → List Entry → List Entry → Type 0
-MayGive o grips w h xs = (xs ≡ h) ⊎ ((n : Entry) × (xs ≡ h ++ n ∷ []) × (n.worker ≡ w) × HoldsAll entry_touches o grips n)
+MayGive o grips w h xs =
+    (xs ≡ h) ⊎ ((n : Entry) × (xs ≡ h ++ n ∷ []) × (n.worker ≡ w) × HoldsAll entry_touches o grips n)
 
-pub may_give : (o : Opening) (h xs : List Entry) (w : ℕ) (plan : Plan) (grips : List Grip) → IsCommitOf o h w plan → HoldsWrites o.inst.tables plan.mv.steps plan.q grips
+pub may_give : (o : Opening) (h xs : List Entry) (w : ℕ) (plan : Plan) (grips : List Grip) → IsCommitOf o h w plan →
+    HoldsWrites o.inst.tables plan.mv.steps plan.q grips
     → xs ≡ (committed_in o h w plan.q).journal → MayGive o grips w h xs
 may_give o h xs w plan grips commit holds is = ⊎_elim
     (λ stale. inl (is ∙ stale.1.journal))
@@ -127,7 +140,8 @@ may_give o h xs w plan grips commit holds is = ⊎_elim
       done.0,
       is ∙ done.1.journal,
       done.1.worker,
-      holds_touched o done.0 plan.q grips (subst (λ (mv : MoveSteps). HoldsWrites o.inst.tables mv.steps plan.q grips) (sym done.1.mv) holds),
+      holds_touched o done.0 plan.q grips
+          (subst (λ (mv : MoveSteps). HoldsWrites o.inst.tables mv.steps plan.q grips) (sym done.1.mv) holds),
     ))
     (answered o h w plan commit)
 
@@ -152,14 +166,18 @@ refused_makes_none : (e : Entry) (cause : Cause) → e.verdict ≡ Refused cause
 unfolding made_by steps_made
 refused_makes_none e cause is = ap (λ (v : Verdict). steps_made v e.mv.steps) is
 
-refused_holds : (o : Opening) (e : Entry) (cause : Cause) (grips : List Grip) → e.verdict ≡ Refused cause → HoldsAll entry_touches o grips e
+refused_holds : (o : Opening) (e : Entry) (cause : Cause) (grips : List Grip) → e.verdict ≡ Refused cause →
+    HoldsAll entry_touches o grips e
 refused_holds o e cause grips is guard touched =
-    let none : entry_touches o e guard ≡ false = ap (λ (made : Option (List Step)). touches_number o.inst.tables made guard) (refused_makes_none e cause is) ∙ none_touched o.inst.tables guard in
+    let none : entry_touches o e guard ≡ false =
+    ap (λ (made : Option (List Step)). touches_number o.inst.tables made guard) (refused_makes_none e cause is)
+    ∙ none_touched o.inst.tables guard in
     absurd (let clash : true ≡ false = sym touched ∙ none in cc clash)
 
 -- what may be given back of a plan whose move breaks a constraint: its entry touches nothing, so no guard is held for
 -- it
-pub may_give_refused : (o : Opening) (h xs : List Entry) (w : ℕ) (plan : Plan) (grips : List Grip) (cause : Cause) → IsStartOf o → IsLegalSeen o h → IsCommitOf o h w plan → plan.weighed.broken ≡ Some cause
+pub may_give_refused : (o : Opening) (h xs : List Entry) (w : ℕ) (plan : Plan) (grips : List Grip) (cause : Cause) →
+    IsStartOf o → IsLegalSeen o h → IsCommitOf o h w plan → plan.weighed.broken ≡ Some cause
     → xs ≡ (committed_in o h w plan.q).journal → MayGive o grips w h xs
 may_give_refused o h xs w plan grips cause start legal commit broken is = ⊎_elim
     (λ stale. inl (is ∙ stale.1.journal))
@@ -167,17 +185,22 @@ may_give_refused o h xs w plan grips cause start legal commit broken is = ⊎_el
       done.0,
       is ∙ done.1.journal,
       done.1.worker,
-      refused_holds o done.0 cause grips (done.1.judged ∙ broken_is_refused o.inst.tables o.a0.items o.lots h w plan cause start legal commit done.1.none broken),
+      refused_holds o done.0 cause grips
+          (done.1.judged ∙ broken_is_refused o.inst.tables o.a0.items o.lots h w plan cause start legal commit
+          done.1.none broken),
     ))
     (answered o h w plan commit)
 
-pub only_stale : (o : Opening) (h xs : List Entry) (w : ℕ) (plan : Plan) → IsCommitOf o h w plan → (newer_since o.inst.tables h plan.q plan.mv.steps ≡ None → ⊥)
+pub only_stale : (o : Opening) (h xs : List Entry) (w : ℕ) (plan : Plan) → IsCommitOf o h w plan →
+    (newer_since o.inst.tables h plan.q plan.mv.steps ≡ None → ⊥)
     → xs ≡ (committed_in o h w plan.q).journal → xs ≡ h
-only_stale o h xs w plan commit some is = ⊎_elim (λ stale. is ∙ stale.1.journal) (λ done. absurd (some done.1.none)) (answered o h w plan commit)
+only_stale o h xs w plan commit some is =
+    ⊎_elim (λ stale. is ∙ stale.1.journal) (λ done. absurd (some done.1.none)) (answered o h w plan commit)
 
 -- the version of a write guard of the move behind the answer
 
-pub touched_version : (touched : Entry → Bool) (h : List Entry) (e : Entry) → touched e ≡ true → IsVersion touched (h ++ e ∷ []) (length (h ++ e ∷ []))
+pub touched_version : (touched : Entry → Bool) (h : List Entry) (e : Entry) → touched e ≡ true →
+    IsVersion touched (h ++ e ∷ []) (length (h ++ e ∷ []))
 touched_version touched h e is =
     let long = length_push h e in
     record {
@@ -193,41 +216,57 @@ touched_version touched h e is =
     at_last : (h : List Entry) (e : Entry) (n : ℕ) → n ≡ length h → slice_get (h ++ e ∷ []) n ≡ Some e
     at_last h e n is = ap (slice_get (h ++ e ∷ [])) is ∙ here h e
 
-refused_nothing : (i : Tables) (verdict : Verdict) (steps : List Step) (g : Guard) (at v seen : ℕ) (touched : Entry → Bool) (h : List Entry) (e : Entry)
-    → e.verdict ≡ verdict → touched e ≡ touches i (steps_made verdict steps) g → writes i steps g ≡ true → seen ≡ length (h ++ e ∷ []) → IsVersion touched h v
+refused_nothing : (i : Tables) (verdict : Verdict) (steps : List Step) (g : Guard) (at v seen : ℕ)
+    (touched : Entry → Bool) (h : List Entry) (e : Entry)
+    → e.verdict ≡ verdict → touched e ≡ touches i (steps_made verdict steps) g → writes i steps g ≡ true →
+    seen ≡ length (h ++ e ∷ []) → IsVersion touched h v
     → IsVersion touched (h ++ e ∷ []) (then_version (Some (Recorded at verdict)) v seen)
 unfolding then_version touches steps_made
-refused_nothing i (Done cost) steps g at v seen touched h e is touch written long before = subst (λ (n : ℕ). IsVersion touched (h ++ e ∷ []) n) (sym long) (touched_version touched h e (touch ∙ written))
-refused_nothing i (Refused cause) steps g at v seen touched h e is touch written long before = version_kept touched h e v touch before
+refused_nothing i (Done cost) steps g at v seen touched h e is touch written long before =
+    subst (λ (n : ℕ). IsVersion touched (h ++ e ∷ []) n) (sym long) (touched_version touched h e (touch ∙ written))
+refused_nothing i (Refused cause) steps g at v seen touched h e is touch written long before =
+    version_kept touched h e v touch before
 
 stale_version : (guard : Guard) (at v seen : ℕ) → then_version (Some (Stale guard at)) v seen ≡ v
 unfolding then_version
 stale_version guard at v seen = refl
 
-module _ (o : Opening) (w : ℕ) (plan : Plan) (g : Guard) (known : IsKnown o.inst.tables g) (written : writes o.inst.tables plan.mv.steps g ≡ true) where
-  pub version_then : (seen mine seen' mine' : List Entry) (reply : Reply) (v : ℕ) → KnowsOwn w seen mine → IsCommitOf o seen w plan → IsCommitted o w plan.q seen mine seen' mine' reply
-      → v ≤ length seen → IsVersion (touching entry_touches o (number_of o.inst.tables g)) seen v → OnlyBy (touching entry_touches o (number_of o.inst.tables g)) (λ (e : Entry). e.worker) w seen' v
-      → IsVersion (touching entry_touches o (number_of o.inst.tables g)) seen' (then_version (Some reply) v (length seen'))
+module _ (o : Opening) (w : ℕ) (plan : Plan) (g : Guard) (known : IsKnown o.inst.tables g)
+    (written : writes o.inst.tables plan.mv.steps g ≡ true) where
+  pub version_then : (seen mine seen' mine' : List Entry) (reply : Reply) (v : ℕ) → KnowsOwn w seen mine →
+      IsCommitOf o seen w plan → IsCommitted o w plan.q seen mine seen' mine' reply
+      → v ≤ length seen → IsVersion (touching entry_touches o (number_of o.inst.tables g)) seen v →
+      OnlyBy (touching entry_touches o (number_of o.inst.tables g)) (λ (e : Entry). e.worker) w seen' v
+      → IsVersion (touching entry_touches o (number_of o.inst.tables g)) seen'
+      (then_version (Some reply) v (length seen'))
   unfolding made_by
   version_then seen mine seen' mine' reply v own commit done le before only =
       let touched : Entry → Bool = touching entry_touches o (number_of o.inst.tables g) in
       let h = done.history in
       let later = later_commit w seen h mine done.later own done.own o.inst.tables o.a0.items o.lots plan commit in
-      let whole = λ (p : IsPrefix h seen'). version_whole touched (λ (e : Entry). e.worker) w seen h mine v v done.later own done.own le (only_shorter touched (λ (e : Entry). e.worker) w h seen' v p only) before in
+      let whole = λ (p : IsPrefix h seen'). version_whole touched (λ (e : Entry). e.worker) w seen h mine v v done.later
+      own done.own le (only_shorter touched (λ (e : Entry). e.worker) w h seen' v p only) before in
       ⊎_elim
       (λ stale. (let same : seen' ≡ h = done.journal ∙ stale.1.journal in
       let now : IsVersion touched h v = whole (subst (IsPrefix h) (sym same) (prefix_self h)) in
-      subst (λ (r : Reply). IsVersion touched seen' (then_version (Some r) v (length seen'))) (sym (done.answer ∙ stale.1.reply))
+      subst (λ (r : Reply). IsVersion touched seen' (then_version (Some r) v (length seen')))
+      (sym (done.answer ∙ stale.1.reply))
       (subst (λ (n : ℕ). IsVersion touched seen' n) (sym (stale_version stale.0.guard stale.0.at v (length seen')))
       (subst (λ (xs : List Entry). IsVersion touched xs v) (sym same) now))))
       (λ more. (let e = more.0 in
       let same : seen' ≡ h ++ e ∷ [] = done.journal ∙ more.1.journal in
       let now : IsVersion touched h v = whole (subst (IsPrefix h) (sym same) (e ∷ [], refl)) in
-      let touch : touched e ≡ touches o.inst.tables (steps_made e.verdict e.mv.steps) g = touches_agree o.inst.tables (made_by e) g known in
-      let writes' : writes o.inst.tables e.mv.steps g ≡ true = ap (λ (mv : MoveSteps). writes o.inst.tables mv.steps g) more.1.mv ∙ written in
-      let there = refused_nothing o.inst.tables e.verdict e.mv.steps g (length h) v (length seen') touched h e refl touch writes' (ap length same) now in
-      subst (λ (r : Reply). IsVersion touched seen' (then_version (Some r) v (length seen'))) (sym (done.answer ∙ more.1.reply))
-      (subst (λ (xs : List Entry). IsVersion touched xs (then_version (Some (Recorded (length h) e.verdict)) v (length seen'))) (sym same) there)))
+      let touch : touched e ≡ touches o.inst.tables (steps_made e.verdict e.mv.steps) g =
+      touches_agree o.inst.tables (made_by e) g known in
+      let writes' : writes o.inst.tables e.mv.steps g ≡ true =
+      ap (λ (mv : MoveSteps). writes o.inst.tables mv.steps g) more.1.mv ∙ written in
+      let there = refused_nothing o.inst.tables e.verdict e.mv.steps g (length h) v (length seen') touched h e refl
+      touch writes' (ap length same) now in
+      subst (λ (r : Reply). IsVersion touched seen' (then_version (Some r) v (length seen')))
+      (sym (done.answer ∙ more.1.reply))
+      (subst (λ (xs : List Entry).
+      IsVersion touched xs (then_version (Some (Recorded (length h) e.verdict)) v (length seen')))
+      (sym same) there)))
       (answered o h w plan later)
 
 -- what the worker has made is then what stands there of its own
@@ -238,13 +277,15 @@ pub recorded_stands : RecordedStands
 recorded_stands o w plan seen mine seen' mine' j verdict own commit done =
     let h = done.history in
     ⊎_elim
-    (λ stale. absurd (let clash : Recorded j verdict ≡ Stale stale.0.guard stale.0.at = done.answer ∙ stale.1.reply in cc clash))
+    (λ stale. absurd (let clash : Recorded j verdict ≡ Stale stale.0.guard stale.0.at = done.answer ∙ stale.1.reply in
+    cc clash))
     (λ more. (let e = more.0 in
     let same : seen' ≡ h ++ e ∷ [] = done.journal ∙ more.1.journal in
     let answer : Recorded j verdict ≡ Recorded (length h) e.verdict = done.answer ∙ more.1.reply in
     let place : j ≡ length h = cc answer in
     let judged : verdict ≡ e.verdict = cc answer in
-    let last : entry_at seen' j ≡ e = ap (λ (xs : List Entry). entry_at xs j) same ∙ (ap (entry_at (h ++ e ∷ [])) place ∙ entry_added h e) in
+    let last : entry_at seen' j ≡ e = ap (λ (xs : List Entry). entry_at xs j) same
+    ∙ (ap (entry_at (h ++ e ∷ [])) place ∙ entry_added h e) in
     let tail : drop (length h) seen' ≡ e ∷ [] = ap (drop (length h)) same ∙ drop-append_seam h (e ∷ []) in
     record {
       last = omega (arith, ap length same, length_push h e);
@@ -255,7 +296,8 @@ recorded_stands o w plan seen mine seen' mine' j verdict own commit done =
       judged = ap (λ (x : Entry). x.verdict) last ∙ sym judged;
       made = done.made ∙ (ap (λ (ys : List Entry). mine ++ ys) tail ∙ ap (λ (x : Entry). mine ++ x ∷ []) (sym last));
     }))
-    (answered o h w plan (later_commit w seen h mine done.later own done.own o.inst.tables o.a0.items o.lots plan commit))
+    (answered o h w plan
+    (later_commit w seen h mine done.later own done.own o.inst.tables o.a0.items o.lots plan commit))
 
 -- the first newer guard is a guard of the move whose version is above q, and its place is the one before that version
 pub record IsFound (test : Guard → Bool) (v : Guard → ℕ) (q : ℕ) (newer : Newer) : Type 0 where
@@ -263,7 +305,9 @@ pub record IsFound (test : Guard → Bool) (v : Guard → ℕ) (q : ℕ) (newer 
   pub above : q < v newer.guard
   pub place : newer.at ≡ v newer.guard - 1
 
-found_at : (test : Guard → Bool) (v : Guard → ℕ) (q : ℕ) (g : Guard) (newer : Newer) (b : Bool) → (test g && ltb q (v g)) ≡ b → cond b (Some (let x : Newer = record { guard = g; at = v g - 1 } in x)) None ≡ Some newer → IsFound test v q newer
+found_at : (test : Guard → Bool) (v : Guard → ℕ) (q : ℕ) (g : Guard) (newer : Newer) (b : Bool) →
+    (test g && ltb q (v g)) ≡ b → cond b (Some (let x : Newer = record { guard = g; at = v g - 1 } in x)) None ≡
+    Some newer → IsFound test v q newer
 found_at test v q g newer true is some =
     let parts = and_parts (test g) (ltb q (v g)) is in
     let guard : newer.guard ≡ g = cc some in
@@ -275,28 +319,42 @@ found_at test v q g newer true is some =
     }
 found_at test v q g newer false is some = absurd (cc some)
 
-newer_found : (i : Tables) (test : Guard → Bool) (v : Guard → ℕ) (q : ℕ) (newer : Newer) → first_that i test v q ≡ Some newer → IsFound test v q newer
+newer_found : (i : Tables) (test : Guard → Bool) (v : Guard → ℕ) (q : ℕ) (newer : Newer) →
+    first_that i test v q ≡ Some newer → IsFound test v q newer
 unfolding first_that newer_at
 newer_found i test v q newer is = ⊎_elim
-    (λ machines. (let at = first_some_at (machine_count i) (λ m. newer_at test v q (guard.Machine (record { 0 = m }))) newer machines in
+    (λ machines.
+    (let at = first_some_at (machine_count i) (λ m. newer_at test v q (guard.Machine (record { 0 = m }))) newer
+    machines in
     found_at test v q (guard.Machine (record { 0 = at.0 })) newer _ refl at.2))
-    (λ services. (let at = first_some_at (service_count i) (λ s. newer_at test v q (guard.Service (record { 0 = s }))) newer services.1 in
+    (λ services.
+    (let at = first_some_at (service_count i) (λ s. newer_at test v q (guard.Service (record { 0 = s }))) newer
+    services.1 in
     found_at test v q (guard.Service (record { 0 = at.0 })) newer _ refl at.2))
-    (or_else_cases (first (machine_count i) (λ m. newer_at test v q (guard.Machine (record { 0 = m })))) (first (service_count i) (λ s. newer_at test v q (guard.Service (record { 0 = s })))) newer is)
+    (or_else_cases (first (machine_count i) (λ m. newer_at test v q (guard.Machine (record { 0 = m }))))
+    (first (service_count i) (λ s. newer_at test v q (guard.Service (record { 0 = s })))) newer is)
 
 -- the entry before a version touches the guard
 stamped : (i : Tables) (h : List Entry) (g : Guard) → 0 < version i (made_in h) (length h) g
-    → (version i (made_in h) (length h) g - 1 < length h) × (touches i (made_by (entry_at h (version i (made_in h) (length h) g - 1))) g ≡ true)
+    → (version i (made_in h) (length h) g - 1 < length h)
+    × (touches i (made_by (entry_at h (version i (made_in h) (length h) g - 1))) g ≡ true)
 unfolding version
 stamped i h g more =
-    let some : 0 < length h = ⊎_elim (λ (lt : 0 < length h). lt) (λ (le : length h ≤ 0). absurd (let none : length h ≡ 0 = omega arith in
-    omega (arith, ap (λ n. greatest n (stamp i (made_in h) g)) none, greatest_none (stamp i (made_in h) g)))) (cases_lt 0 (length h)) in
+    let some : 0 < length h =
+    ⊎_elim (λ (lt : 0 < length h). lt) (λ (le : length h ≤ 0). absurd (let none : length h ≡ 0 = omega arith in
+    omega (arith, ap (λ n. greatest n (stamp i (made_in h) g)) none, greatest_none (stamp i (made_in h) g))))
+    (cases_lt 0 (length h)) in
     let top = greatest_reached (length h) (stamp i (made_in h) g) some in
     ⊎_elim
     (λ (touched : touches i (made_at (made_in h) top.0) g ≡ true).
-    let here : version i (made_in h) (length h) g - 1 ≡ top.0 = omega (arith, stamp_touched i (made_in h) g top.0 touched, top.2) in
-    (omega (arith, top.1), ap (λ (n : ℕ). touches i (made_by (entry_at h n)) g) here ∙ (ap (λ (m : Option (List Step)). touches i m g) (sym (made_place h top.0)) ∙ touched)))
-    (λ (untouched : touches i (made_at (made_in h) top.0) g ≡ false). absurd (omega (arith, stamp_untouched i (made_in h) g top.0 untouched, top.2)))
+    let here : version i (made_in h) (length h) g - 1 ≡ top.0 =
+    omega (arith, stamp_touched i (made_in h) g top.0 touched, top.2) in (
+      omega (arith, top.1),
+      ap (λ (n : ℕ). touches i (made_by (entry_at h n)) g) here
+          ∙ (ap (λ (m : Option (List Step)). touches i m g) (sym (made_place h top.0)) ∙ touched),
+    ))
+    (λ (untouched : touches i (made_at (made_in h) top.0) g ≡ false).
+    absurd (omega (arith, stamp_untouched i (made_in h) g top.0 untouched, top.2)))
     (cases_Bool (touches i (made_at (made_in h) top.0) g))
 
 pub stale_stands : StaleStands
@@ -310,19 +368,27 @@ stale_stands o w plan seen mine seen' mine' guard at own commit done =
     let answer : Stale guard at ≡ Stale stale.0.guard stale.0.at = done.answer ∙ stale.1.reply in
     let g : guard ≡ stale.0.guard = cc answer in
     let place : at ≡ stale.0.at = cc answer in
-    let found = newer_found i (is_guard i plan.mv.steps) (version i (made_in h) (length h)) plan.q stale.0 stale.1.newer_is in
+    let found = newer_found i (is_guard i plan.mv.steps) (version i (made_in h) (length h)) plan.q stale.0
+    stale.1.newer_is in
     let there = stamped i h stale.0.guard (let a = found.above in omega arith) in
     let here : at ≡ version i (made_in h) (length h) stale.0.guard - 1 = place ∙ found.place in
     let from : plan.q ≤ at = (let a = found.above in omega arith) in
     let inside : at < length h = (let b = there.0 in omega arith) in
-    let touched : touches i (made_by (entry_at h at)) stale.0.guard ≡ true = ap (λ (n : ℕ). touches i (made_by (entry_at h n)) stale.0.guard) here ∙ there.1 in
+    let touched : touches i (made_by (entry_at h at)) stale.0.guard ≡ true =
+    ap (λ (n : ℕ). touches i (made_by (entry_at h n)) stale.0.guard) here ∙ there.1 in
     record {
-      made = done.made ∙ (ap (λ (xs : List Entry). mine ++ drop (length h) xs) same ∙ (ap (λ (ys : List Entry). mine ++ ys) (drop-length h) ∙ append-nil mine));
+      made = done.made
+          ∙ (ap (λ (xs : List Entry). mine ++ drop (length h) xs) same
+          ∙ (ap (λ (ys : List Entry). mine ++ ys) (drop-length h) ∙ append-nil mine));
       guarded = ap (is_guard i plan.mv.steps) g ∙ found.passes;
       from = from;
       within = omega (arith, ap length same);
-      touched = ap (λ (x : Guard). touches i (made_by (entry_at seen' at)) x) g ∙ (ap (λ (xs : List Entry). touches i (made_by (entry_at xs at)) stale.0.guard) same ∙ touched);
-      other = λ own'. (let before = later.seen at inside (ap (λ (xs : List Entry). (entry_at xs at).worker) (sym same) ∙ own') in absurd (omega arith));
+      touched = ap (λ (x : Guard). touches i (made_by (entry_at seen' at)) x) g
+          ∙ (ap (λ (xs : List Entry). touches i (made_by (entry_at xs at)) stale.0.guard) same ∙ touched);
+      other = λ own'.
+          (let before = later.seen at inside (ap (λ (xs : List Entry). (entry_at xs at).worker) (sym same) ∙ own') in
+          absurd (omega arith));
     }))
-    (λ more. absurd (let clash : Stale guard at ≡ Recorded (length h) more.0.verdict = done.answer ∙ more.1.reply in cc clash))
+    (λ more. absurd (let clash : Stale guard at ≡ Recorded (length h) more.0.verdict = done.answer ∙ more.1.reply in
+    cc clash))
     (answered o h w plan later)

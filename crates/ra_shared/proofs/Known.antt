@@ -14,11 +14,16 @@ use Rattle.ra_shared.specs.Holding.{HoldsWrites, KnowsGuards, NeedsNoGuard}
 
 module _ {g : Ghosts Book Entry Opening} where
   -- all write guards are held, or none need be
-  pub by_guards : {R : Type 0} (i : Tables) (plan : Plan) (p : Pass Book Entry Opening g) (guards : Option (List Guard)) → KnowsGuards i plan p guards → (HoldsWrites i plan.mv.steps plan.q (grips_of p) → R) → (NeedsNoGuard i plan p → R) → R
+  pub by_guards : {R : Type 0} (i : Tables) (plan : Plan) (p : Pass Book Entry Opening g)
+      (guards : Option (List Guard)) → KnowsGuards i plan p guards →
+      (HoldsWrites i plan.mv.steps plan.q (grips_of p) → R) → (NeedsNoGuard i plan p → R) → R
   by_guards i plan p (Some guards) knows held free = held knows.1
   by_guards i plan p None knows held free = free knows
 
   -- what follows for the guards that are given
-  pub of_given : {P : List Guard → Type 0} (i : Tables) (plan : Plan) (p : Pass Book Entry Opening g) (guards : Option (List Guard)) → KnowsGuards i plan p guards → ((given : List Guard) → AreWrites i plan.mv.steps given → HoldsWrites i plan.mv.steps plan.q (grips_of p) → P given) → IfSome guards P
+  pub of_given : {P : List Guard → Type 0} (i : Tables) (plan : Plan) (p : Pass Book Entry Opening g)
+      (guards : Option (List Guard)) → KnowsGuards i plan p guards →
+      ((given : List Guard) → AreWrites i plan.mv.steps given → HoldsWrites i plan.mv.steps plan.q (grips_of p) →
+      P given) → IfSome guards P
   of_given i plan p (Some guards) knows follows = follows guards knows.0 knows.1
   of_given i plan p None knows follows = tt

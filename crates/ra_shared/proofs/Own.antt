@@ -1,5 +1,6 @@
 -- What a worker has seen and made, in a history that is longer.
-use Rattle.std.proofs.Common.{◌≡◌, ◌⊎◌, ℕ, zero, suc, ◌+◌, ◌<◌, ◌≤◌, eqb, Bool, false, List, ◌++◌, length, slice_get, Some, ap, sym, ◌∙◌, ⊎_elim, arith, length-append}
+use Rattle.std.proofs.Common.{◌≡◌, ◌⊎◌, ℕ, zero, suc, ◌+◌, ◌<◌, ◌≤◌, eqb, Bool, false, List, ◌++◌, length, slice_get}
+use Rattle.std.proofs.Common.{Some, ap, sym, ◌∙◌, ⊎_elim, arith, length-append}
 use Rattle.std.proofs.lemmas.Bool.{false_from_ne_true, eqb-true, eq-eqb}
 use Rattle.std.proofs.lemmas.List.{get_or_append_left}
 use Rattle.std.proofs.lemmas.Option.{slice_get-get_or, slice_get_within, get_or_from_slice_get}
@@ -36,48 +37,62 @@ prefix_length h g p = omega (arith, ap length p.1, length-append h p.0)
 -- a list and a longer one agree on the first
 pub same_front : (h g : List Entry) → IsPrefix h g → SameBelow (length h) h g
 unfolding entry_at
-same_front h g p = record { each = λ j before. sym (ap (λ (xs : List Entry). entry_at xs j) (sym p.1) ∙ get_or_append_left h p.0 _ j before) }
+same_front h g p = record {
+  each = λ j before. sym (ap (λ (xs : List Entry). entry_at xs j) (sym p.1) ∙ get_or_append_left h p.0 _ j before);
+}
 
-module _ (w : ℕ) (seen h mine : List Entry) (p : IsPrefix seen h) (told : KnowsOwn w seen mine) (all : KnowsOwn w h mine) where
+module _ (w : ℕ) (seen h mine : List Entry) (p : IsPrefix seen h) (told : KnowsOwn w seen mine)
+    (all : KnowsOwn w h mine) where
   -- all entries of the worker are among those that it had seen
   pub own_seen : (j : ℕ) → j < length h → (entry_at h j).worker ≡ w → j < length seen
   own_seen j lt own =
       let author : Entry → ℕ = λ e. e.worker in
       let none : length (by author w p.0) ≡ 0 = none_later author w seen p.0 mine told (ap (by author w) p.1 ∙ all) in
-      let here : slice_get (seen ++ p.0) j ≡ Some (entry_at h j) = ap (λ (xs : List Entry). slice_get xs j) p.1 ∙ entry_get h j lt in
+      let here : slice_get (seen ++ p.0) j ≡ Some (entry_at h j) = ap (λ (xs : List Entry). slice_get xs j) p.1
+      ∙ entry_get h j lt in
       ⊎_elim
       (λ (before : slice_get seen j ≡ Some (entry_at h j)). slice_get_within seen j (entry_at h j) before)
-      (λ after. absurd (filter_none (λ e. eqb e.worker w) p.0 after.0 (entry_at h j) none after.2 (eq-eqb (entry_at h j).worker w own)))
+      (λ after. absurd
+      (filter_none (λ e. eqb e.worker w) p.0 after.0 (entry_at h j) none after.2
+      (eq-eqb (entry_at h j).worker w own)))
       (get_cases seen p.0 j (entry_at h j) here)
 
   -- so the number of its next proposal is the same
-  counted : (n k : ℕ) (test : ℕ → Bool) → ((j : ℕ) → n ≤ j → j < n + k → test j ≡ false) → count (n + k) test ≡ count n test
+  counted : (n k : ℕ) (test : ℕ → Bool) → ((j : ℕ) → n ≤ j → j < n + k → test j ≡ false) →
+      count (n + k) test ≡ count n test
   counted n zero test none = ap (λ m. count m test) (let e : n + zero ≡ n = omega arith in e)
   counted n (suc k) test none =
       let e : n + suc k ≡ (n + k) + 1 = omega arith in
-      ap (λ m. count m test) e ∙ (count_no (n + k) test (none (n + k) (omega arith) (omega arith)) ∙ counted n k test (λ j ge lt. none j ge (omega arith)))
+      ap (λ m. count m test) e
+      ∙ (count_no (n + k) test (none (n + k) (omega arith) (omega arith))
+      ∙ counted n k test (λ j ge lt. none j ge (omega arith)))
 
   pub next_same : next_number h w ≡ next_number seen w
   unfolding next_number entries_of
   next_same =
       let long : length h ≡ length seen + length p.0 = ap length (sym p.1) ∙ length-append seen p.0 in
       ap (λ n. entries_of h n w) long
-      ∙ (counted (length seen) (length p.0) (λ j. eqb (entry_at h j).worker w) (λ j ge lt. false_from_ne_true (eqb (entry_at h j).worker w) (λ own.
+      ∙ (counted (length seen) (length p.0) (λ j. eqb (entry_at h j).worker w)
+      (λ j ge lt. false_from_ne_true (eqb (entry_at h j).worker w) (λ own.
       let before = own_seen j (omega arith) (eqb-true (entry_at h j).worker w own) in absurd (omega arith)))
       ∙ sym (same_entries_of (length seen) w seen h (same_front seen h p)))
 
   -- and the worker may still hand in its plan
-  pub later_commit : (i : Tables) (a0 : List Machine) (l : Lots) (plan : Plan) → IsCommit i a0 l seen w plan → IsCommit i a0 l h w plan
+  pub later_commit : (i : Tables) (a0 : List Machine) (l : Lots) (plan : Plan) → IsCommit i a0 l seen w plan →
+      IsCommit i a0 l h w plan
   later_commit i a0 l plan commit =
       let same = same_front seen h p in
       let place = commit.place in
-      let st : state a0 seen plan.q ≡ state a0 h plan.q = same_state a0 plan.q seen h (same_fewer plan.q (length seen) seen h place same) in
+      let st : state a0 seen plan.q ≡ state a0 h plan.q =
+      same_state a0 plan.q seen h (same_fewer plan.q (length seen) seen h place same) in
       record {
         worker = commit.worker;
         number = commit.number ∙ sym next_same;
         within = commit.within;
         place = omega (arith, prefix_length seen h p);
-        seen = λ j lt own. (let before = own_seen j lt own in commit.seen j before (ap (λ (e : Entry). e.worker) (same.each j before) ∙ own));
+        seen = λ j lt own.
+            (let before = own_seen j lt own in
+            commit.seen j before (ap (λ (e : Entry). e.worker) (same.each j before) ∙ own));
         planned = commit.planned ∙ ap (λ a. plan_of i a0 a (words l w plan.k) l.drawing (allowed l w plan.k)) st;
         weighed = commit.weighed ∙ ap (λ a. weighed_of i a0 a plan.mv.steps) st;
       }

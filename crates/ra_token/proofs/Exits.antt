@@ -1,5 +1,6 @@
 -- Errors that are passed on, and what is told of a file that was read twice.
-use Rattle.std.proofs.Common.{◌≡◌, ℕ, ◌-◌, ◌^◌, ◌<◌, ◌≤◌, ⊎_elim, List, Option, Some, None, Result, Ok, Err, IfSome, slice_get, sym, refl, ◌∙◌, subst, inl, inr, arith}
+use Rattle.std.proofs.Common.{◌≡◌, ℕ, ◌-◌, ◌^◌, ◌<◌, ◌≤◌, ⊎_elim, List, Option, Some, None, Result, Ok, Err, IfSome}
+use Rattle.std.proofs.Common.{slice_get, sym, refl, ◌∙◌, subst, inl, inr, arith}
 use Rattle.std.specs.Prelude.{⊤}
 use Rattle.ra_io.specs.Faults.{Rose}
 use Rattle.ra_token.specs.declared.answers.TheConstants.{LARGEST}
@@ -20,7 +21,8 @@ pub ok_not_err : {T E : Type 0} (x : T) (y : E) → ◌≡◌ {A = Result T E} (
 ok_not_err x y same = cc
 
 -- faults that are not a failed fetch, nor refused memory
-pub read_not_memory : {T : Type 0} (fault : TokenFault) → fault ≡ ReadFault → ◌≡◌ {A = Result T TokenFault} (Err fault) (Err NoMemory) → ⊥
+pub read_not_memory : {T : Type 0} (fault : TokenFault) → fault ≡ ReadFault →
+    ◌≡◌ {A = Result T TokenFault} (Err fault) (Err NoMemory) → ⊥
 read_not_memory fault is same = cc
 
 pub long_not_memory : {T : Type 0} → ◌≡◌ {A = Result T TokenFault} (Err TooLong) (Err NoMemory) → ⊥
@@ -29,10 +31,12 @@ long_not_memory same = cc
 pub long_not_read : {T : Type 0} → ◌≡◌ {A = Result T TokenFault} (Err TooLong) (Err ReadFault) → ⊥
 long_not_read same = cc
 
-pub bad_not_memory : {T : Type 0} (at byte : ℕ) → ◌≡◌ {A = Result T TokenFault} (Err (BadByte at byte)) (Err NoMemory) → ⊥
+pub bad_not_memory : {T : Type 0} (at byte : ℕ) → ◌≡◌ {A = Result T TokenFault} (Err (BadByte at byte)) (Err NoMemory) →
+    ⊥
 bad_not_memory at byte same = cc
 
-pub bad_not_read : {T : Type 0} (at byte : ℕ) → ◌≡◌ {A = Result T TokenFault} (Err (BadByte at byte)) (Err ReadFault) → ⊥
+pub bad_not_read : {T : Type 0} (at byte : ℕ) → ◌≡◌ {A = Result T TokenFault} (Err (BadByte at byte)) (Err ReadFault) →
+    ⊥
 bad_not_read at byte same = cc
 
 pub large_not_memory : {T : Type 0} (at : ℕ) → ◌≡◌ {A = Result T TokenFault} (Err (TooLarge at)) (Err NoMemory) → ⊥
@@ -43,10 +47,16 @@ large_not_read at same = cc
 
 -- a count that had not fallen before it rose
 pub rose_later : (before between now : ℕ) → before ≤ between → Rose between now → Rose before now
-rose_later before between now low rose = ⊎_elim (λ (more : between < now). inl (omega arith)) (λ (last : now ≡ 2 ^ 64 - 1). inr last) rose
+rose_later before between now low rose =
+    ⊎_elim (λ (more : between < now). inl (omega arith)) (λ (last : now ≡ 2 ^ 64 - 1). inr last) rose
 
 -- nothing that is held changed in one more call, and no fault was forgotten
-pub keeps_on : (held_before held_between held_now : List ℕ → Option (List ℕ)) (faults_before faults_between faults_now : List ℕ → ℕ) → KeepsFiles held_before held_between faults_before faults_between → ((other : List ℕ) → held_now other ≡ held_between other) → ((other : List ℕ) → faults_between other ≤ faults_now other) → KeepsFiles held_before held_now faults_before faults_now
+pub keeps_on : (held_before held_between held_now : List ℕ → Option (List ℕ))
+    (faults_before faults_between faults_now : List ℕ → ℕ) →
+    KeepsFiles held_before held_between faults_before faults_between →
+    ((other : List ℕ) → held_now other ≡ held_between other) →
+    ((other : List ℕ) → faults_between other ≤ faults_now other) →
+    KeepsFiles held_before held_now faults_before faults_now
 keeps_on held_before held_between held_now faults_before faults_between faults_now keeps kept never_fell = record {
   kept = λ other. kept other ∙ keeps.kept other;
   never_fell = λ other. omega (arith, keeps.never_fell other, never_fell other);
@@ -61,62 +71,90 @@ told_nothing None = tt
 told_nothing (Some bytes) = tt
 
 -- a failed fetch is an answer at any place
-pub told_unread : (told : Option (List ℕ)) (from : ℕ) (fault : TokenFault) → fault ≡ ReadFault → IfSome told (λ bytes. FaultsAt bytes from fault)
+pub told_unread : (told : Option (List ℕ)) (from : ℕ) (fault : TokenFault) → fault ≡ ReadFault →
+    IfSome told (λ bytes. FaultsAt bytes from fault)
 told_unread None from fault is = tt
 told_unread (Some bytes) from fault is = inl is
 
 -- at the place itself nothing was passed
-pub told_stands : (told : Option (List ℕ)) (place : ℕ) → IfSome told (λ bytes. IsBetween bytes place) → IfSome told (λ bytes. IsReached bytes place place)
+pub told_stands : (told : Option (List ℕ)) (place : ℕ) → IfSome told (λ bytes. IsBetween bytes place) →
+    IfSome told (λ bytes. IsReached bytes place place)
 told_stands None place between = tt
 told_stands (Some bytes) place between = reached_here bytes place between
 
 -- further over what was read again
-pub told_passes : (told told_now : Option (List ℕ)) (from at to : ℕ) → told_now ≡ told → IfSome told (λ bytes. IsReached bytes from at) → IfSome told_now (λ bytes. IsBetween bytes at → IsReached bytes at to) → IfSome told (λ bytes. IsReached bytes from to)
+pub told_passes : (told told_now : Option (List ℕ)) (from at to : ℕ) → told_now ≡ told →
+    IfSome told (λ bytes. IsReached bytes from at) →
+    IfSome told_now (λ bytes. IsBetween bytes at → IsReached bytes at to) →
+    IfSome told (λ bytes. IsReached bytes from to)
 told_passes None told_now from at to same reached passes = tt
 told_passes (Some bytes) told_now from at to same reached passes =
     let more = subst (λ t. IfSome t (λ xs. IsBetween xs at → IsReached xs at to)) same passes reached.between in
     record { between = more.between; given = more.given ∙ reached.given }
 
 -- what holds from between two tokens on
-pub told_given : (P Q : List ℕ → Type 0) (told : Option (List ℕ)) → IfSome told (λ bytes. P bytes → Q bytes) → IfSome told P → IfSome told Q
+pub told_given : (P Q : List ℕ → Type 0) (told : Option (List ℕ)) → IfSome told (λ bytes. P bytes → Q bytes) →
+    IfSome told P → IfSome told Q
 told_given P Q None follows holds = tt
 told_given P Q (Some bytes) follows holds = follows holds
 
 -- a token that begins at a place begins there, seen from the place itself
-pub told_first : (told told_now : Option (List ℕ)) (from at : ℕ) → told_now ≡ told → IfSome told (λ bytes. Begins bytes from at) → IfSome told_now (λ bytes. Begins bytes at at)
+pub told_first : (told told_now : Option (List ℕ)) (from at : ℕ) → told_now ≡ told →
+    IfSome told (λ bytes. Begins bytes from at) → IfSome told_now (λ bytes. Begins bytes at at)
 told_first None told_now from at same begins = subst (λ t. IfSome t (λ bytes. Begins bytes at at)) (sym same) tt
 told_first (Some bytes) told_now from at same begins = subst (λ t. IfSome t (λ xs. Begins xs at at)) (sym same)
     (record { reached = reached_here bytes at begins.reached.between; digit = begins.digit })
 
 -- the run that was taken there is the next one
-pub told_next : (told told_now : Option (List ℕ)) (from start place value : ℕ) → told_now ≡ told → IfSome told (λ bytes. Begins bytes from start) → IfSome told_now (λ bytes. IsTaken bytes start place value) → IfSome told (λ bytes. IsNext bytes from start place value)
+pub told_next : (told told_now : Option (List ℕ)) (from start place value : ℕ) → told_now ≡ told →
+    IfSome told (λ bytes. Begins bytes from start) → IfSome told_now (λ bytes. IsTaken bytes start place value) →
+    IfSome told (λ bytes. IsNext bytes from start place value)
 told_next None told_now from start place value same begins taken = tt
 told_next (Some bytes) told_now from start place value same begins taken =
-    next_of bytes from start place value begins.reached (subst (λ t. IfSome t (λ xs. IsTaken xs start place value)) same taken)
+    next_of bytes from start place value begins.reached
+    (subst (λ t. IfSome t (λ xs. IsTaken xs start place value)) same taken)
 
-token_there : (told : Option (List ℕ)) (at start place value : ℕ) → IfSome told (λ bytes. IsNext bytes at start place value) → IfSome told (λ bytes. slice_get (tokens bytes) (tokens_before bytes at) ≡ Some (token_of value start))
+token_there : (told : Option (List ℕ)) (at start place value : ℕ) →
+    IfSome told (λ bytes. IsNext bytes at start place value) →
+    IfSome told (λ bytes. slice_get (tokens bytes) (tokens_before bytes at) ≡ Some (token_of value start))
 token_there None at start place value next = tt
 token_there (Some bytes) at start place value next = next.token
 
 -- what comes next is the next token
-pub told_token : (told told_now : Option (List ℕ)) (from at start place value : ℕ) → told_now ≡ told → at ≡ from → IfSome told_now (λ bytes. IsNext bytes at start place value) → IfSome told (λ bytes. slice_get (tokens bytes) (tokens_before bytes from) ≡ Some (token_of value start))
+pub told_token : (told told_now : Option (List ℕ)) (from at start place value : ℕ) → told_now ≡ told → at ≡ from →
+    IfSome told_now (λ bytes. IsNext bytes at start place value) →
+    IfSome told (λ bytes. slice_get (tokens bytes) (tokens_before bytes from) ≡ Some (token_of value start))
 told_token told told_now from at start place value same here next =
-    subst (λ k. IfSome told (λ bytes. slice_get (tokens bytes) (tokens_before bytes k) ≡ Some (token_of value start))) here
-    (subst (λ t. IfSome t (λ bytes. slice_get (tokens bytes) (tokens_before bytes at) ≡ Some (token_of value start))) same (token_there told_now at start place value next))
+    subst (λ k. IfSome told (λ bytes. slice_get (tokens bytes) (tokens_before bytes k) ≡ Some (token_of value start)))
+    here
+    (subst (λ t. IfSome t (λ bytes. slice_get (tokens bytes) (tokens_before bytes at) ≡ Some (token_of value start)))
+    same (token_there told_now at start place value next))
 
 -- a fault there comes next
-pub told_refused : (told told_now : Option (List ℕ)) (from at : ℕ) (fault : TokenFault) → told_now ≡ told → IfSome told (λ bytes. Begins bytes from at) → IfSome told_now (λ bytes. FaultsAt bytes at fault) → IfSome told (λ bytes. FaultsAt bytes from fault)
+pub told_refused : (told told_now : Option (List ℕ)) (from at : ℕ) (fault : TokenFault) → told_now ≡ told →
+    IfSome told (λ bytes. Begins bytes from at) → IfSome told_now (λ bytes. FaultsAt bytes at fault) →
+    IfSome told (λ bytes. FaultsAt bytes from fault)
 told_refused None told_now from at fault same begins refused = tt
 told_refused (Some bytes) told_now from at fault same begins refused =
-    subst (λ n. IsAnswer bytes n (Err fault)) begins.reached.given (subst (λ t. IfSome t (λ xs. FaultsAt xs at fault)) same refused)
+    subst (λ n. IsAnswer bytes n (Err fault)) begins.reached.given
+    (subst (λ t. IfSome t (λ xs. FaultsAt xs at fault)) same refused)
 
 -- a run that goes on over what was read again, and one that gets too large there
-pub told_run_on : (told told_now : Option (List ℕ)) (first at value to more : ℕ) → told_now ≡ told → IfSome told (λ bytes. InRun bytes first at value) → IfSome told_now (λ bytes. (start : ℕ) → InRun bytes start at value → more ≤ LARGEST → InRun bytes start to more) → more ≤ LARGEST → IfSome told (λ bytes. InRun bytes first to more)
+pub told_run_on : (told told_now : Option (List ℕ)) (first at value to more : ℕ) → told_now ≡ told →
+    IfSome told (λ bytes. InRun bytes first at value) →
+    IfSome told_now (λ bytes. (start : ℕ) → InRun bytes start at value → more ≤ LARGEST → InRun bytes start to more) →
+    more ≤ LARGEST → IfSome told (λ bytes. InRun bytes first to more)
 told_run_on None told_now first at value to more same run goes_on small = tt
 told_run_on (Some bytes) told_now first at value to more same run goes_on small =
-    subst (λ t. IfSome t (λ xs. (start : ℕ) → InRun xs start at value → more ≤ LARGEST → InRun xs start to more)) same goes_on first run small
+    subst (λ t. IfSome t (λ xs. (start : ℕ) → InRun xs start at value → more ≤ LARGEST → InRun xs start to more)) same
+    goes_on first run small
 
-pub told_run_large : (told told_now : Option (List ℕ)) (first at value more : ℕ) → told_now ≡ told → IfSome told (λ bytes. InRun bytes first at value) → IfSome told_now (λ bytes. (start : ℕ) → InRun bytes start at value → LARGEST < more → FaultsAt bytes start (TooLarge start)) → LARGEST < more → IfSome told (λ bytes. FaultsAt bytes first (TooLarge first))
+pub told_run_large : (told told_now : Option (List ℕ)) (first at value more : ℕ) → told_now ≡ told →
+    IfSome told (λ bytes. InRun bytes first at value) →
+    IfSome told_now (λ bytes. (start : ℕ) → InRun bytes start at value → LARGEST < more →
+    FaultsAt bytes start (TooLarge start)) → LARGEST < more →
+    IfSome told (λ bytes. FaultsAt bytes first (TooLarge first))
 told_run_large None told_now first at value more same run too_large large = tt
 told_run_large (Some bytes) told_now first at value more same run too_large large =
-    subst (λ t. IfSome t (λ xs. (start : ℕ) → InRun xs start at value → LARGEST < more → FaultsAt xs start (TooLarge start))) same too_large first run large
+    subst (λ t. IfSome t (λ xs. (start : ℕ) → InRun xs start at value → LARGEST < more →
+    FaultsAt xs start (TooLarge start))) same too_large first run large

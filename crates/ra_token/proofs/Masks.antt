@@ -1,10 +1,12 @@
 -- The mask of the bytes that are no digits.
-use Rattle.std.proofs.Common.{◌≡◌, ℕ, ◌+◌, ◌-◌, ◌%◌, ◌^◌, ◌<◌, ◌≤◌, true, false, List, cond, ltb, length, get_or, map, replicate, refl, sym, ap, ◌∙◌, inl, inr, arith, w8}
+use Rattle.std.proofs.Common.{◌≡◌, ℕ, ◌+◌, ◌-◌, ◌%◌, ◌^◌, ◌<◌, ◌≤◌, true, false, List, cond, ltb, length, get_or, map}
+use Rattle.std.proofs.Common.{replicate, refl, sym, ap, ◌∙◌, inl, inr, arith, w8}
 use Rattle.std.specs.Int.{bit_at}
 use Rattle.std.specs.Char.{is_ascii_digit}
 use Rattle.std.specs.Simd.Lanes.{chunk, zip2, mask_l, top}
 use Rattle.std.proofs.lemmas.Bool.{cases_Bool}
-use Rattle.std.proofs.lemmas.Simd.{length-chunk, get_or-chunk, get_or-zip2, get_or-replicate, length-zip2, bit_mask_l, tops_compared, mask_l-mod}
+use Rattle.std.proofs.lemmas.Simd.{length-chunk, get_or-chunk, get_or-zip2, get_or-replicate, length-zip2, bit_mask_l}
+use Rattle.std.proofs.lemmas.Simd.{tops_compared, mask_l-mod}
 
 -- a byte whose distance from the digit 0 is above 9
 above : (byte : ℕ) → byte < 256 → ltb 9 ((byte + 208) % 256) ≡ true → is_ascii_digit byte ≡ false
@@ -20,7 +22,10 @@ told byte small = elim (cases_Bool (ltb 9 ((byte + 208) % 256))) [
 ]
 
 pub others_bit : (bytes : List ℕ) (from k : ℕ) → from + 64 ≤ length bytes → ((i : ℕ) → get_or bytes i 0 < 256) → k < 64
-    → bit_at (mask_l (map (top 7) (zip2 (λ a b. cond (ltb a b) 255 0) (replicate 64 9) (zip2 (λ a b. (a + (256 - b)) % 256) (chunk from 64 bytes) (replicate 64 48)))) % 2 ^ 64) k
+    → bit_at (mask_l
+    (map (top 7)
+    (zip2 (λ a b. cond (ltb a b) 255 0) (replicate 64 9)
+    (zip2 (λ a b. (a + (256 - b)) % 256) (chunk from 64 bytes) (replicate 64 48)))) % 2 ^ 64) k
     ≡ cond (is_ascii_digit (get_or bytes (from + k) 0)) 0 1
 others_bit bytes from k within small below_64 =
     let lanes = chunk from 64 bytes in
@@ -34,7 +39,8 @@ others_bit bytes from k within small below_64 =
     ∙ bit_mask_l tests k
     ∙ ap (λ b. cond b 1 0) (get_or-zip2 ltb (replicate 64 9) moved k 0 0 false below_64 (omega arith))
     ∙ ap (λ n. cond (ltb n (get_or moved k 0)) 1 0) (get_or-replicate 64 k 9 0 below_64)
-    ∙ ap (λ n. cond (ltb 9 n) 1 0) (get_or-zip2 (λ a b. (a + (256 - b)) % 256) lanes (replicate 64 48) k 0 0 0 (omega arith) below_64)
+    ∙ ap (λ n. cond (ltb 9 n) 1 0)
+    (get_or-zip2 (λ a b. (a + (256 - b)) % 256) lanes (replicate 64 48) k 0 0 0 (omega arith) below_64)
     ∙ ap (λ n. cond (ltb 9 ((get_or lanes k 0 + (256 - n)) % 256)) 1 0) (get_or-replicate 64 k 48 0 below_64)
     ∙ ap (λ n. cond (ltb 9 ((n + 208) % 256)) 1 0) (get_or-chunk from 64 bytes k 0 below_64)
     ∙ told (get_or bytes (from + k) 0) (small (from + k))

@@ -1,14 +1,17 @@
 -- A piece of the bytes.
-use Rattle.std.proofs.Common.{◌≡◌, ℕ, ◌+◌, ◌<◌, List, length, drop, get_or, sym, ap, ◌∙◌, arith, length-take, length-drop, get_or-take, get_or-drop}
+use Rattle.std.proofs.Common.{◌≡◌, ℕ, ◌+◌, ◌<◌, List, length, drop, get_or, sym, ap, ◌∙◌, arith, length-take}
+use Rattle.std.proofs.Common.{length-drop, get_or-take, get_or-drop}
 use Rattle.ra_token.specs.Reads.{IsPiece}
 
 -- it stands within the bytes
-pub piece_within : (bytes piece : List ℕ) (start k : ℕ) → IsPiece bytes start piece → k < length piece → start + k < length bytes
+pub piece_within : (bytes piece : List ℕ) (start k : ℕ) → IsPiece bytes start piece → k < length piece →
+    start + k < length bytes
 piece_within bytes piece start k is inside =
     omega (arith, ap length is.same, length-take (length piece) (drop start bytes), length-drop start bytes)
 
 -- its bytes are those of the bytes
-pub piece_at : (bytes piece : List ℕ) (start k : ℕ) → IsPiece bytes start piece → k < length piece → get_or bytes (start + k) 0 ≡ get_or piece k 0
+pub piece_at : (bytes piece : List ℕ) (start k : ℕ) → IsPiece bytes start piece → k < length piece →
+    get_or bytes (start + k) 0 ≡ get_or piece k 0
 piece_at bytes piece start k is inside =
     sym (get_or-drop start bytes k 0)
     ∙ sym (get_or-take (length piece) (drop start bytes) k 0 inside)

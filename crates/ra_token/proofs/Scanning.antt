@@ -5,9 +5,10 @@ use Rattle.ra_token.specs.declared.buffer.Buffer.{Buffer}
 use Rattle.ra_token.specs.Scan.{Shows, IsReached, InRun}
 
 -- nothing that is held changed, and no fault was forgotten
-pub record KeepsFiles (held_before held_now : List ℕ → Option (List ℕ)) (faults_before faults_now : List ℕ → ℕ) : Type 0 where
-  pub kept : (other : List ℕ) → held_now other ≡ held_before other
-  pub never_fell : (other : List ℕ) → faults_before other ≤ faults_now other
+pub record KeepsFiles (held_before held_now : List ℕ → Option (List ℕ)) (faults_before faults_now : List ℕ → ℕ) : Type 0
+  where
+    pub kept : (other : List ℕ) → held_now other ≡ held_before other
+    pub never_fell : (other : List ℕ) → faults_before other ≤ faults_now other
 
 -- blanks alone were passed on the way to a place
 pub record PassesBlanks (told told_now : Option (List ℕ)) (buffer : Buffer) (from place : ℕ) : Type 0 where

@@ -1,5 +1,6 @@
 -- How large the numbers in lines are, and how long their text.
-use Rattle.std.proofs.Common.{◌≡◌, ℕ, zero, suc, ◌+◌, ◌*◌, ◌^◌, ◌<◌, ◌≤◌, List, [], ◌∷◌, ◌++◌, length, ap, arith, length-append}
+use Rattle.std.proofs.Common.{◌≡◌, ℕ, zero, suc, ◌+◌, ◌*◌, ◌^◌, ◌<◌, ◌≤◌, List, [], ◌∷◌, ◌++◌, length, ap, arith}
+use Rattle.std.proofs.Common.{length-append}
 use Rattle.std.proofs.lemmas.Fmt.{length-decimal-le}
 use Rattle.std.proofs.lemmas.List.Elements.{All-nil, All-cons, All-append, All-push, All-head, All-tail}
 use Rattle.std.specs.Fmt.{decimal}
@@ -22,7 +23,8 @@ pub record AreShort (b : ℕ) (lines : List (List ℕ)) : Type 0 where
 pub listed_all : {X : Type 0} (P : X → Type 0) (n : ℕ) (f : ℕ → X) → ((k : ℕ) → k < n → P (f k)) → All P (listed n f)
 unfolding listed
 listed_all P zero f each = All-nil P
-listed_all P (suc n) f each = All-push P (listed n f) (f n) (listed_all P n f (λ k within. each k (omega arith))) (each n (omega arith))
+listed_all P (suc n) f each =
+    All-push P (listed n f) (f n) (listed_all P n f (λ k within. each k (omega arith))) (each n (omega arith))
 
 -- one line, and lines behind lines
 pub one_short : (c : ℕ) (line : List ℕ) → IsShort c line → AreShort (11 * c + 1) (line ∷ [])
@@ -33,25 +35,30 @@ one_short c line h = record {
       omega (arith, e, line_short line h.small);
 }
 
-pub short_append : (a b c : ℕ) (xs ys : List (List ℕ)) → a + b ≤ c → AreShort a xs → AreShort b ys → AreShort c (xs ++ ys)
+pub short_append : (a b c : ℕ) (xs ys : List (List ℕ)) → a + b ≤ c → AreShort a xs → AreShort b ys →
+    AreShort c (xs ++ ys)
 short_append a b c xs ys fits first then = record {
   small = All-append (λ line. All IsSmall line) xs ys first.small then.small;
-  short = let e : length (lines_text (xs ++ ys)) ≡ length (lines_text xs ++ lines_text ys) = ap length (lines_append xs ys) in
+  short = let e : length (lines_text (xs ++ ys)) ≡ length (lines_text xs ++ lines_text ys) =
+      ap length (lines_append xs ys) in
       let one : length (lines_text xs) ≤ a = first.short in
       let two : length (lines_text ys) ≤ b = then.short in
       omega (arith, e, length-append (lines_text xs) (lines_text ys));
 }
 
 -- n lines
-pub listed_short : (n c b : ℕ) (f : ℕ → List ℕ) → 11 * c + 1 ≤ b → ((k : ℕ) → k < n → IsShort c (f k)) → AreShort (n * b) (listed n f)
+pub listed_short : (n c b : ℕ) (f : ℕ → List ℕ) → 11 * c + 1 ≤ b → ((k : ℕ) → k < n → IsShort c (f k)) →
+    AreShort (n * b) (listed n f)
 unfolding listed lines_text
 listed_short zero c b f enough each = record { small = All-nil (λ line. All IsSmall line); short = omega arith }
-listed_short (suc n) c b f enough each = short_append (n * b) (11 * c + 1) (suc n * b) (listed n f) (f n ∷ []) (omega arith)
+listed_short (suc n) c b f enough each =
+    short_append (n * b) (11 * c + 1) (suc n * b) (listed n f) (f n ∷ []) (omega arith)
     (listed_short n c b f enough (λ k within. each k (omega arith)))
     (one_short c (f n) (each n (omega arith)))
 
 -- a count and n lines
-pub group_short : (n c b most : ℕ) (f : ℕ → List ℕ) → 11 * c + 1 ≤ b → 12 + n * b ≤ most → n < 2 ^ 32 → ((k : ℕ) → k < n → IsShort c (f k)) → AreShort most ((n ∷ []) ∷ listed n f)
+pub group_short : (n c b most : ℕ) (f : ℕ → List ℕ) → 11 * c + 1 ≤ b → 12 + n * b ≤ most → n < 2 ^ 32 →
+    ((k : ℕ) → k < n → IsShort c (f k)) → AreShort most ((n ∷ []) ∷ listed n f)
 group_short n c b most f enough all few each = short_append 12 (n * b) most ((n ∷ []) ∷ []) (listed n f) all
     (one_short 1 (n ∷ []) (record { small = All-cons IsSmall n [] few (All-nil IsSmall); short = omega arith }))
     (listed_short n c b f enough each)
@@ -72,5 +79,6 @@ none_short = record { small = All-nil IsSmall; short = omega arith }
 pub numbers_append : (a b c : ℕ) (xs ys : List ℕ) → a + b ≤ c → IsShort a xs → IsShort b ys → IsShort c (xs ++ ys)
 numbers_append a b c xs ys enough first then = record {
   small = All-append IsSmall xs ys first.small then.small;
-  short = let one : length xs ≤ a = first.short in let two : length ys ≤ b = then.short in omega (arith, length-append xs ys);
+  short = let one : length xs ≤ a = first.short in let two : length ys ≤ b = then.short in
+      omega (arith, length-append xs ys);
 }

@@ -1,5 +1,6 @@
 -- An instance that has the numbers of a trial.
-use Rattle.std.proofs.Common.{◌≡◌, ℕ, zero, suc, ◌+◌, ◌/◌, ◌%◌, ◌^◌, ◌<◌, min, eqb, lit<, List, [], ◌∷◌, ◌++◌, map, refl, ap, ap₂, ◌∙◌, arith}
+use Rattle.std.proofs.Common.{◌≡◌, ℕ, zero, suc, ◌+◌, ◌/◌, ◌%◌, ◌^◌, ◌<◌, min, eqb, lit<, List, [], ◌∷◌, ◌++◌, map}
+use Rattle.std.proofs.Common.{refl, ap, ap₂, ◌∙◌, arith}
 use Rattle.std.proofs.lemmas.List.{map-append}
 use Rattle.ra_base.specs.Listed.{Listed}
 use Rattle.ra_model.specs.declared.raw.MachineRow.{MachineRow}
@@ -11,7 +12,9 @@ use Rattle.ra_model.specs.Numbers.{all_open}
 use Rattle.ra_model_read.specs.Lists.{of_resource, of_machine, of_service, of_process, lists_of}
 use Rattle.ra_trial.specs.Lines.{listed}
 use Rattle.ra_trial.specs.Numbers.{requirement_of, process_cost_of, capacity_of, safety_of, way_cost_of, spread_of}
-use Rattle.ra_trial.specs.Instances.{table_of, trial_resource, trial_machine, trial_machines, trial_service, trial_need, trial_services, trial_process, trial_processes, trial_balance, trial_lists, IsTrial}
+use Rattle.ra_trial.specs.Instances.{table_of, trial_resource, trial_machine, trial_machines, trial_service, trial_need}
+use Rattle.ra_trial.specs.Instances.{trial_services, trial_process, trial_processes, trial_balance, trial_lists}
+use Rattle.ra_trial.specs.Instances.{IsTrial}
 use Rattle.ra_trial.proofs.TrialBounds.{process_cost_low, spread_low}
 
 quotient_small : (k d most : ℕ) → most < 2 ^ 32 → min (k / d) most < 2 ^ 32
@@ -35,10 +38,20 @@ made_resource : ℕ → ResourceRow
 made_resource r = record { transient = eqb r 0; load_weight = 10; small = lit< tt }
 
 made_machine : ℕ → MachineRow
-made_machine m = record { neighbourhood = min (m / 20) 4; location = m % 10; small_neighbourhood = quotient_small m 20 4 (lit< tt); small_location = label_small m }
+made_machine m = record {
+  neighbourhood = min (m / 20) 4;
+  location = m % 10;
+  small_neighbourhood = quotient_small m 20 4 (lit< tt);
+  small_location = label_small m;
+}
 
 made_service : (ℕ → ℕ) → ℕ → ServiceRow
-made_service g s = record { spread_min = spread_of g s; dependency_end = min (s / 5) 49 + 1; small_spread = spread_small g s; small_end = end_small s }
+made_service g s = record {
+  spread_min = spread_of g s;
+  dependency_end = min (s / 5) 49 + 1;
+  small_spread = spread_small g s;
+  small_end = end_small s;
+}
 
 made_process : (ℕ → ℕ) → ℕ → ProcessRow
 made_process g p = record { service = record { 0 = p / 4 }; move_cost = process_cost_of g p; small = cost_small g p }
@@ -58,7 +71,14 @@ made g = record {
   dependencies = full 50 (listed 50 trial_need);
   processes = full 1000 (listed 1000 (made_process g));
   requirements = full 4000 (table_of 1000 4 (requirement_of g));
-  balances = full 1 (record { first = record { 0 = 0 }; second = record { 0 = 1 }; target = 2; weight = 10; small_target = lit< tt; small_weight = lit< tt } ∷ []);
+  balances = full 1 (record {
+    first = record { 0 = 0 };
+    second = record { 0 = 1 };
+    target = 2;
+    weight = 10;
+    small_target = lit< tt;
+    small_weight = lit< tt;
+  } ∷ []);
   process_weight = 1;
   service_weight = 10;
   machine_weight = 100;
@@ -67,10 +87,12 @@ made g = record {
   small_machine_weight = lit< tt;
 }
 
-map_listed : {X Y : Type 0} (f : X → Y) (n : ℕ) (h : ℕ → X) (k : ℕ → Y) → ((j : ℕ) → j < n → f (h j) ≡ k j) → map f (listed n h) ≡ listed n k
+map_listed : {X Y : Type 0} (f : X → Y) (n : ℕ) (h : ℕ → X) (k : ℕ → Y) → ((j : ℕ) → j < n → f (h j) ≡ k j) →
+    map f (listed n h) ≡ listed n k
 unfolding listed
 map_listed f zero h k same = refl
-map_listed f (suc n) h k same = map-append f (listed n h) (h n ∷ []) ∙ ap₂ (λ xs x. xs ++ x ∷ []) (map_listed f n h k (λ j within. same j (omega arith))) (same n (omega arith))
+map_listed f (suc n) h k same = map-append f (listed n h) (h n ∷ [])
+    ∙ ap₂ (λ xs x. xs ++ x ∷ []) (map_listed f n h k (λ j within. same j (omega arith))) (same n (omega arith))
 
 resources_made : map of_resource (listed 4 made_resource) ≡ listed 4 trial_resource
 unfolding made_resource trial_resource
@@ -78,11 +100,16 @@ resources_made = map_listed of_resource 4 made_resource trial_resource (λ r wit
 
 machines_made : map of_machine (listed 100 made_machine) ≡ listed 100 trial_machine
 unfolding made_machine trial_machine
-machines_made = map_listed of_machine 100 made_machine trial_machine (λ m within. ap (λ n. record { neighbourhood = n; location = m % 10 }) (let e : min (m / 20) 4 ≡ m / 20 = omega arith in e))
+machines_made =
+    map_listed of_machine 100 made_machine trial_machine
+    (λ m within. ap (λ n. record { neighbourhood = n; location = m % 10 })
+    (let e : min (m / 20) 4 ≡ m / 20 = omega arith in e))
 
 services_made : (g : ℕ → ℕ) → map of_service (listed 250 (made_service g)) ≡ listed 250 (trial_service g)
 unfolding made_service trial_service
-services_made g = map_listed of_service 250 (made_service g) (trial_service g) (λ s within. ap (λ n. record { spread_min = spread_of g s; dependency_end = n }) (let e : min (s / 5) 49 + 1 ≡ s / 5 + 1 = omega arith in e))
+services_made g = map_listed of_service 250 (made_service g) (trial_service g)
+    (λ s within. ap (λ n. record { spread_min = spread_of g s; dependency_end = n })
+    (let e : min (s / 5) 49 + 1 ≡ s / 5 + 1 = omega arith in e))
 
 processes_made : (g : ℕ → ℕ) → map of_process (listed 1000 (made_process g)) ≡ listed 1000 (trial_process g)
 unfolding made_process trial_process
@@ -95,5 +122,9 @@ made_is_trial g = record {
   open_to_all = refl;
 }
   where
-    joined : map of_resource (listed 4 made_resource) ≡ listed 4 trial_resource → map of_machine (listed 100 made_machine) ≡ listed 100 trial_machine → map of_service (listed 250 (made_service g)) ≡ listed 250 (trial_service g) → map of_process (listed 1000 (made_process g)) ≡ listed 1000 (trial_process g) → lists_of (made g) ≡ trial_lists g
+    joined : map of_resource (listed 4 made_resource) ≡ listed 4 trial_resource →
+        map of_machine (listed 100 made_machine) ≡ listed 100 trial_machine →
+        map of_service (listed 250 (made_service g)) ≡ listed 250 (trial_service g) →
+        map of_process (listed 1000 (made_process g)) ≡ listed 1000 (trial_process g) →
+        lists_of (made g) ≡ trial_lists g
     joined resources machines services processes = cc

@@ -24,8 +24,13 @@ pub machine_later : (p : ℕ) → p < 1000 → (p + 100) % 1000 % 100 ≡ p % 10
 machine_later p within = omega arith
 
 -- as many numbers pass as are named, if they differ
-pub count_distinct : (n k : ℕ) (test : ℕ → Bool) (e : ℕ → ℕ) → ((j : ℕ) → j < k → e j < n) → ((j : ℕ) → j < k → test (e j) ≡ true) → ((i j : ℕ) → i < k → j < k → i ≢ j → e i ≢ e j) → k ≤ count n test
+pub count_distinct : (n k : ℕ) (test : ℕ → Bool) (e : ℕ → ℕ) → ((j : ℕ) → j < k → e j < n) →
+    ((j : ℕ) → j < k → test (e j) ≡ true) → ((i j : ℕ) → i < k → j < k → i ≢ j → e i ≢ e j) → k ≤ count n test
 count_distinct n k test e within passes apart =
-    let each : total k (fresh e (λ m. 1)) ≡ total k (λ j. 1) = total_same k (fresh e (λ m. 1)) (λ j. 1) (λ j h. fresh_new e (λ m. 1) j (is_named_not j e (e j) (λ i before. apart i j (omega arith) h (λ same. omega arith)))) in
-    let order = count_order n (is_named k e) test (λ m h named. let found = is_named_from k e m named in ap test (sym found.2) ∙ passes found.0 found.1) in
+    let each : total k (fresh e (λ m. 1)) ≡ total k (λ j. 1) =
+    total_same k (fresh e (λ m. 1)) (λ j. 1)
+    (λ j h. fresh_new e (λ m. 1) j
+    (is_named_not j e (e j) (λ i before. apart i j (omega arith) h (λ same. omega arith)))) in
+    let order = count_order n (is_named k e) test (λ m h named. let found = is_named_from k e m named in
+    ap test (sym found.2) ∙ passes found.0 found.1) in
     omega (arith, count_named n k e within, each, total_constant k 1, order)

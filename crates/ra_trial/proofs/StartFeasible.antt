@@ -1,5 +1,6 @@
 -- The start of a trial is an assignment and meets all constraints.
-use Rattle.std.proofs.Common.{◌≡◌, ◌≢◌, ℕ, ◌+◌, ◌*◌, ◌/◌, ◌%◌, ◌^◌, ◌<◌, ◌≤◌, Bool, true, false, cond, eqb, ltb, ◌&&◌, ◌||◌, length, refl, sym, ap, ap₂, ◌∙◌, arith, eq-eqb, lt-ltb}
+use Rattle.std.proofs.Common.{◌≡◌, ◌≢◌, ℕ, ◌+◌, ◌*◌, ◌/◌, ◌%◌, ◌^◌, ◌<◌, ◌≤◌, Bool, true, false, cond, eqb, ltb, ◌&&◌}
+use Rattle.std.proofs.Common.{◌||◌, length, refl, sym, ap, ap₂, ◌∙◌, arith, eq-eqb, lt-ltb}
 use Rattle.std.proofs.lemmas.Bool.{and_from}
 use Rattle.ra_base.specs.declared.ids.Machine.{Machine}
 use Rattle.ra_base.specs.Sums.{total}
@@ -17,7 +18,8 @@ use Rattle.ra_trial.specs.Trials.{start_machine}
 use Rattle.ra_trial.specs.InstanceNumbers.{HasNumbers}
 use Rattle.ra_trial.specs.Instances.{start_list}
 use Rattle.ra_trial.proofs.LineLemmas.{length_listed, listed_at}
-use Rattle.ra_trial.proofs.Places.{apart_in_service, location_of_start, locations_apart, service_later, machine_later, count_distinct}
+use Rattle.ra_trial.proofs.Places.{apart_in_service, location_of_start, locations_apart, service_later, machine_later}
+use Rattle.ra_trial.proofs.Places.{count_distinct}
 
 -- the machine of a process
 start_at : (p : ℕ) → p < 1000 → machine_at start_list p ≡ p % 100
@@ -44,7 +46,8 @@ module _ (g : ℕ → ℕ) (i : Tables) (has : HasNumbers g i) where
   unfolding use_of tally start_use_of
   use_is m r r_in =
       ap (λ n. total n (λ p. use_share i m r p (machine_at start_list p))) has.processes
-      ∙ total_same 1000 (λ p. use_share i m r p (machine_at start_list p)) (start_share g m r) (λ p p_in. share_is m r p p_in r_in)
+      ∙ total_same 1000 (λ p. use_share i m r p (machine_at start_list p)) (start_share g m r)
+      (λ p p_in. share_is m r p p_in r_in)
 
   use_fits : (m r : ℕ) → m < 100 → r < 4 → use_of i start_list m r ≤ model.capacity_of i m r
   unfolding capacity_of
@@ -57,12 +60,17 @@ module _ (g : ℕ → ℕ) (i : Tables) (has : HasNumbers g i) where
 
   transient_is : (m r : ℕ) → transient_of i start_list start_list m r ≡ use_of i start_list m r
   unfolding transient_of use_of tally transient_share use_share
-  transient_is m r = total_same (model.process_count i) (λ p. transient_share i start_list m r p (machine_at start_list p)) (λ p. use_share i m r p (machine_at start_list p))
+  transient_is m r =
+      total_same (model.process_count i) (λ p. transient_share i start_list m r p (machine_at start_list p))
+      (λ p. use_share i m r p (machine_at start_list p))
       (λ p within. ap (λ b. cond b (model.requirement_of i p r) 0) (or_itself (eqb (machine_at start_list p) m)))
 
   -- two processes of one service are apart
-  starts_apart : (p q : ℕ) → p < 1000 → q < 1000 → p ≢ q → model.service_of i p ≡ model.service_of i q → machine_at start_list p ≢ machine_at start_list q
-  starts_apart p q p_in q_in apart one same = apart_in_service p q apart (sym (has.service p p_in) ∙ one ∙ has.service q q_in) (sym (start_at p p_in) ∙ same ∙ start_at q q_in)
+  starts_apart : (p q : ℕ) → p < 1000 → q < 1000 → p ≢ q → model.service_of i p ≡ model.service_of i q →
+      machine_at start_list p ≢ machine_at start_list q
+  starts_apart p q p_in q_in apart one same =
+      apart_in_service p q apart (sym (has.service p p_in) ∙ one ∙ has.service q q_in) (sym (start_at p p_in) ∙ same
+      ∙ start_at q q_in)
 
   -- the location of process j of service s is one in which the service is
   in_location_of : (s j : ℕ) → s < 250 → j < 3 → ltb 0 (in_location i start_list s ((4 * s + j) % 10)) ≡ true
@@ -70,18 +78,23 @@ module _ (g : ℕ → ℕ) (i : Tables) (has : HasNumbers g i) where
   in_location_of s j s_in j_in =
       let p_in : 4 * s + j < 1000 = omega arith in
       let m_in : (4 * s + j) % 100 < 100 = omega arith in
-      let its : model.service_of i (4 * s + j) ≡ s = has.service (4 * s + j) p_in ∙ (let e : (4 * s + j) / 4 ≡ s = omega arith in e) in
-      let there : model.location_of i (machine_at start_list (4 * s + j)) ≡ (4 * s + j) % 10 = ap (model.location_of i) (start_at (4 * s + j) p_in) ∙ has.location ((4 * s + j) % 100) m_in ∙ location_of_start (4 * s + j) in
+      let its : model.service_of i (4 * s + j) ≡ s = has.service (4 * s + j) p_in
+      ∙ (let e : (4 * s + j) / 4 ≡ s = omega arith in e) in
+      let there : model.location_of i (machine_at start_list (4 * s + j)) ≡ (4 * s + j) % 10 =
+      ap (model.location_of i) (start_at (4 * s + j) p_in) ∙ has.location ((4 * s + j) % 100) m_in
+      ∙ location_of_start (4 * s + j) in
       let test = λ (p : ℕ). is_of i s p && eqb (model.location_of i (machine_at start_list p)) ((4 * s + j) % 10) in
       lt-ltb 0 _ (omega (
         arith,
         members_count i start_list s (λ p at. eqb (model.location_of i at) ((4 * s + j) % 10)),
-        count_some (model.process_count i) (4 * s + j) test (omega (arith, has.processes)) (and_from _ _ (eq-eqb _ s its) (eq-eqb _ _ there)),
+        count_some (model.process_count i) (4 * s + j) test (omega (arith, has.processes))
+            (and_from _ _ (eq-eqb _ s its) (eq-eqb _ _ there)),
       ))
 
   three_locations : (s : ℕ) → s < 250 → 3 ≤ locations_of i start_list s
   unfolding locations_of
-  three_locations s s_in = count_distinct (2 ^ 32) 3 (λ label. ltb 0 (in_location i start_list s label)) (λ j. (4 * s + j) % 10)
+  three_locations s s_in =
+      count_distinct (2 ^ 32) 3 (λ label. ltb 0 (in_location i start_list s label)) (λ j. (4 * s + j) % 10)
       (λ j j_in. omega arith)
       (λ j j_in. in_location_of s j s_in j_in)
       (λ k j k_in j_in apart. locations_apart s k j k_in j_in apart)
@@ -91,21 +104,26 @@ module _ (g : ℕ → ℕ) (i : Tables) (has : HasNumbers g i) where
   spread_fits s s_in = omega (arith, has.spread s s_in, three_locations s s_in)
 
   -- the process 100 numbers on is near
-  near_is : (s k p : ℕ) → s < 250 → k < model.dependency_count i s → p < 1000 → model.service_of i p ≡ s → HasNear i start_list (model.need_of i s k) (model.neighbourhood_of i (machine_at start_list p))
+  near_is : (s k p : ℕ) → s < 250 → k < model.dependency_count i s → p < 1000 → model.service_of i p ≡ s →
+      HasNear i start_list (model.need_of i s k) (model.neighbourhood_of i (machine_at start_list p))
   near_is s k p s_in k_in p_in its =
       let q_in : (p + 100) % 1000 < 1000 = omega arith in (
         (p + 100) % 1000,
         omega (arith, has.processes),
-        has.service ((p + 100) % 1000) q_in ∙ service_later p p_in ∙ ap (λ t. (t + 25) % 250) (sym (has.service p p_in) ∙ its) ∙ sym (has.need s k s_in k_in),
+        has.service ((p + 100) % 1000) q_in ∙ service_later p p_in
+            ∙ ap (λ t. (t + 25) % 250) (sym (has.service p p_in) ∙ its) ∙ sym (has.need s k s_in k_in),
         ap (model.neighbourhood_of i) (start_at ((p + 100) % 1000) q_in ∙ machine_later p p_in ∙ sym (start_at p p_in)),
       )
 
   pub start_feasible : Feasible i start_list start_list
   start_feasible = record {
     capacity = λ m r m_in r_in. use_fits m r (omega (arith, has.machines)) (omega (arith, has.resources));
-    transient = λ m r m_in r_in its. omega (arith, transient_is m r, use_fits m r (omega (arith, has.machines)) (omega (arith, has.resources)));
-    conflict = λ p q p_in q_in apart one. starts_apart p q (omega (arith, has.processes)) (omega (arith, has.processes)) apart one;
+    transient = λ m r m_in r_in its.
+        omega (arith, transient_is m r, use_fits m r (omega (arith, has.machines)) (omega (arith, has.resources)));
+    conflict = λ p q p_in q_in apart one. starts_apart p q (omega (arith, has.processes)) (omega (arith, has.processes))
+        apart one;
     spread = λ s s_in. spread_fits s (omega (arith, has.services));
-    dependency = λ s k p s_in k_in p_in its. near_is s k p (omega (arith, has.services)) k_in (omega (arith, has.processes)) its;
+    dependency =
+        λ s k p s_in k_in p_in its. near_is s k p (omega (arith, has.services)) k_in (omega (arith, has.processes)) its;
     closed = λ p p_in is_closed. refl;
   }

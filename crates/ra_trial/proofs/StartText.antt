@@ -1,5 +1,6 @@
 -- The start's text means the start.
-use Rattle.std.proofs.Common.{◌≡◌, ◌↔◌, ℕ, ◌<◌, List, [], ◌∷◌, ◌++◌, length, map, get_or, None, refl, sym, ap, ap₂, ◌∙◌, arith}
+use Rattle.std.proofs.Common.{◌≡◌, ◌↔◌, ℕ, ◌<◌, List, [], ◌∷◌, ◌++◌, length, map, get_or, None, refl, sym, ap, ap₂, ◌∙◌}
+use Rattle.std.proofs.Common.{arith}
 use Rattle.std.proofs.lemmas.List.{append-nil, get_or-map, length-map}
 use Rattle.std.proofs.lemmas.List.Elements.{All-map}
 use Rattle.std.specs.Fmt.{decimal}
@@ -50,7 +51,8 @@ machines_low = listed_all (λ (m : Machine). m.0 < 100) 1000 start_machine (λ p
 start_short : IsShort 1000 (map number start_list)
 unfolding number
 start_short = record {
-  small = All-map IsSmall number start_list (λ k d within. let low : (get_or start_list k d).0 < 100 = machines_low k d within in omega arith);
+  small = All-map IsSmall number start_list
+      (λ k d within. let low : (get_or start_list k d).0 < 100 = machines_low k d within in omega arith);
   short = omega (arith, length-map start_list number, start_many);
 }
 
@@ -74,7 +76,8 @@ token_machines (t ∷ ts) (m ∷ ms) same =
     ap₂ (λ (n : ℕ) (rest : List Machine). record { 0 = n } ∷ rest) here (token_machines ts ms behind)
 
 tokens_many : length (tokens start_text) ≡ 1000
-tokens_many = sym (length-map (tokens start_text) value_of) ∙ ap length start_told.1 ∙ length-map start_list number ∙ start_many
+tokens_many =
+    sym (length-map (tokens start_text) value_of) ∙ ap length start_told.1 ∙ length-map start_list number ∙ start_many
 
 -- there is a token for each process, and each is the number of a machine
 module _ (g : ℕ → ℕ) (i : Tables) (is : IsTrial g i) where
@@ -83,9 +86,13 @@ module _ (g : ℕ → ℕ) (i : Tables) (is : IsTrial g i) where
   token_low p d within =
       let has = has_numbers g i is in
       let t : Token = get_or (tokens start_text) p d in
-      let value : t.value ≡ get_or (map number start_list) p 0 = sym (get_or-map value_of (tokens start_text) p d 0 (omega (arith, tokens_many))) ∙ ap (λ ns. get_or ns p 0) start_told.1 in
-      let machine : get_or (map number start_list) p 0 ≡ (get_or start_list p (record { 0 = 0 })).0 = get_or-map number start_list p (record { 0 = 0 }) 0 (omega (arith, start_many)) in
-      let low : (get_or start_list p (record { 0 = 0 })).0 < 100 = machines_low p (record { 0 = 0 }) (omega (arith, start_many)) in
+      let value : t.value ≡ get_or (map number start_list) p 0 =
+      sym (get_or-map value_of (tokens start_text) p d 0 (omega (arith, tokens_many)))
+      ∙ ap (λ ns. get_or ns p 0) start_told.1 in
+      let machine : get_or (map number start_list) p 0 ≡ (get_or start_list p (record { 0 = 0 })).0 =
+      get_or-map number start_list p (record { 0 = 0 }) 0 (omega (arith, start_many)) in
+      let low : (get_or start_list p (record { 0 = 0 })).0 < 100 =
+      machines_low p (record { 0 = 0 }) (omega (arith, start_many)) in
       omega (arith, has.machines, value, machine, low)
 
   start_file : IsAssignmentFile start_text i
@@ -98,5 +105,8 @@ module _ (g : ℕ → ℕ) (i : Tables) (is : IsTrial g i) where
   pub start_text_is_start : (a : List Machine) → IsAssignmentOf start_text i a ↔ (a ≡ start_list)
   start_text_is_start a = (
     λ told. told.machines ∙ token_machines (tokens start_text) start_list start_told.1,
-    λ same. record { file = start_file; machines = same ∙ sym (token_machines (tokens start_text) start_list start_told.1) },
+    λ same. record {
+      file = start_file;
+      machines = same ∙ sym (token_machines (tokens start_text) start_list start_told.1);
+    },
   )

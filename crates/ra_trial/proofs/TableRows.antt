@@ -9,10 +9,12 @@ use Rattle.ra_trial.specs.Instances.{table_of}
 use Rattle.ra_trial.proofs.LineLemmas.{length_listed, listed_at}
 
 -- as many rows as are listed, and row k
-pub rows_many : {X Y : Type 0} (f : X → Y) (rows : List X) (n : ℕ) (g : ℕ → Y) → map f rows ≡ listed n g → length rows ≡ n
+pub rows_many : {X Y : Type 0} (f : X → Y) (rows : List X) (n : ℕ) (g : ℕ → Y) → map f rows ≡ listed n g →
+    length rows ≡ n
 rows_many f rows n g same = sym (length-map rows f) ∙ ap length same ∙ length_listed n g
 
-pub row_is : {X Y : Type 0} (f : X → Y) (rows : List X) (n : ℕ) (g : ℕ → Y) (k : ℕ) (d : X) → map f rows ≡ listed n g → k < n → f (get_or rows k d) ≡ g k
+pub row_is : {X Y : Type 0} (f : X → Y) (rows : List X) (n : ℕ) (g : ℕ → Y) (k : ℕ) (d : X) → map f rows ≡ listed n g →
+    k < n → f (get_or rows k d) ≡ g k
 row_is f rows n g k d same within =
     sym (get_or-map f rows k d (g k) (let many : length rows ≡ n = rows_many f rows n g same in omega arith))
     ∙ ap (λ xs. get_or xs k (g k)) same
@@ -23,13 +25,16 @@ pub table_many : (rows width : ℕ) (f : ℕ → ℕ → ℕ) → length (table_
 unfolding table_of
 table_many rows width f = length_listed (rows * width) (λ k. f (k / width) (k % width))
 
-table_at : (rows width : ℕ) (f : ℕ → ℕ → ℕ) (row column : ℕ) → row < rows → column < width → get_or (table_of rows width f) (row * width + column) 0 ≡ f row column
+table_at : (rows width : ℕ) (f : ℕ → ℕ → ℕ) (row column : ℕ) → row < rows → column < width →
+    get_or (table_of rows width f) (row * width + column) 0 ≡ f row column
 unfolding table_of
 table_at rows width f row column row_in column_in =
-    listed_at (rows * width) (λ k. f (k / width) (k % width)) (row * width + column) 0 (place_within row column rows width row_in column_in)
+    listed_at (rows * width) (λ k. f (k / width) (k % width)) (row * width + column) 0
+    (place_within row column rows width row_in column_in)
     ∙ ap₂ f (div-mul-add row width column column_in) (mod-mul-add row width column column_in)
 
-pub cell_at : (counted rows width : ℕ) (table : List ℕ) (f : ℕ → ℕ → ℕ) (row column : ℕ) → counted ≡ width → table ≡ table_of rows width f → row < rows → column < width → cell counted table row column ≡ f row column
+pub cell_at : (counted rows width : ℕ) (table : List ℕ) (f : ℕ → ℕ → ℕ) (row column : ℕ) → counted ≡ width →
+    table ≡ table_of rows width f → row < rows → column < width → cell counted table row column ≡ f row column
 cell_at counted rows width table f row column count same row_in column_in =
     cell_is counted table row column
     ∙ ap₂ (λ w t. get_or t (row * w + column) 0) count same

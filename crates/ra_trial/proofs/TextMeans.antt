@@ -27,12 +27,16 @@ text_has_numbers : (g : ℕ → ℕ) (i : Tables) → IsTrial g i → IsTextOf (
 text_has_numbers g i is =
     let short = all_short g in
     let told = lines_told (all_lines g) short.small (omega (arith, short.short)) in
-    subst (λ bytes. IsTextOf bytes i) (sym (text_is_lines g)) (record { sound = told.0; numbers = told.1 ∙ numbers_same g i (has_numbers g i is) })
+    subst (λ bytes. IsTextOf bytes i) (sym (text_is_lines g)) (record {
+      sound = told.0;
+      numbers = told.1 ∙ numbers_same g i (has_numbers g i is);
+    })
 
 pub text_means : (g : ℕ → ℕ) → model_of (text_over g) ≡ Ok (trial_lists g)
 text_means g =
     let is = made_is_trial g in
-    text_accepted (made g) (text_over g) (trial_fits g (all_open (made g)) is) (text_has_numbers g (all_open (made g)) is)
+    text_accepted (made g) (text_over g) (trial_fits g (all_open (made g)) is)
+    (text_has_numbers g (all_open (made g)) is)
     ∙ ap (λ (l : Lists). Ok l) is.lists
 
 same_lists : (answer : Result Lists ModelFault) (a b : Lists) → answer ≡ Ok a → answer ≡ Ok b → a ≡ b
@@ -40,8 +44,14 @@ same_lists answer a b one other = cc
 
 pub text_is_trial : (g : ℕ → ℕ) (i : Tables) → IsModel (text_over g) i ↔ IsTrial g i
 text_is_trial g i = (
-  λ model. record { lists = same_lists (model_of (text_over g)) (lists_of i.raw) (trial_lists g) model.lists (text_means g); open_to_all = model.open_to_all },
-  λ trial. record { lists = text_means g ∙ ap (λ (l : Lists). Ok l) (sym trial.lists); open_to_all = trial.open_to_all },
+  λ model. record {
+    lists = same_lists (model_of (text_over g)) (lists_of i.raw) (trial_lists g) model.lists (text_means g);
+    open_to_all = model.open_to_all;
+  },
+  λ trial. record {
+    lists = text_means g ∙ ap (λ (l : Lists). Ok l) (sym trial.lists);
+    open_to_all = trial.open_to_all;
+  },
 )
 
 pub text_accepted_whole : (g : ℕ → ℕ) → model_refusal (text_over g) ≡ None

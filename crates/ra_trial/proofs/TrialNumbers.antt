@@ -1,5 +1,6 @@
 -- From the lists of a trial's instance to its numbers.
-use Rattle.std.proofs.Common.{◌≡◌, ◌≢◌, ℕ, zero, suc, ◌+◌, ◌-◌, ◌*◌, ◌/◌, ◌%◌, ◌<◌, ◌≤◌, cond, eqb, false, List, [], ◌∷◌, length, map, get_or, refl, sym, ap, ap₂, ◌∙◌, ⊎_elim, arith, eq-eqb, ne_eqb}
+use Rattle.std.proofs.Common.{◌≡◌, ◌≢◌, ℕ, zero, suc, ◌+◌, ◌-◌, ◌*◌, ◌/◌, ◌%◌, ◌<◌, ◌≤◌, cond, eqb, false, List, []}
+use Rattle.std.proofs.Common.{◌∷◌, length, map, get_or, refl, sym, ap, ap₂, ◌∙◌, ⊎_elim, arith, eq-eqb, ne_eqb}
 use Rattle.std.proofs.lemmas.Bool.{cases_eq, cond-true, cond-false}
 use Rattle.std.proofs.lemmas.List.{length-map}
 use Rattle.ra_base.specs.declared.ids.Service.{Service}
@@ -9,7 +10,9 @@ use Rattle.ra_model_read.specs.Lists.{of_resource, of_machine, of_service, of_pr
 use Rattle.ra_trial.specs.Lines.{listed}
 use Rattle.ra_trial.specs.Numbers.{requirement_of, capacity_of, safety_of, way_cost_of}
 use Rattle.ra_trial.specs.InstanceNumbers.{HasNumbers}
-use Rattle.ra_trial.specs.Instances.{trial_resource, trial_machine, trial_machines, trial_service, trial_need, trial_services, trial_process, trial_processes, trial_balance, trial_lists, table_of, IsTrial}
+use Rattle.ra_trial.specs.Instances.{trial_resource, trial_machine, trial_machines, trial_service, trial_need}
+use Rattle.ra_trial.specs.Instances.{trial_services, trial_process, trial_processes, trial_balance, trial_lists}
+use Rattle.ra_trial.specs.Instances.{table_of, IsTrial}
 use Rattle.ra_trial.proofs.LineLemmas.{length_listed, listed_at}
 use Rattle.ra_trial.proofs.TableRows.{rows_many, row_is, table_many, cell_at}
 
@@ -88,8 +91,11 @@ module _ (g : ℕ → ℕ) (i : Tables) (is : IsTrial g i) where
     all_safeties = ap length safety_table ∙ table_many 100 4 (safety_of g);
     all_way_costs = ap length way_cost_table ∙ table_many 100 100 way_cost_of;
     all_requirements = ap length requirement_table ∙ table_many 1000 4 (requirement_of g);
-    needs_end = λ s within. ap (λ row. row.dependency_end) (row_is of_service i.raw.services.items 250 (trial_service g) s _ service_rows within);
-    need_at = λ k within. ap (λ (all : List Service). (get_or all k (record { 0 = 0 })).0) need_list ∙ ap (λ service. service.0) (listed_at 50 trial_need k (record { 0 = 0 }) within);
+    needs_end = λ s within.
+        ap (λ row. row.dependency_end)
+        (row_is of_service i.raw.services.items 250 (trial_service g) s _ service_rows within);
+    need_at = λ k within. ap (λ (all : List Service). (get_or all k (record { 0 = 0 })).0) need_list
+        ∙ ap (λ service. service.0) (listed_at 50 trial_need k (record { 0 = 0 }) within);
   }
 
   -- where the dependencies of a service start, how many it has, and the one that it has
@@ -104,8 +110,10 @@ module _ (g : ℕ → ℕ) (i : Tables) (is : IsTrial g i) where
 
   fifths_need : (s : ℕ) → s < 250 → model.dependency_count i s ≡ cond (eqb (s % 5) 0) 1 0
   fifths_need s within = ⊎_elim
-      (λ (fifth : s % 5 ≡ 0). omega (arith, needs_counted s within, cond-true {A = ℕ} (eqb (s % 5) 0) 1 0 (eq-eqb (s % 5) 0 fifth)))
-      (λ (other : s % 5 ≢ 0). omega (arith, needs_counted s within, cond-false {A = ℕ} (eqb (s % 5) 0) 1 0 (ne_eqb (s % 5) 0 other)))
+      (λ (fifth : s % 5 ≡ 0).
+      omega (arith, needs_counted s within, cond-true {A = ℕ} (eqb (s % 5) 0) 1 0 (eq-eqb (s % 5) 0 fifth)))
+      (λ (other : s % 5 ≢ 0).
+      omega (arith, needs_counted s within, cond-false {A = ℕ} (eqb (s % 5) 0) 1 0 (ne_eqb (s % 5) 0 other)))
       (cases_eq (s % 5) 0)
 
   need_is : (s k : ℕ) → s < 250 → k < model.dependency_count i s → model.need_of i s k ≡ (s + 25) % 250
@@ -117,30 +125,52 @@ module _ (g : ℕ → ℕ) (i : Tables) (is : IsTrial g i) where
       ap (model.need_at i) place ∙ has_lists.need_at (s / 5) (omega arith) ∙ ap (λ n. (n + 25) % 250) owner
 
   pub has_numbers : HasNumbers g i
-  unfolding model.service_count model.process_count model.balance_count model.resource_row model.machine_row model.service_row model.process_row model.balance_row model.transient_at model.load_weight_of model.neighbourhood_of model.location_of model.capacity_of model.safety_of model.way_cost_of model.spread_of model.service_of model.requirement_of model.process_cost_of model.first_of model.second_of model.target_of model.balance_weight_of model.process_weight_of model.service_weight_of model.machine_weight_of trial_resource trial_machine trial_service trial_process trial_balance trial_lists
+  unfolding model.service_count model.process_count model.balance_count model.resource_row model.machine_row
+      model.service_row model.process_row model.balance_row model.transient_at model.load_weight_of
+      model.neighbourhood_of model.location_of model.capacity_of model.safety_of model.way_cost_of model.spread_of
+      model.service_of model.requirement_of model.process_cost_of model.first_of model.second_of model.target_of
+      model.balance_weight_of model.process_weight_of model.service_weight_of model.machine_weight_of trial_resource
+      trial_machine trial_service trial_process trial_balance trial_lists
   has_numbers = record {
     resources = resource_many;
     machines = machine_many;
     services = rows_many of_service i.raw.services.items 250 (trial_service g) service_rows;
     processes = rows_many of_process i.raw.processes.items 1000 (trial_process g) process_rows;
     balances = sym (length-map i.raw.balances.items of_balance) ∙ ap length balance_rows;
-    transient = λ r within. ap (λ row. row.transient) (row_is of_resource i.raw.resources.items 4 trial_resource r _ resource_rows within);
-    load_weight = λ r within. ap (λ row. row.load_weight) (row_is of_resource i.raw.resources.items 4 trial_resource r _ resource_rows within);
-    neighbourhood = λ m within. ap (λ row. row.neighbourhood) (row_is of_machine i.raw.machines.items 100 trial_machine m _ machine_rows within);
-    location = λ m within. ap (λ row. row.location) (row_is of_machine i.raw.machines.items 100 trial_machine m _ machine_rows within);
+    transient = λ r within.
+        ap (λ row. row.transient) (row_is of_resource i.raw.resources.items 4 trial_resource r _ resource_rows within);
+    load_weight =
+        λ r within. ap (λ row. row.load_weight)
+        (row_is of_resource i.raw.resources.items 4 trial_resource r _ resource_rows within);
+    neighbourhood =
+        λ m within. ap (λ row. row.neighbourhood)
+        (row_is of_machine i.raw.machines.items 100 trial_machine m _ machine_rows within);
+    location = λ m within.
+        ap (λ row. row.location) (row_is of_machine i.raw.machines.items 100 trial_machine m _ machine_rows within);
     capacity = λ m r m_in r_in. cell_at _ 100 4 _ (capacity_of g) m r resource_many capacity_table m_in r_in;
     safety = λ m r m_in r_in. cell_at _ 100 4 _ (safety_of g) m r resource_many safety_table m_in r_in;
     move_cost = λ a b a_in b_in. cell_at _ 100 100 _ way_cost_of a b machine_many way_cost_table a_in b_in;
-    spread = λ s within. ap (λ row. row.spread_min) (row_is of_service i.raw.services.items 250 (trial_service g) s _ service_rows within);
+    spread = λ s within.
+        ap (λ row. row.spread_min)
+        (row_is of_service i.raw.services.items 250 (trial_service g) s _ service_rows within);
     dependencies = fifths_need;
     need = need_is;
-    service = λ p within. ap (λ row. row.service.0) (row_is of_process i.raw.processes.items 1000 (trial_process g) p _ process_rows within);
+    service = λ p within.
+        ap (λ row. row.service.0)
+        (row_is of_process i.raw.processes.items 1000 (trial_process g) p _ process_rows within);
     requirement = λ p r p_in r_in. cell_at _ 1000 4 _ (requirement_of g) p r resource_many requirement_table p_in r_in;
-    process_cost = λ p within. ap (λ row. row.move_cost) (row_is of_process i.raw.processes.items 1000 (trial_process g) p _ process_rows within);
-    first = ap (λ row. row.first.0) (row_is of_balance i.raw.balances.items 1 (λ k. trial_balance) 0 _ one_balance (omega arith));
-    second = ap (λ row. row.second.0) (row_is of_balance i.raw.balances.items 1 (λ k. trial_balance) 0 _ one_balance (omega arith));
-    target = ap (λ row. row.target) (row_is of_balance i.raw.balances.items 1 (λ k. trial_balance) 0 _ one_balance (omega arith));
-    balance_weight = ap (λ row. row.weight) (row_is of_balance i.raw.balances.items 1 (λ k. trial_balance) 0 _ one_balance (omega arith));
+    process_cost =
+        λ p within. ap (λ row. row.move_cost)
+        (row_is of_process i.raw.processes.items 1000 (trial_process g) p _ process_rows within);
+    first = ap (λ row. row.first.0)
+        (row_is of_balance i.raw.balances.items 1 (λ k. trial_balance) 0 _ one_balance (omega arith));
+    second = ap (λ row. row.second.0)
+        (row_is of_balance i.raw.balances.items 1 (λ k. trial_balance) 0 _ one_balance (omega arith));
+    target = ap (λ row. row.target)
+        (row_is of_balance i.raw.balances.items 1 (λ k. trial_balance) 0 _ one_balance (omega arith));
+    balance_weight =
+        ap (λ row. row.weight)
+        (row_is of_balance i.raw.balances.items 1 (λ k. trial_balance) 0 _ one_balance (omega arith));
     process_weight = ap (λ l. l.weights.process) is.lists;
     service_weight = ap (λ l. l.weights.service) is.lists;
     machine_weight = ap (λ l. l.weights.machine) is.lists;

@@ -4,7 +4,8 @@ use Rattle.ra_base.specs.declared.ids.Machine.{Machine}
 use Rattle.ra_assign.specs.Lists.{assignment_bytes}
 use Rattle.ra_model_text.specs.Lines.{lines_text}
 use Rattle.ra_trial.specs.Lines.{listed}
-use Rattle.ra_trial.specs.Numbers.{trial_word, transient_of, requirement_of, process_cost_of, start_of, capacity_of, safety_of, way_cost_of, spread_of}
+use Rattle.ra_trial.specs.Numbers.{trial_word, transient_of, requirement_of, process_cost_of, start_of, capacity_of}
+use Rattle.ra_trial.specs.Numbers.{safety_of, way_cost_of, spread_of}
 
 -- a resource: its transient flag and its load weight
 unfoldable pub resource_line : ℕ → List ℕ

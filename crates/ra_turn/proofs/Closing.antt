@@ -1,5 +1,6 @@
 -- The value that comes out of a lock.
-use Rattle.std.proofs.Common.{◌≡◌, ℕ, ◌<◌, List, ◌∷◌, length, slice_index_or, All, IsSome, refl, ap, sym, subst, ◌∙◌, Option, Some}
+use Rattle.std.proofs.Common.{◌≡◌, ℕ, ◌<◌, List, ◌∷◌, length, slice_index_or, All, IsSome, refl, ap, sym, subst, ◌∙◌}
+use Rattle.std.proofs.Common.{Option, Some}
 use mathlib.Core.Option.{some, some-injective}
 use lib.ListN.{get_elem?}
 use Rattle.atomic_table.specs.Table.{State, Final, Seen}
@@ -17,28 +18,38 @@ use Rattle.ra_turn.proofs.Joining.{joined_covers}
 
 -- the rule of the lock's table
 abbrev Rule : {V N O : Type 0} → Ghosts V N O → Turn V N O → State (Option V) (Sight N O) → Type 0
-Rule g t = Ruled g.opening g.notes g.author g.touches (passes_of t) (turns_of_each t) (guards_of t) (opening_of g.opening t)
+Rule g t = Ruled g.opening g.notes g.author g.touches (passes_of t) (turns_of_each t) (guards_of t)
+    (opening_of g.opening t)
 
 module _ {V N O : Type 0} {g : Ghosts V N O} where
   -- the slot has a value with the lock's opening, and what each pass knows is true of its notes
-  pub comes_out : (t : Turn V N O) (items : List (Pass V N O g)) (s : Seat (Option V) (Sight N O)) (ws : List ℕ) (xs : List (Option V)) (y : Option V) (x : V)
-      → length items ≡ passes_of t → EachAt (IsDone t) items → IsJoined t items s → Final (Seen (Rule g t) s.id s.me.0) ws xs → get_elem? xs 0 ≡ some y → y ≡ Some x
-      → (g.opening x ≡ opening_of g.opening t) × All (IsPartOf (g.notes x)) items × All (λ n. g.author n < passes_of t) (g.notes x)
+  pub comes_out : (t : Turn V N O) (items : List (Pass V N O g)) (s : Seat (Option V) (Sight N O)) (ws : List ℕ)
+      (xs : List (Option V)) (y : Option V) (x : V)
+      → length items ≡ passes_of t → EachAt (IsDone t) items → IsJoined t items s →
+      Final (Seen (Rule g t) s.id s.me.0) ws xs → get_elem? xs 0 ≡ some y → y ≡ Some x
+      → (g.opening x ≡ opening_of g.opening t) × All (IsPartOf (g.notes x)) items
+      × All (λ n. g.author n < passes_of t) (g.notes x)
   comes_out t items s ws xs y x count each j final at is =
-      let end = ends g.opening g.notes g.author g.touches (passes_of t) (turns_of_each t) (guards_of t) (opening_of g.opening t) s.id s.me.0 ws xs j.idle (joined_covers t items s count each j) final in
+      let end = ends g.opening g.notes g.author g.touches (passes_of t) (turns_of_each t) (guards_of t)
+      (opening_of g.opening t) s.id s.me.0 ws xs j.idle (joined_covers t items s count each j) final in
       let same : Some end.0 ≡ Some x = some-injective (Some end.0) y (sym end.1 ∙ at) ∙ is in
       let one : end.0 ≡ x = cc same in
-      subst (λ (z : V). (g.opening z ≡ opening_of g.opening t) × All (IsPartOf (g.notes z)) items × All (λ n. g.author n < passes_of t) (g.notes z)) one (
+      subst (λ (z : V). (g.opening z ≡ opening_of g.opening t) × All (IsPartOf (g.notes z)) items
+      × All (λ n. g.author n < passes_of t) (g.notes z)) one (
         end.2,
         λ k p lt. (let q = slice_index_or items k p in
-            let f = All-contains (Stands g.author (g.notes end.0)) (s.me.0.own ∷ s.me.0.joined) q.seat.me.0.own end.3 (j.parts k p lt) in
+            let f = All-contains (Stands g.author (g.notes end.0)) (s.me.0.own ∷ s.me.0.joined) q.seat.me.0.own end.3
+            (j.parts k p lt) in
             (f.seen, ap (λ (n : ℕ). by g.author n (g.notes end.0)) (sym q.numbered) ∙ f.mine)),
         end.4,
       )
 
   -- the slot isn't empty
-  pub is_there : (t : Turn V N O) (items : List (Pass V N O g)) (s : Seat (Option V) (Sight N O)) (ws : List ℕ) (xs : List (Option V)) (y : Option V)
-      → length items ≡ passes_of t → EachAt (IsDone t) items → IsJoined t items s → Final (Seen (Rule g t) s.id s.me.0) ws xs → get_elem? xs 0 ≡ some y → IsSome y
+  pub is_there : (t : Turn V N O) (items : List (Pass V N O g)) (s : Seat (Option V) (Sight N O)) (ws : List ℕ)
+      (xs : List (Option V)) (y : Option V)
+      → length items ≡ passes_of t → EachAt (IsDone t) items → IsJoined t items s →
+      Final (Seen (Rule g t) s.id s.me.0) ws xs → get_elem? xs 0 ≡ some y → IsSome y
   is_there t items s ws xs y count each j final at =
-      let end = ends g.opening g.notes g.author g.touches (passes_of t) (turns_of_each t) (guards_of t) (opening_of g.opening t) s.id s.me.0 ws xs j.idle (joined_covers t items s count each j) final in
+      let end = ends g.opening g.notes g.author g.touches (passes_of t) (turns_of_each t) (guards_of t)
+      (opening_of g.opening t) s.id s.me.0 ws xs j.idle (joined_covers t items s count each j) final in
       subst IsSome (some-injective (Some end.0) y (sym end.1 ∙ at)) refl

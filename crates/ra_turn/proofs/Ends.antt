@@ -1,5 +1,7 @@
 -- The first state, seats that are cut and joined, and the last state.
-use Rattle.std.proofs.Common.{◌≡◌, ◌≢◌, ℕ, zero, suc, ◌+◌, ◌-◌, ◌*◌, ◌<◌, ◌≤◌, ◌==◌, Bool, cond, List, [], ◌∷◌, ◌++◌, length, set, slice_index, All, refl, ap, sym, subst, ◌∙◌, inl, inr, ⊎_elim, ne_eqb, eq-eqb, arith, Option, Some}
+use Rattle.std.proofs.Common.{◌≡◌, ◌≢◌, ℕ, zero, suc, ◌+◌, ◌-◌, ◌*◌, ◌<◌, ◌≤◌, ◌==◌, Bool, cond, List, [], ◌∷◌, ◌++◌}
+use Rattle.std.proofs.Common.{length, set, slice_index, All, refl, ap, sym, subst, ◌∙◌, inl, inr, ⊎_elim, ne_eqb}
+use Rattle.std.proofs.Common.{eq-eqb, arith, Option, Some}
 use Rattle.std.proofs.Math.Nat.{mul-le-mul_right, suc-mul}
 use Rattle.std.proofs.Math.ListN.{length-set}
 use Rattle.std.proofs.lemmas.List.Elements.{All-append, All-contains, Contains-append_left, Contains-append_right}
@@ -28,9 +30,11 @@ use Rattle.ra_turn.proofs.Latches.{locks_start, locks_view, locks_more, locks_le
 
 -- one pass more has its turns
 more_turns : (given passes turns : ℕ) → given < passes → given * turns + turns ≤ passes * turns
-more_turns given passes turns lt = let h : suc given * turns ≤ passes * turns = mul-le-mul_right turns lt in omega (arith, suc-mul given turns)
+more_turns given passes turns lt =
+    let h : suc given * turns ≤ passes * turns = mul-le-mul_right turns lt in omega (arith, suc-mul given turns)
 
-module _ {V N O : Type 0} (opening : V → O) (notes : V → List N) (author : N → ℕ) (touches : O → N → ℕ → Bool) (passes turns guards : ℕ) (o : O) where
+module _ {V N O : Type 0} (opening : V → O) (notes : V → List N) (author : N → ℕ) (touches : O → N → ℕ → Bool)
+    (passes turns guards : ℕ) (o : O) where
   abbrev Rule : State (Option V) (Sight N O) → Type 0
   Rule = Ruled opening notes author touches passes turns guards o
 
@@ -38,20 +42,29 @@ module _ {V N O : Type 0} (opening : V → O) (notes : V → List N) (author : N
   Known = Knows author passes turns o
 
   -- what the maker's seat knows at the start
-  first_knows : (c : Scene N) (homes : List (maybe.Option (Option V))) → c.given ≡ 0 → (i : ℕ) (v : Sight N O) → get_elem? (maker passes turns o ∷ []) i ≡ some v → Known c homes i v
-  first_knows c homes none_given zero v e = subst (Known c homes 0) (some-injective (maker passes turns o) v e) (record {
-    maker = λ t h. (let same : turns ≡ t = cc h in record { seat = refl; turns_each = sym same; numbers = sym none_given; left = (let z : c.given * t ≡ 0 = ap (λ (g : ℕ). g * t) none_given ∙ omega arith in let all : passes * turns ≡ passes * t = ap (λ (q : ℕ). passes * q) same in omega arith) });
-    opened = λ h. refl;
-    parts = λ h. absurd h;
-    ticket = λ h. absurd h;
-    served = λ h. absurd h;
-    whole = λ h. absurd h;
-    away = λ h. absurd h;
-  })
+  first_knows : (c : Scene N) (homes : List (maybe.Option (Option V))) → c.given ≡ 0 → (i : ℕ) (v : Sight N O) →
+      get_elem? (maker passes turns o ∷ []) i ≡ some v → Known c homes i v
+  first_knows c homes none_given zero v e =
+      subst (Known c homes 0) (some-injective (maker passes turns o) v e) (record {
+        maker = λ t h. (let same : turns ≡ t = cc h in record {
+          seat = refl;
+          turns_each = sym same;
+          numbers = sym none_given;
+          left = (let z : c.given * t ≡ 0 = ap (λ (g : ℕ). g * t) none_given ∙ omega arith in
+              let all : passes * turns ≡ passes * t = ap (λ (q : ℕ). passes * q) same in omega arith);
+        });
+        opened = λ h. refl;
+        parts = λ h. absurd h;
+        ticket = λ h. absurd h;
+        served = λ h. absurd h;
+        whole = λ h. absurd h;
+        away = λ h. absurd h;
+      })
   first_knows c homes none_given (suc i) v e = absurd (some-ne-none v (sym e))
 
   -- the table as it is made
-  pub starts : (ws gs : List ℕ) (x : V) → ws ≡ 0 ∷ 0 ∷ 0 ∷ gs → length gs ≡ guards → ((g : ℕ) → slice_index gs g ≡ 0) → notes x ≡ [] → opening x ≡ o → Rule (start ws (Some x ∷ []) (maker passes turns o))
+  pub starts : (ws gs : List ℕ) (x : V) → ws ≡ 0 ∷ 0 ∷ 0 ∷ gs → length gs ≡ guards → ((g : ℕ) → slice_index gs g ≡ 0) →
+      notes x ≡ [] → opening x ≡ o → Rule (start ws (Some x ∷ []) (maker passes turns o))
   starts ws gs x words count zeros empty opened =
       let c : Scene N = record { ticket = 0; serving = 0; history = []; given = 0; queue = λ t. 0; owner = λ n. 0 } in
       record {
@@ -72,33 +85,56 @@ module _ {V N O : Type 0} (opening : V → O) (notes : V → List N) (author : N
       }
 
   -- a longer list of views
-  slot_longer : (history : List N) (serving : ℕ) (homes : List (maybe.Option (Option V))) (views more : List (Sight N O)) → Slot opening notes author passes turns o history serving homes views → Slot opening notes author passes turns o history serving homes (views ++ more)
-  slot_longer history serving homes views more slot = ⊎_elim (λ h. inl h) (λ h. inr (h.0, h.1, record { out = h.2.out; seat = at_longer views more h.0 h.1 h.2.seat; has = h.2.has; few = h.2.few })) slot
+  slot_longer : (history : List N) (serving : ℕ) (homes : List (maybe.Option (Option V)))
+      (views more : List (Sight N O)) → Slot opening notes author passes turns o history serving homes views →
+      Slot opening notes author passes turns o history serving homes (views ++ more)
+  slot_longer history serving homes views more slot = ⊎_elim (λ h. inl h) (λ h. inr (
+    h.0,
+    h.1,
+    record {
+      out = h.2.out;
+      seat = at_longer views more h.0 h.1 h.2.seat;
+      has = h.2.has;
+      few = h.2.few;
+    },
+  )) slot
 
   -- a pass is cut from the maker's seat
-  pub cuts : (i : ℕ) (v : Sight N O) → v.stage ≡ Maker turns → v.at < passes → Splits Rule i v (cut_left v) (cut_right v)
+  pub cuts : (i : ℕ) (v : Sight N O) → v.stage ≡ Maker turns → v.at < passes →
+      Splits Rule i v (cut_left v) (cut_right v)
   cuts i v stage room s r at =
       let k = r.kept in let c = r.scene in let kv = k.each i v at in
       let made = kv.maker turns stage in
-      let c' : Scene N = record c { given = c.given + 1; owner = λ n. cond (n == c.given) (length s.views) (c.owner n) } in
+      let c' : Scene N =
+      record c { given = c.given + 1; owner = λ n. cond (n == c.given) (length s.views) (c.owner n) } in
       let left : Sight N O = cut_left v in let right : Sight N O = cut_right v in
       let views' : List (Sight N O) = set s.views i left in
       let gets : turns_of v.stage ≡ turns = ap turns_of stage in
-      let enough : c.given * turns + turns ≤ passes * turns = more_turns c.given passes turns (let e = made.numbers in omega arith) in
-      let next : (c.given + 1) * turns ≡ c.given * turns + turns = ap (λ (g : ℕ). g * turns) (omega arith) ∙ suc-mul c.given turns in
+      let enough : c.given * turns + turns ≤ passes * turns =
+      more_turns c.given passes turns (let e = made.numbers in omega arith) in
+      let next : (c.given + 1) * turns ≡ c.given * turns + turns = ap (λ (g : ℕ). g * turns) (omega arith)
+      ∙ suc-mul c.given turns in
       let has = made.left in
       let none_has : ¬ HasSlot v.stage = subst (λ (x : Stage). ¬ HasSlot x) (sym stage) (λ h. h) in
-      let fits : (j : ℕ) (p : Part N) → Fits author c.history c.given c.owner j p → Fits author c.history c'.given c'.owner j p = λ j p f.
+      let fits : (j : ℕ) (p : Part N) → Fits author c.history c.given c.owner j p →
+      Fits author c.history c'.given c'.owner j p = λ j p f.
       let below = f.below in record {
         below = omega arith;
-        owned = ap (λ (b : Bool). cond b (length s.views) (c.owner p.number)) (ne_eqb p.number c.given (λ e. omega arith)) ∙ f.owned;
+        owned = ap (λ (b : Bool). cond b (length s.views) (c.owner p.number))
+            (ne_eqb p.number c.given (λ e. omega arith)) ∙ f.owned;
         seen = f.seen;
         mine = f.mine;
         own_seen = f.own_seen;
       } in
       let first : Known c' s.homes i left = record {
         maker = λ t e. (let m = kv.maker t e in let same : t ≡ turns = m.turns_each in
-            record { seat = m.seat; turns_each = m.turns_each; numbers = ap (λ (n : ℕ). n + 1) m.numbers; left = subst (λ (q : ℕ). (v.left - turns_of v.stage) + (c.given + 1) * q ≡ passes * q) (sym same) (omega arith) });
+            record {
+              seat = m.seat;
+              turns_each = m.turns_each;
+              numbers = ap (λ (n : ℕ). n + 1) m.numbers;
+              left = subst (λ (q : ℕ). (v.left - turns_of v.stage) + (c.given + 1) * q ≡ passes * q) (sym same)
+                  (omega arith);
+            });
         opened = λ h. kv.opened h;
         parts = λ h. absurd (subst IsPass stage h);
         ticket = λ h. absurd (subst HasTicket stage h);
@@ -106,7 +142,8 @@ module _ {V N O : Type 0} (opening : V → O) (notes : V → List N) (author : N
         whole = λ h. absurd (subst HasSlot stage h);
         away = λ h. absurd (subst HasSlot stage h);
       } in
-      let here : c'.owner v.at ≡ length s.views = ap (λ (b : Bool). cond b (length s.views) (c.owner v.at)) (eq-eqb v.at c.given made.numbers) in
+      let here : c'.owner v.at ≡ length s.views = ap (λ (b : Bool). cond b (length s.views) (c.owner v.at))
+      (eq-eqb v.at c.given made.numbers) in
       let newest : Known c' s.homes (length s.views) right = record {
         maker = λ t e. absurd (cc e);
         opened = λ h. kv.opened (subst IsLive (sym stage) tt);
@@ -122,10 +159,12 @@ module _ {V N O : Type 0} (opening : V → O) (notes : V → List N) (author : N
         whole = λ h. absurd h;
         away = λ h. absurd h;
       } in
-      let others : (j : ℕ) (u : Sight N O) → j ≢ i → get_elem? s.views j ≡ some u → Known c' s.homes j u = λ j u ne e. let ku = k.each j u e in record {
+      let others : (j : ℕ) (u : Sight N O) → j ≢ i → get_elem? s.views j ≡ some u → Known c' s.homes j u =
+      λ j u ne e. let ku = k.each j u e in record {
         maker = λ t h. absurd (ne ((ku.maker t h).seat ∙ sym made.seat));
         opened = ku.opened;
-        parts = λ h. all_map (Fits author c.history c.given c.owner j) (Fits author c.history c'.given c'.owner j) (u.own ∷ u.joined) (fits j) (ku.parts h);
+        parts = λ h. all_map (Fits author c.history c.given c.owner j) (Fits author c.history c'.given c'.owner j)
+            (u.own ∷ u.joined) (fits j) (ku.parts h);
         ticket = ku.ticket;
         served = ku.served;
         whole = ku.whole;
@@ -137,34 +176,51 @@ module _ {V N O : Type 0} (opening : V → O) (notes : V → List N) (author : N
         kept = record {
           words = k.words;
           order = k.order;
-          turns_left = (let a = sum_changes left_of s.views i v left at in let b = sum_by_push left_of views' right in let t = k.turns_left in omega arith);
-          waits = λ t from below. (let g = stands_at (AtTicket t) s.views i v left (c.queue t) at (λ h. absurd (subst HasTicket stage h.0)) (k.waits t from below) in
+          turns_left = (let a = sum_changes left_of s.views i v left at in let b = sum_by_push left_of views' right in
+              let t = k.turns_left in omega arith);
+          waits = λ t from below.
+              (let g = stands_at (AtTicket t) s.views i v left (c.queue t) at (λ h. absurd (subst HasTicket stage h.0))
+              (k.waits t from below) in
               (g.0, g.1, at_longer views' (right ∷ []) (c.queue t) g.0 g.2));
           numbers = (let e = made.numbers in omega arith);
           given_out = λ n lt. dite (ℕ_discrete n c.given)
-              (λ e. (let turned : c'.owner n ≡ length s.views = ap (λ (b : Bool). cond b (length s.views) (c.owner n)) (eq-eqb n c.given e) in (
+              (λ e. (let turned : c'.owner n ≡ length s.views = ap (λ (b : Bool). cond b (length s.views) (c.owner n))
+              (eq-eqb n c.given e) in (
                 right,
                 (tt, (right.own, (0, omega arith, refl), made.numbers ∙ sym e)),
-                ap (get_elem? (views' ++ right ∷ [])) turned ∙ at_last views' right (length s.views) (length-set s.views i left),
+                ap (get_elem? (views' ++ right ∷ [])) turned
+                    ∙ at_last views' right (length s.views) (length-set s.views i left),
               )))
-              (λ ne. (let kept : c'.owner n ≡ c.owner n = ap (λ (b : Bool). cond b (length s.views) (c.owner n)) (ne_eqb n c.given ne) in
-              let g = stands_at (HasNumber n) s.views i v left (c.owner n) at (λ h. absurd (subst IsPass stage h.0)) (k.given_out n (omega arith)) in
-              (g.0, g.1, ap (get_elem? (views' ++ right ∷ [])) kept ∙ at_longer views' (right ∷ []) (c.owner n) g.0 g.2)));
+              (λ ne. (let kept : c'.owner n ≡ c.owner n = ap (λ (b : Bool). cond b (length s.views) (c.owner n))
+              (ne_eqb n c.given ne) in
+              let g = stands_at (HasNumber n) s.views i v left (c.owner n) at (λ h. absurd (subst IsPass stage h.0))
+              (k.given_out n (omega arith)) in (
+                g.0,
+                g.1,
+                ap (get_elem? (views' ++ right ∷ [])) kept
+                    ∙ at_longer views' (right ∷ []) (c.owner n) g.0 g.2,
+              )));
           unheard = λ n ge. k.unheard n (omega arith);
-          slot = slot_longer c.history c.serving s.homes views' (right ∷ []) (slot_stays opening notes author passes turns o c.history c.serving s.homes s.views i v left at none_has k.slot);
+          slot = slot_longer c.history c.serving s.homes views' (right ∷ [])
+              (slot_stays opening notes author passes turns o c.history c.serving s.homes s.views i v left at none_has
+              k.slot);
           each = λ j u e. ⊎_elim
               (λ h. ⊎_elim
-              (λ q. subst (λ (x : Sight N O). Known c' s.homes j x) q.1 (subst (λ (x : ℕ). Known c' s.homes x left) (sym q.0) first))
+              (λ q. subst (λ (x : Sight N O). Known c' s.homes j x) q.1
+              (subst (λ (x : ℕ). Known c' s.homes x left) (sym q.0) first))
               (λ q. others j u q.0 q.1) (at_set s.views i j left u h))
-              (λ h. subst (λ (x : Sight N O). Known c' s.homes j x) h.1 (subst (λ (x : ℕ). Known c' s.homes x right) (sym (h.0 ∙ length-set s.views i left)) newest))
+              (λ h. subst (λ (x : Sight N O). Known c' s.homes j x) h.1
+              (subst (λ (x : ℕ). Known c' s.homes x right) (sym (h.0 ∙ length-set s.views i left)) newest))
               (at_end views' right u j e);
         };
         locks = locks_more author touches o guards c.history r.guard_words views' right
-            (locks_view author touches o guards c.history r.guard_words s.views i v left r.locks at refl refl (λ h. h) (r.locks.news i v at)) refl refl;
+            (locks_view author touches o guards c.history r.guard_words s.views i v left r.locks at refl refl (λ h. h)
+            (r.locks.news i v at)) refl refl;
       }
 
   -- one pass is joined to another, and both hold nothing
-  pub glues : (i : ℕ) (v : Sight N O) (other : ℕ) (w : Sight N O) → v.stage ≡ Idle → w.stage ≡ Idle → v.grips ≡ [] → w.grips ≡ [] → Joins Rule i v other w (joined v w) spent
+  pub glues : (i : ℕ) (v : Sight N O) (other : ℕ) (w : Sight N O) → v.stage ≡ Idle → w.stage ≡ Idle → v.grips ≡ [] →
+      w.grips ≡ [] → Joins Rule i v other w (joined v w) spent
   glues i v other w stage stage' empty empty' s r at apart at' =
       let k = r.kept in let c = r.scene in let kv = k.each i v at in
       let both : Sight N O = joined v w in
@@ -172,14 +228,17 @@ module _ {V N O : Type 0} (opening : V → O) (notes : V → List N) (author : N
       let there : get_elem? s.views other ≡ some w = sym (set_else s.views i other both apart) ∙ at' in
       let kw = k.each other w there in
       let c' : Scene N = record c { owner = λ n. cond (c.owner n == other) i (c.owner n) } in
-      let stays : (j : ℕ) → j ≢ other → (p : Part N) → Fits author c.history c.given c.owner j p → Fits author c.history c.given c'.owner j p = λ j ne p f. record {
+      let stays : (j : ℕ) → j ≢ other → (p : Part N) → Fits author c.history c.given c.owner j p →
+      Fits author c.history c.given c'.owner j p = λ j ne p f. record {
         below = f.below;
-        owned = ap (λ (b : Bool). cond b i (c.owner p.number)) (ne_eqb (c.owner p.number) other (λ e. ne (sym f.owned ∙ e))) ∙ f.owned;
+        owned = ap (λ (b : Bool). cond b i (c.owner p.number))
+            (ne_eqb (c.owner p.number) other (λ e. ne (sym f.owned ∙ e))) ∙ f.owned;
         seen = f.seen;
         mine = f.mine;
         own_seen = f.own_seen;
       } in
-      let comes : (p : Part N) → Fits author c.history c.given c.owner other p → Fits author c.history c.given c'.owner i p = λ p f. record {
+      let comes : (p : Part N) → Fits author c.history c.given c.owner other p →
+      Fits author c.history c.given c'.owner i p = λ p f. record {
         below = f.below;
         owned = ap (λ (b : Bool). cond b i (c.owner p.number)) (eq-eqb (c.owner p.number) other f.owned);
         seen = f.seen;
@@ -191,8 +250,10 @@ module _ {V N O : Type 0} (opening : V → O) (notes : V → List N) (author : N
         maker = λ t e. absurd (let z = sym stage ∙ e in cc z);
         opened = λ h. kv.opened h;
         parts = λ h. All-append (Fits author c.history c.given c'.owner i) (v.own ∷ v.joined) (w.own ∷ w.joined)
-            (all_map (Fits author c.history c.given c.owner i) (Fits author c.history c.given c'.owner i) (v.own ∷ v.joined) (stays i i_apart) (kv.parts h))
-            (all_map (Fits author c.history c.given c.owner other) (Fits author c.history c.given c'.owner i) (w.own ∷ w.joined) comes (kw.parts (subst IsPass (sym stage') tt)));
+            (all_map (Fits author c.history c.given c.owner i) (Fits author c.history c.given c'.owner i)
+            (v.own ∷ v.joined) (stays i i_apart) (kv.parts h))
+            (all_map (Fits author c.history c.given c.owner other) (Fits author c.history c.given c'.owner i)
+            (w.own ∷ w.joined) comes (kw.parts (subst IsPass (sym stage') tt)));
         ticket = λ h. absurd (subst HasTicket stage h);
         served = λ h. absurd (subst IsServed stage h);
         whole = λ h. absurd (subst HasSlot stage h);
@@ -207,58 +268,88 @@ module _ {V N O : Type 0} (opening : V → O) (notes : V → List N) (author : N
         whole = λ h. absurd h;
         away = λ h. absurd h;
       } in
-      let others : (j : ℕ) (u : Sight N O) → j ≢ other → get_elem? s.views j ≡ some u → Known c' s.homes j u = λ j u ne e. let ku = k.each j u e in record {
+      let others : (j : ℕ) (u : Sight N O) → j ≢ other → get_elem? s.views j ≡ some u → Known c' s.homes j u =
+      λ j u ne e. let ku = k.each j u e in record {
         maker = ku.maker;
         opened = ku.opened;
-        parts = λ h. all_map (Fits author c.history c.given c.owner j) (Fits author c.history c.given c'.owner j) (u.own ∷ u.joined) (stays j ne) (ku.parts h);
+        parts = λ h. all_map (Fits author c.history c.given c.owner j) (Fits author c.history c.given c'.owner j)
+            (u.own ∷ u.joined) (stays j ne) (ku.parts h);
         ticket = ku.ticket;
         served = ku.served;
         whole = ku.whole;
         away = ku.away;
       } in
-      let idle : (x : Sight N O) → x.stage ≡ Idle → ¬ HasSlot x.stage = λ x e. subst (λ (z : Stage). ¬ HasSlot z) (sym e) (λ h. h) in
+      let idle : (x : Sight N O) → x.stage ≡ Idle → ¬ HasSlot x.stage =
+      λ x e. subst (λ (z : Stage). ¬ HasSlot z) (sym e) (λ h. h) in
       record {
         scene = c';
         guard_words = r.guard_words;
         kept = record {
           words = k.words;
           order = k.order;
-          turns_left = (let a = sum_changes left_of s.views i v both at in let b = sum_changes left_of views' other w spent at' in let t = k.turns_left in omega arith);
-          waits = λ t from below. stands_at (AtTicket t) views' other w spent (c.queue t) at' (λ h. absurd (subst HasTicket stage' h.0))
-              (stands_at (AtTicket t) s.views i v both (c.queue t) at (λ h. absurd (subst HasTicket stage h.0)) (k.waits t from below));
+          turns_left =
+              (let a = sum_changes left_of s.views i v both at in
+              let b = sum_changes left_of views' other w spent at' in let t = k.turns_left in omega arith);
+          waits = λ t from below. stands_at (AtTicket t) views' other w spent (c.queue t) at'
+              (λ h. absurd (subst HasTicket stage' h.0))
+              (stands_at (AtTicket t) s.views i v both (c.queue t) at (λ h. absurd (subst HasTicket stage h.0))
+              (k.waits t from below));
           numbers = k.numbers;
           given_out = λ n lt. dite (ℕ_discrete (c.owner n) other)
-              (λ e. (let turned : c'.owner n ≡ i = ap (λ (b : Bool). cond b i (c.owner n)) (eq-eqb (c.owner n) other e) in
+              (λ e. (let turned : c'.owner n ≡ i = ap (λ (b : Bool). cond b i (c.owner n))
+              (eq-eqb (c.owner n) other e) in
               let g = k.given_out n lt in
               let same : g.0 ≡ w = some-injective g.0 w (sym g.2 ∙ (ap (get_elem? s.views) e ∙ there)) in
               let has : HasNumber n w = subst (HasNumber n) same g.1 in (
                 both,
-                (subst IsPass (sym stage) tt, (has.1.0, Contains-append_right (v.own ∷ v.joined) (w.own ∷ w.joined) has.1.0 has.1.1, has.1.2)),
-                ap (get_elem? (set views' other spent)) turned ∙ (set_else views' other i spent i_apart ∙ set_here s.views i both (at_below s.views i v at)),
+                (
+                  subst IsPass (sym stage) tt,
+                  (
+                    has.1.0,
+                    Contains-append_right (v.own ∷ v.joined) (w.own ∷ w.joined) has.1.0 has.1.1,
+                    has.1.2,
+                  ),
+                ),
+                ap (get_elem? (set views' other spent)) turned
+                    ∙ (set_else views' other i spent i_apart ∙ set_here s.views i both (at_below s.views i v at)),
               )))
-              (λ ne. (let kept : c'.owner n ≡ c.owner n = ap (λ (b : Bool). cond b i (c.owner n)) (ne_eqb (c.owner n) other ne) in
+              (λ ne. (let kept : c'.owner n ≡ c.owner n = ap (λ (b : Bool). cond b i (c.owner n))
+              (ne_eqb (c.owner n) other ne) in
               let g = stands_at (HasNumber n) s.views i v both (c.owner n) at
-              (λ h. (h.0, (h.1.0, Contains-append_left (v.own ∷ v.joined) (w.own ∷ w.joined) h.1.0 h.1.1, h.1.2))) (k.given_out n lt) in
-              (g.0, g.1, ap (get_elem? (set views' other spent)) kept ∙ (set_else views' other (c.owner n) spent ne ∙ g.2))));
+              (λ h. (h.0, (h.1.0, Contains-append_left (v.own ∷ v.joined) (w.own ∷ w.joined) h.1.0 h.1.1, h.1.2)))
+              (k.given_out n lt) in (
+                g.0,
+                g.1,
+                ap (get_elem? (set views' other spent)) kept
+                    ∙ (set_else views' other (c.owner n) spent ne ∙ g.2),
+              )));
           unheard = k.unheard;
-          slot = slot_stays opening notes author passes turns o c.history c.serving s.homes views' other w spent at' (idle w stage')
-              (slot_stays opening notes author passes turns o c.history c.serving s.homes s.views i v both at (idle v stage) k.slot);
+          slot = slot_stays opening notes author passes turns o c.history c.serving s.homes views' other w spent at'
+              (idle w stage')
+              (slot_stays opening notes author passes turns o c.history c.serving s.homes s.views i v both at
+              (idle v stage) k.slot);
           each = λ j u e. ⊎_elim
-              (λ h. subst (λ (x : Sight N O). Known c' s.homes j x) h.1 (subst (λ (x : ℕ). Known c' s.homes x spent) (sym h.0) last))
+              (λ h. subst (λ (x : Sight N O). Known c' s.homes j x) h.1
+              (subst (λ (x : ℕ). Known c' s.homes x spent) (sym h.0) last))
               (λ h. ⊎_elim
-              (λ q. subst (λ (x : Sight N O). Known c' s.homes j x) q.1 (subst (λ (x : ℕ). Known c' s.homes x both) (sym q.0) first))
+              (λ q. subst (λ (x : Sight N O). Known c' s.homes j x) q.1
+              (subst (λ (x : ℕ). Known c' s.homes x both) (sym q.0) first))
               (λ q. others j u h.0 q.1) (at_set s.views i j both u h.1))
               (at_set views' other j spent u e);
         };
         locks = locks_less author touches o guards c.history r.guard_words views' other w spent
-            (locks_view author touches o guards c.history r.guard_words s.views i v both r.locks at refl refl (λ h. h) (r.locks.news i v at)) at' empty' refl refl;
+            (locks_view author touches o guards c.history r.guard_words s.views i v both r.locks at refl refl (λ h. h)
+            (r.locks.news i v at)) at' empty' refl refl;
       }
 
   -- if one idle seat has every number, the slot is at home, and its value stands for what the seat knows
-  pub ends : (i : ℕ) (v : Sight N O) (ws : List ℕ) (xs : List (Option V)) → v.stage ≡ Idle → Covers passes v → Final (Seen Rule i v) ws xs
-      → (x : V) × (get_elem? xs 0 ≡ some (Some x)) × (opening x ≡ o) × All (Stands author (notes x)) (v.own ∷ v.joined) × All (λ n. author n < passes) (notes x)
+  pub ends : (i : ℕ) (v : Sight N O) (ws : List ℕ) (xs : List (Option V)) → v.stage ≡ Idle → Covers passes v →
+      Final (Seen Rule i v) ws xs
+      → (x : V) × (get_elem? xs 0 ≡ some (Some x)) × (opening x ≡ o) × All (Stands author (notes x)) (v.own ∷ v.joined)
+      × All (λ n. author n < passes) (notes x)
   ends i v ws xs stage covers final =
-      let s = final.0 in let r = final.1.0 in let k = r.kept in let c = r.scene in let at = final.1.1 in let kv = k.each i v at in
+      let s = final.0 in let r = final.1.0 in let k = r.kept in let c = r.scene in let at = final.1.1 in
+      let kv = k.each i v at in
       let parts = kv.parts (subst IsPass (sym stage) tt) in
       ⊎_elim
       (λ h. let x = h.0 in let home = h.1 in (
@@ -266,8 +357,10 @@ module _ {V N O : Type 0} (opening : V → O) (notes : V → List N) (author : N
         final.4 0 (Some x) (ap (λ (hs : List (maybe.Option (Option V))). get_elem? hs 0) home.here),
         home.opened,
         all_map (Fits author c.history c.given c.owner i) (Stands author (notes x)) (v.own ∷ v.joined)
-            (λ p f. subst (λ (ys : List N). Stands author ys p) (sym home.same) (record { seen = f.seen; mine = f.mine })) parts,
-        subst (λ (ys : List N). All (λ n. author n < passes) ys) (sym home.same) (all_below author passes c.given c.history k.numbers k.unheard),
+            (λ p f. subst (λ (ys : List N). Stands author ys p) (sym home.same)
+            (record { seen = f.seen; mine = f.mine })) parts,
+        subst (λ (ys : List N). All (λ n. author n < passes) ys) (sym home.same)
+            (all_below author passes c.given c.history k.numbers k.unheard),
       ))
       (λ h. let j = h.0 in let u = h.1 in let out = h.2 in let ku = k.each j u out.seat in
       let pass : IsPass u.stage = ticket_pass u.stage (slot_ticket u.stage out.has) in

@@ -1,5 +1,6 @@
 -- What a seat holds and was told, over several steps.
-use Rattle.std.proofs.Common.{◌≡◌, ℕ, zero, suc, ◌/◌, ◌%◌, ◌==◌, Bool, true, false, cond, List, ◌∷◌, ◌≤◌, ◌<◌, length, Contains, refl, ap, sym, subst, ◌∙◌, arith}
+use Rattle.std.proofs.Common.{◌≡◌, ℕ, zero, suc, ◌/◌, ◌%◌, ◌==◌, Bool, true, false, cond, List, ◌∷◌, ◌≤◌, ◌<◌, length}
+use Rattle.std.proofs.Common.{Contains, refl, ap, sym, subst, ◌∙◌, arith}
 use Rattle.atomic_table.specs.Table.{Me}
 use Rattle.ra_turn.specs.declared.sight.Grip.{Grip}
 use Rattle.ra_turn.specs.declared.sight.Sight.{Sight}
@@ -22,32 +23,52 @@ keeps_if false ks more keeps = (λ k h. h, omega arith)
 
 -- what was told before a look stays told
 pub heard_keeps : (guard word : ℕ) (ks : List Grip) → KeepsNews ks (heard guard word ks)
-heard_keeps guard word ks = keeps_if (word % 2 == 0) ks (at_version guard (word / 2) ks) (version_keeps guard (word / 2) ks)
+heard_keeps guard word ks =
+    keeps_if (word % 2 == 0) ks (at_version guard (word / 2) ks) (version_keeps guard (word / 2) ks)
 
 version_last : (guard v : ℕ) (ks : List Grip) → 0 < v → at_version guard v ks ≡ grip guard v ∷ ks
 version_last guard zero ks some = absurd (omega arith)
 version_last guard (suc v) ks some = refl
 
 -- a look at a free guard with a version tells of it, last
-pub heard_last : (guard word : ℕ) (ks : List Grip) → word % 2 ≡ 0 → 0 < word / 2 → IsLastTold ks (heard guard word ks) guard (word / 2)
-heard_last guard word ks even some = record { earlier = ks; last = rw even (version_last guard (word / 2) ks some); before = omega arith }
+pub heard_last : (guard word : ℕ) (ks : List Grip) → word % 2 ≡ 0 → 0 < word / 2 →
+    IsLastTold ks (heard guard word ks) guard (word / 2)
+heard_last guard word ks even some = record {
+  earlier = ks;
+  last = rw even (version_last guard (word / 2) ks some);
+  before = omega arith;
+}
 
 module _ {N O : Type 0} (author : N → ℕ) (touches : O → N → ℕ → Bool) where
   -- an answer after a look is one after all that was told before it
-  pub answer_back : (guard asked : ℕ) (grips told later : List Grip) (v : Sight N O) (answer : Hold) → length told ≤ length later → IsAnswerAt author touches guard asked grips later v answer → IsAnswerAt author touches guard asked grips told v answer
+  pub answer_back : (guard asked : ℕ) (grips told later : List Grip) (v : Sight N O) (answer : Hold) →
+      length told ≤ length later → IsAnswerAt author touches guard asked grips later v answer →
+      IsAnswerAt author touches guard asked grips told v answer
   answer_back guard asked grips told later v (Held at) le is = is
-  answer_back guard asked grips told later v (Newer at) le is = (is.0, is.1, is.2, record { earlier = is.3.earlier; last = is.3.last; before = (let lt = is.3.before in omega arith) })
+  answer_back guard asked grips told later v (Newer at) le is = (
+    is.0,
+    is.1,
+    is.2,
+    record {
+      earlier = is.3.earlier;
+      last = is.3.last;
+      before = (let lt = is.3.before in omega arith);
+    },
+  )
 
 module _ {S N O : Type 0} where
   pub only_same : (m m' : Me S (Sight N O)) → m' ≡ m → OnlyHolds m m'
   only_same m m' e = subst (OnlyHolds m) (sym e) (refl, (λ k h. h, omega arith))
 
-  pub only_news : (m m' : Me S (Sight N O)) (ks : List Grip) → m' ≡ (with_news m.0 ks, m.1) → KeepsNews m.0.news ks → OnlyHolds m m'
+  pub only_news : (m m' : Me S (Sight N O)) (ks : List Grip) → m' ≡ (with_news m.0 ks, m.1) → KeepsNews m.0.news ks →
+      OnlyHolds m m'
   only_news m m' ks e keeps = subst (OnlyHolds m) (sym e) (refl, keeps)
 
   pub only_held : (m m' : Me S (Sight N O)) (ks : List Grip) → m' ≡ (with_grips m.0 ks, m.1) → OnlyHolds m m'
   only_held m m' ks e = subst (OnlyHolds m) (sym e) (refl, (λ k h. h, omega arith))
 
   pub only_then : (a b c : Me S (Sight N O)) → OnlyHolds a b → OnlyHolds b c → OnlyHolds a c
-  only_then a b c first next =
-      (next.0 ∙ ap (λ (m : Me S (Sight N O)). (record m.0 { grips = c.0.grips; news = c.0.news }, m.1)) first.0, (λ k h. next.1.0 k (first.1.0 k h), (let one = first.1.1 in let two = next.1.1 in omega arith)))
+  only_then a b c first next = (
+    next.0 ∙ ap (λ (m : Me S (Sight N O)). (record m.0 { grips = c.0.grips; news = c.0.news }, m.1)) first.0,
+    (λ k h. next.1.0 k (first.1.0 k h), (let one = first.1.1 in let two = next.1.1 in omega arith)),
+  )

@@ -1,5 +1,6 @@
 -- The laws of versions, for callers.
-use Rattle.std.proofs.Common.{◌≡◌, ℕ, Bool, List, ◌∷◌, [], ◌++◌, length, Contains, refl, ap, sym, subst, ◌∙◌, ⊎_elim, arith}
+use Rattle.std.proofs.Common.{◌≡◌, ℕ, Bool, List, ◌∷◌, [], ◌++◌, length, Contains, refl, ap, sym, subst, ◌∙◌, ⊎_elim}
+use Rattle.std.proofs.Common.{arith}
 use Rattle.std.proofs.lemmas.Bool.{cases_lt}
 use Rattle.std.proofs.lemmas.List.Elements.{All-contains, Contains-append_right}
 use Rattle.ra_turn.specs.declared.story.Story.{Ghosts}
@@ -19,14 +20,21 @@ module _ {V N O : Type 0} (g : Ghosts V N O) where
       let touched : N → Bool = touching g.touches (opening_of g.opening t) guard in
       let xs : List N = seen_by q in let ys : List N = seen_by r in
       let mine : List N = made_by q in
-      let has : Contains (grips_of p ++ grip guard at ∷ []) (grip guard at) = Contains-append_right (grips_of p) (grip guard at ∷ []) (grip guard at) (0, omega arith, refl) in
-      let has' : Contains (grips_of r) (grip guard at) = subst (λ (ks : List Grip). Contains ks (grip guard at)) (sym (take.grips.0 ∙ held.grips)) has in
-      let only : OnlyBy touched g.author r.number ys at = All-contains (λ k. OnlyBy (touching g.touches (opening_of g.opening t) k.guard) g.author r.number ys k.version) (grips_of r) (grip guard at) take.shut has' in
-      let seen : by g.author r.number xs ≡ mine = ap (λ (n : ℕ). by g.author n xs) (take.number ∙ sym q.numbered) ∙ q.owned in
+      let has : Contains (grips_of p ++ grip guard at ∷ []) (grip guard at) =
+      Contains-append_right (grips_of p) (grip guard at ∷ []) (grip guard at) (0, omega arith, refl) in
+      let has' : Contains (grips_of r) (grip guard at) = subst (λ (ks : List Grip). Contains ks (grip guard at))
+      (sym (take.grips.0 ∙ held.grips)) has in
+      let only : OnlyBy touched g.author r.number ys at =
+      All-contains
+      (λ k. OnlyBy (touching g.touches (opening_of g.opening t) k.guard) g.author r.number ys k.version)
+      (grips_of r) (grip guard at) take.shut has' in
+      let seen : by g.author r.number xs ≡ mine = ap (λ (n : ℕ). by g.author n xs) (take.number ∙ sym q.numbered)
+      ∙ q.owned in
       let all : by g.author r.number ys ≡ mine = take.owned ∙ take.made in
       ⊎_elim
       (λ lt. (let told = held.news (omega arith) in
-      let told' : Contains r.seat.me.0.news (grip guard at) = subst (λ (ks : List Grip). Contains ks (grip guard at)) (sym take.grips.1) told in
+      let told' : Contains r.seat.me.0.news (grip guard at) = subst (λ (ks : List Grip). Contains ks (grip guard at))
+      (sym take.grips.1) told in
       version_past touched g.author r.number xs ys mine at take.seen seen all lt (take.news guard at told').1 only))
       (λ le. version_whole touched g.author r.number xs ys mine at at take.seen seen all le only (held.version le))
       (cases_lt (length xs) at)

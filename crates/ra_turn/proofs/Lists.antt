@@ -1,5 +1,7 @@
 -- Beginnings of lists, the notes by one number, and sums of which one element changes.
-use Rattle.std.proofs.Common.{◌≡◌, ◌≢◌, ℕ, zero, suc, ◌+◌, ◌==◌, ◌⊎◌, ◌≤◌, ◌<◌, Bool, true, false, cond, List, [], ◌∷◌, ◌++◌, length, drop, set, All, sum_by, filter, refl, ap, sym, subst, ◌∙◌, inl, inr, ne_eqb, eq-eqb, arith, append_assoc}
+use Rattle.std.proofs.Common.{◌≡◌, ◌≢◌, ℕ, zero, suc, ◌+◌, ◌==◌, ◌⊎◌, ◌≤◌, ◌<◌, Bool, true, false, cond, List, [], ◌∷◌}
+use Rattle.std.proofs.Common.{◌++◌, length, drop, set, All, sum_by, filter, refl, ap, sym, subst, ◌∙◌, inl, inr, ne_eqb}
+use Rattle.std.proofs.Common.{eq-eqb, arith, append_assoc}
 use Rattle.std.proofs.Math.Seq.{drop-append_seam}
 use Rattle.std.proofs.lemmas.List.{append-nil}
 use Rattle.std.proofs.lemmas.List.Sums.{sum_by-cons}
@@ -21,7 +23,8 @@ module _ {A : Type 0} where
   prefix_longer xs ys zs p = (p.0 ++ zs, sym (append_assoc xs p.0 zs) ∙ ap (λ (w : List A). w ++ zs) p.1)
 
   -- an element that stands at the end or before it
-  pub at_end : (l : List A) (a b : A) (j : ℕ) → get_elem? (l ++ a ∷ []) j ≡ some b → (get_elem? l j ≡ some b) ⊎ ((j ≡ length l) × (a ≡ b))
+  pub at_end : (l : List A) (a b : A) (j : ℕ) → get_elem? (l ++ a ∷ []) j ≡ some b → (get_elem? l j ≡ some b)
+      ⊎ ((j ≡ length l) × (a ≡ b))
   at_end [] a b zero e = inr (refl, some-injective a b e)
   at_end [] a b (suc j) e = absurd (some-ne-none b (sym e))
   at_end (x ∷ xs) a b zero e = inl e
@@ -42,12 +45,14 @@ module _ {A : Type 0} where
       (λ ne. (g.0, g.1, set_else l i j w ne ∙ g.2))
 
   -- a sum of which one element changes
-  pub sum_changes : (f : A → ℕ) (l : List A) (i : ℕ) (v w : A) → get_elem? l i ≡ some v → sum_by f (set l i w) + f v ≡ sum_by f l + f w
+  pub sum_changes : (f : A → ℕ) (l : List A) (i : ℕ) (v w : A) → get_elem? l i ≡ some v →
+      sum_by f (set l i w) + f v ≡ sum_by f l + f w
   sum_changes f [] i v w e = absurd (some-ne-none v (sym e))
   sum_changes f (x ∷ xs) zero v w e =
       let same : f x ≡ f v = ap f (some-injective x v e) in
       omega (arith, sum_by-cons f x xs, sum_by-cons f w xs)
-  sum_changes f (x ∷ xs) (suc i) v w e = omega (arith, sum_changes f xs i v w e, sum_by-cons f x xs, sum_by-cons f x (set xs i w))
+  sum_changes f (x ∷ xs) (suc i) v w e =
+      omega (arith, sum_changes f xs i v w e, sum_by-cons f x xs, sum_by-cons f x (set xs i w))
 
   pub sum_has : (f : A → ℕ) (l : List A) (i : ℕ) (v : A) → get_elem? l i ≡ some v → f v ≤ sum_by f l
   sum_has f [] i v e = absurd (some-ne-none v (sym e))
@@ -67,20 +72,26 @@ module _ {A : Type 0} where
 
 module _ {N : Type 0} (author : N → ℕ) where
   -- a note by another number doesn't count
-  pub by_other : (number : ℕ) (xs : List N) (x : N) → author x ≢ number → by author number (xs ++ x ∷ []) ≡ by author number xs
+  pub by_other : (number : ℕ) (xs : List N) (x : N) → author x ≢ number →
+      by author number (xs ++ x ∷ []) ≡ by author number xs
   by_other number xs x ne =
       let test : N → Bool = λ y. author y == number in
       let away : (author x == number) ≡ false = ne_eqb (author x) number ne in
-      filter-append test xs (x ∷ []) ∙ (ap (λ (b : Bool). filter test xs ++ cond b (x ∷ []) []) away ∙ append-nil (filter test xs))
+      filter-append test xs (x ∷ [])
+      ∙ (ap (λ (b : Bool). filter test xs ++ cond b (x ∷ []) []) away ∙ append-nil (filter test xs))
 
-  pub by_same : (number : ℕ) (xs : List N) (x : N) → author x ≡ number → by author number (xs ++ x ∷ []) ≡ by author number xs ++ x ∷ []
+  pub by_same : (number : ℕ) (xs : List N) (x : N) → author x ≡ number →
+      by author number (xs ++ x ∷ []) ≡ by author number xs ++ x ∷ []
   by_same number xs x e =
       let test : N → Bool = λ y. author y == number in
       let here : (author x == number) ≡ true = eq-eqb (author x) number e in
       filter-append test xs (x ∷ []) ∙ ap (λ (b : Bool). filter test xs ++ cond b (x ∷ []) []) here
 
   -- one note more by the number is the one that comes after those that were seen
-  pub by_one_more : (number : ℕ) (seen mine xs : List N) (x : N) → xs ≡ seen ++ x ∷ [] → author x ≡ number → by author number seen ≡ mine → by author number xs ≡ mine ++ drop (length seen) xs
+  pub by_one_more : (number : ℕ) (seen mine xs : List N) (x : N) → xs ≡ seen ++ x ∷ [] → author x ≡ number →
+      by author number seen ≡ mine → by author number xs ≡ mine ++ drop (length seen) xs
   by_one_more number seen mine xs x added here told =
       let last : drop (length seen) xs ≡ x ∷ [] = ap (drop (length seen)) added ∙ drop-append_seam seen (x ∷ []) in
-      ap (by author number) added ∙ (by_same number seen x here ∙ (ap (λ (ys : List N). ys ++ x ∷ []) told ∙ ap (λ (ys : List N). mine ++ ys) (sym last)))
+      ap (by author number) added
+      ∙ (by_same number seen x here
+      ∙ (ap (λ (ys : List N). ys ++ x ∷ []) told ∙ ap (λ (ys : List N). mine ++ ys) (sym last)))

@@ -1,5 +1,7 @@
 -- The steps by which a turn begins keep the rule.
-use Rattle.std.proofs.Common.{◌≡◌, ◌≢◌, ℕ, ◌+◌, ◌*◌, ◌%◌, ◌^◌, ◌<◌, ◌≤◌, ◌==◌, Bool, true, false, cond, zero, suc, List, [], ◌∷◌, length, set, get_or, slice_index_or, All, Contains, MatchBool, refl, ap, sym, subst, ◌∙◌, inr, ⊎_elim, ne_eqb, eq-eqb, arith, Option, Some}
+use Rattle.std.proofs.Common.{◌≡◌, ◌≢◌, ℕ, ◌+◌, ◌*◌, ◌%◌, ◌^◌, ◌<◌, ◌≤◌, ◌==◌, Bool, true, false, cond, zero, suc, List}
+use Rattle.std.proofs.Common.{[], ◌∷◌, length, set, get_or, slice_index_or, All, Contains, MatchBool, refl, ap, sym}
+use Rattle.std.proofs.Common.{subst, ◌∙◌, inr, ⊎_elim, ne_eqb, eq-eqb, arith, Option, Some}
 use Rattle.std.proofs.Math.Nat.{mod-eq_of_lt}
 use mathlib.Core.Option.{none, some, some-injective}
 use mathlib.Core.Option as maybe
@@ -26,7 +28,8 @@ use Rattle.ra_turn.proofs.Stages.{slot_served, served_ticket, pass_live}
 use Rattle.ra_turn.proofs.Keeps.{moved, slot_stays, waits_stay}
 use Rattle.ra_turn.proofs.Latches.{locks_view, shut_by}
 
-module _ {V N O : Type 0} (opening : V → O) (notes : V → List N) (author : N → ℕ) (touches : O → N → ℕ → Bool) (passes turns guards : ℕ) (o : O) where
+module _ {V N O : Type 0} (opening : V → O) (notes : V → List N) (author : N → ℕ) (touches : O → N → ℕ → Bool)
+    (passes turns guards : ℕ) (o : O) where
   abbrev Rule : State (Option V) (Sight N O) → Type 0
   Rule = Ruled opening notes author touches passes turns guards o
 
@@ -40,8 +43,10 @@ module _ {V N O : Type 0} (opening : V → O) (notes : V → List N) (author : N
   Lock c = Locks author touches o guards c.history
 
   -- the guards that a view holds keep others' notes out of the history, and so out of what it has seen of it
-  pub is_shut : (c : Scene N) (gs : List ℕ) (views : List (Sight N O)) (i : ℕ) (v : Sight N O) → Lock c gs views → get_elem? views i ≡ some v
-      → (xs : List N) (grips : List Grip) (number : ℕ) → v.opened ≡ Some o → xs ≡ c.history → grips ≡ v.grips → number ≡ v.own.number
+  pub is_shut : (c : Scene N) (gs : List ℕ) (views : List (Sight N O)) (i : ℕ) (v : Sight N O) → Lock c gs views →
+      get_elem? views i ≡ some v
+      → (xs : List N) (grips : List Grip) (number : ℕ) → v.opened ≡ Some o → xs ≡ c.history → grips ≡ v.grips →
+      number ≡ v.own.number
       → (p : O) → v.opened ≡ Some p → ShutBy touches p author number xs grips
   is_shut c gs views i v k at xs grips number opened all same one p opened' =
       let whose : o ≡ p = (let e = sym opened ∙ opened' in cc e) in
@@ -52,7 +57,8 @@ module _ {V N O : Type 0} (opening : V → O) (notes : V → List N) (author : N
       (subst (λ (ks : List Grip). ShutBy touches o author v.own.number c.history ks) (sym same) shut)))
 
   -- what a view was told stands in the history
-  pub is_told : (c : Scene N) (gs : List ℕ) (views : List (Sight N O)) (i : ℕ) (v : Sight N O) → Lock c gs views → get_elem? views i ≡ some v
+  pub is_told : (c : Scene N) (gs : List ℕ) (views : List (Sight N O)) (i : ℕ) (v : Sight N O) → Lock c gs views →
+      get_elem? views i ≡ some v
       → (xs : List N) (news : List Grip) → v.opened ≡ Some o → xs ≡ c.history → news ≡ v.news
       → (p : O) → v.opened ≡ Some p → All (IsNews touches p xs) news
   is_told c gs views i v k at xs news opened all same p opened' =
@@ -62,35 +68,49 @@ module _ {V N O : Type 0} (opening : V → O) (notes : V → List N) (author : N
       (subst (λ (ks : List Grip). All (IsNews touches o c.history) ks) (sym same) (k.news i v at)))
 
   renumbered_at : (n : ℕ) (v w : Sight N O) → w.own.number ≡ v.own.number → w.joined ≡ v.joined
-      → (p : Part N) (k : ℕ) → k < length (v.own ∷ v.joined) → slice_index_or (v.own ∷ v.joined) k p ≡ p → p.number ≡ n → (q : Part N) × Contains (w.own ∷ w.joined) q × (q.number ≡ n)
-  renumbered_at n v w own rest p zero lt e is = (w.own, (0, omega arith, refl), own ∙ (ap (λ (x : Part N). x.number) e ∙ is))
+      → (p : Part N) (k : ℕ) → k < length (v.own ∷ v.joined) → slice_index_or (v.own ∷ v.joined) k p ≡ p →
+      p.number ≡ n → (q : Part N) × Contains (w.own ∷ w.joined) q × (q.number ≡ n)
+  renumbered_at n v w own rest p zero lt e is =
+      (w.own, (0, omega arith, refl), own ∙ (ap (λ (x : Part N). x.number) e ∙ is))
   renumbered_at n v w own rest p (suc k) lt e is =
       let here : Contains (w.own ∷ v.joined) p = (suc k, omega arith, e) in
       (p, subst (λ (xs : List (Part N)). Contains (w.own ∷ xs) p) (sym rest) here, is)
 
   -- a view whose own number stays has the same numbers
   pub renumbered : (n : ℕ) (v w : Sight N O) → w.own.number ≡ v.own.number → w.joined ≡ v.joined
-      → (p : Part N) × Contains (v.own ∷ v.joined) p × (p.number ≡ n) → (p : Part N) × Contains (w.own ∷ w.joined) p × (p.number ≡ n)
+      → (p : Part N) × Contains (v.own ∷ v.joined) p × (p.number ≡ n) → (p : Part N) × Contains (w.own ∷ w.joined) p
+      × (p.number ≡ n)
   renumbered n v w own rest h = renumbered_at n v w own rest h.0 h.1.0 h.1.1 h.1.2 h.2
 
   -- a ticket and the turns left are together few
-  pub few_turns : (c : Scene N) (gs : List ℕ) (s : State (Option V) (Sight N O)) (i : ℕ) (v : Sight N O) → Base c gs s → get_elem? s.views i ≡ some v → c.ticket + v.left ≤ passes * turns
+  pub few_turns : (c : Scene N) (gs : List ℕ) (s : State (Option V) (Sight N O)) (i : ℕ) (v : Sight N O) → Base c gs s →
+      get_elem? s.views i ≡ some v → c.ticket + v.left ≤ passes * turns
   few_turns c gs s i v k at = let h = sum_has left_of s.views i v at in let t = k.turns_left in omega arith
 
   -- nothing changes for an idle seat
-  idle_kept : (c : Scene N) (gs : List ℕ) (s : State (Option V) (Sight N O)) (i : ℕ) (v : Sight N O) (ticket : ℕ) → v.stage ≡ Idle → Base c gs s → get_elem? s.views i ≡ some v → ticket ≡ c.ticket
-      → Base c gs (record { words = ticket ∷ c.serving ∷ length c.history ∷ gs; homes = s.homes; views = set s.views i v })
+  idle_kept : (c : Scene N) (gs : List ℕ) (s : State (Option V) (Sight N O)) (i : ℕ) (v : Sight N O) (ticket : ℕ) →
+      v.stage ≡ Idle → Base c gs s → get_elem? s.views i ≡ some v → ticket ≡ c.ticket
+      → Base c gs (record {
+        words = ticket ∷ c.serving ∷ length c.history ∷ gs;
+        homes = s.homes;
+        views = set s.views i v;
+      })
   idle_kept c gs s i v ticket idle k at same =
-      moved opening notes author passes turns o c c gs gs s i v v _ s.homes k at (ap (λ (n : ℕ). n ∷ c.serving ∷ length c.history ∷ gs) same) k.order (omega arith) k.numbers refl (λ n. refl) (λ n h. h)
+      moved opening notes author passes turns o c c gs gs s i v v _ s.homes k at
+      (ap (λ (n : ℕ). n ∷ c.serving ∷ length c.history ∷ gs) same) k.order (omega arith) k.numbers refl (λ n. refl)
+      (λ n h. h)
       (waits_stay opening notes author passes turns o c gs s i v v k at (λ t h. h)) k.unheard
-      (slot_stays opening notes author passes turns o c.history c.serving s.homes s.views i v v at (subst (λ (x : Stage). ¬ HasSlot x) (sym idle) (λ h. h)) k.slot)
+      (slot_stays opening notes author passes turns o c.history c.serving s.homes s.views i v v at
+      (subst (λ (x : Stage). ¬ HasSlot x) (sym idle) (λ h. h)) k.slot)
       (k.each i v at) (λ j u ne e. k.each j u e)
 
   -- a look at how far the turns are
-  pub peeks : (slots i : ℕ) (m : Me (Option V) (Sight N O)) → passes * turns < 2 ^ 62 → m.0.stage ≡ Idle → Allows Rule slots i m 1 (λ n. n) (peeked (step slots 1 0 0 none) m)
+  pub peeks : (slots i : ℕ) (m : Me (Option V) (Sight N O)) → passes * turns < 2 ^ 62 → m.0.stage ≡ Idle →
+      Allows Rule slots i m 1 (λ n. n) (peeked (step slots 1 0 0 none) m)
   peeks slots i m small idle s r len at fits =
       let k = r.kept in let c = r.scene in let v = m.0 in
-      let few : c.serving < 2 ^ 62 = (let most = few_turns c r.guard_words s i v k at in let h = k.order in omega arith) in
+      let few : c.serving < 2 ^ 62 =
+      (let most = few_turns c r.guard_words s i v k at in let h = k.order in omega arith) in
       let P : List ℕ → Type 0 = λ ws. (w' : Sight N O) × (a : Act (Option V)) × Valid s.homes m.1 a
       × Rule (record { words = set ws 1 (get_or ws 1 0); homes = homes_after s.homes m.1 a; views = set s.views i w' })
       × peeked (step slots 1 0 0 none) m (get_or ws 1 0) (w', carried_after m.1 a) in
@@ -102,15 +122,21 @@ module _ {V N O : Type 0} (opening : V → O) (notes : V → List N) (author : N
           scene = c;
           guard_words = r.guard_words;
           kept = idle_kept c r.guard_words s i v c.ticket idle k at refl;
-          locks = locks_view author touches o guards c.history r.guard_words s.views i v v r.locks at refl refl (λ h. h) (r.locks.news i v at);
+          locks = locks_view author touches o guards c.history r.guard_words s.views i v v r.locks at refl refl (λ h. h)
+              (r.locks.news i v at);
         },
         (refl, few),
       )
 
   -- the next ticket is drawn: the rule holds with the ticket word one more
-  one_drawn : (slots i : ℕ) (m : Me (Option V) (Sight N O)) (next : ℕ) (s : State (Option V) (Sight N O)) → m.0.stage ≡ Idle → 0 < m.0.left → (r : Rule s) → get_elem? s.views i ≡ some m.0
+  one_drawn : (slots i : ℕ) (m : Me (Option V) (Sight N O)) (next : ℕ) (s : State (Option V) (Sight N O)) →
+      m.0.stage ≡ Idle → 0 < m.0.left → (r : Rule s) → get_elem? s.views i ≡ some m.0
       → next ≡ r.scene.ticket + 1
-      → Rule (record { words = next ∷ r.scene.serving ∷ length r.scene.history ∷ r.guard_words; homes = s.homes; views = set s.views i (with_ticket m.0 r.scene.ticket) })
+      → Rule (record {
+        words = next ∷ r.scene.serving ∷ length r.scene.history ∷ r.guard_words;
+        homes = s.homes;
+        views = set s.views i (with_ticket m.0 r.scene.ticket);
+      })
   one_drawn slots i m next s idle more r at raised =
       let k = r.kept in let c = r.scene in let v = m.0 in
       let c' : Scene N = record c { ticket = c.ticket + 1; queue = λ t. cond (t == c.ticket) i (c.queue t) } in
@@ -121,26 +147,36 @@ module _ {V N O : Type 0} (opening : V → O) (notes : V → List N) (author : N
         maker = λ t e. absurd (cc e);
         opened = λ h. kv.opened (pass_live v.stage pass);
         parts = λ h. kv.parts pass;
-        ticket = λ h. (k.order, omega arith, ap (λ (b : Bool). cond b i (c.queue c.ticket)) (eq-eqb c.ticket c.ticket refl));
+        ticket = λ h.
+            (k.order, omega arith, ap (λ (b : Bool). cond b i (c.queue c.ticket)) (eq-eqb c.ticket c.ticket refl));
         served = λ h. absurd h;
         whole = λ h. absurd h;
         away = λ h. absurd h;
       } in
-      let others : (j : ℕ) (u : Sight N O) → j ≢ i → get_elem? s.views j ≡ some u → Known c' s.homes j u = λ j u ne e. let ku = k.each j u e in record {
+      let others : (j : ℕ) (u : Sight N O) → j ≢ i → get_elem? s.views j ≡ some u → Known c' s.homes j u =
+      λ j u ne e. let ku = k.each j u e in record {
         maker = ku.maker;
         opened = ku.opened;
         parts = ku.parts;
-        ticket = λ h. (let t = ku.ticket h in (t.0, omega arith, ap (λ (b : Bool). cond b i (c.queue u.at)) (ne_eqb u.at c.ticket (λ same. omega arith)) ∙ t.2));
+        ticket = λ h.
+            (let t = ku.ticket h in (
+              t.0,
+              omega arith,
+              ap (λ (b : Bool). cond b i (c.queue u.at))
+                  (ne_eqb u.at c.ticket (λ same. omega arith)) ∙ t.2,
+            ));
         served = ku.served;
         whole = ku.whole;
         away = ku.away;
       } in
-      let waits : (t : ℕ) → c.serving ≤ t → t < c'.ticket → (u : Sight N O) × AtTicket t u × (get_elem? (set s.views i w) (c'.queue t) ≡ some u) = λ t from below.
+      let waits : (t : ℕ) → c.serving ≤ t → t < c'.ticket → (u : Sight N O) × AtTicket t u
+      × (get_elem? (set s.views i w) (c'.queue t) ≡ some u) = λ t from below.
       dite (ℕ_discrete t c.ticket)
       (λ e. (let mine : c'.queue t ≡ i = ap (λ (b : Bool). cond b i (c.queue t)) (eq-eqb t c.ticket e) in
       (w, (tt, sym e), ap (get_elem? (set s.views i w)) mine ∙ set_here s.views i w (at_below s.views i v at))))
       (λ ne. (let theirs : c'.queue t ≡ c.queue t = ap (λ (b : Bool). cond b i (c.queue t)) (ne_eqb t c.ticket ne) in
-      let g = waits_stay opening notes author passes turns o c r.guard_words s i v w k at (λ q h. absurd (subst HasTicket idle h.0)) t from (omega arith) in
+      let g = waits_stay opening notes author passes turns o c r.guard_words s i v w k at
+      (λ q h. absurd (subst HasTicket idle h.0)) t from (omega arith) in
       (g.0, g.1, ap (get_elem? (set s.views i w)) theirs ∙ g.2))) in
       record {
         scene = c';
@@ -148,21 +184,30 @@ module _ {V N O : Type 0} (opening : V → O) (notes : V → List N) (author : N
         kept = moved opening notes author passes turns o c c' r.guard_words r.guard_words s i v w _ s.homes k at
             (ap (λ (n : ℕ). n ∷ c.serving ∷ length c.history ∷ r.guard_words) raised)
             (let h = k.order in omega arith) (omega arith) k.numbers refl (λ n. refl) (λ n h. (tt, h.1)) waits k.unheard
-            (slot_stays opening notes author passes turns o c.history c.serving s.homes s.views i v w at (subst (λ (x : Stage). ¬ HasSlot x) (sym idle) (λ h. h)) k.slot)
+            (slot_stays opening notes author passes turns o c.history c.serving s.homes s.views i v w at
+            (subst (λ (x : Stage). ¬ HasSlot x) (sym idle) (λ h. h)) k.slot)
             mine others;
-        locks = locks_view author touches o guards c.history r.guard_words s.views i v w r.locks at refl refl (λ h. tt) (r.locks.news i v at);
+        locks = locks_view author touches o guards c.history r.guard_words s.views i v w r.locks at refl refl (λ h. tt)
+            (r.locks.news i v at);
       }
 
   -- a try to draw a ticket
-  draws_at : (slots i : ℕ) (m : Me (Option V) (Sight N O)) (old : ℕ) (s : State (Option V) (Sight N O)) → m.0.stage ≡ Idle → 0 < m.0.left → (r : Rule s) → get_elem? s.views i ≡ some m.0
+  draws_at : (slots i : ℕ) (m : Me (Option V) (Sight N O)) (old : ℕ) (s : State (Option V) (Sight N O)) →
+      m.0.stage ≡ Idle → 0 < m.0.left → (r : Rule s) → get_elem? s.views i ≡ some m.0
       → (b : Bool) → (r.scene.ticket == old) ≡ b
       → (w : Sight N O) × (a : Act (Option V)) × Valid s.homes m.1 a
-      × Rule (record { words = either (r.scene.ticket == old) (old + 1) r.scene.ticket ∷ r.scene.serving ∷ length r.scene.history ∷ r.guard_words; homes = homes_after s.homes m.1 a; views = set s.views i w })
+      × Rule (record {
+        words = either (r.scene.ticket == old) (old + 1) r.scene.ticket ∷ r.scene.serving ∷ length r.scene.history ∷
+            r.guard_words;
+        homes = homes_after s.homes m.1 a;
+        views = set s.views i w;
+      })
       × drawn (step slots 0 old (old + 1) none) m r.scene.ticket (w, carried_after m.1 a)
   draws_at slots i m old s idle more r at true e =
       let c = r.scene in
       let found : c.ticket ≡ old = grind (arith, nat_tests) in
-      let raised : either (c.ticket == old) (old + 1) c.ticket ≡ c.ticket + 1 = ap (λ (b : Bool). either b (old + 1) c.ticket) e ∙ omega arith in
+      let raised : either (c.ticket == old) (old + 1) c.ticket ≡ c.ticket + 1 =
+      ap (λ (b : Bool). either b (old + 1) c.ticket) e ∙ omega arith in
       let m' : Me (Option V) (Sight N O) = (with_ticket m.0 c.ticket, m.1) in (
         m'.0,
         keeps,
@@ -171,8 +216,10 @@ module _ {V N O : Type 0} (opening : V → O) (notes : V → List N) (author : N
         subst (λ (b : Bool). MatchBool b (m' ≡ m') (m' ≡ m)) (sym e) refl,
       )
   draws_at slots i m old s idle more r at false e =
-      let k = r.kept in let c = r.scene in let v = m.0 in let m' : Me (Option V) (Sight N O) = (with_ticket v c.ticket, m.1) in
-      let same : either (c.ticket == old) (old + 1) c.ticket ≡ c.ticket = ap (λ (b : Bool). either b (old + 1) c.ticket) e in (
+      let k = r.kept in let c = r.scene in let v = m.0 in
+      let m' : Me (Option V) (Sight N O) = (with_ticket v c.ticket, m.1) in
+      let same : either (c.ticket == old) (old + 1) c.ticket ≡ c.ticket =
+      ap (λ (b : Bool). either b (old + 1) c.ticket) e in (
         v,
         keeps,
         tt,
@@ -180,7 +227,8 @@ module _ {V N O : Type 0} (opening : V → O) (notes : V → List N) (author : N
           scene = c;
           guard_words = r.guard_words;
           kept = idle_kept c r.guard_words s i v _ idle k at same;
-          locks = locks_view author touches o guards c.history r.guard_words s.views i v v r.locks at refl refl (λ h. h) (r.locks.news i v at);
+          locks = locks_view author touches o guards c.history r.guard_words s.views i v v r.locks at refl refl (λ h. h)
+              (r.locks.news i v at);
         },
         subst (λ (b : Bool). MatchBool b (m ≡ m') (m ≡ m)) (sym e) refl,
       )
@@ -189,7 +237,11 @@ module _ {V N O : Type 0} (opening : V → O) (notes : V → List N) (author : N
       → Allows Rule slots i m 0 (λ n. either (n == old) (old + 1) n) (drawn (step slots 0 old (old + 1) none) m)
   draws slots i m old idle more s r len at fits =
       let P : List ℕ → Type 0 = λ ws. (w' : Sight N O) × (a : Act (Option V)) × Valid s.homes m.1 a
-      × Rule (record { words = set ws 0 (either (get_or ws 0 0 == old) (old + 1) (get_or ws 0 0)); homes = homes_after s.homes m.1 a; views = set s.views i w' })
+      × Rule (record {
+        words = set ws 0 (either (get_or ws 0 0 == old) (old + 1) (get_or ws 0 0));
+        homes = homes_after s.homes m.1 a;
+        views = set s.views i w';
+      })
       × drawn (step slots 0 old (old + 1) none) m (get_or ws 0 0) (w', carried_after m.1 a) in
       subst P (sym r.kept.words) (draws_at slots i m old s idle more r at (r.scene.ticket == old) refl)
 
@@ -200,21 +252,37 @@ module _ {V N O : Type 0} (opening : V → O) (notes : V → List N) (author : N
       let few = few_turns r.scene r.guard_words s i m.0 r.kept at in
       let raised : (r.scene.ticket + 1) % 2 ^ 64 ≡ r.scene.ticket + 1 = mod-eq_of_lt (omega arith) in
       let P : List ℕ → Type 0 = λ ws. (w' : Sight N O) × (a : Act (Option V)) × Valid s.homes m.1 a
-      × Rule (record { words = set ws 0 ((get_or ws 0 0 + 1) % 2 ^ 64); homes = homes_after s.homes m.1 a; views = set s.views i w' })
+      × Rule (record {
+        words = set ws 0 ((get_or ws 0 0 + 1) % 2 ^ 64);
+        homes = homes_after s.homes m.1 a;
+        views = set s.views i w';
+      })
       × queued (step slots 0 1 0 none) m (get_or ws 0 0) (w', carried_after m.1 a) in
-      subst P (sym r.kept.words) (with_ticket m.0 r.scene.ticket, keeps, tt, one_drawn slots i m _ s idle more r at raised, refl)
+      subst P (sym r.kept.words) (
+        with_ticket m.0 r.scene.ticket,
+        keeps,
+        tt,
+        one_drawn slots i m _ s idle more r at raised,
+        refl,
+      )
 
   -- the ticket that is served is one seat's
-  pub served_one : (c : Scene N) (homes : List (maybe.Option (Option V))) (i j : ℕ) (v u : Sight N O) → Known c homes i v → Known c homes j u → IsServed v.stage → IsServed u.stage → i ≡ j
+  pub served_one : (c : Scene N) (homes : List (maybe.Option (Option V))) (i j : ℕ) (v u : Sight N O) →
+      Known c homes i v → Known c homes j u → IsServed v.stage → IsServed u.stage → i ≡ j
   served_one c homes i j v u kv ku sv su =
       let same : v.at ≡ u.at = kv.served sv ∙ sym (ku.served su) in
       sym (kv.ticket (served_ticket v.stage sv)).2 ∙ (ap c.queue same ∙ (ku.ticket (served_ticket u.stage su)).2)
 
   -- a look at whose turn it is
-  looks_at : (slots i : ℕ) (m : Me (Option V) (Sight N O)) (s : State (Option V) (Sight N O)) → m.0.stage ≡ Drawn → (r : Rule s) → get_elem? s.views i ≡ some m.0
+  looks_at : (slots i : ℕ) (m : Me (Option V) (Sight N O)) (s : State (Option V) (Sight N O)) → m.0.stage ≡ Drawn →
+      (r : Rule s) → get_elem? s.views i ≡ some m.0
       → (b : Bool) → (r.scene.serving == m.0.at) ≡ b
       → (w : Sight N O) × (a : Act (Option V)) × Valid s.homes m.1 a
-      × Rule (record { words = r.scene.ticket ∷ r.scene.serving ∷ length r.scene.history ∷ r.guard_words; homes = homes_after s.homes m.1 a; views = set s.views i w })
+      × Rule (record {
+        words = r.scene.ticket ∷ r.scene.serving ∷ length r.scene.history ∷ r.guard_words;
+        homes = homes_after s.homes m.1 a;
+        views = set s.views i w;
+      })
       × looked (step slots 1 0 0 none) m r.scene.serving (w, carried_after m.1 a)
   looks_at slots i m s stage r at true e =
       let k = r.kept in let c = r.scene in let v = m.0 in let kv = k.each i v at in
@@ -237,30 +305,40 @@ module _ {V N O : Type 0} (opening : V → O) (notes : V → List N) (author : N
         record {
           scene = c;
           guard_words = r.guard_words;
-          kept = moved opening notes author passes turns o c c r.guard_words r.guard_words s i v w _ s.homes k at refl k.order (omega arith) k.numbers refl (λ n. refl) (λ n h. (tt, h.1)) (waits_stay opening notes author passes turns o c r.guard_words s i v w k at (λ t h. (tt, h.1))) k.unheard
-              (slot_stays opening notes author passes turns o c.history c.serving s.homes s.views i v w at (subst (λ (x : Stage). ¬ HasSlot x) (sym stage) (λ h. h)) k.slot)
+          kept = moved opening notes author passes turns o c c r.guard_words r.guard_words s i v w _ s.homes k at refl
+              k.order (omega arith) k.numbers refl (λ n. refl) (λ n h. (tt, h.1))
+              (waits_stay opening notes author passes turns o c r.guard_words s i v w k at (λ t h. (tt, h.1))) k.unheard
+              (slot_stays opening notes author passes turns o c.history c.serving s.homes s.views i v w at
+              (subst (λ (x : Stage). ¬ HasSlot x) (sym stage) (λ h. h)) k.slot)
               mine (λ j u ne e. k.each j u e);
-          locks = locks_view author touches o guards c.history r.guard_words s.views i v w r.locks at refl refl (λ h. tt) (r.locks.news i v at);
+          locks = locks_view author touches o guards c.history r.guard_words s.views i v w r.locks at refl refl
+              (λ h. tt) (r.locks.news i v at);
         },
         subst (λ (b : Bool). MatchBool b (m' ≡ m') (m' ≡ m)) (sym e) refl,
       )
   looks_at slots i m s stage r at false e =
-      let k = r.kept in let c = r.scene in let v = m.0 in let m' : Me (Option V) (Sight N O) = (with_stage v Called, m.1) in (
+      let k = r.kept in let c = r.scene in let v = m.0 in
+      let m' : Me (Option V) (Sight N O) = (with_stage v Called, m.1) in (
         v,
         keeps,
         tt,
         record {
           scene = c;
           guard_words = r.guard_words;
-          kept = moved opening notes author passes turns o c c r.guard_words r.guard_words s i v v _ s.homes k at refl k.order (omega arith) k.numbers refl (λ n. refl) (λ n h. h) (waits_stay opening notes author passes turns o c r.guard_words s i v v k at (λ t h. h)) k.unheard
-              (slot_stays opening notes author passes turns o c.history c.serving s.homes s.views i v v at (subst (λ (x : Stage). ¬ HasSlot x) (sym stage) (λ h. h)) k.slot)
+          kept = moved opening notes author passes turns o c c r.guard_words r.guard_words s i v v _ s.homes k at refl
+              k.order (omega arith) k.numbers refl (λ n. refl) (λ n h. h)
+              (waits_stay opening notes author passes turns o c r.guard_words s i v v k at (λ t h. h)) k.unheard
+              (slot_stays opening notes author passes turns o c.history c.serving s.homes s.views i v v at
+              (subst (λ (x : Stage). ¬ HasSlot x) (sym stage) (λ h. h)) k.slot)
               (k.each i v at) (λ j u ne e. k.each j u e);
-          locks = locks_view author touches o guards c.history r.guard_words s.views i v v r.locks at refl refl (λ h. h) (r.locks.news i v at);
+          locks = locks_view author touches o guards c.history r.guard_words s.views i v v r.locks at refl refl (λ h. h)
+              (r.locks.news i v at);
         },
         subst (λ (b : Bool). MatchBool b (m ≡ m') (m ≡ m)) (sym e) refl,
       )
 
-  pub looks : (slots i : ℕ) (m : Me (Option V) (Sight N O)) → m.0.stage ≡ Drawn → Allows Rule slots i m 1 (λ n. n) (looked (step slots 1 0 0 none) m)
+  pub looks : (slots i : ℕ) (m : Me (Option V) (Sight N O)) → m.0.stage ≡ Drawn →
+      Allows Rule slots i m 1 (λ n. n) (looked (step slots 1 0 0 none) m)
   looks slots i m stage s r len at fits =
       let P : List ℕ → Type 0 = λ ws. (w' : Sight N O) × (a : Act (Option V)) × Valid s.homes m.1 a
       × Rule (record { words = set ws 1 (get_or ws 1 0); homes = homes_after s.homes m.1 a; views = set s.views i w' })
@@ -268,7 +346,8 @@ module _ {V N O : Type 0} (opening : V → O) (notes : V → List N) (author : N
       subst P (sym r.kept.words) (looks_at slots i m s stage r at (r.scene.serving == m.0.at) refl)
 
   -- the note counts are below the bound while a ticket is served
-  pub few_notes : (c : Scene N) (gs : List ℕ) (s : State (Option V) (Sight N O)) (i : ℕ) (v : Sight N O) → Base c gs s → get_elem? s.views i ≡ some v → IsServed v.stage → c.serving < passes * turns
+  pub few_notes : (c : Scene N) (gs : List ℕ) (s : State (Option V) (Sight N O)) (i : ℕ) (v : Sight N O) → Base c gs s →
+      get_elem? s.views i ≡ some v → IsServed v.stage → c.serving < passes * turns
   few_notes c gs s i v k at sv =
       let kv = k.each i v at in let t = kv.ticket (served_ticket v.stage sv) in let e = kv.served sv in
       let most = few_turns c gs s i v k at in omega arith
@@ -282,9 +361,14 @@ module _ {V N O : Type 0} (opening : V → O) (notes : V → List N) (author : N
       let pass : IsPass v.stage = subst IsPass (sym stage) tt in
       let few = few_notes c r.guard_words s i v k at sv in
       let P : List ℕ → Type 0 = λ ws. (w' : Sight N O) × (a : Act (Option V)) × Valid s.homes m.1 a
-      × Rule (record { words = set ws 2 ((get_or ws 2 0 + 0) % 2 ^ 64); homes = homes_after s.homes m.1 a; views = set s.views i w' })
+      × Rule (record {
+        words = set ws 2 ((get_or ws 2 0 + 0) % 2 ^ 64);
+        homes = homes_after s.homes m.1 a;
+        views = set s.views i w';
+      })
       × saw opening notes author touches (step slots 2 0 0 none) m (get_or ws 2 0) (w', carried_after m.1 a) in
-      let home : (x : V) → AtHome opening notes o c.history c.serving s.homes x → P (c.ticket ∷ c.serving ∷ length c.history ∷ r.guard_words) = λ x h.
+      let home : (x : V) → AtHome opening notes o c.history c.serving s.homes x →
+      P (c.ticket ∷ c.serving ∷ length c.history ∷ r.guard_words) = λ x h.
       let w : Sight N O = with_seen author v InTurn (notes x) in
       let below = h.few in
       let stays : (length c.history + 0) % 2 ^ 64 ≡ length c.history = mod-eq_of_lt (omega arith) ∙ omega arith in
@@ -307,7 +391,8 @@ module _ {V N O : Type 0} (opening : V → O) (notes : V → List N) (author : N
         whole = λ z. h.same;
         away = λ z. gone;
       } in
-      let others : (j : ℕ) (u : Sight N O) → j ≢ i → get_elem? s.views j ≡ some u → Known c homes' j u = λ j u ne e. let ku = k.each j u e in record {
+      let others : (j : ℕ) (u : Sight N O) → j ≢ i → get_elem? s.views j ≡ some u → Known c homes' j u =
+      λ j u ne e. let ku = k.each j u e in record {
         maker = ku.maker;
         opened = ku.opened;
         parts = ku.parts;
@@ -323,10 +408,23 @@ module _ {V N O : Type 0} (opening : V → O) (notes : V → List N) (author : N
           scene = c;
           guard_words = r.guard_words;
           kept = moved opening notes author passes turns o c c r.guard_words r.guard_words s i v w _ homes' k at
-              (ap (λ (n : ℕ). c.ticket ∷ c.serving ∷ n ∷ r.guard_words) stays) k.order (omega arith) k.numbers refl (λ n. refl) (λ n q. (tt, renumbered n v w refl refl q.1)) (waits_stay opening notes author passes turns o c r.guard_words s i v w k at (λ t q. (tt, q.1))) k.unheard
-              (inr (i, w, record { out = gone; seat = set_here s.views i w (at_below s.views i v at); has = tt; few = omega arith }))
+              (ap (λ (n : ℕ). c.ticket ∷ c.serving ∷ n ∷ r.guard_words) stays) k.order (omega arith) k.numbers refl
+              (λ n. refl) (λ n q. (tt, renumbered n v w refl refl q.1))
+              (waits_stay opening notes author passes turns o c r.guard_words s i v w k at (λ t q. (tt, q.1)))
+              k.unheard
+              (inr (
+                i,
+                w,
+                record {
+                  out = gone;
+                  seat = set_here s.views i w (at_below s.views i v at);
+                  has = tt;
+                  few = omega arith;
+                },
+              ))
               mine others;
-          locks = locks_view author touches o guards c.history r.guard_words s.views i v w r.locks at refl refl (λ h. tt) (r.locks.news i v at);
+          locks = locks_view author touches o guards c.history r.guard_words s.views i v w r.locks at refl refl
+              (λ h. tt) (r.locks.news i v at);
         },
         (
           x,
@@ -338,11 +436,14 @@ module _ {V N O : Type 0} (opening : V → O) (notes : V → List N) (author : N
             small = omega arith;
           },
           refl,
-          is_shut c r.guard_words s.views i v r.locks at (notes x) v.grips v.own.number (kv.opened (pass_live v.stage pass)) h.same refl refl,
-          is_told c r.guard_words s.views i v r.locks at (notes x) v.news (kv.opened (pass_live v.stage pass)) h.same refl,
+          is_shut c r.guard_words s.views i v r.locks at (notes x) v.grips v.own.number
+              (kv.opened (pass_live v.stage pass)) h.same refl refl,
+          is_told c r.guard_words s.views i v r.locks at (notes x) v.news (kv.opened (pass_live v.stage pass)) h.same
+              refl,
         ),
       ) in
-      let out : (j : ℕ) (u : Sight N O) → OutWith c.history c.serving s.homes s.views j u → P (c.ticket ∷ c.serving ∷ length c.history ∷ r.guard_words) = λ j u h.
+      let out : (j : ℕ) (u : Sight N O) → OutWith c.history c.serving s.homes s.views j u →
+      P (c.ticket ∷ c.serving ∷ length c.history ∷ r.guard_words) = λ j u h.
       let one : j ≡ i = served_one c s.homes j i u v (k.each j u h.seat) kv (slot_served u.stage h.has) sv in
       let same : u ≡ v = some-injective u v (sym h.seat ∙ (ap (get_elem? s.views) one ∙ at)) in
       absurd (subst HasSlot stage (subst (λ (x : Sight N O). HasSlot x.stage) same h.has)) in

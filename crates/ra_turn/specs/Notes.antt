@@ -1,5 +1,6 @@
 -- What the notes of a history say of their authors and of guards.
-use Rattle.std.specs.Prelude.{◌≡◌, ℕ, ◌-◌, ◌==◌, ◌≤◌, ◌<◌, Bool, true, false, not, List, length, filter, slice_get, All, Contains, Some}
+use Rattle.std.specs.Prelude.{◌≡◌, ℕ, ◌-◌, ◌==◌, ◌≤◌, ◌<◌, Bool, true, false, not, List, length, filter, slice_get, All}
+use Rattle.std.specs.Prelude.{Contains, Some}
 use mathlib.Core.List.{IsPrefix}
 use Rattle.ra_turn.specs.declared.sight.Grip.{Grip}
 use Rattle.ra_turn.specs.declared.sight.Part.{Part}

@@ -1,5 +1,6 @@
 -- What a clause says of a pass and of its lock.
-use Rattle.std.specs.Prelude.{◌≡◌, ◌⊎◌, ℕ, ◌<◌, ◌≤◌, List, [], ◌∷◌, ◌++◌, length, slice_index_or, All, Contains, Option, Some, None}
+use Rattle.std.specs.Prelude.{◌≡◌, ◌⊎◌, ℕ, ◌<◌, ◌≤◌, List, [], ◌∷◌, ◌++◌, length, slice_index_or, All, Contains, Option}
+use Rattle.std.specs.Prelude.{Some, None}
 use mathlib.Core.List.{IsPrefix}
 use Rattle.ra_turn.specs.declared.story.Story.{Ghosts}
 use Rattle.ra_turn.specs.declared.guards.Hold.{Hold}

@@ -1,5 +1,6 @@
 -- The one entry that may follow the entries of a legal journal, by its worker and the place of its plan.
-use Rattle.std.proofs.Common.{◌≡◌, ℕ, zero, suc, ◌+◌, ◌<◌, ◌≤◌, Bool, true, false, eqb, List, [], ◌∷◌, ◌++◌, length, set, get_or, Option, Some, None, refl, sym, ap, ap₂, ◌∙◌, subst, ⊎_elim, arith}
+use Rattle.std.proofs.Common.{◌≡◌, ℕ, zero, suc, ◌+◌, ◌<◌, ◌≤◌, Bool, true, false, eqb, List, [], ◌∷◌, ◌++◌, length}
+use Rattle.std.proofs.Common.{set, get_or, Option, Some, None, refl, sym, ap, ap₂, ◌∙◌, subst, ⊎_elim, arith}
 use Rattle.std.proofs.lemmas.Bool.{cases_Bool, cases_eq, cases_lt, lt-leb, le-ltb, eqb-true}
 use Rattle.std.proofs.lemmas.List.{length_push, get_or-set_same, get_or-set_other}
 use Rattle.ra_base.specs.declared.ids.Machine.{Machine}
@@ -12,7 +13,8 @@ use Rattle.ra_moves.specs.Weighing.{weighed_of}
 use Rattle.ra_guards.specs.declared.newest.Newer.{Newer}
 use Rattle.ra_guards.proofs.NewestLemmas.{newest_is_right}
 use Rattle.ra_journal.specs.declared.entries.Entry.{Entry}
-use Rattle.ra_journal.specs.Committing.{next_number, next_entry, next_move, newer_since, committed, committed_by, IsCommit}
+use Rattle.ra_journal.specs.Committing.{next_number, next_entry, next_move, newer_since, committed, committed_by}
+use Rattle.ra_journal.specs.Committing.{IsCommit}
 use Rattle.ra_journal.specs.Entries.{entry_at, made_in, entries_of, worker_count, budget}
 use Rattle.ra_journal.specs.Keeping.{IsStart}
 use Rattle.ra_journal.specs.Legal.{IsLegalAt, Legal}
@@ -31,21 +33,30 @@ use Rattle.ra_worker_core.proofs.TurnLemmas.{turn_skipped, turn_answered}
 use Rattle.ra_verify.specs.Checking.{IsBehind, NoneIsPast, is_recorded}
 
 -- the last entry of a legal journal may stand behind the others, which are legal
-pub last_legal : (i : Tables) (a0 : List Machine) (l : Lots) (h : List Entry) (e : Entry) → Legal i a0 l (h ++ e ∷ []) → IsLegalAt i a0 l h (length h) e
-last_legal i a0 l h e legal = carried i a0 l (h ++ e ∷ []) h (length h) e (same_turned (length h) h (h ++ e ∷ []) (same_added h e)) (subst (IsLegalAt i a0 l (h ++ e ∷ []) (length h)) (entry_added h e) (legal.each (length h) (omega (arith, length_push h e))))
+pub last_legal : (i : Tables) (a0 : List Machine) (l : Lots) (h : List Entry) (e : Entry) → Legal i a0 l (h ++ e ∷ []) →
+    IsLegalAt i a0 l h (length h) e
+last_legal i a0 l h e legal =
+    carried i a0 l (h ++ e ∷ []) h (length h) e (same_turned (length h) h (h ++ e ∷ []) (same_added h e))
+    (subst (IsLegalAt i a0 l (h ++ e ∷ []) (length h)) (entry_added h e)
+    (legal.each (length h) (omega (arith, length_push h e))))
 
-pub front_legal : (i : Tables) (a0 : List Machine) (l : Lots) (h : List Entry) (e : Entry) → Legal i a0 l (h ++ e ∷ []) → Legal i a0 l h
+pub front_legal : (i : Tables) (a0 : List Machine) (l : Lots) (h : List Entry) (e : Entry) →
+    Legal i a0 l (h ++ e ∷ []) → Legal i a0 l h
 front_legal i a0 l h e legal = record {
   each = λ j within.
-      let same = same_fewer j (length h) (h ++ e ∷ []) h (omega arith) (same_turned (length h) h (h ++ e ∷ []) (same_added h e)) in
-      carried i a0 l (h ++ e ∷ []) h j (entry_at h j) same (subst (IsLegalAt i a0 l (h ++ e ∷ []) j) (entry_before h e j within) (legal.each j (omega (arith, length_push h e))));
+      let same = same_fewer j (length h) (h ++ e ∷ []) h (omega arith)
+      (same_turned (length h) h (h ++ e ∷ []) (same_added h e)) in
+      carried i a0 l (h ++ e ∷ []) h j (entry_at h j) same
+      (subst (IsLegalAt i a0 l (h ++ e ∷ []) j) (entry_before h e j within)
+      (legal.each j (omega (arith, length_push h e))));
 }
 
 -- its plan
 plan_in : Tables → List Machine → List Entry → Entry → Plan
 plan_in i a0 h e = record { q = e.q; k = e.k; mv = e.mv; weighed = weighed_of i a0 (state a0 h e.q) e.mv.steps }
 
-commits : (i : Tables) (a0 : List Machine) (l : Lots) (h : List Entry) (e : Entry) → IsLegalAt i a0 l h (length h) e → IsCommit i a0 l h e.worker (plan_in i a0 h e)
+commits : (i : Tables) (a0 : List Machine) (l : Lots) (h : List Entry) (e : Entry) → IsLegalAt i a0 l h (length h) e →
+    IsCommit i a0 l h e.worker (plan_in i a0 h e)
 unfolding plan_in next_number
 commits i a0 l h e legal = record {
   worker = legal.numbered.worker;
@@ -58,35 +69,46 @@ commits i a0 l h e legal = record {
 }
 
 -- it is the next entry of its worker, planned at its place
-pub is_next : (i : Tables) (a0 : List Machine) (l : Lots) (h : List Entry) (e : Entry) → IsLegalAt i a0 l h (length h) e → e ≡ next_entry i a0 l h e.worker e.q
+pub is_next : (i : Tables) (a0 : List Machine) (l : Lots) (h : List Entry) (e : Entry) →
+    IsLegalAt i a0 l h (length h) e → e ≡ next_entry i a0 l h e.worker e.q
 unfolding plan_in
-is_next i a0 l h e legal = next_entry_is i a0 l h e.worker (plan_in i a0 h e) e.verdict (commits i a0 l h e legal) legal.judged
+is_next i a0 l h e legal =
+    next_entry_is i a0 l h e.worker (plan_in i a0 h e) e.verdict (commits i a0 l h e legal) legal.judged
 
 -- so there is one at most for a worker and a place
-pub one_next_entry : (i : Tables) (a0 : List Machine) (l : Lots) (h : List Entry) (e f : Entry) → Legal i a0 l (h ++ e ∷ []) → Legal i a0 l (h ++ f ∷ []) → e.worker ≡ f.worker → e.q ≡ f.q → e ≡ f
+pub one_next_entry : (i : Tables) (a0 : List Machine) (l : Lots) (h : List Entry) (e f : Entry) →
+    Legal i a0 l (h ++ e ∷ []) → Legal i a0 l (h ++ f ∷ []) → e.worker ≡ f.worker → e.q ≡ f.q → e ≡ f
 one_next_entry i a0 l h e f one other worker q =
     is_next i a0 l h e (last_legal i a0 l h e one)
     ∙ ap₂ (next_entry i a0 l h) worker q
     ∙ sym (is_next i a0 l h f (last_legal i a0 l h f other))
 
 -- no guard of it is newer
-none_newer : (i : Tables) (a0 : List Machine) (l : Lots) (h : List Entry) (e : Entry) → IsStart i a0 → Legal i a0 l h → IsLegalAt i a0 l h (length h) e → newer_since i h e.q e.mv.steps ≡ None
+none_newer : (i : Tables) (a0 : List Machine) (l : Lots) (h : List Entry) (e : Entry) → IsStart i a0 → Legal i a0 l h →
+    IsLegalAt i a0 l h (length h) e → newer_since i h e.q e.mv.steps ≡ None
 unfolding newer_since plan_in
 none_newer i a0 l h e start legal next =
-    (newest_is_right.none i (made_in h) e.q (length h) e.mv.steps start.limits (planned_within i a0 l h e.worker (plan_in i a0 h e) start legal (commits i a0 l h e next))).1 next.untouched
+    (newest_is_right.none i (made_in h) e.q (length h) e.mv.steps start.limits
+    (planned_within i a0 l h e.worker (plan_in i a0 h e) start legal (commits i a0 l h e next))).1
+    next.untouched
 
 -- none passes behind a number
-count_cut : (q n : ℕ) (test : ℕ → Bool) → q ≤ n → ((j : ℕ) → q ≤ j → j < n → test j ≡ false) → count q test ≡ count n test
+count_cut : (q n : ℕ) (test : ℕ → Bool) → q ≤ n → ((j : ℕ) → q ≤ j → j < n → test j ≡ false) →
+    count q test ≡ count n test
 count_cut q zero test few none = let same : q ≡ 0 = omega arith in ap (λ (k : ℕ). count k test) same
 count_cut q (suc n) test few none = ⊎_elim
-    (λ (less : q < suc n). count_cut q n test (omega arith) (λ j from before. none j from (omega arith)) ∙ sym (count_no n test (none n (omega arith) (omega arith))) ∙ ap (λ (k : ℕ). count k test) {x = n + 1} {y = suc n} (omega arith))
+    (λ (less : q < suc n). count_cut q n test (omega arith) (λ j from before. none j from (omega arith))
+    ∙ sym (count_no n test (none n (omega arith) (omega arith)))
+    ∙ ap (λ (k : ℕ). count k test) {x = n + 1} {y = suc n} (omega arith))
     (λ (all : suc n ≤ q). let same : q ≡ suc n = omega arith in ap (λ (k : ℕ). count k test) same)
     (cases_lt q (suc n))
 
 -- its worker has no entry at its place or behind it
-none_from : (h : List Entry) (w q n : ℕ) → q ≤ n → ((j : ℕ) → j < n → (entry_at h j).worker ≡ w → j < q) → entries_of h q w ≡ entries_of h n w
+none_from : (h : List Entry) (w q n : ℕ) → q ≤ n → ((j : ℕ) → j < n → (entry_at h j).worker ≡ w → j < q) →
+    entries_of h q w ≡ entries_of h n w
 unfolding entries_of
-none_from h w q n few seen = count_cut q n (λ j. eqb (entry_at h j).worker w) few (λ j from before. not_own j from before)
+none_from h w q n few seen =
+    count_cut q n (λ j. eqb (entry_at h j).worker w) few (λ j from before. not_own j from before)
   where
     not_own : (j : ℕ) → q ≤ j → j < n → eqb (entry_at h j).worker w ≡ false
     not_own j from before = ⊎_elim
@@ -95,69 +117,97 @@ none_from h w q n few seen = count_cut q n (λ j. eqb (entry_at h j).worker w) f
         (cases_Bool (eqb (entry_at h j).worker w))
 
 -- so it isn't skipped
-not_skipped : (i : Tables) (a0 : List Machine) (l : Lots) (h : List Entry) (e : Entry) → IsLegalAt i a0 l h (length h) e → is_skipped l h e.worker e.q ≡ false
+not_skipped : (i : Tables) (a0 : List Machine) (l : Lots) (h : List Entry) (e : Entry) →
+    IsLegalAt i a0 l h (length h) e → is_skipped l h e.worker e.q ≡ false
 unfolding is_skipped has_used is_behind next_number
 not_skipped i a0 l h e next =
-    let made : entries_of h e.q e.worker ≡ entries_of h (length h) e.worker = none_from h e.worker e.q (length h) next.placed.place next.placed.seen in
-    rw (lt-leb (budget l e.worker) (entries_of h (length h) e.worker) (omega (arith, next.numbered.number, next.numbered.budget)), le-ltb (entries_of h e.q e.worker) (entries_of h (length h) e.worker) (omega (arith, made))) refl
+    let made : entries_of h e.q e.worker ≡ entries_of h (length h) e.worker =
+    none_from h e.worker e.q (length h) next.placed.place next.placed.seen in
+    rw (
+      lt-leb (budget l e.worker) (entries_of h (length h) e.worker)
+          (omega (arith, next.numbered.number, next.numbered.budget)),
+      le-ltb (entries_of h e.q e.worker) (entries_of h (length h) e.worker) (omega (arith, made)),
+    ) refl
 
 -- its worker's turn records it
-recorded : (i : Tables) (a0 : List Machine) (l : Lots) (h : List Entry) (e : Entry) → IsStart i a0 → Legal i a0 l h → IsLegalAt i a0 l h (length h) e → is_recorded (turn i a0 l h e.worker e.q).reply ≡ true
+recorded : (i : Tables) (a0 : List Machine) (l : Lots) (h : List Entry) (e : Entry) → IsStart i a0 → Legal i a0 l h →
+    IsLegalAt i a0 l h (length h) e → is_recorded (turn i a0 l h e.worker e.q).reply ≡ true
 unfolding is_recorded plan_in
 recorded i a0 l h e start legal next =
     ap (λ (t : Turn). is_recorded t.reply) (turn_answered i a0 l h e.worker e.q (not_skipped i a0 l h e next))
-    ∙ ap (λ c. is_recorded (Answer c.reply)) (committed_recorded i a0 l h e.worker (plan_in i a0 h e) (commits i a0 l h e next) (none_newer i a0 l h e start legal next))
+    ∙ ap (λ c. is_recorded (Answer c.reply))
+    (committed_recorded i a0 l h e.worker (plan_in i a0 h e) (commits i a0 l h e next)
+    (none_newer i a0 l h e start legal next))
 
 -- if a turn records nothing, no entry of that worker and place may follow
-pub none_may_follow : (i : Tables) (a0 : List Machine) (l : Lots) (h : List Entry) (w q : ℕ) (reply : CoreReply) → IsStart i a0 → reply ≡ (turn i a0 l h w q).reply → is_recorded reply ≡ false → (e : Entry) → Legal i a0 l (h ++ e ∷ []) → e.worker ≡ w → e.q ≡ q → ⊥
+pub none_may_follow : (i : Tables) (a0 : List Machine) (l : Lots) (h : List Entry) (w q : ℕ) (reply : CoreReply) →
+    IsStart i a0 → reply ≡ (turn i a0 l h w q).reply → is_recorded reply ≡ false → (e : Entry) →
+    Legal i a0 l (h ++ e ∷ []) → e.worker ≡ w → e.q ≡ q → ⊥
 none_may_follow i a0 l h w q reply start reply_is none e legal worker_is q_is =
     let yes = recorded i a0 l h e start (front_legal i a0 l h e legal) (last_legal i a0 l h e legal) in
-    let same : is_recorded reply ≡ true = ap is_recorded reply_is ∙ sym (ap₂ (λ v p. is_recorded (turn i a0 l h v p).reply) worker_is q_is) ∙ yes in
+    let same : is_recorded reply ≡ true = ap is_recorded reply_is
+    ∙ sym (ap₂ (λ v p. is_recorded (turn i a0 l h v p).reply) worker_is q_is) ∙ yes in
     (cc)
 
 -- if it records something, that is the next entry
-recorded_by : (newer : Option Newer) (h : List Entry) (e : Entry) → is_recorded (answered (committed_by newer h e)).reply ≡ true → (answered (committed_by newer h e)).journal ≡ h ++ e ∷ []
+recorded_by : (newer : Option Newer) (h : List Entry) (e : Entry) →
+    is_recorded (answered (committed_by newer h e)).reply ≡ true → (answered (committed_by newer h e)).journal ≡
+    h ++ e ∷ []
 unfolding committed_by answered is_recorded
 recorded_by (Some newer) h e is = absurd (cc)
 recorded_by None h e is = refl
 
-skipped_none : (i : Tables) (a0 : List Machine) (l : Lots) (h : List Entry) (w q : ℕ) → is_skipped l h w q ≡ true → is_recorded (turn i a0 l h w q).reply ≡ false
+skipped_none : (i : Tables) (a0 : List Machine) (l : Lots) (h : List Entry) (w q : ℕ) → is_skipped l h w q ≡ true →
+    is_recorded (turn i a0 l h w q).reply ≡ false
 unfolding is_recorded
 skipped_none i a0 l h w q skipped = ap (λ (t : Turn). is_recorded t.reply) (turn_skipped i a0 l h w q skipped)
 
-turn_is : (i : Tables) (a0 : List Machine) (l : Lots) (h : List Entry) (w q : ℕ) → is_skipped l h w q ≡ false → turn i a0 l h w q ≡ answered (committed_by (newer_since i h q (next_move i a0 l h w q).steps) h (next_entry i a0 l h w q))
+turn_is : (i : Tables) (a0 : List Machine) (l : Lots) (h : List Entry) (w q : ℕ) → is_skipped l h w q ≡ false →
+    turn i a0 l h w q ≡
+    answered (committed_by (newer_since i h q (next_move i a0 l h w q).steps) h (next_entry i a0 l h w q))
 unfolding answered committed
 turn_is i a0 l h w q ready = turn_answered i a0 l h w q ready
 
-turn_recorded : (i : Tables) (a0 : List Machine) (l : Lots) (h : List Entry) (w q : ℕ) → is_recorded (turn i a0 l h w q).reply ≡ true → (turn i a0 l h w q).journal ≡ h ++ next_entry i a0 l h w q ∷ []
+turn_recorded : (i : Tables) (a0 : List Machine) (l : Lots) (h : List Entry) (w q : ℕ) →
+    is_recorded (turn i a0 l h w q).reply ≡ true → (turn i a0 l h w q).journal ≡ h ++ next_entry i a0 l h w q ∷ []
 turn_recorded i a0 l h w q is = ⊎_elim
     (λ (skipped : is_skipped l h w q ≡ true). absurd (let no = skipped_none i a0 l h w q skipped in (cc)))
     (λ (ready : is_skipped l h w q ≡ false).
     ap (λ (t : Turn). t.journal) (turn_is i a0 l h w q ready)
-    ∙ recorded_by (newer_since i h q (next_move i a0 l h w q).steps) h (next_entry i a0 l h w q) (sym (ap (λ (t : Turn). is_recorded t.reply) (turn_is i a0 l h w q ready)) ∙ is))
+    ∙ recorded_by (newer_since i h q (next_move i a0 l h w q).steps) h (next_entry i a0 l h w q)
+    (sym (ap (λ (t : Turn). is_recorded t.reply) (turn_is i a0 l h w q ready)) ∙ is))
     (cases_Bool (is_skipped l h w q))
 
-pub is_taken : (i : Tables) (a0 : List Machine) (l : Lots) (h g : List Entry) (w q : ℕ) (reply : CoreReply) → g ≡ (turn i a0 l h w q).journal → reply ≡ (turn i a0 l h w q).reply → is_recorded reply ≡ true → g ≡ h ++ next_entry i a0 l h w q ∷ []
+pub is_taken : (i : Tables) (a0 : List Machine) (l : Lots) (h g : List Entry) (w q : ℕ) (reply : CoreReply) →
+    g ≡ (turn i a0 l h w q).journal → reply ≡ (turn i a0 l h w q).reply → is_recorded reply ≡ true →
+    g ≡ h ++ next_entry i a0 l h w q ∷ []
 is_taken i a0 l h g w q reply g_is reply_is is = g_is ∙ turn_recorded i a0 l h w q (sym (ap is_recorded reply_is) ∙ is)
 
 -- no replica stands past the next plan of its worker afterwards
-pub none_past : (l : Lots) (h g : List Entry) (c d : Core) (w q : ℕ) (e : Entry) → NoneIsPast l h c → g ≡ h ++ e ∷ [] → e.worker ≡ w → w < length c.places → q ≤ length h → d.places ≡ set c.places w q → NoneIsPast l g d
+pub none_past : (l : Lots) (h g : List Entry) (c d : Core) (w q : ℕ) (e : Entry) → NoneIsPast l h c → g ≡ h ++ e ∷ [] →
+    e.worker ≡ w → w < length c.places → q ≤ length h → d.places ≡ set c.places w q → NoneIsPast l g d
 unfolding place_of
 none_past l h g c d w q e none g_is own there few places = rw g_is (record {
   each = λ v p exists behind. ⊎_elim
       (λ (here : v ≡ w).
-      let last : length h < p = behind.seen (length h) (omega (arith, length_push h e)) (ap (λ (x : Entry). x.worker) (entry_added h e) ∙ own ∙ sym here) in
+      let last : length h < p = behind.seen (length h) (omega (arith, length_push h e))
+      (ap (λ (x : Entry). x.worker) (entry_added h e) ∙ own ∙ sym here) in
       let at : get_or d.places v 0 ≡ q = ap₂ (λ x k. get_or x k 0) places here ∙ get_or-set_same c.places w q 0 there in
       omega (arith, last, at, few))
       (λ (apart : v ≡ w → ⊥).
-      let at : get_or d.places v 0 ≡ get_or c.places v 0 = ap (λ x. get_or x v 0) places ∙ get_or-set_other c.places w v q 0 apart in
-      let before : IsBehind h v p = record { seen = λ j within is. behind.seen j (omega (arith, within, length_push h e)) (ap (λ (x : Entry). x.worker) (entry_before h e j within) ∙ is) } in
+      let at : get_or d.places v 0 ≡ get_or c.places v 0 = ap (λ x. get_or x v 0) places
+      ∙ get_or-set_other c.places w v q 0 apart in
+      let before : IsBehind h v p = record {
+        seen = λ j within is. behind.seen j (omega (arith, within, length_push h e))
+            (ap (λ (x : Entry). x.worker) (entry_before h e j within) ∙ is);
+      } in
       omega (arith, at, none.each v p exists before))
       (cases_eq v w);
 })
 
 -- and none does at the start
-pub none_past_start : (l : Lots) (h : List Entry) (c : Core) → ((w : ℕ) → w < worker_count l → place_of c w ≡ 0) → NoneIsPast l h c
+pub none_past_start : (l : Lots) (h : List Entry) (c : Core) → ((w : ℕ) → w < worker_count l → place_of c w ≡ 0) →
+    NoneIsPast l h c
 none_past_start l h c start = record { each = λ w q exists behind. omega (arith, start w exists) }
 
 -- a legal journal has few entries
@@ -167,14 +217,19 @@ few_entries i a0 l h legal =
     omega (arith, entries_few l h (length h) numbered, proposals_few l)
 
 -- and what may follow them has small numbers
-pub small_entry : (i : Tables) (a0 : List Machine) (l : Lots) (h : List Entry) (e : Entry) → Legal i a0 l (h ++ e ∷ []) → IsSmallEntry e
+pub small_entry : (i : Tables) (a0 : List Machine) (l : Lots) (h : List Entry) (e : Entry) →
+    Legal i a0 l (h ++ e ∷ []) → IsSmallEntry e
 unfolding worker_count
 small_entry i a0 l h e legal =
     let next = last_legal i a0 l h e legal in
     let few = few_entries i a0 l (h ++ e ∷ []) legal in
-    record { worker = omega (arith, next.numbered.worker, l.fitting.few); q = omega (arith, next.placed.place, few, length_push h e) }
+    record {
+      worker = omega (arith, next.numbered.worker, l.fitting.few);
+      q = omega (arith, next.placed.place, few, length_push h e);
+    }
 
-pub small_front : (i : Tables) (a0 : List Machine) (l : Lots) (h : List Entry) (e : Entry) → Legal i a0 l (h ++ e ∷ []) → IsSmallFront (length h) e
+pub small_front : (i : Tables) (a0 : List Machine) (l : Lots) (h : List Entry) (e : Entry) →
+    Legal i a0 l (h ++ e ∷ []) → IsSmallFront (length h) e
 small_front i a0 l h e legal =
     let next = last_legal i a0 l h e legal in
     record {

@@ -1,5 +1,7 @@
 -- The lines of a report's head are short.
-use Rattle.std.proofs.Common.{◌≡◌, ℕ, zero, suc, ◌+◌, ◌*◌, ◌^◌, ◌<◌, ◌≤◌, List, [], ◌∷◌, ◌++◌, length, slice_get, get_or, Option, Some, None, unwrap_or, codes, refl, ap, ◌∙◌, subst, arith, length-append, lt_trans}
+use Rattle.std.proofs.Common.{◌≡◌, ℕ, zero, suc, ◌+◌, ◌*◌, ◌^◌, ◌<◌, ◌≤◌, List, [], ◌∷◌, ◌++◌, length, slice_get}
+use Rattle.std.proofs.Common.{get_or, Option, Some, None, unwrap_or, codes, refl, ap, ◌∙◌, subst, arith, length-append}
+use Rattle.std.proofs.Common.{lt_trans}
 use Rattle.std.proofs.lemmas.Option.{slice_get-get_or, none-some}
 use Rattle.ra_base.specs.declared.causes.Drawing.{Drawing}
 use Rattle.ra_base.specs.declared.causes.Drawing.TheVariants.{One, Two}
@@ -12,7 +14,8 @@ use Rattle.ra_model.specs.Limits.{WellFormed, Small}
 use Rattle.ra_model.specs.Assignments.{IsAssignment, machine_at}
 use Rattle.ra_model.specs.Feasible.{Feasible}
 use Rattle.ra_model.specs.Costs.{parts_of, objective}
-use Rattle.ra_model.proofs.BoundLemmas.{objective_under, load_under, balance_under, process_under, service_under, machine_under}
+use Rattle.ra_model.proofs.BoundLemmas.{objective_under, load_under, balance_under, process_under, service_under}
+use Rattle.ra_model.proofs.BoundLemmas.{machine_under}
 use Rattle.ra_report_lines.specs.Lines.{lines_of, line_at, body_of, HasNoEnd}
 use Rattle.ra_report_lines.proofs.BodyLaws.{body_before}
 use Rattle.ra_journal.specs.declared.entries.Entry.{Entry}
@@ -33,23 +36,42 @@ use Rattle.ra_verify.proofs.ReportLemmas.{report_at, report_long, report_entry_a
 
 -- a line says one byte less than it has
 line_short : (line : List ℕ) (most : ℕ) → IsLine line → length line ≤ most + 1 → length (body_of line) ≤ most
-line_short line most is few = omega (arith, ap (λ (x : List ℕ). length (body_of x)) is.split, ap (λ (x : List ℕ). length x) (body_before is.body [] is.no_end), ap (λ (x : List ℕ). length x) is.split, length-append is.body (10 ∷ []), few)
+line_short line most is few =
+    omega (
+      arith,
+      ap (λ (x : List ℕ). length (body_of x)) is.split,
+      ap (λ (x : List ℕ). length x) (body_before is.body [] is.no_end),
+      ap (λ (x : List ℕ). length x) is.split,
+      length-append is.body (10 ∷ []),
+      few,
+    )
 
-number_short : (word : List ℕ) (n most : ℕ) → HasNoEnd word → n < 2 ^ 128 → length word + 40 ≤ most → length (body_of (number_line word n)) ≤ most
+number_short : (word : List ℕ) (n most : ℕ) → HasNoEnd word → n < 2 ^ 128 → length word + 40 ≤ most →
+    length (body_of (number_line word n)) ≤ most
 number_short word n most none small few =
     line_short (number_line word n) most (number_line_is_line word n none)
-    (omega (arith, length-append (word ++ space ++ number_text n) (10 ∷ []), length-append (word ++ space) (number_text n), length-append word space, cost_length n small, few))
+    (omega (
+      arith,
+      length-append (word ++ space ++ number_text n) (10 ∷ []),
+      length-append (word ++ space) (number_text n),
+      length-append word space,
+      cost_length n small,
+      few,
+    ))
 
 -- the numbers of machines
-machines_few : (ms : List Machine) → ((p : ℕ) → p < length ms → machine_at ms p < 10 ^ 4) → length (machines_text ms) ≤ 5 * length ms
+machines_few : (ms : List Machine) → ((p : ℕ) → p < length ms → machine_at ms p < 10 ^ 4) →
+    length (machines_text ms) ≤ 5 * length ms
 unfolding machines_text machine_at
 machines_few [] below = omega arith
 machines_few (m ∷ ms) below =
     let first : length (number_text m.0) ≤ 4 = text_length 3 m.0 (below 0 (omega arith)) in
-    let others : length (machines_text ms) ≤ 5 * length ms = machines_few ms (λ p within. below (suc p) (omega (arith, within))) in
+    let others : length (machines_text ms) ≤ 5 * length ms =
+    machines_few ms (λ p within. below (suc p) (omega (arith, within))) in
     omega (arith, first, others, length-append (space ++ number_text m.0) (machines_text ms))
 
-assignment_short : (i : Tables) (a : List Machine) → WellFormed i → IsAssignment i a → length (body_of (assignment_line a)) ≤ 600000
+assignment_short : (i : Tables) (a : List Machine) → WellFormed i → IsAssignment i a →
+    length (body_of (assignment_line a)) ≤ 600000
 unfolding assignment_line
 assignment_short i a limits fits =
     line_short (assignment_line a) 600000 (assignment_is_line a)
@@ -57,7 +79,9 @@ assignment_short i a limits fits =
       arith,
       length-append (codes "assignment" ++ machines_text a) (10 ∷ []),
       length-append (codes "assignment") (machines_text a),
-      machines_few a (λ p within. lt_trans (fits.in_range p (omega (arith, within, fits.one_each))) (omega (arith, limits.few_machines))),
+      machines_few a
+          (λ p within. lt_trans (fits.in_range p (omega (arith, within, fits.one_each)))
+          (omega (arith, limits.few_machines))),
       fits.one_each,
       limits.few_processes,
     ))
@@ -70,11 +94,15 @@ AreShort n (line ∷ lines) = (length (body_of line) ≤ most_bytes n) × AreSho
 some_same : (x y : List ℕ) → Some x ≡ Some y → x ≡ y
 some_same x y e = ap (λ (o : Option (List ℕ)). unwrap_or o []) e
 
-short_there : (n : ℕ) (lines : List (List ℕ)) (k : ℕ) (line : List ℕ) → AreShort n lines → slice_get lines k ≡ Some line → length (body_of line) ≤ most_bytes (n + k)
+short_there : (n : ℕ) (lines : List (List ℕ)) (k : ℕ) (line : List ℕ) → AreShort n lines →
+    slice_get lines k ≡ Some line → length (body_of line) ≤ most_bytes (n + k)
 unfolding AreShort
 short_there n [] k line short is = absurd (none-some line is)
-short_there n (l ∷ lines) zero line short is = let same : l ≡ line = some_same l line is in subst (λ x. length (body_of x) ≤ most_bytes (n + 0)) same (subst (λ m. length (body_of l) ≤ most_bytes m) {x = n} {y = n + 0} (omega arith) short.0)
-short_there n (l ∷ lines) (suc k) line short is = subst (λ m. length (body_of line) ≤ most_bytes m) {x = suc n + k} {y = n + suc k} (omega arith) (short_there (suc n) lines k line short.1 is)
+short_there n (l ∷ lines) zero line short is = let same : l ≡ line = some_same l line is in
+    subst (λ x. length (body_of x) ≤ most_bytes (n + 0)) same
+    (subst (λ m. length (body_of l) ≤ most_bytes m) {x = n} {y = n + 0} (omega arith) short.0)
+short_there n (l ∷ lines) (suc k) line short is = subst (λ m. length (body_of line) ≤ most_bytes m) {x = suc n + k}
+    {y = n + suc k} (omega arith) (short_there (suc n) lines k line short.1 is)
 
 drawing_few : (d : Drawing) → drawing_number d < 2 ^ 128
 unfolding drawing_number
@@ -82,7 +110,10 @@ drawing_few One = omega arith
 drawing_few Two = omega arith
 
 -- the ten lines of a report of a legal journal
-heads_short : (i : Tables) (a0 : List Machine) (l : Lots) (h : List Entry) → WellFormed i → Small i → IsAssignment i a0 → Feasible i a0 a0 → Legal i a0 l h → AreShort 0 (head_lines (parts_of i a0 (state a0 h (best_of i a0 h))) (pinned_bound_of i a0).total (best_of i a0 h) (state a0 h (best_of i a0 h)) l.drawing)
+heads_short : (i : Tables) (a0 : List Machine) (l : Lots) (h : List Entry) → WellFormed i → Small i →
+    IsAssignment i a0 → Feasible i a0 a0 → Legal i a0 l h →
+    AreShort 0 (head_lines (parts_of i a0 (state a0 h (best_of i a0 h))) (pinned_bound_of i a0).total (best_of i a0 h)
+    (state a0 h (best_of i a0 h)) l.drawing)
 unfolding AreShort head_lines most_bytes parts_of best_of body_of
 heads_short i a0 l h limits numbers fits feasible legal =
     let j = best_of i a0 h in
@@ -99,17 +130,22 @@ heads_short i a0 l h limits numbers fits feasible legal =
           (
             number_short (codes "process") _ 64 refl (omega (arith, process_under i a0 a limits numbers)) (omega arith),
             (
-              number_short (codes "service") _ 64 refl (omega (arith, service_under i a0 a limits numbers)) (omega arith),
+              number_short (codes "service") _ 64 refl (omega (arith, service_under i a0 a limits numbers))
+                  (omega arith),
               (
-                number_short (codes "machine") _ 64 refl (omega (arith, machine_under i a0 a limits numbers)) (omega arith),
+                number_short (codes "machine") _ 64 refl (omega (arith, machine_under i a0 a limits numbers))
+                    (omega arith),
                 (
-                  number_short (codes "bound") (pinned_bound_of i a0).total 64 refl (omega (arith, bound, cost)) (omega arith),
+                  number_short (codes "bound") (pinned_bound_of i a0).total 64 refl (omega (arith, bound, cost))
+                      (omega arith),
                   (
-                    number_short (codes "best_at") j 64 refl (omega (arith, within, few_entries i a0 l h legal)) (omega arith),
+                    number_short (codes "best_at") j 64 refl (omega (arith, within, few_entries i a0 l h legal))
+                        (omega arith),
                     (
                       assignment_short i a limits right.assignment,
                       (
-                        number_short (codes "draws") (drawing_number l.drawing) 64 refl (drawing_few l.drawing) (omega arith),
+                        number_short (codes "draws") (drawing_number l.drawing) 64 refl (drawing_few l.drawing)
+                            (omega arith),
                         tt,
                       ),
                     ),
@@ -123,20 +159,26 @@ heads_short i a0 l h limits numbers fits feasible legal =
     )
 
 -- none of them is over long
-report_short : (i : Tables) (a0 : List Machine) (l : Lots) (h : List Entry) (k : ℕ) → WellFormed i → Small i → IsAssignment i a0 → Feasible i a0 a0 → Legal i a0 l h → k < 10 → over_long (report_text i a0 l h) k ≡ None
+report_short : (i : Tables) (a0 : List Machine) (l : Lots) (h : List Entry) (k : ℕ) → WellFormed i → Small i →
+    IsAssignment i a0 → Feasible i a0 a0 → Legal i a0 l h → k < 10 → over_long (report_text i a0 l h) k ≡ None
 unfolding line_at report_head head_lines
 report_short i a0 l h k limits numbers fits feasible legal within =
     let j = best_of i a0 h in
     let a = state a0 h j in
     let lines = head_lines (parts_of i a0 a) (pinned_bound_of i a0).total j a l.drawing in
-    let head : lines_of (report_head i a0 l h) ≡ lines = head_alone (parts_of i a0 a) (pinned_bound_of i a0).total j a l.drawing in
+    let head : lines_of (report_head i a0 l h) ≡ lines =
+    head_alone (parts_of i a0 a) (pinned_bound_of i a0).total j a l.drawing in
     let there : slice_get lines k ≡ Some (get_or lines k []) = slice_get-get_or lines k [] within in
-    let at : line_at k (report_text i a0 l h) ≡ Some (get_or lines k []) = report_at i a0 l h k within ∙ ap (λ (t : List (List ℕ)). slice_get t k) head ∙ there in
-    short_at (report_text i a0 l h) (get_or lines k []) k at (subst (λ (m : ℕ). length (body_of (get_or lines k [])) ≤ most_bytes m) {x = 0 + k} {y = k} (omega arith) (short_there 0 lines k (get_or lines k []) (heads_short i a0 l h limits numbers fits feasible legal) there))
+    let at : line_at k (report_text i a0 l h) ≡ Some (get_or lines k []) = report_at i a0 l h k within
+    ∙ ap (λ (t : List (List ℕ)). slice_get t k) head ∙ there in
+    short_at (report_text i a0 l h) (get_or lines k []) k at
+    (subst (λ (m : ℕ). length (body_of (get_or lines k [])) ≤ most_bytes m) {x = 0 + k} {y = k} (omega arith)
+    (short_there 0 lines k (get_or lines k []) (heads_short i a0 l h limits numbers fits feasible legal) there))
 
 pub report_has_none_wrong : ReportHasNoneWrong
 report_has_none_wrong i a0 l bytes n limits numbers fits feasible is = rw is.text (record {
-  short = none_over (report_text i a0 l is.journal) (λ k within. report_short i a0 l is.journal k limits numbers fits feasible is.legal within);
+  short = none_over (report_text i a0 l is.journal)
+      (λ k within. report_short i a0 l is.journal k limits numbers fits feasible is.legal within);
   journal = is.journal;
   right = record {
     right = record { legal = is.legal; lines = λ j within. report_entry_at i a0 l is.journal j within };

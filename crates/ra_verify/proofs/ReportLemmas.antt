@@ -1,5 +1,6 @@
 -- The lines of a report's text.
-use Rattle.std.proofs.Common.{◌≡◌, ℕ, zero, suc, ◌+◌, ◌-◌, ◌<◌, ◌≤◌, List, [], ◌∷◌, ◌++◌, length, slice_get, Some, refl, sym, ap, ◌∙◌, ⊎_elim, arith, length-append}
+use Rattle.std.proofs.Common.{◌≡◌, ℕ, zero, suc, ◌+◌, ◌-◌, ◌<◌, ◌≤◌, List, [], ◌∷◌, ◌++◌, length, slice_get, Some, refl}
+use Rattle.std.proofs.Common.{sym, ap, ◌∙◌, ⊎_elim, arith, length-append}
 use Rattle.std.proofs.lemmas.Bool.{cases_lt}
 use Rattle.std.proofs.lemmas.List.{append-nil}
 use Rattle.std.proofs.lemmas.Option.{slice_get_past}
@@ -20,40 +21,59 @@ use Rattle.ra_verify.proofs.PlaceLemmas.{got_left, got_behind, got_all}
 entry_count : (h : List Entry) (n : ℕ) → length (entry_lines h n) ≡ n
 unfolding entry_lines
 entry_count h zero = refl
-entry_count h (suc n) = omega (arith, length-append (entry_lines h n) (entry_line n (entry_at h n) ∷ []), entry_count h n)
+entry_count h (suc n) =
+    omega (arith, length-append (entry_lines h n) (entry_line n (entry_at h n) ∷ []), entry_count h n)
 
 entry_there : (h : List Entry) (n j : ℕ) → j < n → slice_get (entry_lines h n) j ≡ Some (entry_line j (entry_at h j))
 unfolding entry_lines
 entry_there h zero j within = absurd (omega (arith, within))
 entry_there h (suc n) j within = ⊎_elim
-    (λ (less : j < n). got_left (entry_lines h n) (entry_line n (entry_at h n) ∷ []) j (omega (arith, less, entry_count h n)) ∙ entry_there h n j less)
+    (λ (less : j < n). got_left (entry_lines h n) (entry_line n (entry_at h n) ∷ []) j
+    (omega (arith, less, entry_count h n)) ∙ entry_there h n j less)
     (λ (last : n ≤ j).
     let here : j ≡ n = omega (arith, last, within) in
-    ap (slice_get (entry_lines h n ++ entry_line n (entry_at h n) ∷ [])) {x = j} {y = length (entry_lines h n) + 0} (omega (arith, here, entry_count h n))
+    ap (slice_get (entry_lines h n ++ entry_line n (entry_at h n) ∷ [])) {x = j} {y = length (entry_lines h n) + 0}
+    (omega (arith, here, entry_count h n))
     ∙ got_behind (entry_lines h n) (entry_line n (entry_at h n) ∷ []) 0
     ∙ ap (λ (k : ℕ). Some (entry_line k (entry_at h k))) (sym here))
     (cases_lt j n)
 
 -- the lines of a report are those of its head and those of its entries
-pub report_lines_are : (i : Tables) (a0 : List Machine) (l : Lots) (h : List Entry) → lines_of (report_text i a0 l h) ≡ lines_of (report_head i a0 l h) ++ entry_lines h (length h)
+pub report_lines_are : (i : Tables) (a0 : List Machine) (l : Lots) (h : List Entry) →
+    lines_of (report_text i a0 l h) ≡ lines_of (report_head i a0 l h) ++ entry_lines h (length h)
 unfolding lines_of
 report_lines_are i a0 l h =
     ap lines_of (report_parts i a0 l h)
     ∙ head_before i a0 l h (entries_text h (length h))
-    ∙ ap (λ (t : List (List ℕ)). lines_of (report_head i a0 l h) ++ t) (ap lines_of (sym (append-nil (entries_text h (length h)))) ∙ entries_before h (length h) [] ∙ append-nil (entry_lines h (length h)))
+    ∙ ap (λ (t : List (List ℕ)). lines_of (report_head i a0 l h) ++ t)
+    (ap lines_of (sym (append-nil (entries_text h (length h)))) ∙ entries_before h (length h) []
+    ∙ append-nil (entry_lines h (length h)))
 
-pub report_long : (i : Tables) (a0 : List Machine) (l : Lots) (h : List Entry) → length (lines_of (report_text i a0 l h)) ≡ 10 + length h
-report_long i a0 l h = omega (arith, ap (λ (t : List (List ℕ)). length t) (report_lines_are i a0 l h), length-append (lines_of (report_head i a0 l h)) (entry_lines h (length h)), head_line_count i a0 l h, entry_count h (length h))
+pub report_long : (i : Tables) (a0 : List Machine) (l : Lots) (h : List Entry) →
+    length (lines_of (report_text i a0 l h)) ≡ 10 + length h
+report_long i a0 l h =
+    omega (
+      arith,
+      ap (λ (t : List (List ℕ)). length t) (report_lines_are i a0 l h),
+      length-append (lines_of (report_head i a0 l h)) (entry_lines h (length h)),
+      head_line_count i a0 l h,
+      entry_count h (length h),
+    )
 
-pub report_at : (i : Tables) (a0 : List Machine) (l : Lots) (h : List Entry) (k : ℕ) → k < 10 → line_at k (report_text i a0 l h) ≡ line_at k (report_head i a0 l h)
+pub report_at : (i : Tables) (a0 : List Machine) (l : Lots) (h : List Entry) (k : ℕ) → k < 10 →
+    line_at k (report_text i a0 l h) ≡ line_at k (report_head i a0 l h)
 unfolding line_at
-report_at i a0 l h k within = ap (λ (t : List (List ℕ)). slice_get t k) (report_lines_are i a0 l h) ∙ got_left (lines_of (report_head i a0 l h)) (entry_lines h (length h)) k (omega (arith, within, head_line_count i a0 l h))
+report_at i a0 l h k within = ap (λ (t : List (List ℕ)). slice_get t k) (report_lines_are i a0 l h)
+    ∙ got_left (lines_of (report_head i a0 l h)) (entry_lines h (length h)) k
+    (omega (arith, within, head_line_count i a0 l h))
 
-pub report_entry_at : (i : Tables) (a0 : List Machine) (l : Lots) (h : List Entry) (j : ℕ) → j < length h → line_at (10 + j) (report_text i a0 l h) ≡ Some (entry_line j (entry_at h j))
+pub report_entry_at : (i : Tables) (a0 : List Machine) (l : Lots) (h : List Entry) (j : ℕ) → j < length h →
+    line_at (10 + j) (report_text i a0 l h) ≡ Some (entry_line j (entry_at h j))
 unfolding line_at
 report_entry_at i a0 l h j within =
     ap (λ (t : List (List ℕ)). slice_get t (10 + j)) (report_lines_are i a0 l h)
-    ∙ ap (slice_get (lines_of (report_head i a0 l h) ++ entry_lines h (length h))) {x = 10 + j} {y = length (lines_of (report_head i a0 l h)) + j} (omega (arith, head_line_count i a0 l h))
+    ∙ ap (slice_get (lines_of (report_head i a0 l h) ++ entry_lines h (length h))) {x = 10 + j}
+    {y = length (lines_of (report_head i a0 l h)) + j} (omega (arith, head_line_count i a0 l h))
     ∙ got_behind (lines_of (report_head i a0 l h)) (entry_lines h (length h)) j
     ∙ entry_there h (length h) j within
 
@@ -61,7 +81,8 @@ report_entry_at i a0 l h j within =
 same_lines : (a b : List ℕ) → lines_of a ≡ lines_of b → a ≡ b
 same_lines a b same = sym (joined_back a) ∙ ap joined_lines same ∙ joined_back b
 
-none_wrong_at : (i : Tables) (a0 : List Machine) (l : Lots) (bytes : List ℕ) (is : NoneIsWrong i a0 l bytes) (k : ℕ) → line_at k bytes ≡ line_at k (report_text i a0 l is.journal)
+none_wrong_at : (i : Tables) (a0 : List Machine) (l : Lots) (bytes : List ℕ) (is : NoneIsWrong i a0 l bytes) (k : ℕ) →
+    line_at k bytes ≡ line_at k (report_text i a0 l is.journal)
 unfolding line_at
 none_wrong_at i a0 l bytes is k = ⊎_elim
     (λ (head : k < 10). is.head k head)
@@ -69,18 +90,24 @@ none_wrong_at i a0 l bytes is k = ⊎_elim
     let split : k ≡ 10 + (k - 10) = omega (arith, behind) in
     ⊎_elim
     (λ (there : k - 10 < length is.journal).
-    ap (λ (n : ℕ). line_at n bytes) split ∙ is.right.right.lines (k - 10) there ∙ sym (report_entry_at i a0 l is.journal (k - 10) there) ∙ ap (λ (n : ℕ). line_at n (report_text i a0 l is.journal)) (sym split))
+    ap (λ (n : ℕ). line_at n bytes) split ∙ is.right.right.lines (k - 10) there
+    ∙ sym (report_entry_at i a0 l is.journal (k - 10) there)
+    ∙ ap (λ (n : ℕ). line_at n (report_text i a0 l is.journal)) (sym split))
     (λ (past : length is.journal ≤ k - 10).
-    slice_get_past (lines_of bytes) k (omega (arith, past, behind, is.right.all)) ∙ sym (slice_get_past (lines_of (report_text i a0 l is.journal)) k (omega (arith, past, behind, report_long i a0 l is.journal))))
+    slice_get_past (lines_of bytes) k (omega (arith, past, behind, is.right.all))
+    ∙ sym (slice_get_past (lines_of (report_text i a0 l is.journal)) k
+    (omega (arith, past, behind, report_long i a0 l is.journal))))
     (cases_lt (k - 10) (length is.journal)))
     (cases_lt k 10)
 
-pub is_report : (i : Tables) (a0 : List Machine) (l : Lots) (bytes : List ℕ) (n : ℕ) → (is : NoneIsWrong i a0 l bytes) → length is.journal ≡ n → IsReport i a0 l bytes n
+pub is_report : (i : Tables) (a0 : List Machine) (l : Lots) (bytes : List ℕ) (n : ℕ) → (is : NoneIsWrong i a0 l bytes) →
+    length is.journal ≡ n → IsReport i a0 l bytes n
 unfolding line_at
 is_report i a0 l bytes n is number = record {
   journal = is.journal;
   legal = is.right.right.legal;
   whole = is.whole;
-  text = same_lines bytes (report_text i a0 l is.journal) (got_all (lines_of bytes) (lines_of (report_text i a0 l is.journal)) (λ k. none_wrong_at i a0 l bytes is k));
+  text = same_lines bytes (report_text i a0 l is.journal)
+      (got_all (lines_of bytes) (lines_of (report_text i a0 l is.journal)) (λ k. none_wrong_at i a0 l bytes is k));
   number = number;
 }

@@ -1,5 +1,6 @@
 -- What each stage of a check tells of a report, whose bytes may be told, and what it leaves.
-use Rattle.std.specs.Prelude.{◌≡◌, ◌≢◌, ℕ, ◌+◌, ◌≤◌, Bool, true, false, List, [], length, Some, None, Result, Ok, Err, IfSome, IfOk, OnOk}
+use Rattle.std.specs.Prelude.{◌≡◌, ◌≢◌, ℕ, ◌+◌, ◌≤◌, Bool, true, false, List, [], length, Some, None, Result, Ok, Err}
+use Rattle.std.specs.Prelude.{IfSome, IfOk, OnOk}
 use Rattle.ra_base.specs.declared.ids.Machine.{Machine}
 use Rattle.ra_bounds.specs.declared.costs.Bound.{Bound}
 use Rattle.ra_bounds.specs.PinnedBounds.{pinned_bound_of}
@@ -18,7 +19,8 @@ use Rattle.ra_verify.specs.Checking.{entries_in, IsOpen, IsSameRun, HasMore}
 use Rattle.ra_verify.specs.Reading.{AreRead, IsHead, IsWrongNext}
 use Rattle.ra_verify.specs.WrongLines.{AreAllRight, IsWrongLine, IsReport, first_over_long}
 
--- the report of a run of these lots was checked: it is accepted if no line is wrong, and then it is the report of a legal
+-- the report of a run of these lots was checked: it is accepted if no line is wrong, and then it is the report of a
+-- legal
 -- whole journal with so many entries; and else its wrong line is told
 pub record TellsVerdict (i : Tables) (a0 : List Machine) (l : Lots) (files : Reading)
     (name : List ℕ) (told : Result ℕ VerifyFault) : Type 0 where
@@ -46,7 +48,8 @@ pub record AreAtStart (checker : Checker) (world : World) (bound : Bound) : Type
   pub bounded :
       bound ≡ pinned_bound_of checker.journal.inst.now.tables checker.journal.a0.now.items
 
--- the first ten lines of a report were read, or all if it has fewer, and their number is told; or the first that is over
+-- the first ten lines of a report were read, or all if it has fewer, and their number is told; or the first that is
+-- over
 -- long
 pub record ReadsHead (files : Reading) (old new : Standing) (head : List ℕ)
     (told : Result ℕ VerifyFault) : Type 0 where
@@ -62,7 +65,8 @@ pub record ReadsHead (files : Reading) (old new : Standing) (head : List ℕ)
   pub called : new.name ≡ old.name
   pub leaves : LeavesFiles files
 
--- the lines behind these were read: they are the entry lines of a legal journal, whose entries a checker has taken in; or the
+-- the lines behind these were read: they are the entry lines of a legal journal, whose entries a checker has taken in;
+-- or the
 -- first is told that is the line of no entry that may follow
 pub record ReadsEntries (files : Reading) (name : List ℕ) (lines : ℕ) (before after : Checker)
     (told : Result (Unit {0}) VerifyFault) : Type 0 where
@@ -88,7 +92,8 @@ AreReadBy before bytes place after =
     AreRead before.journal.inst.now.tables before.journal.a0.now.items before.journal.lots.now bytes
     place (entries_in after)
 
--- the next entry line was read, if there is one, and its entry was taken in; or it is the line of no entry that may follow
+-- the next entry line was read, if there is one, and its entry was taken in; or it is the line of no entry that may
+-- follow
 pub record ReadsEntry (files : Reading) (old new : Standing) (before after : Checker)
     (told : Result Bool VerifyFault) : Type 0 where
   pub reads : Reads (files.held_after new.name) new

@@ -9,19 +9,24 @@ use Rattle.ra_base.proofs.Named.{is_named_none, is_named_more}
 use Rattle.ra_moves.specs.Laws.{OnlyWhere}
 use Rattle.ra_weigh_causes.specs.Searching.{ClearTo, Sought}
 
-pub sought_start : (n : ℕ) (test : ℕ → Bool) (f : ℕ → Option Cause) (low : ℕ) → OnlyWhere n test f → low ≤ n → ClearTo test 0 low → Sought n f low
+pub sought_start : (n : ℕ) (test : ℕ → Bool) (f : ℕ → Option Cause) (low : ℕ) → OnlyWhere n test f → low ≤ n →
+    ClearTo test 0 low → Sought n f low
 sought_start n test f low only within clear = record {
   within = within;
   none = first_none_from low f (λ k below. only.others k (omega arith) (clear.between k (omega arith) below));
 }
 
-pub sought_on : (n : ℕ) (test : ℕ → Bool) (f : ℕ → Option Cause) (low next : ℕ) → OnlyWhere n test f → Sought n f low → f low ≡ None → low + 1 ≤ next → next ≤ n → ClearTo test (low + 1) next → Sought n f next
+pub sought_on : (n : ℕ) (test : ℕ → Bool) (f : ℕ → Option Cause) (low next : ℕ) → OnlyWhere n test f → Sought n f low →
+    f low ≡ None → low + 1 ≤ next → next ≤ n → ClearTo test (low + 1) next → Sought n f next
 sought_on n test f low next only so_far here onwards within clear = record {
   within = within;
-  none = first_skip (low + 1) next f onwards (λ k above below. only.others k (omega arith) (clear.between k above below)) ∙ first_more_none low f so_far.none here;
+  none = first_skip (low + 1) next f onwards
+      (λ k above below. only.others k (omega arith) (clear.between k above below))
+      ∙ first_more_none low f so_far.none here;
 }
 
-pub sought_found : (n : ℕ) (f : ℕ → Option Cause) (low : ℕ) (x : Cause) → Sought n f low → low < n → f low ≡ Some x → Some x ≡ first n f
+pub sought_found : (n : ℕ) (f : ℕ → Option Cause) (low : ℕ) (x : Cause) → Sought n f low → low < n → f low ≡ Some x →
+    Some x ≡ first n f
 sought_found n f low x so_far within here = sym (first_found low n f x within so_far.none here)
 
 pub sought_all : (n : ℕ) (f : ℕ → Option Cause) (low : ℕ) → Sought n f low → n ≤ low → None ≡ first n f
@@ -37,9 +42,12 @@ pub clear_nearer : (test : ℕ → Bool) (low next new : ℕ) → ClearTo test l
 clear_nearer test low next new clear near = record { between = λ k above below. clear.between k above (omega arith) }
 
 -- one more name, which isn't before the new place
-pub clear_more : (n : ℕ) (e : ℕ → ℕ) (low next new x : ℕ) → ClearTo (is_named n e) low next → new ≤ next → (low ≤ x → new ≤ x) → e n ≡ x → ClearTo (is_named (n + 1) e) low new
+pub clear_more : (n : ℕ) (e : ℕ → ℕ) (low next new x : ℕ) → ClearTo (is_named n e) low next → new ≤ next →
+    (low ≤ x → new ≤ x) → e n ≡ x → ClearTo (is_named (n + 1) e) low new
 clear_more n e low next new x clear near past is = record {
-  between = λ k above below. is_named_more n e k ∙ or_from (is_named n e k) (eqb (e n) k) (clear.between k above (omega arith)) (ne_eqb (e n) k (λ same. absurd (omega (arith, past (omega (arith, is, same)), is, same))));
+  between = λ k above below. is_named_more n e k
+      ∙ or_from (is_named n e k) (eqb (e n) k) (clear.between k above (omega arith))
+      (ne_eqb (e n) k (λ same. absurd (omega (arith, past (omega (arith, is, same)), is, same))));
 }
 
 pub ruleset clearing = (clear_none, clear_nearer, clear_more)

@@ -26,7 +26,8 @@ use Rattle.ra_weigh_changes.specs.CountLists.{AreCountsOf}
 use Rattle.ra_weigh_changes.proofs.ChangeLaws.{rows_change, places_change}
 
 -- the counts that cells keep are the moved counts of their assignment
-pub counts_of_cells : (i : Tables) (a0 a : List Machine) (cells : Cells) (moved : MovedCounts) → StandFor cells i a0 a → moved ≡ cells.greatest → AreMovedOf i a0 a moved
+pub counts_of_cells : (i : Tables) (a0 a : List Machine) (cells : Cells) (moved : MovedCounts) → StandFor cells i a0 a →
+    moved ≡ cells.greatest → AreMovedOf i a0 a moved
 counts_of_cells i a0 a cells moved stand is = rw is (record {
   one_each = cells.counts_there ∙ ap service_count stand.instance;
   each = stand.moved;
@@ -34,30 +35,56 @@ counts_of_cells i a0 a cells moved stand is = rw is (record {
 })
 
 -- the counts of a move are changes of them, of different services
-pub count_change : (i : Tables) (a0 a : List Machine) (steps : List Step) (moved : MovedCounts) (counts : List (Option MovedCount)) (k : ℕ) → WellFormed i → IsMove i a steps → AreMovedOf i a0 a moved → AreCountsOf i a0 a steps (length steps) counts → k < 3 → IfSome (get_or counts k None) (λ c. IsChange moved c)
+pub count_change : (i : Tables) (a0 a : List Machine) (steps : List Step) (moved : MovedCounts)
+    (counts : List (Option MovedCount)) (k : ℕ) → WellFormed i → IsMove i a steps → AreMovedOf i a0 a moved →
+    AreCountsOf i a0 a steps (length steps) counts → k < 3 → IfSome (get_or counts k None) (λ c. IsChange moved c)
 unfolding changed_count
-count_change i a0 a steps moved counts k limits is moves are few = rw (are.each k few) (count_changes i a0 a steps moved k limits is moves)
+count_change i a0 a steps moved counts k limits is moves are few =
+    rw (are.each k few) (count_changes i a0 a steps moved k limits is moves)
 
-pub count_apart : (i : Tables) (a0 a : List Machine) (steps : List Step) (counts : List (Option MovedCount)) (j k : ℕ) → AreCountsOf i a0 a steps (length steps) counts → j < k → k < 3 → AreApart (get_or counts j None) (get_or counts k None)
+pub count_apart : (i : Tables) (a0 a : List Machine) (steps : List Step) (counts : List (Option MovedCount)) (j k : ℕ) →
+    AreCountsOf i a0 a steps (length steps) counts → j < k → k < 3 →
+    AreApart (get_or counts j None) (get_or counts k None)
 unfolding changed_count
-count_apart i a0 a steps counts j k are before few = rw (are.each j (omega arith), are.each k few) (counts_apart i a0 a steps j k before)
+count_apart i a0 a steps counts j k are before few =
+    rw (are.each j (omega arith), are.each k few) (counts_apart i a0 a steps j k before)
 
 -- the greatest of them after the move, and now
-pub greatest_then : (i : Tables) (a0 a : List Machine) (steps : List Step) (moved : MovedCounts) (counts : List (Option MovedCount)) → IsMove i a steps → AreMovedOf i a0 a moved → AreCountsOf i a0 a steps (length steps) counts → greatest_with moved.counts (get_or counts 0 None) (get_or counts 1 None) (get_or counts 2 None) ≡ greatest (service_count i) (moved_of i a0 (applied a steps))
+pub greatest_then : (i : Tables) (a0 a : List Machine) (steps : List Step) (moved : MovedCounts)
+    (counts : List (Option MovedCount)) → IsMove i a steps → AreMovedOf i a0 a moved →
+    AreCountsOf i a0 a steps (length steps) counts →
+    greatest_with moved.counts (get_or counts 0 None) (get_or counts 1 None) (get_or counts 2 None) ≡
+    greatest (service_count i) (moved_of i a0 (applied a steps))
 unfolding changed_count
-greatest_then i a0 a steps moved counts is moves are = rw (are.each 0 (omega arith), are.each 1 (omega arith), are.each 2 (omega arith)) (greatest_after_move i a0 a steps moved is moves)
+greatest_then i a0 a steps moved counts is moves are =
+    rw (are.each 0 (omega arith), are.each 1 (omega arith), are.each 2 (omega arith))
+    (greatest_after_move i a0 a steps moved is moves)
 
-pub greatest_now : (i : Tables) (a0 a : List Machine) (moved : MovedCounts) (now : ℕ) → AreMovedOf i a0 a moved → now ≡ greatest (length moved.counts) (λ s. get_or moved.counts s 0) → now ≡ greatest (service_count i) (moved_of i a0 a)
-greatest_now i a0 a moved now moves is = is ∙ ap (λ n. greatest n (λ s. get_or moved.counts s 0)) moves.one_each ∙ greatest_same (service_count i) (λ s. get_or moved.counts s 0) (moved_of i a0 a) moves.each
+pub greatest_now : (i : Tables) (a0 a : List Machine) (moved : MovedCounts) (now : ℕ) → AreMovedOf i a0 a moved →
+    now ≡ greatest (length moved.counts) (λ s. get_or moved.counts s 0) →
+    now ≡ greatest (service_count i) (moved_of i a0 a)
+greatest_now i a0 a moved now moves is = is ∙ ap (λ n. greatest n (λ s. get_or moved.counts s 0)) moves.one_each
+    ∙ greatest_same (service_count i) (λ s. get_or moved.counts s 0) (moved_of i a0 a) moves.each
 
-pub service_is : (i : Tables) (a0 a : List Machine) (weight most cost : ℕ) → cost ≡ weight * most → weight ≡ service_weight_of i → most ≡ greatest (service_count i) (moved_of i a0 a) → cost ≡ service_cost i a0 a
+pub service_is : (i : Tables) (a0 a : List Machine) (weight most cost : ℕ) → cost ≡ weight * most →
+    weight ≡ service_weight_of i → most ≡ greatest (service_count i) (moved_of i a0 a) → cost ≡ service_cost i a0 a
 unfolding service_cost
 service_is i a0 a weight most cost is weighs greatest = is ∙ ap₂ (λ w m. w * m) weighs greatest
 
 -- all together
-pub cost_is : (i : Tables) (a0 a : List Machine) (steps : List Step) (kept rows_added rows_taken places_added places_taken service_added service_taken : ℕ) → WellFormed i → IsMove i a steps → kept ≡ objective i a0 a → rows_added ≡ total (end_count steps) (fresh (end_in steps) (row_cost i (applied a steps))) → rows_taken ≡ total (end_count steps) (fresh (end_in steps) (row_cost i a)) → places_added ≡ total (length steps) (come (place_cost i a0) steps) → places_taken ≡ total (length steps) (gone (place_cost i a0) steps) → service_added ≡ service_cost i a0 (applied a steps) → service_taken ≡ service_cost i a0 a → kept + rows_added + places_added + service_added ≡ objective i a0 (applied a steps) + (rows_taken + places_taken + service_taken)
+pub cost_is : (i : Tables) (a0 a : List Machine) (steps : List Step)
+    (kept rows_added rows_taken places_added places_taken service_added service_taken : ℕ) → WellFormed i →
+    IsMove i a steps → kept ≡ objective i a0 a →
+    rows_added ≡ total (end_count steps) (fresh (end_in steps) (row_cost i (applied a steps))) →
+    rows_taken ≡ total (end_count steps) (fresh (end_in steps) (row_cost i a)) →
+    places_added ≡ total (length steps) (come (place_cost i a0) steps) →
+    places_taken ≡ total (length steps) (gone (place_cost i a0) steps) →
+    service_added ≡ service_cost i a0 (applied a steps) → service_taken ≡ service_cost i a0 a →
+    kept + rows_added + places_added + service_added ≡ objective i a0 (applied a steps)
+    + (rows_taken + places_taken + service_taken)
 unfolding objective
-cost_is i a0 a steps kept rows_added rows_taken places_added places_taken service_added service_taken limits move now rows_come rows_go places_come places_go service_comes service_goes =
+cost_is i a0 a steps kept rows_added rows_taken places_added places_taken service_added service_taken limits move now
+    rows_come rows_go places_come places_go service_comes service_goes =
     let rows = rows_change i a steps limits move in
     let places = places_change i a0 a steps move in
     omega arith

@@ -1,5 +1,7 @@
 -- The moved count of a service step by step, and the list of the counts.
-use Rattle.std.proofs.Common.{◌≡◌, ◌≢◌, ℕ, zero, suc, ◌+◌, ◌<◌, ◌≤◌, Bool, true, false, cond, eqb, not, List, [], ◌∷◌, ◌++◌, length, get_or, set, Option, Some, None, refl, sym, ap, ◌∙◌, ⊎_elim, add-one, arith, eq-eqb, get_or-set_same, get_or-set_other, length-append}
+use Rattle.std.proofs.Common.{◌≡◌, ◌≢◌, ℕ, zero, suc, ◌+◌, ◌<◌, ◌≤◌, Bool, true, false, cond, eqb, not, List, [], ◌∷◌}
+use Rattle.std.proofs.Common.{◌++◌, length, get_or, set, Option, Some, None, refl, sym, ap, ◌∙◌, ⊎_elim, add-one, arith}
+use Rattle.std.proofs.Common.{eq-eqb, get_or-set_same, get_or-set_other, length-append}
 use Rattle.std.proofs.lemmas.Bool.{cases_lt, cases_eq}
 use Rattle.std.proofs.lemmas.List.{get_or_append_left}
 use Rattle.std.proofs.Math.Seq.{get_or-append_seam}
@@ -22,7 +24,8 @@ use Rattle.ra_moves.specs.Touched.{service_in}
 use Rattle.ra_moves.specs.Moving.{IsMove}
 use Rattle.ra_moves.specs.Weighing.{moved_count, services_moved, count_at}
 use Rattle.ra_moves.proofs.StayLemmas.{of_other}
-use Rattle.ra_moves.proofs.MovedServices.{services_none, services_new, services_again, services_few, count_there, count_past}
+use Rattle.ra_moves.proofs.MovedServices.{services_none, services_new, services_again, services_few, count_there}
+use Rattle.ra_moves.proofs.MovedServices.{count_past}
 use Rattle.ra_weigh_changes.specs.CountLists.{AreCountsOf}
 use Rattle.ra_weigh_changes.proofs.MoveLemmas.{tally_next}
 
@@ -31,12 +34,15 @@ away_is : (b : Bool) → one_if (cond b false true) ≡ one_if (not b)
 away_is true = refl
 away_is false = refl
 
-mine_is : (i : Tables) (a0 : List Machine) (s p at : ℕ) → service_of i p ≡ s → of_service i s (λ q m. cond (eqb (machine_at a0 q) m) false true) p at ≡ away (machine_at a0 p) at
+mine_is : (i : Tables) (a0 : List Machine) (s p at : ℕ) → service_of i p ≡ s →
+    of_service i s (λ q m. cond (eqb (machine_at a0 q) m) false true) p at ≡ away (machine_at a0 p) at
 unfolding of_service is_of away
 mine_is i a0 s p at is = rw (eq-eqb (service_of i p) s is) (away_is (eqb (machine_at a0 p) at))
 
 -- a step of another service
-pub moved_kept : (i : Tables) (a0 a : List Machine) (steps : List Step) (j s moved : ℕ) → IsMove i a steps → j < length steps → service_in i steps j ≢ s → moved ≡ moved_of i a0 (after_steps a steps j) s → moved ≡ moved_of i a0 (after_steps a steps (j + 1)) s
+pub moved_kept : (i : Tables) (a0 a : List Machine) (steps : List Step) (j s moved : ℕ) → IsMove i a steps →
+    j < length steps → service_in i steps j ≢ s → moved ≡ moved_of i a0 (after_steps a steps j) s →
+    moved ≡ moved_of i a0 (after_steps a steps (j + 1)) s
 unfolding moved_of members_at service_in
 moved_kept i a0 a steps j s moved move within apart is =
     let f = of_service i s (λ q m. cond (eqb (machine_at a0 q) m) false true) in
@@ -49,7 +55,10 @@ moved_kept i a0 a steps j s moved move within apart is =
     )
 
 -- and one of this service
-pub moved_step : (i : Tables) (a0 a : List Machine) (steps : List Step) (j s home from to : ℕ) → IsMove i a steps → j < length steps → service_in i steps j ≡ s → home ≡ machine_at a0 (process_in steps j) → from ≡ from_in steps j → to ≡ to_in steps j → moved_of i a0 (after_steps a steps (j + 1)) s + away home from ≡ moved_of i a0 (after_steps a steps j) s + away home to
+pub moved_step : (i : Tables) (a0 a : List Machine) (steps : List Step) (j s home from to : ℕ) → IsMove i a steps →
+    j < length steps → service_in i steps j ≡ s → home ≡ machine_at a0 (process_in steps j) → from ≡ from_in steps j →
+    to ≡ to_in steps j → moved_of i a0 (after_steps a steps (j + 1)) s + away home from ≡
+    moved_of i a0 (after_steps a steps j) s + away home to
 unfolding moved_of members_at service_in
 moved_step i a0 a steps j s home from to move within mine home_is from_is to_is =
     rw (home_is, from_is, to_is) (omega (
@@ -63,15 +72,22 @@ pub away_few : (home at : ℕ) → away home at ≤ 1
 unfolding away
 away_few home at = one_if_le (not (eqb home at))
 
-pub moved_few : (i : Tables) (a0 a : List Machine) (s moved : ℕ) → WellFormed i → moved ≡ moved_of i a0 a s → moved ≤ 50000
+pub moved_few : (i : Tables) (a0 a : List Machine) (s moved : ℕ) → WellFormed i → moved ≡ moved_of i a0 a s →
+    moved ≤ 50000
 moved_few i a0 a s moved limits is = omega (arith, is, moved_within i a0 a s, limits.few_processes)
 
 -- a count as it is made
-pub count_made : (i : Tables) (a0 a : List Machine) (steps : List Step) (s : Service) (before after n : ℕ) → n ≡ length steps → before ≡ moved_of i a0 a s.0 → after ≡ moved_of i a0 (after_steps a steps n) s.0 → (let c : MovedCount = record { service = s; before = before; after = after } in c) ≡ moved_count i a0 a steps s.0
+pub count_made : (i : Tables) (a0 a : List Machine) (steps : List Step) (s : Service) (before after n : ℕ) →
+    n ≡ length steps → before ≡ moved_of i a0 a s.0 → after ≡ moved_of i a0 (after_steps a steps n) s.0 →
+    (let c : MovedCount = record { service = s; before = before; after = after } in c) ≡ moved_count i a0 a steps s.0
 unfolding moved_count applied
 count_made i a0 a steps s before after n all is then =
     ap (λ x. let c : MovedCount = record { service = s; before = x; after = after } in c) is
-    ∙ ap (λ x. let c : MovedCount = record { service = s; before = moved_of i a0 a s.0; after = x } in c) (then ∙ ap (λ k. moved_of i a0 (after_steps a steps k) s.0) all)
+    ∙ ap (λ x. let c : MovedCount = record {
+      service = s;
+      before = moved_of i a0 a s.0;
+      after = x;
+    } in c) (then ∙ ap (λ k. moved_of i a0 (after_steps a steps k) s.0) all)
 
 -- the list of counts
 
@@ -81,43 +97,82 @@ nothing_at (suc zero) = refl
 nothing_at (suc (suc zero)) = refl
 nothing_at (suc (suc (suc k))) = refl
 
-pub counts_none : (i : Tables) (a0 a : List Machine) (steps : List Step) → AreCountsOf i a0 a steps 0 (None ∷ None ∷ None ∷ [])
-counts_none i a0 a steps = record { each = λ k few. nothing_at k ∙ sym (count_past i a0 a steps (services_moved i steps 0) k (omega (arith, ap length (services_none i steps)))) }
+pub counts_none : (i : Tables) (a0 a : List Machine) (steps : List Step) →
+    AreCountsOf i a0 a steps 0 (None ∷ None ∷ None ∷ [])
+counts_none i a0 a steps = record {
+  each = λ k few. nothing_at k
+      ∙ sym (count_past i a0 a steps (services_moved i steps 0) k (omega (arith, ap length (services_none i steps))));
+}
 
 pub filled_none : (i : Tables) (steps : List Step) → 0 ≡ length (services_moved i steps 0)
 filled_none i steps = sym (ap length (services_none i steps))
 
-pub counts_again : (i : Tables) (a0 a : List Machine) (steps : List Step) (j s : ℕ) (counts : List (Option MovedCount)) → s ≡ service_in i steps j → is_named j (service_in i steps) s ≡ true → AreCountsOf i a0 a steps j counts → AreCountsOf i a0 a steps (j + 1) counts
-counts_again i a0 a steps j s counts is again before = rw (add-one) (record { each = λ k few. before.each k few ∙ ap (λ xs. count_at i a0 a steps xs k) (sym (services_again i steps j (rw is at again))) })
+pub counts_again : (i : Tables) (a0 a : List Machine) (steps : List Step) (j s : ℕ)
+    (counts : List (Option MovedCount)) → s ≡ service_in i steps j → is_named j (service_in i steps) s ≡ true →
+    AreCountsOf i a0 a steps j counts → AreCountsOf i a0 a steps (j + 1) counts
+counts_again i a0 a steps j s counts is again before = rw (add-one) (record {
+  each = λ k few. before.each k few
+      ∙ ap (λ xs. count_at i a0 a steps xs k) (sym (services_again i steps j (rw is at again)));
+})
 
-pub filled_again : (i : Tables) (steps : List Step) (j s filled : ℕ) → s ≡ service_in i steps j → is_named j (service_in i steps) s ≡ true → filled ≡ length (services_moved i steps j) → filled ≡ length (services_moved i steps (j + 1))
-filled_again i steps j s filled is again before = rw (add-one) (before ∙ ap length (sym (services_again i steps j (rw is at again))))
+pub filled_again : (i : Tables) (steps : List Step) (j s filled : ℕ) → s ≡ service_in i steps j →
+    is_named j (service_in i steps) s ≡ true → filled ≡ length (services_moved i steps j) →
+    filled ≡ length (services_moved i steps (j + 1))
+filled_again i steps j s filled is again before =
+    rw (add-one) (before ∙ ap length (sym (services_again i steps j (rw is at again))))
 
-pub filled_more : (i : Tables) (steps : List Step) (j s filled : ℕ) → s ≡ service_in i steps j → is_named j (service_in i steps) s ≡ false → filled ≡ length (services_moved i steps j) → filled + 1 ≡ length (services_moved i steps (j + 1))
-filled_more i steps j s filled is new before = omega (arith, ap (λ k. length (services_moved i steps k)) (add-one j), ap length (services_new i steps j (rw is at new)), length-append (services_moved i steps j) (service_in i steps j ∷ []))
+pub filled_more : (i : Tables) (steps : List Step) (j s filled : ℕ) → s ≡ service_in i steps j →
+    is_named j (service_in i steps) s ≡ false → filled ≡ length (services_moved i steps j) →
+    filled + 1 ≡ length (services_moved i steps (j + 1))
+filled_more i steps j s filled is new before =
+    omega (
+      arith,
+      ap (λ k. length (services_moved i steps k)) (add-one j),
+      ap length (services_new i steps j (rw is at new)),
+      length-append (services_moved i steps j) (service_in i steps j ∷ []),
+    )
 
-pub filled_few : (i : Tables) (steps : List Step) (j filled : ℕ) → filled ≡ length (services_moved i steps j) → j < length steps → length steps ≤ 3 → filled < 3
+pub filled_few : (i : Tables) (steps : List Step) (j filled : ℕ) → filled ≡ length (services_moved i steps j) →
+    j < length steps → length steps ≤ 3 → filled < 3
 filled_few i steps j filled is within few = omega (arith, services_few i steps j)
 
 -- the counts of a list with one service more
-pushed_before : (i : Tables) (a0 a : List Machine) (steps : List Step) (xs : List ℕ) (s k : ℕ) → k < length xs → count_at i a0 a steps (xs ++ s ∷ []) k ≡ count_at i a0 a steps xs k
-pushed_before i a0 a steps xs s k before = count_there i a0 a steps (xs ++ s ∷ []) k (omega (arith, length-append xs (s ∷ []))) ∙ ap (λ t. Some (moved_count i a0 a steps t)) (get_or_append_left xs (s ∷ []) 0 k before) ∙ sym (count_there i a0 a steps xs k before)
+pushed_before : (i : Tables) (a0 a : List Machine) (steps : List Step) (xs : List ℕ) (s k : ℕ) → k < length xs →
+    count_at i a0 a steps (xs ++ s ∷ []) k ≡ count_at i a0 a steps xs k
+pushed_before i a0 a steps xs s k before =
+    count_there i a0 a steps (xs ++ s ∷ []) k (omega (arith, length-append xs (s ∷ [])))
+    ∙ ap (λ t. Some (moved_count i a0 a steps t)) (get_or_append_left xs (s ∷ []) 0 k before)
+    ∙ sym (count_there i a0 a steps xs k before)
 
-pushed_here : (i : Tables) (a0 a : List Machine) (steps : List Step) (xs : List ℕ) (s : ℕ) → count_at i a0 a steps (xs ++ s ∷ []) (length xs) ≡ Some (moved_count i a0 a steps s)
-pushed_here i a0 a steps xs s = count_there i a0 a steps (xs ++ s ∷ []) (length xs) (omega (arith, length-append xs (s ∷ []))) ∙ ap (λ t. Some (moved_count i a0 a steps t)) (get_or-append_seam xs s [] 0)
+pushed_here : (i : Tables) (a0 a : List Machine) (steps : List Step) (xs : List ℕ) (s : ℕ) →
+    count_at i a0 a steps (xs ++ s ∷ []) (length xs) ≡ Some (moved_count i a0 a steps s)
+pushed_here i a0 a steps xs s =
+    count_there i a0 a steps (xs ++ s ∷ []) (length xs) (omega (arith, length-append xs (s ∷ [])))
+    ∙ ap (λ t. Some (moved_count i a0 a steps t)) (get_or-append_seam xs s [] 0)
 
-pushed_behind : (i : Tables) (a0 a : List Machine) (steps : List Step) (xs : List ℕ) (s k : ℕ) → length xs < k → count_at i a0 a steps (xs ++ s ∷ []) k ≡ count_at i a0 a steps xs k
-pushed_behind i a0 a steps xs s k behind = count_past i a0 a steps (xs ++ s ∷ []) k (omega (arith, length-append xs (s ∷ []))) ∙ sym (count_past i a0 a steps xs k (omega arith))
+pushed_behind : (i : Tables) (a0 a : List Machine) (steps : List Step) (xs : List ℕ) (s k : ℕ) → length xs < k →
+    count_at i a0 a steps (xs ++ s ∷ []) k ≡ count_at i a0 a steps xs k
+pushed_behind i a0 a steps xs s k behind =
+    count_past i a0 a steps (xs ++ s ∷ []) k (omega (arith, length-append xs (s ∷ [])))
+    ∙ sym (count_past i a0 a steps xs k (omega arith))
 
-pub counts_more : (i : Tables) (a0 a : List Machine) (steps : List Step) (j s filled : ℕ) (c : MovedCount) (counts : List (Option MovedCount)) → s ≡ service_in i steps j → is_named j (service_in i steps) s ≡ false → filled ≡ length (services_moved i steps j) → filled < length counts → c ≡ moved_count i a0 a steps s → AreCountsOf i a0 a steps j counts → AreCountsOf i a0 a steps (j + 1) (set counts filled (Some c))
+pub counts_more : (i : Tables) (a0 a : List Machine) (steps : List Step) (j s filled : ℕ) (c : MovedCount)
+    (counts : List (Option MovedCount)) → s ≡ service_in i steps j → is_named j (service_in i steps) s ≡ false →
+    filled ≡ length (services_moved i steps j) → filled < length counts → c ≡ moved_count i a0 a steps s →
+    AreCountsOf i a0 a steps j counts → AreCountsOf i a0 a steps (j + 1) (set counts filled (Some c))
 counts_more i a0 a steps j s filled c counts is new so_far room made before = rw add-one (record { each = each })
   where
     xs : List ℕ
     xs = services_moved i steps j
 
-    each : (k : ℕ) → k < 3 → get_or (set counts filled (Some c)) k None ≡ count_at i a0 a steps (services_moved i steps (suc j)) k
+    each : (k : ℕ) → k < 3 → get_or (set counts filled (Some c)) k None ≡ count_at i a0 a steps
+        (services_moved i steps (suc j)) k
     each k few = rw (services_new i steps j (rw is at new)) (⊎_elim
-        (λ (here : k ≡ filled). ap (λ l. get_or (set counts filled (Some c)) l None) here ∙ get_or-set_same counts filled (Some c) None room ∙ ap (λ x. Some x) made ∙ ap (λ t. Some (moved_count i a0 a steps t)) is ∙ sym (pushed_here i a0 a steps xs (service_in i steps j)) ∙ ap (count_at i a0 a steps (xs ++ service_in i steps j ∷ [])) (sym so_far ∙ sym here))
+        (λ (here : k ≡ filled). ap (λ l. get_or (set counts filled (Some c)) l None) here
+        ∙ get_or-set_same counts filled (Some c) None room ∙ ap (λ x. Some x) made
+        ∙ ap (λ t. Some (moved_count i a0 a steps t)) is
+        ∙ sym (pushed_here i a0 a steps xs (service_in i steps j))
+        ∙ ap (count_at i a0 a steps (xs ++ service_in i steps j ∷ [])) (sym so_far ∙ sym here))
         (λ (apart : k ≢ filled). get_or-set_other counts filled k (Some c) None apart ∙ before.each k few ∙ ⊎_elim
         (λ (earlier : k < length xs). sym (pushed_before i a0 a steps xs (service_in i steps j) k earlier))
         (λ (later : length xs ≤ k). sym (pushed_behind i a0 a steps xs (service_in i steps j) k (omega arith)))

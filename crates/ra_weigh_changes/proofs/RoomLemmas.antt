@@ -1,5 +1,6 @@
 -- Room on the machines that a move enters.
-use Rattle.std.proofs.Common.{◌≡◌, ◌↔◌, ℕ, ◌+◌, ◌<◌, ◌≤◌, arith, Bool, true, false, List, None, length, get_or, refl, ⊎_elim}
+use Rattle.std.proofs.Common.{◌≡◌, ◌↔◌, ℕ, ◌+◌, ◌<◌, ◌≤◌, arith, Bool, true, false, List, None, length, get_or, refl}
+use Rattle.std.proofs.Common.{⊎_elim}
 use Rattle.std.proofs.lemmas.Bool.{cases_lt}
 use Rattle.ra_base.specs.declared.ids.Machine.{Machine}
 use Rattle.ra_model.specs.declared.raw.Tables.{Tables}
@@ -25,7 +26,8 @@ told_false fails = (λ same. absurd (cc), λ fact. absurd (fails fact))
 pub within_none : (i : Tables) (m : ℕ) (used : ℕ → ℕ) → AreWithin i m used 0
 within_none i m used = record { each = λ r before. absurd (omega arith) }
 
-pub within_more : (i : Tables) (m n most : ℕ) (used : ℕ → ℕ) → AreWithin i m used n → most ≡ capacity_of i m n → used n ≤ most → AreWithin i m used (n + 1)
+pub within_more : (i : Tables) (m n most : ℕ) (used : ℕ → ℕ) → AreWithin i m used n → most ≡ capacity_of i m n →
+    used n ≤ most → AreWithin i m used (n + 1)
 within_more i m n most used so_far is fits = record {
   each = λ r below. ⊎_elim
       (λ (before : r < n). so_far.each r before)
@@ -33,14 +35,17 @@ within_more i m n most used so_far is fits = record {
       (cases_lt r n);
 }
 
-pub not_within : (i : Tables) (m n r most : ℕ) (used : ℕ → ℕ) → r < n → most ≡ capacity_of i m r → most < used r → AreWithin i m used n → ⊥
+pub not_within : (i : Tables) (m n r most : ℕ) (used : ℕ → ℕ) → r < n → most ≡ capacity_of i m r → most < used r →
+    AreWithin i m used n → ⊥
 not_within i m n r most used below is high all = absurd (omega (arith, is, high, all.each r below))
 
 pub within_all : (i : Tables) (m n k : ℕ) (used : ℕ → ℕ) → k ≡ n → AreWithin i m used k → AreWithin i m used n
 within_all i m n k used all within = rw (← all) within
 
 -- the row of a machine after the move
-pub row_within : (i : Tables) (b : List Machine) (m : ℕ) (row : List ℕ) (fits : Bool) → IsUsageRow i b m row → (fits ≡ true) ↔ AreWithin i m (λ r. get_or row r 0) (resource_count i) → (fits ≡ true) ↔ AreWithin i m (use_of i b m) (resource_count i)
+pub row_within : (i : Tables) (b : List Machine) (m : ℕ) (row : List ℕ) (fits : Bool) → IsUsageRow i b m row →
+    (fits ≡ true) ↔ AreWithin i m (λ r. get_or row r 0) (resource_count i) →
+    (fits ≡ true) ↔ AreWithin i m (use_of i b m) (resource_count i)
 row_within i b m row fits is (gives, back) = (
   λ yes. record { each = λ r below. let all = gives yes in omega (arith, is.each r below, all.each r below) },
   λ all. back (record { each = λ r below. omega (arith, is.each r below, all.each r below) }),
@@ -50,7 +55,8 @@ row_within i b m row fits is (gives, back) = (
 pub room_none : (i : Tables) (b : List Machine) (steps : List Step) → HaveRoom i b steps 0
 room_none i b steps = record { each = λ j before. absurd (omega arith) }
 
-pub room_more : (i : Tables) (b : List Machine) (steps : List Step) (n to : ℕ) → HaveRoom i b steps n → to ≡ to_in steps n → AreWithin i to (use_of i b to) (resource_count i) → HaveRoom i b steps (n + 1)
+pub room_more : (i : Tables) (b : List Machine) (steps : List Step) (n to : ℕ) → HaveRoom i b steps n →
+    to ≡ to_in steps n → AreWithin i to (use_of i b to) (resource_count i) → HaveRoom i b steps (n + 1)
 room_more i b steps n to so_far is here = record {
   each = λ j below. ⊎_elim
       (λ (before : j < n). so_far.each j before)
@@ -58,9 +64,15 @@ room_more i b steps n to so_far is here = record {
       (cases_lt j n);
 }
 
-pub no_room : (i : Tables) (b : List Machine) (steps : List Step) (n j to : ℕ) → j < n → to ≡ to_in steps j → (AreWithin i to (use_of i b to) (resource_count i) → ⊥) → HaveRoom i b steps n → ⊥
+pub no_room : (i : Tables) (b : List Machine) (steps : List Step) (n j to : ℕ) → j < n → to ≡ to_in steps j →
+    (AreWithin i to (use_of i b to) (resource_count i) → ⊥) → HaveRoom i b steps n → ⊥
 no_room i b steps n j to below is fails all = fails (rw is (all.each j below))
 
 -- if no capacity is broken there is room
-pub room_kept : (i : Tables) (a : List Machine) (steps : List Step) → IsMove i a steps → broken_capacity i (applied a steps) ≡ None → HaveRoom i (applied a steps) steps (length steps)
-room_kept i a steps move none = record { each = λ j below. record { each = λ r r_in. capacity_met i (applied a steps) none (to_in steps j) r (move.reaches j below) r_in } }
+pub room_kept : (i : Tables) (a : List Machine) (steps : List Step) → IsMove i a steps →
+    broken_capacity i (applied a steps) ≡ None → HaveRoom i (applied a steps) steps (length steps)
+room_kept i a steps move none = record {
+  each = λ j below. record {
+    each = λ r r_in. capacity_met i (applied a steps) none (to_in steps j) r (move.reaches j below) r_in;
+  };
+}

@@ -1,5 +1,6 @@
 -- Places of a ring.
-use Rattle.std.proofs.Common.{◌≡◌, ℕ, ◌+◌, ◌*◌, ◌/◌, ◌%◌, ◌<◌, ◌≤◌, List, length, get_or, take, drop, sym, ap, subst, ◌∙◌, arith}
+use Rattle.std.proofs.Common.{◌≡◌, ℕ, ◌+◌, ◌*◌, ◌/◌, ◌%◌, ◌<◌, ◌≤◌, List, length, get_or, take, drop, sym, ap, subst}
+use Rattle.std.proofs.Common.{◌∙◌, arith}
 use Rattle.std.proofs.Math.Nat.{mod-add-div', mod-eq_of_lt}
 use Rattle.std.proofs.lemmas.Simd.{length-chunk, get_or-chunk}
 use Rattle.ra_weigh_lanes.specs.Windows.{IsRingPart}
@@ -19,8 +20,10 @@ place_at_end x j from n is end some =
     ap (λ y. y % n) (omega (arith, split, is, more)) ∙ mod-mul-add (x / n + 1) n 0 some
 
 -- a part that doesn't reach the end
-pub part_inside : (ring : List ℕ) (start n m : ℕ) → n ≡ m → start + n ≤ length ring → IsRingPart ring start n (take m (drop start ring))
+pub part_inside : (ring : List ℕ) (start n m : ℕ) → n ≡ m → start + n ≤ length ring →
+    IsRingPart ring start n (take m (drop start ring))
 part_inside ring start n m same within = subst (λ p. IsRingPart ring start n (take p (drop start ring))) same (record {
   many = length-chunk start n ring within;
-  each = λ k l. get_or-chunk start n ring k 0 l ∙ ap (λ x. get_or ring x 0) (sym (mod-eq_of_lt {n = start + k} {m = length ring} (omega arith)));
+  each = λ k l. get_or-chunk start n ring k 0 l
+      ∙ ap (λ x. get_or ring x 0) (sym (mod-eq_of_lt {n = start + k} {m = length ring} (omega arith)));
 })

@@ -1,5 +1,6 @@
 -- What is lacking of the terms, from one on.
-use Rattle.std.proofs.Common.{◌≡◌, ℕ, ◌+◌, ◌-◌, ◌*◌, ◌%◌, ◌^◌, ◌<◌, ◌≤◌, List, [], ◌∷◌, length, get_or, drop, refl, ap, ap₂, ◌∙◌, arith, add-one, drop-cons}
+use Rattle.std.proofs.Common.{◌≡◌, ℕ, ◌+◌, ◌-◌, ◌*◌, ◌%◌, ◌^◌, ◌<◌, ◌≤◌, List, [], ◌∷◌, length, get_or, drop, refl, ap}
+use Rattle.std.proofs.Common.{ap₂, ◌∙◌, arith, add-one, drop-cons}
 use Rattle.std.proofs.lemmas.List.{drop_all}
 use Rattle.ra_weigh_lanes.specs.declared.windows.Term.{Term}
 use Rattle.ra_weigh_lanes.specs.Windows.{lacking, amounts, total}
@@ -13,7 +14,8 @@ lacking_within rows (t ∷ terms) p = omega (arith, lacking_within rows terms p)
 
 -- the first of the terms that are left
 pub lacking_from : (rows : List ℕ) (terms : List Term) (i p : ℕ) (d : Term) → i < length terms
-    → lacking rows (drop i terms) p ≡ ((get_or terms i d).amount - get_or rows ((get_or terms i d).row + p) 0) + lacking rows (drop (i + 1) terms) p
+    → lacking rows (drop i terms) p ≡ ((get_or terms i d).amount - get_or rows ((get_or terms i d).row + p) 0)
+    + lacking rows (drop (i + 1) terms) p
 unfolding lacking
 lacking_from rows terms i p d l = ap (λ ts. lacking rows ts p) (drop-cons terms i d l) ∙ rw add-one refl
 
@@ -32,5 +34,6 @@ pub whole_sum : (rows ways : List ℕ) (terms : List Term) (start from k weight 
     → first ≡ weight * read % 2 ^ 32 → read ≡ get_or ways (from + k) 0 → weight * get_or ways (from + k) 0 ≤ 2 ^ 30
     → first + lacking rows terms (start + from + k) ≡ total rows terms start ways weight (from + k)
 whole_sum rows ways terms start from k weight first read w r small =
-    let way : first ≡ weight * get_or ways (from + k) 0 = w ∙ ap (λ n. weight * n % 2 ^ 32) r ∙ mod-eq_of_lt (omega arith) in
+    let way : first ≡ weight * get_or ways (from + k) 0 = w ∙ ap (λ n. weight * n % 2 ^ 32) r
+    ∙ mod-eq_of_lt (omega arith) in
     ap₂ (λ (a b : ℕ). a + b) way (ap (lacking rows terms) (omega arith))

@@ -1,5 +1,6 @@
 -- A window block by block: which sums are small, and where they are.
-use Rattle.std.proofs.Common.{◌≡◌, ◌↔◌, ℕ, ◌+◌, ◌-◌, ◌*◌, ◌%◌, ◌^◌, ◌<◌, ◌≤◌, List, get_or, sym, subst, ◌∙◌, ⊎_elim, arith}
+use Rattle.std.proofs.Common.{◌≡◌, ◌↔◌, ℕ, ◌+◌, ◌-◌, ◌*◌, ◌%◌, ◌^◌, ◌<◌, ◌≤◌, List, get_or, sym, subst, ◌∙◌, ⊎_elim}
+use Rattle.std.proofs.Common.{arith}
 use Rattle.std.specs.Int.{bit_at}
 use Rattle.std.proofs.lemmas.Bool.{cases_lt}
 use Rattle.std.proofs.lemmas.Nat.Bits.{bit_at_cat_low, bit_at_cat_high}
@@ -19,23 +20,30 @@ pub record FoundNext (f : ℕ → ℕ) (limit small : ℕ) (block : List ℕ) (n
   pub bits : (k : ℕ) → k < 16 → (bit_at small k ≡ 1) ↔ (get_or block k 0 ≤ limit)
   pub are : (k : ℕ) → k < 16 → IsSumOrLarge limit (get_or block k 0) (f (n + k))
 
-small_either : (limit said sum bit : ℕ) → IsSumOrLarge limit said sum → (bit ≡ 1) ↔ (said ≤ limit) → (bit ≡ 1) ↔ (sum ≤ limit)
+small_either : (limit said sum bit : ℕ) → IsSumOrLarge limit said sum → (bit ≡ 1) ↔ (said ≤ limit) →
+    (bit ≡ 1) ↔ (sum ≤ limit)
 small_either limit said sum bit either bits = (
-  λ set. ⊎_elim (λ (same : said ≡ sum). omega (arith, bits.0 set)) (λ (above : (limit < said) × (limit < sum)). omega (arith, bits.0 set, above.0)) either,
-  λ small. bits.1 (⊎_elim (λ (same : said ≡ sum). omega arith) (λ (above : (limit < said) × (limit < sum)). omega (arith, above.1)) either),
+  λ set. ⊎_elim (λ (same : said ≡ sum). omega (arith, bits.0 set))
+      (λ (above : (limit < said) × (limit < sum)). omega (arith, bits.0 set, above.0)) either,
+  λ small. bits.1
+      (⊎_elim (λ (same : said ≡ sum). omega arith) (λ (above : (limit < said) × (limit < sum)). omega (arith, above.1))
+      either),
 )
 
 small_is : (limit said sum : ℕ) → IsSumOrLarge limit said sum → said ≤ limit → said ≡ sum
 small_is limit said sum either small =
-    ⊎_elim (λ (same : said ≡ sum). same) (λ (above : (limit < said) × (limit < sum)). absurd (omega (arith, above.0))) either
+    ⊎_elim (λ (same : said ≡ sum). same) (λ (above : (limit < said) × (limit < sum)). absurd (omega (arith, above.0)))
+    either
 
 mask_fits : (small mask n : ℕ) → small < 2 ^ 16 → mask < 2 ^ n → small * 2 ^ n + mask < 2 ^ (n + 16)
 mask_fits small mask n s m =
-    let most : (small + 1) * 2 ^ n ≤ 2 ^ 16 * 2 ^ n = mul-le-mul_right {m = small + 1} {n = 2 ^ 16} (2 ^ n) (omega arith) in
+    let most : (small + 1) * 2 ^ n ≤ 2 ^ 16 * 2 ^ n = mul-le-mul_right {m = small + 1} {n = 2 ^ 16} (2 ^ n)
+    (omega arith) in
     omega (arith, most, pow-add 2 n 16)
 
 -- a mask of sixteen bits that moves up by whole blocks loses no bit
-pub shifted_fits : (small number : ℕ) → small < 2 ^ 16 → number < 4 → small * 2 ^ (number * 16) % 2 ^ 64 ≡ small * 2 ^ (number * 16)
+pub shifted_fits : (small number : ℕ) → small < 2 ^ 16 → number < 4 → small * 2 ^ (number * 16) % 2 ^ 64 ≡ small
+    * 2 ^ (number * 16)
 shifted_fits small number s l =
     let n : ℕ = number * 16 in
     let under : 2 ^ (n + 16) ≤ 2 ^ 64 = pow-le-pow_right {n = 2} (omega arith) {i = n + 16} {j = 64} (omega arith) in
@@ -56,7 +64,8 @@ next_found f limit mask small sums after block n found next there before = recor
       let at : n + j ≡ k = omega arith in
       let low : j < 16 = omega arith in
       subst (λ b. (b ≡ 1) ↔ (f k ≤ limit)) (sym (bit_at_cat_high small n mask k found.below new))
-      (subst (λ p. (bit_at small j ≡ 1) ↔ (f p ≤ limit)) at (small_either limit (get_or block j 0) (f (n + j)) (bit_at small j) (next.are j low) (next.bits j low))))
+      (subst (λ p. (bit_at small j ≡ 1) ↔ (f p ≤ limit)) at
+      (small_either limit (get_or block j 0) (f (n + j)) (bit_at small j) (next.are j low) (next.bits j low))))
       (cases_lt k n);
   are = λ k l set. ⊎_elim
       (λ old. before k old ∙ found.are k old (sym (bit_at_cat_low small n mask k old) ∙ set))
@@ -65,6 +74,7 @@ next_found f limit mask small sums after block n found next there before = recor
       let at : n + j ≡ k = omega arith in
       let low : j < 16 = omega arith in
       let bit : bit_at small j ≡ 1 = sym (bit_at_cat_high small n mask k found.below new) ∙ set in
-      subst (λ p. get_or after p 0 ≡ f p) at (there j low ∙ small_is limit _ _ (next.are j low) ((next.bits j low).0 bit)))
+      subst (λ p. get_or after p 0 ≡ f p) at
+      (there j low ∙ small_is limit _ _ (next.are j low) ((next.bits j low).0 bit)))
       (cases_lt k n);
 }

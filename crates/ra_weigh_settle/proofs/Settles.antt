@@ -1,5 +1,6 @@
 -- What settling a weighed move gives: the cost after it if nothing is broken, and else the cost before it.
-use Rattle.std.proofs.Common.{◌≡◌, ℕ, ◌*◌, ◌^◌, ◌<◌, pos, List, length, get_or, Option, Some, None, refl, sym, ap, ap₂, ◌∙◌, arith}
+use Rattle.std.proofs.Common.{◌≡◌, ℕ, ◌*◌, ◌^◌, ◌<◌, pos, List, length, get_or, Option, Some, None, refl, sym, ap, ap₂}
+use Rattle.std.proofs.Common.{◌∙◌, arith}
 use Rattle.std.specs.Prelude.{IfSome, ◌-ℤ◌}
 use Rattle.std.proofs.lemmas.Int.{ints}
 use Rattle.ra_base.specs.Searches.{or_else}
@@ -37,20 +38,37 @@ pub record AreChanges (moved : MovedCounts) (weighed : Weighed) : Type 0 where
   pub second_third : AreApart weighed.second weighed.third
 
 -- a move without a broken cause names no process twice
-unbroken_move : (i : Tables) (a0 a : List Machine) (steps : List Step) (moved : MovedCounts) (kept : ℕ) (weighed : Weighed) → IsSettling i a0 a steps moved kept weighed → broken_by i a0 a steps ≡ None → IsMove i a steps
+unbroken_move : (i : Tables) (a0 a : List Machine) (steps : List Step) (moved : MovedCounts) (kept : ℕ)
+    (weighed : Weighed) → IsSettling i a0 a steps moved kept weighed → broken_by i a0 a steps ≡ None → IsMove i a steps
 unfolding broken_by
 unbroken_move i a0 a steps moved kept weighed settling none = settling.moves (left_none (repeat_of steps) _ none)
 
 -- a weighing in which nothing is broken, and one that has a cause
-pub whole_is : (i : Tables) (a0 a : List Machine) (steps : List Step) → broken_by i a0 a steps ≡ None → weighed_of i a0 a steps ≡ record { broken = None; local = local_change i a0 a steps; first = changed_count i a0 a steps 0; second = changed_count i a0 a steps 1; third = changed_count i a0 a steps 2 }
+pub whole_is : (i : Tables) (a0 a : List Machine) (steps : List Step) → broken_by i a0 a steps ≡ None →
+    weighed_of i a0 a steps ≡ record {
+      broken = None;
+      local = local_change i a0 a steps;
+      first = changed_count i a0 a steps 0;
+      second = changed_count i a0 a steps 1;
+      third = changed_count i a0 a steps 2;
+    }
 unfolding weighed_of weighed_by
 whole_is i a0 a steps none = rw none refl
 
-pub bare_is : (i : Tables) (a0 a : List Machine) (steps : List Step) (cause : Cause) → broken_by i a0 a steps ≡ Some cause → weighed_of i a0 a steps ≡ record { broken = Some cause; local = pos 0; first = None; second = None; third = None }
+pub bare_is : (i : Tables) (a0 a : List Machine) (steps : List Step) (cause : Cause) →
+    broken_by i a0 a steps ≡ Some cause → weighed_of i a0 a steps ≡ record {
+      broken = Some cause;
+      local = pos 0;
+      first = None;
+      second = None;
+      third = None;
+    }
 unfolding weighed_of weighed_by
 bare_is i a0 a steps cause some = rw some refl
 
-changes_by : (i : Tables) (a0 a : List Machine) (steps : List Step) (moved : MovedCounts) (kept : ℕ) (weighed : Weighed) (broken : Option Cause) → WellFormed i → IsSettling i a0 a steps moved kept weighed → broken_by i a0 a steps ≡ broken → AreChanges moved weighed
+changes_by : (i : Tables) (a0 a : List Machine) (steps : List Step) (moved : MovedCounts) (kept : ℕ) (weighed : Weighed)
+    (broken : Option Cause) → WellFormed i → IsSettling i a0 a steps moved kept weighed →
+    broken_by i a0 a steps ≡ broken → AreChanges moved weighed
 changes_by i a0 a steps moved kept weighed None limits settling none =
     let is = unbroken_move i a0 a steps moved kept weighed settling none in
     rw (settling.weighing, whole_is i a0 a steps none) (record {
@@ -62,78 +80,128 @@ changes_by i a0 a steps moved kept weighed None limits settling none =
       second_third = counts_apart i a0 a steps 1 2 (omega arith);
     })
 changes_by i a0 a steps moved kept weighed (Some cause) limits settling some =
-    rw (settling.weighing, bare_is i a0 a steps cause some) (record { first = tt; second = tt; third = tt; first_second = tt; first_third = tt; second_third = tt })
+    rw (settling.weighing, bare_is i a0 a steps cause some) (record {
+      first = tt;
+      second = tt;
+      third = tt;
+      first_second = tt;
+      first_third = tt;
+      second_third = tt;
+    })
 
-pub changes : (i : Tables) (a0 a : List Machine) (steps : List Step) (moved : MovedCounts) (kept : ℕ) (weighed : Weighed) → WellFormed i → IsSettling i a0 a steps moved kept weighed → AreChanges moved weighed
-changes i a0 a steps moved kept weighed limits settling = changes_by i a0 a steps moved kept weighed (broken_by i a0 a steps) limits settling refl
+pub changes : (i : Tables) (a0 a : List Machine) (steps : List Step) (moved : MovedCounts) (kept : ℕ)
+    (weighed : Weighed) → WellFormed i → IsSettling i a0 a steps moved kept weighed → AreChanges moved weighed
+changes i a0 a steps moved kept weighed limits settling =
+    changes_by i a0 a steps moved kept weighed (broken_by i a0 a steps) limits settling refl
 
 -- the settled cost is a number below 2^114, and gives the verdict of the judge
-pub record AreSettled (i : Tables) (a0 a : List Machine) (steps : List Step) (kept now after weight : ℕ) (weighed : Weighed) : Type 0 where
+pub record AreSettled (i : Tables) (a0 a : List Machine) (steps : List Step) (kept now after weight : ℕ)
+    (weighed : Weighed) : Type 0 where
   pub cost : ℕ
   pub is : settled_cost kept now after weight weighed.local ≡ pos cost
   pub small : cost < 2 ^ 114
-  pub judged : (allowed : ℕ) → verdict_of (or_else weighed.broken (rise_test kept cost allowed)) cost ≡ judge i a0 a steps allowed
+  pub judged : (allowed : ℕ) → verdict_of (or_else weighed.broken (rise_test kept cost allowed)) cost ≡
+      judge i a0 a steps allowed
 
 -- the cost after a move, from what changes
-whole_cost : (i : Tables) (a0 a b : List Machine) (kept now after weight : ℕ) → kept ≡ objective i a0 a → weight ≡ service_weight_of i → now ≡ greatest (service_count i) (moved_of i a0 a) → after ≡ greatest (service_count i) (moved_of i a0 b) → settled_cost kept now after weight (pos (local_cost i a0 b) -ℤ pos (local_cost i a0 a)) ≡ pos (objective i a0 b)
+whole_cost : (i : Tables) (a0 a b : List Machine) (kept now after weight : ℕ) → kept ≡ objective i a0 a →
+    weight ≡ service_weight_of i → now ≡ greatest (service_count i) (moved_of i a0 a) →
+    after ≡ greatest (service_count i) (moved_of i a0 b) →
+    settled_cost kept now after weight (pos (local_cost i a0 b) -ℤ pos (local_cost i a0 a)) ≡ pos (objective i a0 b)
 unfolding settled_cost objective local_cost service_cost
 whole_cost i a0 a b kept now after weight cost weighs is_now is_after =
-    let before : weight * now ≡ service_weight_of i * greatest (service_count i) (moved_of i a0 a) = ap₂ (λ w m. w * m) weighs is_now in
-    let behind : weight * after ≡ service_weight_of i * greatest (service_count i) (moved_of i a0 b) = ap₂ (λ w m. w * m) weighs is_after in
+    let before : weight * now ≡ service_weight_of i * greatest (service_count i) (moved_of i a0 a) =
+    ap₂ (λ w m. w * m) weighs is_now in
+    let behind : weight * after ≡ service_weight_of i * greatest (service_count i) (moved_of i a0 b) =
+    ap₂ (λ w m. w * m) weighs is_after in
     omega (arith, ints)
 
 bare_cost : (kept now after weight : ℕ) → now ≡ after → settled_cost kept now after weight (pos 0) ≡ pos kept
 unfolding settled_cost
-bare_cost kept now after weight same = let same_product : weight * now ≡ weight * after = ap (λ m. weight * m) same in omega (arith, ints)
+bare_cost kept now after weight same =
+    let same_product : weight * now ≡ weight * after = ap (λ m. weight * m) same in omega (arith, ints)
 
-now_is : (i : Tables) (a0 a : List Machine) (moved : MovedCounts) (now : ℕ) → AreMovedOf i a0 a moved → now ≡ greatest (length moved.counts) (λ s. get_or moved.counts s 0) → now ≡ greatest (service_count i) (moved_of i a0 a)
-now_is i a0 a moved now counts is = is ∙ ap (λ n. greatest n (λ s. get_or moved.counts s 0)) counts.one_each ∙ greatest_same (service_count i) (λ s. get_or moved.counts s 0) (moved_of i a0 a) counts.each
+now_is : (i : Tables) (a0 a : List Machine) (moved : MovedCounts) (now : ℕ) → AreMovedOf i a0 a moved →
+    now ≡ greatest (length moved.counts) (λ s. get_or moved.counts s 0) →
+    now ≡ greatest (service_count i) (moved_of i a0 a)
+now_is i a0 a moved now counts is = is ∙ ap (λ n. greatest n (λ s. get_or moved.counts s 0)) counts.one_each
+    ∙ greatest_same (service_count i) (λ s. get_or moved.counts s 0) (moved_of i a0 a) counts.each
 
 with_none : (counts : List ℕ) → greatest_with counts None None None ≡ greatest (length counts) (λ s. get_or counts s 0)
 unfolding greatest_with counted_after
 with_none counts = refl
 
-judged_whole : (i : Tables) (a0 a : List Machine) (steps : List Step) (kept allowed : ℕ) → broken_by i a0 a steps ≡ None → kept ≡ objective i a0 a → verdict_of (or_else None (rise_test kept (objective i a0 (applied a steps)) allowed)) (objective i a0 (applied a steps)) ≡ judge i a0 a steps allowed
+judged_whole : (i : Tables) (a0 a : List Machine) (steps : List Step) (kept allowed : ℕ) →
+    broken_by i a0 a steps ≡ None → kept ≡ objective i a0 a →
+    verdict_of (or_else None (rise_test kept (objective i a0 (applied a steps)) allowed))
+    (objective i a0 (applied a steps)) ≡ judge i a0 a steps allowed
 unfolding judge
 judged_whole i a0 a steps kept allowed none cost = rw (none, cost) refl
 
-judged_broken : (i : Tables) (a0 a : List Machine) (steps : List Step) (kept allowed : ℕ) (cause : Cause) → broken_by i a0 a steps ≡ Some cause → verdict_of (or_else (Some cause) (rise_test kept kept allowed)) kept ≡ judge i a0 a steps allowed
+judged_broken : (i : Tables) (a0 a : List Machine) (steps : List Step) (kept allowed : ℕ) (cause : Cause) →
+    broken_by i a0 a steps ≡ Some cause → verdict_of (or_else (Some cause) (rise_test kept kept allowed)) kept ≡
+    judge i a0 a steps allowed
 unfolding judge or_else verdict_of
 judged_broken i a0 a steps kept allowed cause some = rw some refl
 
-settles_by : (i : Tables) (a0 a : List Machine) (steps : List Step) (moved : MovedCounts) (kept now after weight : ℕ) (weighed : Weighed) (broken : Option Cause) → WellFormed i → Small i → IsSettling i a0 a steps moved kept weighed → broken_by i a0 a steps ≡ broken → now ≡ greatest (length moved.counts) (λ s. get_or moved.counts s 0) → after ≡ greatest_with moved.counts weighed.first weighed.second weighed.third → weight ≡ service_weight_of i → AreSettled i a0 a steps kept now after weight weighed
+settles_by : (i : Tables) (a0 a : List Machine) (steps : List Step) (moved : MovedCounts) (kept now after weight : ℕ)
+    (weighed : Weighed) (broken : Option Cause) → WellFormed i → Small i → IsSettling i a0 a steps moved kept weighed →
+    broken_by i a0 a steps ≡ broken → now ≡ greatest (length moved.counts) (λ s. get_or moved.counts s 0) →
+    after ≡ greatest_with moved.counts weighed.first weighed.second weighed.third → weight ≡ service_weight_of i →
+    AreSettled i a0 a steps kept now after weight weighed
 unfolding local_change
 settles_by i a0 a steps moved kept now after weight weighed None limits small settling none is_now is_after weighs =
     let whole = settling.weighing ∙ whole_is i a0 a steps none in
     let is = unbroken_move i a0 a steps moved kept weighed settling none in
-    let after_is = is_after ∙ ap (λ (w : Weighed). greatest_with moved.counts w.first w.second w.third) whole ∙ greatest_after_move i a0 a steps moved is settling.counts in
+    let after_is = is_after ∙ ap (λ (w : Weighed). greatest_with moved.counts w.first w.second w.third) whole
+    ∙ greatest_after_move i a0 a steps moved is settling.counts in
     record {
       cost = objective i a0 (applied a steps);
-      is = ap (λ (w : Weighed). settled_cost kept now after weight w.local) whole ∙ whole_cost i a0 a (applied a steps) kept now after weight settling.cost weighs (now_is i a0 a moved now settling.counts is_now) after_is;
+      is = ap (λ (w : Weighed). settled_cost kept now after weight w.local) whole
+          ∙ whole_cost i a0 a (applied a steps) kept now after weight settling.cost weighs
+          (now_is i a0 a moved now settling.counts is_now) after_is;
       small = objective_under i a0 (applied a steps) limits small;
-      judged = λ allowed. ap (λ (w : Weighed). verdict_of (or_else w.broken (rise_test kept (objective i a0 (applied a steps)) allowed)) (objective i a0 (applied a steps))) whole ∙ judged_whole i a0 a steps kept allowed none settling.cost;
+      judged = λ allowed.
+          ap (λ (w : Weighed). verdict_of (or_else w.broken (rise_test kept (objective i a0 (applied a steps)) allowed))
+          (objective i a0 (applied a steps))) whole ∙ judged_whole i a0 a steps kept allowed none settling.cost;
     }
-settles_by i a0 a steps moved kept now after weight weighed (Some cause) limits small settling some is_now is_after weighs =
+settles_by i a0 a steps moved kept now after weight weighed (Some cause) limits small settling some is_now is_after
+    weighs =
     let bare = settling.weighing ∙ bare_is i a0 a steps cause some in
-    let after_is = is_after ∙ ap (λ (w : Weighed). greatest_with moved.counts w.first w.second w.third) bare ∙ with_none moved.counts in
+    let after_is = is_after ∙ ap (λ (w : Weighed). greatest_with moved.counts w.first w.second w.third) bare
+    ∙ with_none moved.counts in
     record {
       cost = kept;
-      is = ap (λ (w : Weighed). settled_cost kept now after weight w.local) bare ∙ bare_cost kept now after weight (is_now ∙ sym after_is);
+      is = ap (λ (w : Weighed). settled_cost kept now after weight w.local) bare
+          ∙ bare_cost kept now after weight (is_now ∙ sym after_is);
       small = omega (arith, settling.cost, objective_under i a0 a limits small);
-      judged = λ allowed. ap (λ (w : Weighed). verdict_of (or_else w.broken (rise_test kept kept allowed)) kept) bare ∙ judged_broken i a0 a steps kept allowed cause some;
+      judged = λ allowed. ap (λ (w : Weighed). verdict_of (or_else w.broken (rise_test kept kept allowed)) kept) bare
+          ∙ judged_broken i a0 a steps kept allowed cause some;
     }
 
-pub settles : (i : Tables) (a0 a : List Machine) (steps : List Step) (moved : MovedCounts) (kept now after weight : ℕ) (weighed : Weighed) → WellFormed i → Small i → IsSettling i a0 a steps moved kept weighed → now ≡ greatest (length moved.counts) (λ s. get_or moved.counts s 0) → after ≡ greatest_with moved.counts weighed.first weighed.second weighed.third → weight ≡ service_weight_of i → AreSettled i a0 a steps kept now after weight weighed
-settles i a0 a steps moved kept now after weight weighed limits small settling is_now is_after weighs = settles_by i a0 a steps moved kept now after weight weighed (broken_by i a0 a steps) limits small settling refl is_now is_after weighs
+pub settles : (i : Tables) (a0 a : List Machine) (steps : List Step) (moved : MovedCounts) (kept now after weight : ℕ)
+    (weighed : Weighed) → WellFormed i → Small i → IsSettling i a0 a steps moved kept weighed →
+    now ≡ greatest (length moved.counts) (λ s. get_or moved.counts s 0) →
+    after ≡ greatest_with moved.counts weighed.first weighed.second weighed.third → weight ≡ service_weight_of i →
+    AreSettled i a0 a steps kept now after weight weighed
+settles i a0 a steps moved kept now after weight weighed limits small settling is_now is_after weighs =
+    settles_by i a0 a steps moved kept now after weight weighed (broken_by i a0 a steps) limits small settling refl
+    is_now is_after weighs
 
 -- a weighing with a cause is refused for it, whatever the counts and the cost
-broken_is : (i : Tables) (a0 a : List Machine) (steps : List Step) (broken : Option Cause) → broken_by i a0 a steps ≡ broken → (weighed_of i a0 a steps).broken ≡ broken
+broken_is : (i : Tables) (a0 a : List Machine) (steps : List Step) (broken : Option Cause) →
+    broken_by i a0 a steps ≡ broken → (weighed_of i a0 a steps).broken ≡ broken
 broken_is i a0 a steps None none = ap (λ (w : Weighed). w.broken) (whole_is i a0 a steps none)
 broken_is i a0 a steps (Some cause) some = ap (λ (w : Weighed). w.broken) (bare_is i a0 a steps cause some)
 
-judge_refuses : (i : Tables) (a0 a : List Machine) (steps : List Step) (allowed : ℕ) (cause : Cause) → broken_by i a0 a steps ≡ Some cause → Refused cause ≡ judge i a0 a steps allowed
+judge_refuses : (i : Tables) (a0 a : List Machine) (steps : List Step) (allowed : ℕ) (cause : Cause) →
+    broken_by i a0 a steps ≡ Some cause → Refused cause ≡ judge i a0 a steps allowed
 unfolding judge or_else verdict_of
 judge_refuses i a0 a steps allowed cause some = rw some refl
 
-pub refuses : (i : Tables) (a0 a : List Machine) (steps : List Step) (moved : MovedCounts) (kept allowed : ℕ) (weighed : Weighed) (cause : Cause) → IsSettling i a0 a steps moved kept weighed → weighed.broken ≡ Some cause → Refused cause ≡ judge i a0 a steps allowed
-refuses i a0 a steps moved kept allowed weighed cause settling is = judge_refuses i a0 a steps allowed cause (sym (broken_is i a0 a steps (broken_by i a0 a steps) refl) ∙ ap (λ (w : Weighed). w.broken) (sym settling.weighing) ∙ is)
+pub refuses : (i : Tables) (a0 a : List Machine) (steps : List Step) (moved : MovedCounts) (kept allowed : ℕ)
+    (weighed : Weighed) (cause : Cause) → IsSettling i a0 a steps moved kept weighed → weighed.broken ≡ Some cause →
+    Refused cause ≡ judge i a0 a steps allowed
+refuses i a0 a steps moved kept allowed weighed cause settling is =
+    judge_refuses i a0 a steps allowed cause (sym (broken_is i a0 a steps (broken_by i a0 a steps) refl)
+    ∙ ap (λ (w : Weighed). w.broken) (sym settling.weighing) ∙ is)

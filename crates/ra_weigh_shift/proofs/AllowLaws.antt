@@ -1,5 +1,6 @@
 -- A shift is refused for no cause exactly if its conditions are met.
-use Rattle.std.proofs.Common.{◌≡◌, ◌≢◌, ◌↔◌, ℕ, ◌<◌, true, false, List, [], ◌∷◌, None, eqb, sym, refl, ap, ◌∙◌, arith, eq-eqb, ne_eqb}
+use Rattle.std.proofs.Common.{◌≡◌, ◌≢◌, ◌↔◌, ℕ, ◌<◌, true, false, List, [], ◌∷◌, None, eqb, sym, refl, ap, ◌∙◌, arith}
+use Rattle.std.proofs.Common.{eq-eqb, ne_eqb}
 use Rattle.std.proofs.lemmas.Bool.{both_ways, false≢true}
 use Rattle.ra_base.specs.Searches.{or_else, first}
 use Rattle.ra_base.specs.Sums.{is_named}
@@ -32,7 +33,8 @@ pub record IsAt (i : Tables) (a0 a : List Machine) (p to : ℕ) : Type 0 where
   pub known : p < process_count i
   pub reach : to < machine_count i
 
-pub start_of : (i : Tables) (a0 a : List Machine) (p to : ℕ) → IsAt i a0 a p to → machine_at a p ≢ to → IsStart i a0 a p to
+pub start_of : (i : Tables) (a0 a : List Machine) (p to : ℕ) → IsAt i a0 a p to → machine_at a p ≢ to →
+    IsStart i a0 a p to
 start_of i a0 a p to h apart = record {
   formed = h.formed;
   small = h.small;
@@ -54,27 +56,39 @@ no_repeat a p to = refl
 
 apart_from : (a : List Machine) (p to : ℕ) → same_of (leaving a p to ∷ []) ≡ None → machine_at a p ≢ to
 unfolding same_of same_test from_in to_in step_at leaving
-apart_from a p to none same = both_ways (eqb (machine_at a p) to) (cause_none _ _ (first_none_at 0 1 (same_test (leaving a p to ∷ [])) (omega arith) none)) (eq-eqb (machine_at a p) to same)
+apart_from a p to none same =
+    both_ways (eqb (machine_at a p) to)
+    (cause_none _ _ (first_none_at 0 1 (same_test (leaving a p to ∷ [])) (omega arith) none))
+    (eq-eqb (machine_at a p) to same)
 
 same_none : (a : List Machine) (p to : ℕ) → machine_at a p ≢ to → same_of (leaving a p to ∷ []) ≡ None
 unfolding same_of same_test first or_else from_in to_in step_at leaving
 same_none a p to apart = cause_free _ _ (ne_eqb (machine_at a p) to apart)
 
 -- what the judge asks of a shift
-unbroken_after : (i : Tables) (a0 a : List Machine) (p to : ℕ) → broken_by i a0 a (leaving a p to ∷ []) ≡ None → first_broken i a0 (shifted a p to) ≡ None
+unbroken_after : (i : Tables) (a0 a : List Machine) (p to : ℕ) → broken_by i a0 a (leaving a p to ∷ []) ≡ None →
+    first_broken i a0 (shifted a p to) ≡ None
 unfolding broken_by
-unbroken_after i a0 a p to none = ap (first_broken i a0) (sym (applied_one a p to)) ∙ right_none (same_of (leaving a p to ∷ [])) _ (right_none (repeat_of (leaving a p to ∷ [])) _ none)
+unbroken_after i a0 a p to none = ap (first_broken i a0) (sym (applied_one a p to))
+    ∙ right_none (same_of (leaving a p to ∷ [])) _ (right_none (repeat_of (leaving a p to ∷ [])) _ none)
 
-pub apart_after : (i : Tables) (a0 a : List Machine) (p to : ℕ) → broken_by i a0 a (leaving a p to ∷ []) ≡ None → machine_at a p ≢ to
+pub apart_after : (i : Tables) (a0 a : List Machine) (p to : ℕ) → broken_by i a0 a (leaving a p to ∷ []) ≡ None →
+    machine_at a p ≢ to
 unfolding broken_by
-apart_after i a0 a p to none = apart_from a p to (left_none (same_of (leaving a p to ∷ [])) _ (right_none (repeat_of (leaving a p to ∷ [])) _ none))
+apart_after i a0 a p to none =
+    apart_from a p to
+    (left_none (same_of (leaving a p to ∷ [])) _ (right_none (repeat_of (leaving a p to ∷ [])) _ none))
 
-unbroken_from : (i : Tables) (a0 a : List Machine) (p to : ℕ) → machine_at a p ≢ to → first_broken i a0 (shifted a p to) ≡ None → broken_by i a0 a (leaving a p to ∷ []) ≡ None
+unbroken_from : (i : Tables) (a0 a : List Machine) (p to : ℕ) → machine_at a p ≢ to →
+    first_broken i a0 (shifted a p to) ≡ None → broken_by i a0 a (leaving a p to ∷ []) ≡ None
 unfolding broken_by
-unbroken_from i a0 a p to apart none = both_none _ _ (no_repeat a p to) (both_none _ _ (same_none a p to apart) (ap (first_broken i a0) (applied_one a p to) ∙ none))
+unbroken_from i a0 a p to apart none =
+    both_none _ _ (no_repeat a p to)
+    (both_none _ _ (same_none a p to apart) (ap (first_broken i a0) (applied_one a p to) ∙ none))
 
 -- all constraints after it
-feasible_after : (i : Tables) (a0 a : List Machine) (p to : ℕ) → IsStart i a0 a p to → Allows i a0 a p to → Feasible i a0 (shifted a p to)
+feasible_after : (i : Tables) (a0 a : List Machine) (p to : ℕ) → IsStart i a0 a p to → Allows i a0 a p to →
+    Feasible i a0 (shifted a p to)
 feasible_after i a0 a p to h allows = record {
   capacity = capacity_after i a0 a p to h allows.room;
   transient = transient_after i a0 a p to h allows.between;
@@ -84,7 +98,8 @@ feasible_after i a0 a p to h allows = record {
   closed = closed_after i a0 a p to h allows.admitted;
 }
 
-allows_from : (i : Tables) (a0 a : List Machine) (p to : ℕ) → IsStart i a0 a p to → Feasible i a0 (shifted a p to) → Allows i a0 a p to
+allows_from : (i : Tables) (a0 a : List Machine) (p to : ℕ) → IsStart i a0 a p to → Feasible i a0 (shifted a p to) →
+    Allows i a0 a p to
 allows_from i a0 a p to h after = record {
   apart = h.apart;
   room = room_from i a0 a p to h after;
@@ -96,16 +111,24 @@ allows_from i a0 a p to h after = record {
   admitted = λ closed. after.closed p h.known (ap (closed_at i) (placed i a0 a p to h) ∙ closed) ∙ placed i a0 a p to h;
 }
 
-pub allowed : (i : Tables) (a0 a : List Machine) (p to : ℕ) → IsAt i a0 a p to → broken_by i a0 a (leaving a p to ∷ []) ≡ None → Allows i a0 a p to
+pub allowed : (i : Tables) (a0 a : List Machine) (p to : ℕ) → IsAt i a0 a p to →
+    broken_by i a0 a (leaving a p to ∷ []) ≡ None → Allows i a0 a p to
 allowed i a0 a p to h none =
     let start = start_of i a0 a p to h (apart_after i a0 a p to none) in
-    allows_from i a0 a p to start (feasible_from_unbroken i a0 (shifted a p to) h.formed (fits_set i a p (record { 0 = to }) h.fits h.known h.reach) (unbroken_after i a0 a p to none))
+    allows_from i a0 a p to start
+    (feasible_from_unbroken i a0 (shifted a p to) h.formed
+    (fits_set i a p (record { 0 = to }) h.fits h.known h.reach) (unbroken_after i a0 a p to none))
 
-pub unbroken : (i : Tables) (a0 a : List Machine) (p to : ℕ) → IsAt i a0 a p to → Allows i a0 a p to → broken_by i a0 a (leaving a p to ∷ []) ≡ None
-unbroken i a0 a p to h allows = unbroken_from i a0 a p to allows.apart (unbroken_from_feasible i a0 (shifted a p to) (feasible_after i a0 a p to (start_of i a0 a p to h allows.apart) allows))
+pub unbroken : (i : Tables) (a0 a : List Machine) (p to : ℕ) → IsAt i a0 a p to → Allows i a0 a p to →
+    broken_by i a0 a (leaving a p to ∷ []) ≡ None
+unbroken i a0 a p to h allows =
+    unbroken_from i a0 a p to allows.apart
+    (unbroken_from_feasible i a0 (shifted a p to)
+    (feasible_after i a0 a p to (start_of i a0 a p to h allows.apart) allows))
 
 -- in a world
-pub at_of : (w : World) (p to : ℕ) → p < process_count w.inst.now.tables → to < machine_count w.inst.now.tables → IsAt w.inst.now.tables w.start.now.items w.kept.assignment.items p to
+pub at_of : (w : World) (p to : ℕ) → p < process_count w.inst.now.tables → to < machine_count w.inst.now.tables →
+    IsAt w.inst.now.tables w.start.now.items w.kept.assignment.items p to
 at_of w p to known reach = record {
   formed = w.inst.now.well_formed;
   small = w.inst.now.small;

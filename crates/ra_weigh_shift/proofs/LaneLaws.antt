@@ -1,5 +1,6 @@
 -- The sum of the lanes is the filter's sum.
-use Rattle.std.proofs.Common.{◌≡◌, ◌≢◌, ◌↔◌, ℕ, ◌+◌, ◌-◌, ◌*◌, ◌%◌, ◌^◌, ◌<◌, ◌≤◌, min, None, ltb, List, length, get_or, refl, ap, ap₂, sym, ◌∙◌, ⊎_elim, arith, mul-le-mul_left}
+use Rattle.std.proofs.Common.{◌≡◌, ◌≢◌, ◌↔◌, ℕ, ◌+◌, ◌-◌, ◌*◌, ◌%◌, ◌^◌, ◌<◌, ◌≤◌, min, None, ltb, List, length, get_or}
+use Rattle.std.proofs.Common.{refl, ap, ap₂, sym, ◌∙◌, ⊎_elim, arith, mul-le-mul_left}
 use Rattle.std.specs.Int.{bit_at}
 use Rattle.std.specs.List.{All}
 use Rattle.std.proofs.lemmas.Bool.{cases_lt, cond-true, cond-false, lt-ltb, le-ltb}
@@ -13,7 +14,8 @@ use Rattle.ra_weigh_lanes.specs.Windows.{lacking, amounts, IsRingPart, total as 
 use Rattle.ra_weigh_lanes.specs.declared.windows.Term.{Term}
 use Rattle.ra_weigh_lanes.proofs.SumLemmas.{lacking_within}
 use Rattle.ra_model.specs.declared.raw.Tables.{Tables}
-use Rattle.ra_model.specs.Numbers.{resource_count, machine_count, process_count, balance_count, machine_weight_of, way_cost_of}
+use Rattle.ra_model.specs.Numbers.{resource_count, machine_count, process_count, balance_count, machine_weight_of}
+use Rattle.ra_model.specs.Numbers.{way_cost_of}
 use Rattle.ra_model.specs.Assignments.{machine_at}
 use Rattle.ra_rows.specs.FilterRows.{load_asked, load_row, first_asked, first_row, second_asked, second_row}
 use Rattle.ra_world.specs.FilterTables.{filter_row_count, filter_width, filter_row, IsRowTable}
@@ -40,7 +42,8 @@ asked_first i p b below =
     ∙ cond-true (ltb (resource_count i + b) (resource_count i + balance_count i)) _ _ (lt-ltb _ _ (omega arith))
     ∙ ap (first_asked i p) (omega arith)
 
-row_first : (i : Tables) (a : List Machine) (m b : ℕ) → b < balance_count i → filter_row i a m (resource_count i + b) ≡ first_row i a m b
+row_first : (i : Tables) (a : List Machine) (m b : ℕ) → b < balance_count i → filter_row i a m (resource_count i + b) ≡
+    first_row i a m b
 unfolding filter_row
 row_first i a m b below =
     cond-false (ltb (resource_count i + b) (resource_count i)) _ _ (le-ltb _ _ (omega arith))
@@ -51,14 +54,17 @@ asked_second : (i : Tables) (p b : ℕ) → filter_asked i p (resource_count i +
 unfolding filter_asked
 asked_second i p b =
     cond-false (ltb (resource_count i + balance_count i + b) (resource_count i)) _ _ (le-ltb _ _ (omega arith))
-    ∙ cond-false (ltb (resource_count i + balance_count i + b) (resource_count i + balance_count i)) _ _ (le-ltb _ _ (omega arith))
+    ∙ cond-false (ltb (resource_count i + balance_count i + b) (resource_count i + balance_count i)) _ _
+    (le-ltb _ _ (omega arith))
     ∙ ap (second_asked i p) (omega arith)
 
-row_second : (i : Tables) (a : List Machine) (m b : ℕ) → filter_row i a m (resource_count i + balance_count i + b) ≡ second_row i a m b
+row_second : (i : Tables) (a : List Machine) (m b : ℕ) → filter_row i a m (resource_count i + balance_count i + b) ≡
+    second_row i a m b
 unfolding filter_row
 row_second i a m b =
     cond-false (ltb (resource_count i + balance_count i + b) (resource_count i)) _ _ (le-ltb _ _ (omega arith))
-    ∙ cond-false (ltb (resource_count i + balance_count i + b) (resource_count i + balance_count i)) _ _ (le-ltb _ _ (omega arith))
+    ∙ cond-false (ltb (resource_count i + balance_count i + b) (resource_count i + balance_count i)) _ _
+    (le-ltb _ _ (omega arith))
     ∙ ap (second_row i a m) (omega arith)
 
 -- what is lacking in all rows
@@ -67,18 +73,24 @@ above_of i a p m j = filter_asked i p j - filter_row i a m j
 
 load_rows : (i : Tables) (a : List Machine) (p m : ℕ) → total (resource_count i) (above_of i a p m) ≡ load_above i a p m
 unfolding load_above above_of
-load_rows i a p m = total_same (resource_count i) (above_of i a p m) (λ r. load_asked i p r - load_row i a m r) (λ r below. ap₂ (λ x y. x - y) (asked_load i p r below) (row_load i a m r below))
+load_rows i a p m = total_same (resource_count i) (above_of i a p m) (λ r. load_asked i p r - load_row i a m r)
+    (λ r below. ap₂ (λ x y. x - y) (asked_load i p r below) (row_load i a m r below))
 
-balance_rows : (i : Tables) (a : List Machine) (p m : ℕ) → total (balance_count i) (λ b. above_of i a p m (resource_count i + b)) + total (balance_count i) (λ b. above_of i a p m (resource_count i + balance_count i + b)) ≡ balance_above i a p m
+balance_rows : (i : Tables) (a : List Machine) (p m : ℕ) →
+    total (balance_count i) (λ b. above_of i a p m (resource_count i + b)) + total (balance_count i)
+    (λ b. above_of i a p m (resource_count i + balance_count i + b)) ≡ balance_above i a p m
 unfolding balance_above above_of
 balance_rows i a p m =
     let one : ℕ → ℕ = λ b. first_asked i p b - first_row i a m b in
     let two : ℕ → ℕ = λ b. second_asked i p b - second_row i a m b in
-    let firsts = total_same (balance_count i) (λ b. above_of i a p m (resource_count i + b)) one (λ b below. ap₂ (λ x y. x - y) (asked_first i p b below) (row_first i a m b below)) in
-    let seconds = total_same (balance_count i) (λ b. above_of i a p m (resource_count i + balance_count i + b)) two (λ b below. ap₂ (λ x y. x - y) (asked_second i p b) (row_second i a m b)) in
+    let firsts = total_same (balance_count i) (λ b. above_of i a p m (resource_count i + b)) one
+    (λ b below. ap₂ (λ x y. x - y) (asked_first i p b below) (row_first i a m b below)) in
+    let seconds = total_same (balance_count i) (λ b. above_of i a p m (resource_count i + balance_count i + b)) two
+    (λ b below. ap₂ (λ x y. x - y) (asked_second i p b) (row_second i a m b)) in
     ap₂ (λ x y. x + y) firsts seconds ∙ sym (total_of_sum (balance_count i) one two)
 
-rows_add_up : (i : Tables) (a : List Machine) (p m : ℕ) → total (filter_row_count i) (above_of i a p m) ≡ load_above i a p m + balance_above i a p m
+rows_add_up : (i : Tables) (a : List Machine) (p m : ℕ) → total (filter_row_count i) (above_of i a p m) ≡
+    load_above i a p m + balance_above i a p m
 rows_add_up i a p m = omega (
   arith,
   total_split (resource_count i + balance_count i) (balance_count i) (above_of i a p m),
@@ -91,7 +103,10 @@ rows_add_up i a p m = omega (
 capped_lacks : (x y : ℕ) → x ≤ 2 ^ 30 → x - min y (2 ^ 30) ≡ x - y
 capped_lacks x y small = omega arith
 
-pub lanes_lack : (i : Tables) (a : List Machine) (p place : ℕ) (table : List ℕ) (terms : List Term) → IsRowTable i a table → AreTerms i (filter_row_count i) (filter_asked i p) terms → amounts terms ≤ 2 ^ 30 → place < filter_width i → lacking table terms place ≡ load_above i a p (place % machine_count i) + balance_above i a p (place % machine_count i)
+pub lanes_lack : (i : Tables) (a : List Machine) (p place : ℕ) (table : List ℕ) (terms : List Term) →
+    IsRowTable i a table → AreTerms i (filter_row_count i) (filter_asked i p) terms → amounts terms ≤ 2 ^ 30 →
+    place < filter_width i → lacking table terms place ≡ load_above i a p (place % machine_count i)
+    + balance_above i a p (place % machine_count i)
 unfolding above_of
 lanes_lack i a p place table terms rows are small within =
     let n : ℕ = filter_row_count i in
@@ -99,12 +114,18 @@ lanes_lack i a p place table terms rows are small within =
     let low : total n (filter_asked i p) ≤ 2 ^ 30 = omega (arith, small, are.asks) in
     are.lacks table place
     ∙ total_same n (λ j. filter_asked i p j - cell (filter_width i) table j place) (above_of i a p m)
-    (λ j below. ap (λ x. filter_asked i p j - x) (rows.each j place below within) ∙ capped_lacks (filter_asked i p j) (filter_row i a m j) (omega (arith, low, total_term n j (filter_asked i p) below)))
+    (λ j below. ap (λ x. filter_asked i p j - x) (rows.each j place below within)
+    ∙ capped_lacks (filter_asked i p j) (filter_row i a m j)
+    (omega (arith, low, total_term n j (filter_asked i p) below)))
     ∙ rows_add_up i a p m
 
 -- the sum of one machine of a window
-pub lanes_sum : (w : World) (p home first k weight : ℕ) (table ways : List ℕ) (terms : List Term) → IsRowTable (tables_of w) (here_of w) table → AreTerms (tables_of w) (filter_row_count (tables_of w)) (filter_asked (tables_of w) p) terms → amounts terms ≤ 2 ^ 30 → first + k < filter_width (tables_of w)
-    → weight ≡ machine_weight_of (tables_of w) → home ≡ machine_at (start_of w) p → get_or ways k 0 ≡ way_cost_of (tables_of w) home (machine_in w first k) → lanes_total table terms first ways weight k ≡ sum_at w p (machine_in w first k)
+pub lanes_sum : (w : World) (p home first k weight : ℕ) (table ways : List ℕ) (terms : List Term) →
+    IsRowTable (tables_of w) (here_of w) table → AreTerms (tables_of w) (filter_row_count (tables_of w))
+    (filter_asked (tables_of w) p) terms → amounts terms ≤ 2 ^ 30 → first + k < filter_width (tables_of w)
+    → weight ≡ machine_weight_of (tables_of w) → home ≡ machine_at (start_of w) p →
+    get_or ways k 0 ≡ way_cost_of (tables_of w) home (machine_in w first k) →
+    lanes_total table terms first ways weight k ≡ sum_at w p (machine_in w first k)
 unfolding filter_sum
 lanes_sum w p home first k weight table ways terms rows are small within weight_is home_is way =
     let to : ℕ = machine_in w first k in
@@ -113,8 +134,12 @@ lanes_sum w p home first k weight table ways terms rows are small within weight_
     omega (arith, lacks, both)
 
 -- all sums of it
-pub window_sums : (w : World) (p first limit marks weight : ℕ) (table ways sums : List ℕ) (terms : List Term) → ((k : ℕ) → k < 64 → lanes_total table terms first ways weight k ≡ sum_at w p (machine_in w first k)) → ((k : ℕ) → k < 64 → weight * get_or ways k 0 ≤ 2 ^ 30) → amounts terms ≤ 2 ^ 30
-    → ((k : ℕ) → k < 64 → (bit_at marks k ≡ 1) ↔ (lanes_total table terms first ways weight k ≤ limit)) → ((k : ℕ) → k < 64 → bit_at marks k ≡ 1 → get_or sums k 0 ≡ lanes_total table terms first ways weight k) → AreSums w p first limit marks sums
+pub window_sums : (w : World) (p first limit marks weight : ℕ) (table ways sums : List ℕ) (terms : List Term) →
+    ((k : ℕ) → k < 64 → lanes_total table terms first ways weight k ≡ sum_at w p (machine_in w first k)) →
+    ((k : ℕ) → k < 64 → weight * get_or ways k 0 ≤ 2 ^ 30) → amounts terms ≤ 2 ^ 30
+    → ((k : ℕ) → k < 64 → (bit_at marks k ≡ 1) ↔ (lanes_total table terms first ways weight k ≤ limit)) →
+    ((k : ℕ) → k < 64 → bit_at marks k ≡ 1 → get_or sums k 0 ≡ lanes_total table terms first ways weight k) →
+    AreSums w p first limit marks sums
 window_sums w p first limit marks weight table ways sums terms each ways_small small bits found = record {
   bits = λ k below. (
     λ set. omega (arith, (bits k below).0 set, each k below),
@@ -125,34 +150,52 @@ window_sums w p first limit marks weight table ways sums terms each ways_small s
 }
 
 -- the ways of a window, cut out of the ring of all ways from a machine
-pub ways_in_ring : (i : Tables) (home first : ℕ) (ring part : List ℕ) → first < machine_count i → length ring ≡ machine_count i → ((to : ℕ) → to < machine_count i → get_or ring to 0 ≡ way_cost_of i home to) → IsRingPart ring first 64 part → (k : ℕ) → k < 64 → get_or part k 0 ≡ way_cost_of i home ((first + k) % machine_count i)
+pub ways_in_ring : (i : Tables) (home first : ℕ) (ring part : List ℕ) → first < machine_count i →
+    length ring ≡ machine_count i → ((to : ℕ) → to < machine_count i → get_or ring to 0 ≡ way_cost_of i home to) →
+    IsRingPart ring first 64 part → (k : ℕ) → k < 64 →
+    get_or part k 0 ≡ way_cost_of i home ((first + k) % machine_count i)
 ways_in_ring i home first ring part some many each are k below =
-    are.each k below ∙ ap (λ n. get_or ring ((first + k) % n) 0) many ∙ each ((first + k) % machine_count i) (omega (arith, some))
+    are.each k below ∙ ap (λ n. get_or ring ((first + k) % n) 0) many
+    ∙ each ((first + k) % machine_count i) (omega (arith, some))
 
 -- what is above the limit of a room isn't below the room
-above_limit : (room limit sum : ℕ) → 0 < room → limit ≡ min (room - 1) (2 ^ 32 - 1) → sum ≤ 2 ^ 31 → limit < sum → room ≤ sum
+above_limit : (room limit sum : ℕ) → 0 < room → limit ≡ min (room - 1) (2 ^ 32 - 1) → sum ≤ 2 ^ 31 → limit < sum →
+    room ≤ sum
 above_limit room limit sum some is small above = omega arith
 
-dear_at : (w : World) (p to bound taken added room : ℕ) → p < process_count (tables_of w) → to < machine_count (tables_of w) → machine_at (start_of w) p ≢ to → taken ≡ cost_taken w p → added ≡ cost_added w p → room ≡ bound + taken - added → room ≤ sum_at w p to → IsCostBelow w p to bound None
+dear_at : (w : World) (p to bound taken added room : ℕ) → p < process_count (tables_of w) →
+    to < machine_count (tables_of w) → machine_at (start_of w) p ≢ to → taken ≡ cost_taken w p →
+    added ≡ cost_added w p → room ≡ bound + taken - added → room ≤ sum_at w p to → IsCostBelow w p to bound None
 dear_at w p to bound taken added room known reach apart taken_is added_is room_is above =
-    dear_cost w p to bound taken added room None None known reach apart taken_is added_is room_is (sum_none w p to room (sum_at w p to) above (omega arith)) refl refl
+    dear_cost w p to bound taken added room None None known reach apart taken_is added_is room_is
+    (sum_none w p to room (sum_at w p to) above (omega arith)) refl refl
 
 in_machines : (w : World) (first k : ℕ) → machine_in w first k < machine_count (tables_of w)
 in_machines w first k = omega (arith, w.inst.now.well_formed.some_machine)
 
-pub marked : (w : World) (p first bound taken added room limit marks : ℕ) (sums : List ℕ) → p < process_count (tables_of w) → taken ≡ cost_taken w p → added ≡ cost_added w p → room ≡ bound + taken - added → 0 < room → limit ≡ min (room - 1) (2 ^ 32 - 1) → AreSums w p first limit marks sums → AreMarked w p first bound marks sums
+pub marked : (w : World) (p first bound taken added room limit marks : ℕ) (sums : List ℕ) →
+    p < process_count (tables_of w) → taken ≡ cost_taken w p → added ≡ cost_added w p → room ≡ bound + taken - added →
+    0 < room → limit ≡ min (room - 1) (2 ^ 32 - 1) → AreSums w p first limit marks sums →
+    AreMarked w p first bound marks sums
 marked w p first bound taken added room limit marks sums known taken_is added_is room_is some limit_is are = record {
   dear = λ k below unset apart.
       let to : ℕ = machine_in w first k in
-      let above : limit < sum_at w p to = ⊎_elim (λ (high : limit < sum_at w p to). high) (λ (low : sum_at w p to ≤ limit). absurd (unset ((are.bits k below).1 low))) (cases_lt limit (sum_at w p to)) in
-      dear_at w p to bound taken added room known (in_machines w first k) apart taken_is added_is room_is (above_limit room limit (sum_at w p to) some limit_is (are.small k below) above);
+      let above : limit < sum_at w p to =
+      ⊎_elim (λ (high : limit < sum_at w p to). high)
+      (λ (low : sum_at w p to ≤ limit). absurd (unset ((are.bits k below).1 low)))
+      (cases_lt limit (sum_at w p to)) in
+      dear_at w p to bound taken added room known (in_machines w first k) apart taken_is added_is room_is
+      (above_limit room limit (sum_at w p to) some limit_is (are.small k below) above);
   each = λ k below set apart. are.each k below set;
 }
 
 -- if there is no room, nothing is marked
-pub none_marked : (w : World) (p first bound taken added room : ℕ) (sums : List ℕ) → p < process_count (tables_of w) → taken ≡ cost_taken w p → added ≡ cost_added w p → room ≡ bound + taken - added → room ≡ 0 → AreMarked w p first bound 0 sums
+pub none_marked : (w : World) (p first bound taken added room : ℕ) (sums : List ℕ) → p < process_count (tables_of w) →
+    taken ≡ cost_taken w p → added ≡ cost_added w p → room ≡ bound + taken - added → room ≡ 0 →
+    AreMarked w p first bound 0 sums
 none_marked w p first bound taken added room sums known taken_is added_is room_is none = record {
-  dear = λ k below unset apart. dear_at w p (machine_in w first k) bound taken added room known (in_machines w first k) apart taken_is added_is room_is (omega arith);
+  dear = λ k below unset apart. dear_at w p (machine_in w first k) bound taken added room known (in_machines w first k)
+      apart taken_is added_is room_is (omega arith);
   each = λ k below set apart. absurd (zero_unset k set);
 }
   where
@@ -160,9 +203,14 @@ none_marked w p first bound taken added room sums known taken_is added_is room_i
     zero_unset k set = absurd (omega (arith, set, bit_at-zero k))
 
 -- a window is within each row
-pub rows_within : (i : Tables) (a : List Machine) (first : ℕ) (table : List ℕ) (terms : List Term) → IsRowTable i a table → AreInRows i terms → first < machine_count i → All (λ (t : Term). t.row + first + 64 ≤ length table) terms
+pub rows_within : (i : Tables) (a : List Machine) (first : ℕ) (table : List ℕ) (terms : List Term) →
+    IsRowTable i a table → AreInRows i terms → first < machine_count i →
+    All (λ (t : Term). t.row + first + 64 ≤ length table) terms
 rows_within i a first table terms rows are within =
-    All-weaker (λ (t : Term). t.row + filter_width i ≤ filter_row_count i * filter_width i) (λ (t : Term). t.row + first + 64 ≤ length table) (λ (t : Term) (inside : t.row + filter_width i ≤ filter_row_count i * filter_width i). omega (arith, inside, rows.many, within)) terms are
+    All-weaker (λ (t : Term). t.row + filter_width i ≤ filter_row_count i * filter_width i)
+    (λ (t : Term). t.row + first + 64 ≤ length table)
+    (λ (t : Term) (inside : t.row + filter_width i ≤ filter_row_count i * filter_width i).
+    omega (arith, inside, rows.many, within)) terms are
 
 -- a way at a weight
 pub way_small : (weight way most : ℕ) → way ≤ most → weight * most ≤ 2 ^ 30 → weight * way ≤ 2 ^ 30

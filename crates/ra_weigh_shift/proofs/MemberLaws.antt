@@ -1,13 +1,16 @@
 -- Where one process goes to another machine: how the processes of its service, and those of others, are placed then.
-use Rattle.std.proofs.Common.{◌≡◌, ◌≢◌, ℕ, ◌+◌, ◌^◌, ◌<◌, ◌≤◌, List, Bool, true, ◌&&◌, eqb, ltb, refl, ap, sym, ◌∙◌, ⊎_elim, arith, eq-eqb}
+use Rattle.std.proofs.Common.{◌≡◌, ◌≢◌, ℕ, ◌+◌, ◌^◌, ◌<◌, ◌≤◌, List, Bool, true, ◌&&◌, eqb, ltb, refl, ap, sym, ◌∙◌}
+use Rattle.std.proofs.Common.{⊎_elim, arith, eq-eqb}
 use Rattle.std.proofs.lemmas.Bool.{cases_eq, cases_lt, eqb-true, and_left, and_from, and_parts}
 use Rattle.ra_base.specs.Sums.{one_if}
 use Rattle.ra_base.specs.declared.ids.Machine.{Machine}
 use Rattle.ra_base.proofs.Counts.{one_if_true, one_if_false, count_same, count_positive, count_some}
 use Rattle.ra_model.specs.declared.raw.Tables.{Tables}
-use Rattle.ra_model.specs.Numbers.{service_count, process_count, service_of, spread_of, location_of, neighbourhood_of, closed_at}
+use Rattle.ra_model.specs.Numbers.{service_count, process_count, service_of, spread_of, location_of, neighbourhood_of}
+use Rattle.ra_model.specs.Numbers.{closed_at}
 use Rattle.ra_model.specs.Assignments.{IsAssignment, machine_at}
-use Rattle.ra_model.specs.Services.{is_of, of_service, members_at, on_machine, in_location, in_neighbourhood, locations_of}
+use Rattle.ra_model.specs.Services.{is_of, of_service, members_at, on_machine, in_location, in_neighbourhood}
+use Rattle.ra_model.specs.Services.{locations_of}
 use Rattle.ra_model.specs.Feasible.{Feasible}
 use Rattle.ra_model.proofs.TallyLemmas.{members_set, tally_term}
 use Rattle.ra_model.proofs.SortingLemmas.{is_of_same, is_of_other}
@@ -16,7 +19,8 @@ use Rattle.ra_weigh_shift.specs.Conditions.{shifted}
 use Rattle.ra_weigh_shift.proofs.RoomLaws.{IsStart, placed, others}
 
 -- the share of one process in a count of a service
-share_mine : (i : Tables) (s p at : ℕ) (test : ℕ → ℕ → Bool) → service_of i p ≡ s → of_service i s test p at ≡ one_if (test p at)
+share_mine : (i : Tables) (s p at : ℕ) (test : ℕ → ℕ → Bool) → service_of i p ≡ s →
+    of_service i s test p at ≡ one_if (test p at)
 unfolding of_service
 share_mine i s p at test is = ap (λ b. one_if (b && test p at)) (is_of_same i s p is)
 
@@ -25,91 +29,156 @@ unfolding of_service
 share_other i s p at test other = one_if_false _ (and_left _ _ (is_of_other i s p other))
 
 -- counts of its own service, and of another
-pub members_mine : (i : Tables) (a : List Machine) (p to s : ℕ) (test : ℕ → ℕ → Bool) → IsAssignment i a → p < process_count i → service_of i p ≡ s → members_at i (shifted a p to) s test + one_if (test p (machine_at a p)) ≡ members_at i a s test + one_if (test p to)
-members_mine i a p to s test fits within is = omega (arith, members_set i a p (record { 0 = to }) s test fits within, share_mine i s p (machine_at a p) test is, share_mine i s p to test is)
+pub members_mine : (i : Tables) (a : List Machine) (p to s : ℕ) (test : ℕ → ℕ → Bool) → IsAssignment i a →
+    p < process_count i → service_of i p ≡ s → members_at i (shifted a p to) s test + one_if (test p (machine_at a p)) ≡
+    members_at i a s test + one_if (test p to)
+members_mine i a p to s test fits within is =
+    omega (
+      arith,
+      members_set i a p (record { 0 = to }) s test fits within,
+      share_mine i s p (machine_at a p) test is,
+      share_mine i s p to test is,
+    )
 
-pub members_other : (i : Tables) (a : List Machine) (p to s : ℕ) (test : ℕ → ℕ → Bool) → IsAssignment i a → p < process_count i → service_of i p ≢ s → members_at i (shifted a p to) s test ≡ members_at i a s test
-members_other i a p to s test fits within other = omega (arith, members_set i a p (record { 0 = to }) s test fits within, share_other i s p (machine_at a p) test other, share_other i s p to test other)
+pub members_other : (i : Tables) (a : List Machine) (p to s : ℕ) (test : ℕ → ℕ → Bool) → IsAssignment i a →
+    p < process_count i → service_of i p ≢ s → members_at i (shifted a p to) s test ≡ members_at i a s test
+members_other i a p to s test fits within other =
+    omega (
+      arith,
+      members_set i a p (record { 0 = to }) s test fits within,
+      share_other i s p (machine_at a p) test other,
+      share_other i s p to test other,
+    )
 
-members_some : (i : Tables) (a : List Machine) (p s : ℕ) (test : ℕ → ℕ → Bool) → p < process_count i → service_of i p ≡ s → one_if (test p (machine_at a p)) ≤ members_at i a s test
+members_some : (i : Tables) (a : List Machine) (p s : ℕ) (test : ℕ → ℕ → Bool) → p < process_count i →
+    service_of i p ≡ s → one_if (test p (machine_at a p)) ≤ members_at i a s test
 unfolding members_at
-members_some i a p s test within is = omega (arith, tally_term (process_count i) p (of_service i s test) a within, share_mine i s p (machine_at a p) test is)
+members_some i a p s test within is =
+    omega (
+      arith,
+      tally_term (process_count i) p (of_service i s test) a within,
+      share_mine i s p (machine_at a p) test is,
+    )
 
 -- neighbourhoods
-pub near_mine : (i : Tables) (a : List Machine) (p to label : ℕ) → IsAssignment i a → p < process_count i → in_neighbourhood i (shifted a p to) (service_of i p) label + one_if (eqb (neighbourhood_of i (machine_at a p)) label) ≡ in_neighbourhood i a (service_of i p) label + one_if (eqb (neighbourhood_of i to) label)
+pub near_mine : (i : Tables) (a : List Machine) (p to label : ℕ) → IsAssignment i a → p < process_count i →
+    in_neighbourhood i (shifted a p to) (service_of i p) label
+    + one_if (eqb (neighbourhood_of i (machine_at a p)) label) ≡ in_neighbourhood i a (service_of i p) label
+    + one_if (eqb (neighbourhood_of i to) label)
 unfolding in_neighbourhood
-near_mine i a p to label fits within = members_mine i a p to (service_of i p) (λ q at. eqb (neighbourhood_of i at) label) fits within refl
+near_mine i a p to label fits within =
+    members_mine i a p to (service_of i p) (λ q at. eqb (neighbourhood_of i at) label) fits within refl
 
-pub near_other : (i : Tables) (a : List Machine) (p to s label : ℕ) → IsAssignment i a → p < process_count i → service_of i p ≢ s → in_neighbourhood i (shifted a p to) s label ≡ in_neighbourhood i a s label
+pub near_other : (i : Tables) (a : List Machine) (p to s label : ℕ) → IsAssignment i a → p < process_count i →
+    service_of i p ≢ s → in_neighbourhood i (shifted a p to) s label ≡ in_neighbourhood i a s label
 unfolding in_neighbourhood
-near_other i a p to s label fits within other = members_other i a p to s (λ q at. eqb (neighbourhood_of i at) label) fits within other
+near_other i a p to s label fits within other =
+    members_other i a p to s (λ q at. eqb (neighbourhood_of i at) label) fits within other
 
 -- locations
-pub location_mine : (i : Tables) (a : List Machine) (p to label : ℕ) → IsAssignment i a → p < process_count i → in_location i (shifted a p to) (service_of i p) label + one_if (eqb (location_of i (machine_at a p)) label) ≡ in_location i a (service_of i p) label + one_if (eqb (location_of i to) label)
+pub location_mine : (i : Tables) (a : List Machine) (p to label : ℕ) → IsAssignment i a → p < process_count i →
+    in_location i (shifted a p to) (service_of i p) label + one_if (eqb (location_of i (machine_at a p)) label) ≡
+    in_location i a (service_of i p) label + one_if (eqb (location_of i to) label)
 unfolding in_location
-location_mine i a p to label fits within = members_mine i a p to (service_of i p) (λ q at. eqb (location_of i at) label) fits within refl
+location_mine i a p to label fits within =
+    members_mine i a p to (service_of i p) (λ q at. eqb (location_of i at) label) fits within refl
 
-pub location_some : (i : Tables) (a : List Machine) (p : ℕ) → p < process_count i → 0 < in_location i a (service_of i p) (location_of i (machine_at a p))
+pub location_some : (i : Tables) (a : List Machine) (p : ℕ) → p < process_count i →
+    0 < in_location i a (service_of i p) (location_of i (machine_at a p))
 unfolding in_location
-location_some i a p within = omega (arith, members_some i a p (service_of i p) (λ q at. eqb (location_of i at) (location_of i (machine_at a p))) within refl, one_if_true (eqb (location_of i (machine_at a p)) (location_of i (machine_at a p))) (eq-eqb _ _ refl))
+location_some i a p within =
+    omega (
+      arith,
+      members_some i a p (service_of i p) (λ q at. eqb (location_of i at) (location_of i (machine_at a p)))
+          within refl,
+      one_if_true (eqb (location_of i (machine_at a p)) (location_of i (machine_at a p)))
+          (eq-eqb _ _ refl),
+    )
 
-location_other : (i : Tables) (a : List Machine) (p to s label : ℕ) → IsAssignment i a → p < process_count i → service_of i p ≢ s → in_location i (shifted a p to) s label ≡ in_location i a s label
+location_other : (i : Tables) (a : List Machine) (p to s label : ℕ) → IsAssignment i a → p < process_count i →
+    service_of i p ≢ s → in_location i (shifted a p to) s label ≡ in_location i a s label
 unfolding in_location
-location_other i a p to s label fits within other = members_other i a p to s (λ q at. eqb (location_of i at) label) fits within other
+location_other i a p to s label fits within other =
+    members_other i a p to s (λ q at. eqb (location_of i at) label) fits within other
 
-pub locations_other : (i : Tables) (a : List Machine) (p to s : ℕ) → IsAssignment i a → p < process_count i → service_of i p ≢ s → locations_of i (shifted a p to) s ≡ locations_of i a s
+pub locations_other : (i : Tables) (a : List Machine) (p to s : ℕ) → IsAssignment i a → p < process_count i →
+    service_of i p ≢ s → locations_of i (shifted a p to) s ≡ locations_of i a s
 unfolding locations_of
-locations_other i a p to s fits within other = count_same (2 ^ 32) _ _ (λ label h. ap (ltb 0) (location_other i a p to s label fits within other))
+locations_other i a p to s fits within other =
+    count_same (2 ^ 32) _ _ (λ label h. ap (ltb 0) (location_other i a p to s label fits within other))
 
 -- whether a process of the service other than p is on a machine
-on_mine : (i : Tables) (a : List Machine) (q s m : ℕ) → q < process_count i → service_of i q ≡ s → machine_at a q ≡ m → 0 < on_machine i a s m
+on_mine : (i : Tables) (a : List Machine) (q s m : ℕ) → q < process_count i → service_of i q ≡ s → machine_at a q ≡ m →
+    0 < on_machine i a s m
 unfolding is_of
-on_mine i a q s m within is here = rw (on_machine_count i a s m) (count_some (process_count i) q (λ k. is_of i s k && eqb (machine_at a k) m) within (and_from _ _ (eq-eqb _ _ is) (eq-eqb _ _ here)))
+on_mine i a q s m within is here =
+    rw (on_machine_count i a s m) (count_some (process_count i) q (λ k. is_of i s k && eqb (machine_at a k) m) within
+    (and_from _ _ (eq-eqb _ _ is) (eq-eqb _ _ here)))
 
-on_some : (i : Tables) (a : List Machine) (s m : ℕ) → 0 < on_machine i a s m → (q : ℕ) × (q < process_count i) × (service_of i q ≡ s) × (machine_at a q ≡ m)
+on_some : (i : Tables) (a : List Machine) (s m : ℕ) → 0 < on_machine i a s m → (q : ℕ) × (q < process_count i)
+    × (service_of i q ≡ s) × (machine_at a q ≡ m)
 unfolding is_of
 on_some i a s m some =
-    let found = count_positive (process_count i) (λ q. is_of i s q && eqb (machine_at a q) m) (rw (on_machine_count i a s m) at some) in
+    let found = count_positive (process_count i) (λ q. is_of i s q && eqb (machine_at a q) m)
+    (rw (on_machine_count i a s m) at some) in
     let both = and_parts _ _ found.2 in
     (found.0, found.1, eqb-true _ _ both.0, eqb-true _ _ both.1)
 
 -- conflict
-pub alone_from : (i : Tables) (a0 a : List Machine) (p to : ℕ) → IsStart i a0 a p to → Feasible i a0 (shifted a p to) → on_machine i a (service_of i p) to ≡ 0
+pub alone_from : (i : Tables) (a0 a : List Machine) (p to : ℕ) → IsStart i a0 a p to → Feasible i a0 (shifted a p to) →
+    on_machine i a (service_of i p) to ≡ 0
 alone_from i a0 a p to h after = ⊎_elim
     (λ (some : 0 < on_machine i a (service_of i p) to).
     let found = on_some i a (service_of i p) to some in
     let apart : found.0 ≢ p = λ e. h.apart (ap (machine_at a) (sym e) ∙ found.3) in
-    absurd (after.conflict found.0 p found.1 h.known apart found.2 (others a p to found.0 apart ∙ found.3 ∙ sym (placed i a0 a p to h))))
+    absurd (after.conflict found.0 p found.1 h.known apart found.2 (others a p to found.0 apart ∙ found.3
+    ∙ sym (placed i a0 a p to h))))
     (λ (none : on_machine i a (service_of i p) to ≤ 0). omega arith)
     (cases_lt 0 (on_machine i a (service_of i p) to))
 
 -- another process of the service isn't where p goes
-not_there : (i : Tables) (a : List Machine) (p to q : ℕ) → on_machine i a (service_of i p) to ≡ 0 → q < process_count i → service_of i q ≡ service_of i p → machine_at a q ≢ to
-not_there i a p to q alone within is here = absurd (omega (arith, alone, on_mine i a q (service_of i p) to within is here))
+not_there : (i : Tables) (a : List Machine) (p to q : ℕ) → on_machine i a (service_of i p) to ≡ 0 →
+    q < process_count i → service_of i q ≡ service_of i p → machine_at a q ≢ to
+not_there i a p to q alone within is here =
+    absurd (omega (arith, alone, on_mine i a q (service_of i p) to within is here))
 
-pub conflict_after : (i : Tables) (a0 a : List Machine) (p to : ℕ) → IsStart i a0 a p to → on_machine i a (service_of i p) to ≡ 0 → (k l : ℕ) → k < process_count i → l < process_count i → k ≢ l → service_of i k ≡ service_of i l → machine_at (shifted a p to) k ≢ machine_at (shifted a p to) l
+pub conflict_after : (i : Tables) (a0 a : List Machine) (p to : ℕ) → IsStart i a0 a p to →
+    on_machine i a (service_of i p) to ≡ 0 → (k l : ℕ) → k < process_count i → l < process_count i → k ≢ l →
+    service_of i k ≡ service_of i l → machine_at (shifted a p to) k ≢ machine_at (shifted a p to) l
 conflict_after i a0 a p to h alone k l k_in l_in apart one_service = ⊎_elim
     (λ (k_is : k ≡ p). λ met.
     let other : l ≢ p = λ e. apart (k_is ∙ sym e) in
-    not_there i a p to l alone l_in (sym one_service ∙ ap (service_of i) k_is) (sym (others a p to l other) ∙ sym met ∙ ap (machine_at (shifted a p to)) k_is ∙ placed i a0 a p to h))
+    not_there i a p to l alone l_in (sym one_service ∙ ap (service_of i) k_is) (sym (others a p to l other) ∙ sym met
+    ∙ ap (machine_at (shifted a p to)) k_is ∙ placed i a0 a p to h))
     (λ (k_other : k ≢ p). ⊎_elim
-    (λ (l_is : l ≡ p). λ met. not_there i a p to k alone k_in (one_service ∙ ap (service_of i) l_is) (sym (others a p to k k_other) ∙ met ∙ ap (machine_at (shifted a p to)) l_is ∙ placed i a0 a p to h))
-    (λ (l_other : l ≢ p). λ met. h.feasible.conflict k l k_in l_in apart one_service (sym (others a p to k k_other) ∙ met ∙ others a p to l l_other))
+    (λ (l_is : l ≡ p). λ met. not_there i a p to k alone k_in (one_service ∙ ap (service_of i) l_is)
+    (sym (others a p to k k_other) ∙ met ∙ ap (machine_at (shifted a p to)) l_is ∙ placed i a0 a p to h))
+    (λ (l_other : l ≢ p). λ met. h.feasible.conflict k l k_in l_in apart one_service (sym (others a p to k k_other)
+    ∙ met ∙ others a p to l l_other))
     (cases_eq l p))
     (cases_eq k p)
 
 -- spread
-pub spread_after : (i : Tables) (a0 a : List Machine) (p to : ℕ) → IsStart i a0 a p to → spread_of i (service_of i p) ≤ locations_of i (shifted a p to) (service_of i p) → (s : ℕ) → s < service_count i → spread_of i s ≤ locations_of i (shifted a p to) s
+pub spread_after : (i : Tables) (a0 a : List Machine) (p to : ℕ) → IsStart i a0 a p to →
+    spread_of i (service_of i p) ≤ locations_of i (shifted a p to) (service_of i p) → (s : ℕ) → s < service_count i →
+    spread_of i s ≤ locations_of i (shifted a p to) s
 spread_after i a0 a p to h mine s within = ⊎_elim
     (λ (same : s ≡ service_of i p). rw same mine)
-    (λ (other : s ≢ service_of i p). omega (arith, locations_other i a p to s h.fits h.known (λ e. other (sym e)), h.feasible.spread s within))
+    (λ (other : s ≢ service_of i p). omega (
+      arith,
+      locations_other i a p to s h.fits h.known (λ e. other (sym e)),
+      h.feasible.spread s within,
+    ))
     (cases_eq s (service_of i p))
 
 -- closed machines
-pub closed_after : (i : Tables) (a0 a : List Machine) (p to : ℕ) → IsStart i a0 a p to → (closed_at i to ≡ true → machine_at a0 p ≡ to) → (q : ℕ) → q < process_count i → closed_at i (machine_at (shifted a p to) q) ≡ true → machine_at a0 q ≡ machine_at (shifted a p to) q
+pub closed_after : (i : Tables) (a0 a : List Machine) (p to : ℕ) → IsStart i a0 a p to →
+    (closed_at i to ≡ true → machine_at a0 p ≡ to) → (q : ℕ) → q < process_count i →
+    closed_at i (machine_at (shifted a p to) q) ≡ true → machine_at a0 q ≡ machine_at (shifted a p to) q
 closed_after i a0 a p to h admitted q within closed = ⊎_elim
     (λ (same : q ≡ p).
     let here : machine_at (shifted a p to) q ≡ to = ap (machine_at (shifted a p to)) same ∙ placed i a0 a p to h in
     ap (machine_at a0) same ∙ admitted (ap (closed_at i) (sym here) ∙ closed) ∙ sym here)
-    (λ (other : q ≢ p). h.feasible.closed q within (ap (closed_at i) (sym (others a p to q other)) ∙ closed) ∙ sym (others a p to q other))
+    (λ (other : q ≢ p). h.feasible.closed q within (ap (closed_at i) (sym (others a p to q other)) ∙ closed)
+    ∙ sym (others a p to q other))
     (cases_eq q p)

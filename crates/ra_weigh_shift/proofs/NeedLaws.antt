@@ -6,7 +6,8 @@ use Rattle.ra_base.specs.declared.ids.Machine.{Machine}
 use Rattle.ra_base.proofs.Counts.{one_if_true, one_if_false, one_if_le}
 use Rattle.ra_base.proofs.Named.{is_named_at, is_named_from}
 use Rattle.ra_model.specs.declared.raw.Tables.{Tables}
-use Rattle.ra_model.specs.Numbers.{service_count, process_count, service_of, dependency_count, need_of, neighbourhood_of}
+use Rattle.ra_model.specs.Numbers.{service_count, process_count, service_of, dependency_count, need_of}
+use Rattle.ra_model.specs.Numbers.{neighbourhood_of}
 use Rattle.ra_model.specs.Assignments.{machine_at}
 use Rattle.ra_model.specs.Services.{in_neighbourhood}
 use Rattle.ra_model.specs.Relations.{depends}
@@ -21,12 +22,14 @@ pub depends_at : (i : Tables) (s k u : ℕ) → k < dependency_count i s → nee
 unfolding depends
 depends_at i s k u within is = is_named_at (dependency_count i s) k (need_of i s) u within is
 
-depends_from : (i : Tables) (s u : ℕ) → depends i s u ≡ true → (k : ℕ) × (k < dependency_count i s) × (need_of i s k ≡ u)
+depends_from : (i : Tables) (s u : ℕ) → depends i s u ≡ true → (k : ℕ) × (k < dependency_count i s)
+    × (need_of i s k ≡ u)
 unfolding depends
 depends_from i s u needs = is_named_from (dependency_count i s) (need_of i s) u needs
 
 -- what p needs is where it goes
-pub needs_from : (i : Tables) (a0 a : List Machine) (p to : ℕ) → IsStart i a0 a p to → Feasible i a0 (shifted a p to) → FindsNeeds i a p to
+pub needs_from : (i : Tables) (a0 a : List Machine) (p to : ℕ) → IsStart i a0 a p to → Feasible i a0 (shifted a p to) →
+    FindsNeeds i a p to
 needs_from i a0 a p to h after = record {
   each = λ k within other.
       let s = service_of i p in
@@ -38,21 +41,32 @@ needs_from i a0 a p to h after = record {
 }
 
 -- if p was the last of its service in a neighbourhood that it leaves, none is left
-gone_from : (i : Tables) (a0 a : List Machine) (p to : ℕ) → IsStart i a0 a p to → neighbourhood_of i (machine_at a p) ≢ neighbourhood_of i to → in_neighbourhood i a (service_of i p) (neighbourhood_of i (machine_at a p)) ≤ 1 → in_neighbourhood i (shifted a p to) (service_of i p) (neighbourhood_of i (machine_at a p)) ≡ 0
+gone_from : (i : Tables) (a0 a : List Machine) (p to : ℕ) → IsStart i a0 a p to → neighbourhood_of i (machine_at a p) ≢
+    neighbourhood_of i to → in_neighbourhood i a (service_of i p) (neighbourhood_of i (machine_at a p)) ≤ 1 →
+    in_neighbourhood i (shifted a p to) (service_of i p) (neighbourhood_of i (machine_at a p)) ≡ 0
 gone_from i a0 a p to h leaves last =
     let label = neighbourhood_of i (machine_at a p) in
-    omega (arith, near_mine i a p to label h.fits h.known, one_if_true (eqb label label) (eq-eqb _ _ refl), one_if_false (eqb (neighbourhood_of i to) label) (ne_eqb _ _ (λ e. leaves (sym e))))
+    omega (
+      arith,
+      near_mine i a p to label h.fits h.known,
+      one_if_true (eqb label label) (eq-eqb _ _ refl),
+      one_if_false (eqb (neighbourhood_of i to) label) (ne_eqb _ _ (λ e. leaves (sym e))),
+    )
 
 -- so no other service may be there that depends on it
-pub leaves_from : (i : Tables) (a0 a : List Machine) (p to : ℕ) → IsStart i a0 a p to → Feasible i a0 (shifted a p to) → neighbourhood_of i (machine_at a p) ≢ neighbourhood_of i to → MayLeave i a p
+pub leaves_from : (i : Tables) (a0 a : List Machine) (p to : ℕ) → IsStart i a0 a p to → Feasible i a0 (shifted a p to) →
+    neighbourhood_of i (machine_at a p) ≢ neighbourhood_of i to → MayLeave i a p
 leaves_from i a0 a p to h after leaves = record {
   each = λ d within needs other last. ⊎_elim
-      (λ (some : 0 < in_neighbourhood i a d (neighbourhood_of i (machine_at a p))). absurd (stranded d within needs other last some))
+      (λ (some : 0 < in_neighbourhood i a d (neighbourhood_of i (machine_at a p))).
+      absurd (stranded d within needs other last some))
       (λ (none : in_neighbourhood i a d (neighbourhood_of i (machine_at a p)) ≤ 0). omega arith)
       (cases_lt 0 (in_neighbourhood i a d (neighbourhood_of i (machine_at a p))));
 }
   where
-    stranded : (d : ℕ) → d < service_count i → depends i d (service_of i p) ≡ true → d ≢ service_of i p → in_neighbourhood i a (service_of i p) (neighbourhood_of i (machine_at a p)) ≤ 1 → 0 < in_neighbourhood i a d (neighbourhood_of i (machine_at a p)) → ⊥
+    stranded : (d : ℕ) → d < service_count i → depends i d (service_of i p) ≡ true → d ≢ service_of i p →
+        in_neighbourhood i a (service_of i p) (neighbourhood_of i (machine_at a p)) ≤ 1 →
+        0 < in_neighbourhood i a d (neighbourhood_of i (machine_at a p)) → ⊥
     stranded d within needs other last some =
         let s = service_of i p in
         let label = neighbourhood_of i (machine_at a p) in
@@ -61,22 +75,36 @@ leaves_from i a0 a p to h after leaves = record {
         let q_other : q ≢ p = λ e. other (sym found.2 ∙ ap (service_of i) e) in
         let dep = depends_from i d s needs in
         let near = after.dependency d dep.0 q within dep.1 found.1 found.2 in
-        let counted = count_from_near i (shifted a p to) (need_of i d dep.0) (neighbourhood_of i (machine_at (shifted a p to) q)) near in
-        let there = ap (λ m. in_neighbourhood i (shifted a p to) (need_of i d dep.0) (neighbourhood_of i m)) (others a p to q q_other) in
+        let counted = count_from_near i (shifted a p to) (need_of i d dep.0)
+        (neighbourhood_of i (machine_at (shifted a p to) q)) near in
+        let there = ap (λ m. in_neighbourhood i (shifted a p to) (need_of i d dep.0) (neighbourhood_of i m))
+        (others a p to q q_other) in
         let here = ap (λ x. in_neighbourhood i (shifted a p to) (need_of i d dep.0) x) found.3 in
         let mine = ap (λ u. in_neighbourhood i (shifted a p to) u label) dep.2 in
         omega (arith, counted, there, here, mine, gone_from i a0 a p to h leaves last)
 
 -- the other way round: p itself finds what its service needs
-near_p : (i : Tables) (a0 a : List Machine) (p to k : ℕ) → IsStart i a0 a p to → FindsNeeds i a p to → k < dependency_count i (service_of i p) → HasNear i (shifted a p to) (need_of i (service_of i p) k) (neighbourhood_of i to)
+near_p : (i : Tables) (a0 a : List Machine) (p to k : ℕ) → IsStart i a0 a p to → FindsNeeds i a p to →
+    k < dependency_count i (service_of i p) → HasNear i (shifted a p to) (need_of i (service_of i p) k)
+    (neighbourhood_of i to)
 near_p i a0 a p to k h needs within = ⊎_elim
-    (λ (own : need_of i (service_of i p) k ≡ service_of i p). (p, h.known, sym own, ap (neighbourhood_of i) (placed i a0 a p to h)))
-    (λ (other : need_of i (service_of i p) k ≢ service_of i p). near_from_count i (shifted a p to) (need_of i (service_of i p) k) (neighbourhood_of i to)
-    (omega (arith, needs.each k within other, near_other i a p to (need_of i (service_of i p) k) (neighbourhood_of i to) h.fits h.known (λ e. other (sym e)))))
+    (λ (own : need_of i (service_of i p) k ≡ service_of i p).
+    (p, h.known, sym own, ap (neighbourhood_of i) (placed i a0 a p to h)))
+    (λ (other : need_of i (service_of i p) k ≢ service_of i p).
+    near_from_count i (shifted a p to) (need_of i (service_of i p) k) (neighbourhood_of i to)
+    (omega (
+      arith,
+      needs.each k within other,
+      near_other i a p to (need_of i (service_of i p) k) (neighbourhood_of i to)
+          h.fits h.known (λ e. other (sym e)),
+    )))
     (cases_eq (need_of i (service_of i p) k) (service_of i p))
 
 -- a process of p's service stays in each neighbourhood where another process needs it
-kept_near : (i : Tables) (a0 a : List Machine) (p to s k q : ℕ) → IsStart i a0 a p to → (neighbourhood_of i (machine_at a p) ≢ neighbourhood_of i to → MayLeave i a p) → s < service_count i → k < dependency_count i s → q < process_count i → service_of i q ≡ s → q ≢ p → need_of i s k ≡ service_of i p → HasNear i (shifted a p to) (service_of i p) (neighbourhood_of i (machine_at a q))
+kept_near : (i : Tables) (a0 a : List Machine) (p to s k q : ℕ) → IsStart i a0 a p to →
+    (neighbourhood_of i (machine_at a p) ≢ neighbourhood_of i to → MayLeave i a p) → s < service_count i →
+    k < dependency_count i s → q < process_count i → service_of i q ≡ s → q ≢ p → need_of i s k ≡ service_of i p →
+    HasNear i (shifted a p to) (service_of i p) (neighbourhood_of i (machine_at a q))
 kept_near i a0 a p to s k q h may s_in k_in q_in one_service other mine = ⊎_elim
     (λ (own : s ≡ service_of i p). (q, q_in, one_service ∙ own, ap (neighbourhood_of i) (others a p to q other)))
     (λ (apart : s ≢ service_of i p). near_from_count i (shifted a p to) (service_of i p) label (left apart))
@@ -86,44 +114,92 @@ kept_near i a0 a p to s k q h may s_in k_in q_in one_service other mine = ⊎_el
     label = neighbourhood_of i (machine_at a q)
 
     near_q : 0 < in_neighbourhood i a (service_of i p) (neighbourhood_of i (machine_at a q))
-    near_q = omega (arith, count_from_near i a (need_of i s k) (neighbourhood_of i (machine_at a q)) (h.feasible.dependency s k q s_in k_in q_in one_service), ap (λ u. in_neighbourhood i a u (neighbourhood_of i (machine_at a q))) mine)
+    near_q = omega (
+      arith,
+      count_from_near i a (need_of i s k) (neighbourhood_of i (machine_at a q))
+          (h.feasible.dependency s k q s_in k_in q_in one_service),
+      ap (λ u. in_neighbourhood i a u (neighbourhood_of i (machine_at a q))) mine,
+    )
 
     here_q : 0 < in_neighbourhood i a s (neighbourhood_of i (machine_at a q))
     here_q = count_from_near i a s (neighbourhood_of i (machine_at a q)) (q, q_in, one_service, refl)
 
-    leaving_it : s ≢ service_of i p → neighbourhood_of i (machine_at a p) ≡ neighbourhood_of i (machine_at a q) → neighbourhood_of i (machine_at a p) ≢ neighbourhood_of i to → 1 < in_neighbourhood i a (service_of i p) (neighbourhood_of i (machine_at a q))
+    leaving_it : s ≢ service_of i p → neighbourhood_of i (machine_at a p) ≡ neighbourhood_of i (machine_at a q) →
+        neighbourhood_of i (machine_at a p) ≢ neighbourhood_of i to →
+        1 < in_neighbourhood i a (service_of i p) (neighbourhood_of i (machine_at a q))
     leaving_it apart at_q leaves = ⊎_elim
         (λ (two : 1 < in_neighbourhood i a (service_of i p) (neighbourhood_of i (machine_at a q))). two)
         (λ (last : in_neighbourhood i a (service_of i p) (neighbourhood_of i (machine_at a q)) ≤ 1).
-        absurd (omega (arith, here_q, ap (in_neighbourhood i a s) at_q, (may leaves).each s s_in (depends_at i s k (service_of i p) k_in mine) apart (omega (arith, last, ap (in_neighbourhood i a (service_of i p)) at_q)))))
+        absurd (omega (
+          arith,
+          here_q,
+          ap (in_neighbourhood i a s) at_q,
+          (may leaves).each s s_in (depends_at i s k (service_of i p) k_in mine) apart
+              (omega (arith, last, ap (in_neighbourhood i a (service_of i p)) at_q)),
+        )))
         (cases_lt 1 (in_neighbourhood i a (service_of i p) (neighbourhood_of i (machine_at a q))))
 
-    left : s ≢ service_of i p → 0 < in_neighbourhood i (shifted a p to) (service_of i p) (neighbourhood_of i (machine_at a q))
+    left : s ≢ service_of i p → 0 < in_neighbourhood i (shifted a p to) (service_of i p)
+        (neighbourhood_of i (machine_at a q))
     left apart = ⊎_elim
         (λ (at_q : neighbourhood_of i (machine_at a p) ≡ neighbourhood_of i (machine_at a q)). ⊎_elim
         (λ (stays : neighbourhood_of i (machine_at a p) ≡ neighbourhood_of i to).
-        omega (arith, near_q, near_mine i a p to (neighbourhood_of i (machine_at a q)) h.fits h.known, ap (λ x. one_if (eqb x (neighbourhood_of i (machine_at a q)))) stays))
+        omega (
+          arith,
+          near_q,
+          near_mine i a p to (neighbourhood_of i (machine_at a q)) h.fits h.known,
+          ap (λ x. one_if (eqb x (neighbourhood_of i (machine_at a q)))) stays,
+        ))
         (λ (leaves : neighbourhood_of i (machine_at a p) ≢ neighbourhood_of i to).
-        omega (arith, leaving_it apart at_q leaves, near_mine i a p to (neighbourhood_of i (machine_at a q)) h.fits h.known, one_if_le (eqb (neighbourhood_of i (machine_at a p)) (neighbourhood_of i (machine_at a q)))))
+        omega (
+          arith,
+          leaving_it apart at_q leaves,
+          near_mine i a p to (neighbourhood_of i (machine_at a q)) h.fits
+              h.known,
+          one_if_le (eqb (neighbourhood_of i (machine_at a p)) (neighbourhood_of i (machine_at a q))),
+        ))
         (cases_eq (neighbourhood_of i (machine_at a p)) (neighbourhood_of i to)))
         (λ (away : neighbourhood_of i (machine_at a p) ≢ neighbourhood_of i (machine_at a q)).
-        omega (arith, near_q, near_mine i a p to (neighbourhood_of i (machine_at a q)) h.fits h.known, one_if_false (eqb (neighbourhood_of i (machine_at a p)) (neighbourhood_of i (machine_at a q))) (ne_eqb _ _ away)))
+        omega (
+          arith,
+          near_q,
+          near_mine i a p to (neighbourhood_of i (machine_at a q)) h.fits h.known,
+          one_if_false (eqb (neighbourhood_of i (machine_at a p)) (neighbourhood_of i (machine_at a q)))
+              (ne_eqb _ _ away),
+        ))
         (cases_eq (neighbourhood_of i (machine_at a p)) (neighbourhood_of i (machine_at a q)))
 
-near_moved : (i : Tables) (a0 a : List Machine) (p to s k q : ℕ) → IsStart i a0 a p to → FindsNeeds i a p to → k < dependency_count i s → service_of i q ≡ s → q ≡ p → HasNear i (shifted a p to) (need_of i s k) (neighbourhood_of i (machine_at (shifted a p to) q))
+near_moved : (i : Tables) (a0 a : List Machine) (p to s k q : ℕ) → IsStart i a0 a p to → FindsNeeds i a p to →
+    k < dependency_count i s → service_of i q ≡ s → q ≡ p →
+    HasNear i (shifted a p to) (need_of i s k) (neighbourhood_of i (machine_at (shifted a p to) q))
 near_moved i a0 a p to s k q h needs k_in one_service same =
     let own : service_of i p ≡ s = ap (service_of i) (sym same) ∙ one_service in
     let at : machine_at (shifted a p to) q ≡ to = ap (machine_at (shifted a p to)) same ∙ placed i a0 a p to h in
     rw at (rw (sym own) (near_p i a0 a p to k h needs (rw own k_in)))
 
-near_stayed : (i : Tables) (a0 a : List Machine) (p to s k q : ℕ) → IsStart i a0 a p to → (neighbourhood_of i (machine_at a p) ≢ neighbourhood_of i to → MayLeave i a p) → s < service_count i → k < dependency_count i s → q < process_count i → service_of i q ≡ s → q ≢ p → HasNear i (shifted a p to) (need_of i s k) (neighbourhood_of i (machine_at (shifted a p to) q))
+near_stayed : (i : Tables) (a0 a : List Machine) (p to s k q : ℕ) → IsStart i a0 a p to →
+    (neighbourhood_of i (machine_at a p) ≢ neighbourhood_of i to → MayLeave i a p) → s < service_count i →
+    k < dependency_count i s → q < process_count i → service_of i q ≡ s → q ≢ p →
+    HasNear i (shifted a p to) (need_of i s k) (neighbourhood_of i (machine_at (shifted a p to) q))
 near_stayed i a0 a p to s k q h may s_in k_in q_in one_service other = ⊎_elim
-    (λ (mine : need_of i s k ≡ service_of i p). rw (others a p to q other, mine) (kept_near i a0 a p to s k q h may s_in k_in q_in one_service other mine))
-    (λ (foreign : need_of i s k ≢ service_of i p). rw (others a p to q other) (near_from_count i (shifted a p to) (need_of i s k) (neighbourhood_of i (machine_at a q))
-    (omega (arith, count_from_near i a (need_of i s k) (neighbourhood_of i (machine_at a q)) (h.feasible.dependency s k q s_in k_in q_in one_service), near_other i a p to (need_of i s k) (neighbourhood_of i (machine_at a q)) h.fits h.known (λ e. foreign (sym e))))))
+    (λ (mine : need_of i s k ≡ service_of i p).
+    rw (others a p to q other, mine) (kept_near i a0 a p to s k q h may s_in k_in q_in one_service other mine))
+    (λ (foreign : need_of i s k ≢ service_of i p).
+    rw (others a p to q other)
+    (near_from_count i (shifted a p to) (need_of i s k) (neighbourhood_of i (machine_at a q))
+    (omega (
+      arith,
+      count_from_near i a (need_of i s k) (neighbourhood_of i (machine_at a q))
+          (h.feasible.dependency s k q s_in k_in q_in one_service),
+      near_other i a p to (need_of i s k) (neighbourhood_of i (machine_at a q)) h.fits h.known
+          (λ e. foreign (sym e)),
+    ))))
     (cases_eq (need_of i s k) (service_of i p))
 
-pub dependency_after : (i : Tables) (a0 a : List Machine) (p to : ℕ) → IsStart i a0 a p to → FindsNeeds i a p to → (neighbourhood_of i (machine_at a p) ≢ neighbourhood_of i to → MayLeave i a p) → (s k q : ℕ) → s < service_count i → k < dependency_count i s → q < process_count i → service_of i q ≡ s → HasNear i (shifted a p to) (need_of i s k) (neighbourhood_of i (machine_at (shifted a p to) q))
+pub dependency_after : (i : Tables) (a0 a : List Machine) (p to : ℕ) → IsStart i a0 a p to → FindsNeeds i a p to →
+    (neighbourhood_of i (machine_at a p) ≢ neighbourhood_of i to → MayLeave i a p) → (s k q : ℕ) → s < service_count i →
+    k < dependency_count i s → q < process_count i → service_of i q ≡ s →
+    HasNear i (shifted a p to) (need_of i s k) (neighbourhood_of i (machine_at (shifted a p to) q))
 dependency_after i a0 a p to h needs may s k q s_in k_in q_in one_service = ⊎_elim
     (λ (same : q ≡ p). near_moved i a0 a p to s k q h needs k_in one_service same)
     (λ (other : q ≢ p). near_stayed i a0 a p to s k q h may s_in k_in q_in one_service other)

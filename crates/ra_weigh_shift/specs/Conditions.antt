@@ -3,7 +3,8 @@
 use Rattle.std.specs.Prelude.{◌≡◌, ◌≢◌, ℕ, ◌+◌, ◌<◌, ◌≤◌, List, true, IsTrue, slice_set}
 use Rattle.ra_base.specs.declared.ids.Machine.{Machine}
 use Rattle.ra_model.specs.declared.raw.Tables.{Tables}
-use Rattle.ra_model.specs.Numbers.{resource_count, service_count, transient_at, capacity_of, spread_of, dependency_count, need_of, service_of, requirement_of, neighbourhood_of, closed_at}
+use Rattle.ra_model.specs.Numbers.{resource_count, service_count, transient_at, capacity_of, spread_of}
+use Rattle.ra_model.specs.Numbers.{dependency_count, need_of, service_of, requirement_of, neighbourhood_of, closed_at}
 use Rattle.ra_model.specs.Assignments.{machine_at}
 use Rattle.ra_model.specs.Usage.{use_of, transient_of}
 use Rattle.ra_model.specs.Services.{on_machine, in_neighbourhood, locations_of}

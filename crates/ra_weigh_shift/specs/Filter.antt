@@ -4,7 +4,8 @@ use Rattle.std.specs.Prelude.{◌≡◌, ℕ, ◌+◌, ◌-◌, ◌*◌, ◌==�
 use Rattle.ra_base.specs.Sums.{total, greatest}
 use Rattle.ra_base.specs.declared.ids.Machine.{Machine}
 use Rattle.ra_model.specs.declared.raw.Tables.{Tables}
-use Rattle.ra_model.specs.Numbers.{resource_count, service_count, balance_count, service_of, process_cost_of, way_cost_of, process_weight_of, service_weight_of, machine_weight_of}
+use Rattle.ra_model.specs.Numbers.{resource_count, service_count, balance_count, service_of, process_cost_of}
+use Rattle.ra_model.specs.Numbers.{way_cost_of, process_weight_of, service_weight_of, machine_weight_of}
 use Rattle.ra_model.specs.Assignments.{machine_at}
 use Rattle.ra_model.specs.Services.{moved_of}
 use Rattle.ra_model.specs.Costs.{service_cost, objective}

@@ -1,6 +1,7 @@
 -- What process p asks of the filter rows, as terms of lanes, and the sums of sixty-four neighbouring machines (this
 -- project's).
-use Rattle.std.specs.Prelude.{◌≡◌, ◌≢◌, ℕ, ◌+◌, ◌-◌, ◌*◌, ◌%◌, ◌^◌, ◌<◌, ◌≤◌, ◌↔◌, min, List, All, None, if◌then◌else◌, nat_lt, slice_index}
+use Rattle.std.specs.Prelude.{◌≡◌, ◌≢◌, ℕ, ◌+◌, ◌-◌, ◌*◌, ◌%◌, ◌^◌, ◌<◌, ◌≤◌, ◌↔◌, min, List, All, None, if◌then◌else◌}
+use Rattle.std.specs.Prelude.{nat_lt, slice_index}
 use Rattle.std.specs.Int.{bit_at}
 use Rattle.ra_base.specs.Sums.{total}
 use Rattle.ra_base.specs.Tables.{cell}

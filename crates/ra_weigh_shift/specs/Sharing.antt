@@ -3,7 +3,8 @@ use Rattle.std.specs.Prelude.{◌≡◌, ℕ, ◌+◌, ◌-◌, ◌*◌, ◌<◌
 use Rattle.ra_base.specs.Sums.{one_if}
 use Rattle.ra_base.specs.declared.ids.Machine.{Machine}
 use Rattle.ra_model.specs.declared.raw.Tables.{Tables}
-use Rattle.ra_model.specs.Numbers.{resource_count, service_of, requirement_of, location_of, process_weight_of, machine_weight_of}
+use Rattle.ra_model.specs.Numbers.{resource_count, service_of, requirement_of, location_of, process_weight_of}
+use Rattle.ra_model.specs.Numbers.{machine_weight_of}
 use Rattle.ra_model.specs.Assignments.{machine_at}
 use Rattle.ra_model.specs.Usage.{use_of}
 use Rattle.ra_model.specs.Services.{in_location, locations_of}

@@ -1,12 +1,19 @@
 -- The form of the words tells which job they are, and that what is found in them is what that job says.
-use Rattle.std.proofs.Common.{◌≡◌, ℕ, refl, ap, sym, ◌∙◌, if◌then◌else◌, Bool, true, false, List, Option, Some, None, subst}
+use Rattle.std.proofs.Common.{◌≡◌, ℕ, refl, ap, sym, ◌∙◌, if◌then◌else◌, Bool, true, false, List, Option, Some, None}
+use Rattle.std.proofs.Common.{subst}
 use Rattle.clap.specs.declared.parser.matches.Found.{Found}
 use Rattle.ra_words.specs.declared.forms.Form.{Form}
 use Rattle.ra_words.specs.declared.forms.Form.TheVariants.{Check, Bound, BoundFrom, Solve, Trial, Verify, Repair, Edit}
 use Rattle.ra_words.specs.Lines.{Finds, Line, Spells}
-use Rattle.ra_words.specs.Jobs.{JobSays, job_of, is_check, check_says, is_bound, bound_says, is_bound_from, bound_from_says, is_solve, solve_says, is_trial, trial_says, is_verify, verify_says, is_repair, repair_says, is_edit, edit_says}
+use Rattle.ra_words.specs.Jobs.{JobSays, job_of, is_check, check_says, is_bound, bound_says, is_bound_from}
+use Rattle.ra_words.specs.Jobs.{bound_from_says, is_solve, solve_says, is_trial, trial_says, is_verify, verify_says}
+use Rattle.ra_words.specs.Jobs.{is_repair, repair_says, is_edit, edit_says}
 use Rattle.ra_words.specs.Forms.{form_of, found_says, FitsForm}
-use Rattle.ra_words.proofs.JobLines.{closing_line, closing_spelled, pair_line, running_line, running_spelled, repair_line, check_files, check_found, bound_spelled, bound_found, bound_from_files, bound_from_found, solve_files, solve_fits, solve_found, trial_spelled, trial_plain, trial_found, verify_files, verify_fits, verify_found, repair_spelled, repair_lots, repair_found, edit_files, edit_found}
+use Rattle.ra_words.proofs.JobLines.{closing_line, closing_spelled, pair_line, running_line, running_spelled}
+use Rattle.ra_words.proofs.JobLines.{repair_line, check_files, check_found, bound_spelled, bound_found}
+use Rattle.ra_words.proofs.JobLines.{bound_from_files, bound_from_found, solve_files, solve_fits, solve_found}
+use Rattle.ra_words.proofs.JobLines.{trial_spelled, trial_plain, trial_found, verify_files, verify_fits, verify_found}
+use Rattle.ra_words.proofs.JobLines.{repair_spelled, repair_lots, repair_found, edit_files, edit_found}
 
 -- the words are a job of the form
 abbrev IsA : Form → List (List ℕ) → Type 0
@@ -35,8 +42,10 @@ record IsTold (form : Form) (words : List (List ℕ)) (job : Option JobSays) : T
   told : job ≡ Some (says form words)
 
 -- one test of many: it is this form, or what the later tests tell
-one_told : (test : Bool) (here form : Form) (words : List (List ℕ)) (rest : Option Form) (job : Option JobSays) → (test ≡ true → IsA here words)
-    → (rest ≡ Some form → IsTold form words job) → (if test then Some here else rest) ≡ Some form → IsTold form words (if test then Some (says here words) else job)
+one_told : (test : Bool) (here form : Form) (words : List (List ℕ)) (rest : Option Form) (job : Option JobSays) →
+    (test ≡ true → IsA here words)
+    → (rest ≡ Some form → IsTold form words job) → (if test then Some here else rest) ≡ Some form →
+    IsTold form words (if test then Some (says here words) else job)
 one_told true here form words rest job is later e =
     let same : here ≡ form = cc in
     subst (λ f. IsTold f words (Some (says here words))) same (record { is = is refl; told = refl })
@@ -54,7 +63,8 @@ told words form =
     (one_told (is_repair words) Repair form words _ _ (λ e. e)
     (one_told (is_edit words) Edit form words None None (λ e. e) (λ e. absurd (cc)))))))))
 
-one_untold : (test : Bool) (here : Form) (said : JobSays) (rest : Option Form) (job : Option JobSays) → (rest ≡ None → job ≡ None)
+one_untold : (test : Bool) (here : Form) (said : JobSays) (rest : Option Form) (job : Option JobSays) →
+    (rest ≡ None → job ≡ None)
     → (if test then Some here else rest) ≡ None → (if test then Some said else job) ≡ None
 one_untold true here said rest job later e = absurd (cc)
 one_untold false here said rest job later e = later e
@@ -86,7 +96,8 @@ line_of Verify words is = (running_line 3 words, running_spelled 2 words (verify
 line_of Repair words is = (repair_line words, repair_spelled words is)
 line_of Edit words is = (closing_line 4 words, closing_spelled 3 words (edit_files words is))
 
-fits : (form : Form) (words : List (List ℕ)) (found : Found) → IsA form words → ((line : Line) → Spells line words → Finds line found) → FitsForm form found
+fits : (form : Form) (words : List (List ℕ)) (found : Found) → IsA form words →
+    ((line : Line) → Spells line words → Finds line found) → FitsForm form found
 fits Check words found is finds = tt
 fits Bound words found is finds = tt
 fits BoundFrom words found is finds = tt
@@ -96,7 +107,8 @@ fits Verify words found is finds = verify_fits words found is finds
 fits Repair words found is finds = repair_lots words found is finds
 fits Edit words found is finds = tt
 
-says_found : (form : Form) (words : List (List ℕ)) (found : Found) → IsA form words → ((line : Line) → Spells line words → Finds line found) → found_says form found ≡ says form words
+says_found : (form : Form) (words : List (List ℕ)) (found : Found) → IsA form words →
+    ((line : Line) → Spells line words → Finds line found) → found_says form found ≡ says form words
 says_found Check words found is finds = check_found words found is finds
 says_found Bound words found is finds = bound_found words found is finds
 says_found BoundFrom words found is finds = bound_from_found words found is finds
@@ -111,11 +123,13 @@ pub form_line : (words : List (List ℕ)) (form : Form) → form_of words ≡ So
 form_line words form is = line_of form words (told words form is).is
 
 -- what is found in them can be read
-pub form_fits : (words : List (List ℕ)) (form : Form) (found : Found) → form_of words ≡ Some form → ((line : Line) → Spells line words → Finds line found) → FitsForm form found
+pub form_fits : (words : List (List ℕ)) (form : Form) (found : Found) → form_of words ≡ Some form →
+    ((line : Line) → Spells line words → Finds line found) → FitsForm form found
 form_fits words form found is finds = fits form words found (told words form is).is finds
 
 -- and says the job
-pub form_says : (words : List (List ℕ)) (form : Form) (found : Found) (said : JobSays) → form_of words ≡ Some form → ((line : Line) → Spells line words → Finds line found)
+pub form_says : (words : List (List ℕ)) (form : Form) (found : Found) (said : JobSays) → form_of words ≡ Some form →
+    ((line : Line) → Spells line words → Finds line found)
     → said ≡ found_says form found → job_of words ≡ Some said
 form_says words form found said is finds reads =
     let t = told words form is in

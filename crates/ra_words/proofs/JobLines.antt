@@ -1,5 +1,7 @@
 -- The words of each job are a line, and what is found in it is what the job says.
-use Rattle.std.proofs.Common.{◌≡◌, ◌∙◌, ◌<◌, ◌≤◌, ◌+◌, ◌++◌, ◌&&◌, ◌||◌, ◌==◌, ℕ, zero, suc, ap, ap₂, sym, refl, true≢false, inl, inr, codes, arith, if◌then◌else◌, Bool, true, false, not, List, [], ◌∷◌, Option, Some, None, length, drop, take, map}
+use Rattle.std.proofs.Common.{◌≡◌, ◌∙◌, ◌<◌, ◌≤◌, ◌+◌, ◌++◌, ◌&&◌, ◌||◌, ◌==◌, ℕ, zero, suc, ap, ap₂, sym, refl}
+use Rattle.std.proofs.Common.{true≢false, inl, inr, codes, arith, if◌then◌else◌, Bool, true, false, not, List, [], ◌∷◌}
+use Rattle.std.proofs.Common.{Option, Some, None, length, drop, take, map}
 use Rattle.std.proofs.Common.{add-one}
 use Rattle.std.specs.List.{list_all}
 use Rattle.std.specs.Option.{option_map_or}
@@ -15,11 +17,18 @@ use Rattle.clap.specs.declared.parser.matches.Found.{Found}
 use Rattle.ra_base.specs.declared.causes.Drawing.TheVariants.{Two}
 use Rattle.ra_words.specs.Words.{behind, has_option, is_name, value_at, word_at}
 use Rattle.ra_words.specs.Numbers.{has_digits, is_number, worth}
-use Rattle.ra_words.specs.LotTexts.{are_lots, first_place, is_lot, is_seed_lot, is_written, is_written_lot, lot_says, seed_text}
+use Rattle.ra_words.specs.LotTexts.{are_lots, first_place, is_lot, is_seed_lot, is_written, is_written_lot, lot_says}
+use Rattle.ra_words.specs.LotTexts.{seed_text}
 use Rattle.ra_words.specs.Lines.{Finds, Line, Spells, option_words, plain_of, words_of}
-use Rattle.ra_words.specs.Forms.{RunFound, found_check, found_bound, found_bound_from, found_solve, found_trial, found_verify, found_repair, found_edit}
+use Rattle.ra_words.specs.Forms.{RunFound, found_check, found_bound, found_bound_from, found_solve, found_trial}
+use Rattle.ra_words.specs.Forms.{found_verify, found_repair, found_edit}
 use Rattle.ra_words.proofs.LotLaws.{lots_told}
-use Rattle.ra_words.specs.Jobs.{Bounds, Checks, Solves, Trials, Verifies, Repairs, Edits, bound_says, bound_from_says, check_says, closed_place, closed_text, draws_place, draws_text, drawing_says, ends_closed, ends_in_lots, is_bound, is_bound_from, is_check, is_closed, is_drawing, is_slack, is_solve, lot_words, lots_place, slack_says, slack_text, solve_says, is_trial, trial_says, is_verify, verify_says, is_repair, repair_says, lot_place, is_edit, edit_says}
+use Rattle.ra_words.specs.Jobs.{Bounds, Checks, Solves, Trials, Verifies, Repairs, Edits, bound_says, bound_from_says}
+use Rattle.ra_words.specs.Jobs.{check_says, closed_place, closed_text, draws_place, draws_text, drawing_says}
+use Rattle.ra_words.specs.Jobs.{ends_closed, ends_in_lots, is_bound, is_bound_from, is_check, is_closed, is_drawing}
+use Rattle.ra_words.specs.Jobs.{is_slack, is_solve, lot_words, lots_place, slack_says, slack_text, solve_says, is_trial}
+use Rattle.ra_words.specs.Jobs.{trial_says, is_verify, verify_says, is_repair, repair_says, lot_place, is_edit}
+use Rattle.ra_words.specs.Jobs.{edit_says}
 
 -- ---- words that are no option
 
@@ -56,7 +65,8 @@ unfolding seed_text first_place
 seed_named [] named = cc
 seed_named (x ∷ xs) named = go (x == 58) named
   where
-    go : (b : Bool) → is_name (take (if b then 0 else suc (first_place 58 xs)) (x ∷ xs)) ≡ true → is_name (x ∷ xs) ≡ true
+    go : (b : Bool) → is_name (take (if b then 0 else suc (first_place 58 xs)) (x ∷ xs)) ≡ true →
+        is_name (x ∷ xs) ≡ true
     go true e = cc
     go false e = e
 
@@ -66,17 +76,20 @@ take_named (x ∷ xs) = refl
 
 written_named : (word : List ℕ) → is_written word ≡ true → is_name word ≡ true
 unfolding is_written
-written_named word written = sym (take_named word) ∙ ap is_name ((bytes_eq-Decides (take 2 word) (codes "w:")).0 written)
+written_named word written =
+    sym (take_named word) ∙ ap is_name ((bytes_eq-Decides (take 2 word) (codes "w:")).0 written)
 
 seed_lot_named : (word : List ℕ) → is_seed_lot word ≡ true → is_name word ≡ true
 unfolding is_seed_lot
-seed_lot_named word lot = let seed : is_number (seed_text word) ≡ true = grind (arith, common_steps) in seed_named word (digits_named (seed_text word) seed)
+seed_lot_named word lot = let seed : is_number (seed_text word) ≡ true = grind (arith, common_steps) in
+    seed_named word (digits_named (seed_text word) seed)
 
 lot_named : (word : List ℕ) → is_lot word ≡ true → is_name word ≡ true
 unfolding is_lot
 lot_named word lot = go (is_written word) refl lot
   where
-    go : (b : Bool) → is_written word ≡ b → (if b then is_written_lot word else is_seed_lot word) ≡ true → is_name word ≡ true
+    go : (b : Bool) → is_written word ≡ b → (if b then is_written_lot word else is_seed_lot word) ≡ true →
+        is_name word ≡ true
     go true is e = written_named word is
     go false is e = seed_lot_named word e
 
@@ -102,20 +115,24 @@ abbrev words_from : ℕ → List (List ℕ) → ℕ → List (List ℕ)
 words_from place words zero = []
 words_from place words (suc n) = word_at words place ∷ words_from (suc place) words n
 
-names_within : (n place : ℕ) (words : List (List ℕ)) → list_all is_name (words_from place words (suc n)) ≡ true → n + place < length words
+names_within : (n place : ℕ) (words : List (List ℕ)) → list_all is_name (words_from place words (suc n)) ≡ true →
+    n + place < length words
 names_within zero place words names =
     let within : place < length words = name_within words place (both (is_name (word_at words place)) true names).0 in
     omega (arith, within)
 names_within (suc n) place words names =
-    let later = (both (is_name (word_at words place)) (list_all is_name (words_from (suc place) words (suc n))) names).1 in
+    let later = (both (is_name (word_at words place)) (list_all is_name (words_from (suc place) words (suc n)))
+    names).1 in
     let within : n + suc place < length words = names_within n (suc place) words later in
     omega (arith, within)
 
-word_here : (words : List (List ℕ)) (place : ℕ) → place < length words → drop place words ≡ word_at words place ∷ drop (place + 1) words
+word_here : (words : List (List ℕ)) (place : ℕ) → place < length words →
+    drop place words ≡ word_at words place ∷ drop (place + 1) words
 unfolding word_at
 word_here words place within = rw add-one (drop-cons words place [] within)
 
-words_here : (n place : ℕ) (words : List (List ℕ)) → n + place ≤ length words → drop place words ≡ words_from place words n ++ drop (n + place) words
+words_here : (n place : ℕ) (words : List (List ℕ)) → n + place ≤ length words →
+    drop place words ≡ words_from place words n ++ drop (n + place) words
 words_here zero place words within = let none : place ≡ 0 + place = omega arith in ap (λ k. drop k words) none
 words_here (suc n) place words within =
     let next : place + 1 ≡ suc place = omega arith in
@@ -131,23 +148,29 @@ option_here : (option : List ℕ) (words : List (List ℕ)) (place : ℕ) → is
 unfolding value_at behind has_option option_words
 option_here option words place named = go (bytes_eq (word_at words place) option) refl named
   where
-    go : (b : Bool) → bytes_eq (word_at words place) option ≡ b → is_named (if b then Some (word_at words (place + 1)) else None) ≡ true
-        → drop place words ≡ option_words option (if b then Some (word_at words (place + 1)) else None) ++ drop (if b then place + 2 else place) words
+    go : (b : Bool) → bytes_eq (word_at words place) option ≡ b →
+        is_named (if b then Some (word_at words (place + 1)) else None) ≡ true
+        → drop place words ≡ option_words option (if b then Some (word_at words (place + 1)) else None) ++ drop
+        (if b then place + 2 else place) words
     go true is name =
         let within = name_within words (place + 1) name in
         let two : place + 1 + 1 ≡ place + 2 = omega arith in
         word_here words place (omega (arith, within))
         ∙ ap (λ ws. word_at words place ∷ ws) (word_here words (place + 1) within)
-        ∙ ap (λ w. w ∷ word_at words (place + 1) ∷ drop (place + 1 + 1) words) ((bytes_eq-Decides (word_at words place) option).0 is)
+        ∙ ap (λ w. w ∷ word_at words (place + 1) ∷ drop (place + 1 + 1) words)
+        ((bytes_eq-Decides (word_at words place) option).0 is)
         ∙ ap (λ k. option ∷ word_at words (place + 1) ∷ drop k words) two
     go false is name = refl
 
 -- the options in their order from a place on, and the words behind
-options_here : (words : List (List ℕ)) (slack closed draws : ℕ) → closed ≡ behind (codes "--slack") words slack → draws ≡ behind (codes "--closed") words closed
-    → is_named (value_at (codes "--slack") words slack) ≡ true → is_named (value_at (codes "--closed") words closed) ≡ true → is_named (value_at (codes "--draws") words draws) ≡ true
+options_here : (words : List (List ℕ)) (slack closed draws : ℕ) → closed ≡ behind (codes "--slack") words slack →
+    draws ≡ behind (codes "--closed") words closed
+    → is_named (value_at (codes "--slack") words slack) ≡ true → is_named (value_at (codes "--closed") words closed) ≡
+    true → is_named (value_at (codes "--draws") words draws) ≡ true
     → drop slack words ≡ option_words (codes "--slack") (value_at (codes "--slack") words slack)
     ++ (option_words (codes "--closed") (value_at (codes "--closed") words closed)
-    ++ (option_words (codes "--draws") (value_at (codes "--draws") words draws) ++ drop (behind (codes "--draws") words draws) words))
+    ++ (option_words (codes "--draws") (value_at (codes "--draws") words draws) ++ drop
+    (behind (codes "--draws") words draws) words))
 options_here words slack closed draws behind_slack behind_closed one two three =
     let first = option_words (codes "--slack") (value_at (codes "--slack") words slack) in
     let second = option_words (codes "--closed") (value_at (codes "--closed") words closed) in
@@ -183,21 +206,24 @@ closed_parts : (words : List (List ℕ)) (place : ℕ) → ends_closed words pla
 unfolding ends_closed
 closed_parts words place ends = record { closed = grind (arith, common_steps); last = grind (arith, common_steps) }
 
-pub closing_spelled : (k : ℕ) (words : List (List ℕ)) → Files ends_closed (suc k) words → Spells (closing_line (suc k) words) words
+pub closing_spelled : (k : ℕ) (words : List (List ℕ)) → Files ends_closed (suc k) words →
+    Spells (closing_line (suc k) words) words
 unfolding words_of option_words
 closing_spelled k words files =
     let n = suc k in
     let is = closed_parts words (suc n) files.ends in
     let within : k + 1 < length words = names_within k 1 words files.names in
     let named = closed_named (value_at (codes "--closed") words (suc n)) is.closed in
-    let none : drop (behind (codes "--closed") words (suc n)) words ≡ [] = drop_all (behind (codes "--closed") words (suc n)) words (omega (arith, is.last)) in
+    let none : drop (behind (codes "--closed") words (suc n)) words ≡ [] =
+    drop_all (behind (codes "--closed") words (suc n)) words (omega (arith, is.last)) in
     let here : suc n + 0 ≡ suc n = omega arith in
     record {
       is =
           words_here (suc n) 0 words (omega (arith, within))
           ∙ ap (λ k. words_from 0 words (suc n) ++ drop k words) here
           ∙ ap (λ ws. words_from 0 words (suc n) ++ ws) (option_here (codes "--closed") words (suc n) named)
-          ∙ ap (λ ws. words_from 0 words (suc n) ++ (option_words (codes "--closed") (value_at (codes "--closed") words (suc n)) ++ ws)) none;
+          ∙ ap (λ ws. words_from 0 words (suc n) ++
+          (option_words (codes "--closed") (value_at (codes "--closed") words (suc n)) ++ ws)) none;
       files = files.names;
       slack = refl;
       closed = named;
@@ -209,7 +235,8 @@ pub check_files : (words : List (List ℕ)) → is_check words ≡ true → File
 unfolding is_check
 check_files words is = record { names = grind (arith, common_steps); ends = grind (arith, common_steps) }
 
-pub check_found : (words : List (List ℕ)) (found : Found) → is_check words ≡ true → ((line : Line) → Spells line words → Finds line found)
+pub check_found : (words : List (List ℕ)) (found : Found) → is_check words ≡ true →
+    ((line : Line) → Spells line words → Finds line found)
     → found_check found ≡ check_says words
 unfolding check_says word_at
 check_found words found check finds =
@@ -220,7 +247,8 @@ pub bound_from_files : (words : List (List ℕ)) → is_bound_from words ≡ tru
 unfolding is_bound_from
 bound_from_files words is = record { names = grind (arith, common_steps); ends = grind (arith, common_steps) }
 
-pub bound_from_found : (words : List (List ℕ)) (found : Found) → is_bound_from words ≡ true → ((line : Line) → Spells line words → Finds line found)
+pub bound_from_found : (words : List (List ℕ)) (found : Found) → is_bound_from words ≡ true →
+    ((line : Line) → Spells line words → Finds line found)
     → found_bound_from found ≡ bound_from_says words
 unfolding bound_from_says word_at
 bound_from_found words found bound finds =
@@ -231,23 +259,34 @@ pub edit_files : (words : List (List ℕ)) → is_edit words ≡ true → Files 
 unfolding is_edit
 edit_files words is = record { names = grind (arith, common_steps); ends = grind (arith, common_steps) }
 
-pub edit_found : (words : List (List ℕ)) (found : Found) → is_edit words ≡ true → ((line : Line) → Spells line words → Finds line found)
+pub edit_found : (words : List (List ℕ)) (found : Found) → is_edit words ≡ true →
+    ((line : Line) → Spells line words → Finds line found)
     → found_edit found ≡ edit_says words
 unfolding edit_says word_at
 edit_found words found edit finds =
     let f = finds (closing_line 4 words) (closing_spelled 3 words (edit_files words edit)) in
-    λ i. Edits (word_at (f.plain i) 0) (word_at (f.plain i) 1) (word_at (f.plain i) 2) (word_at (f.plain i) 3) (f.closed i)
+    λ i. Edits (word_at (f.plain i) 0) (word_at (f.plain i) 1) (word_at (f.plain i) 2) (word_at (f.plain i) 3)
+    (f.closed i)
 
 -- ---- bound and trial
 
 -- the command word and one plain word
 abbrev pub pair_line : List (List ℕ) → Line
-pair_line words = record { command = word_at words 0; files = words_from 1 words 1; slack = None; closed = None; draws = None; behind = [] }
+pair_line words = record {
+  command = word_at words 0;
+  files = words_from 1 words 1;
+  slack = None;
+  closed = None;
+  draws = None;
+  behind = [];
+}
 
-pair_spelled : (words : List (List ℕ)) → length words ≡ 2 → is_name (word_at words 1) ≡ true → Spells (pair_line words) words
+pair_spelled : (words : List (List ℕ)) → length words ≡ 2 → is_name (word_at words 1) ≡ true →
+    Spells (pair_line words) words
 unfolding words_of option_words
 pair_spelled words two name = record {
-  is = words_here 2 0 words (omega (arith, two)) ∙ ap (λ ws. words_from 0 words 2 ++ ws) (drop_all 2 words (omega (arith, two)));
+  is = words_here 2 0 words (omega (arith, two))
+      ∙ ap (λ ws. words_from 0 words 2 ++ ws) (drop_all 2 words (omega (arith, two)));
   files = rw name refl;
   slack = refl;
   closed = refl;
@@ -262,7 +301,8 @@ bound_spelled words bound =
     let two : length words ≡ 2 = grind (arith, common_steps) in
     pair_spelled words two name
 
-pub bound_found : (words : List (List ℕ)) (found : Found) → is_bound words ≡ true → ((line : Line) → Spells line words → Finds line found)
+pub bound_found : (words : List (List ℕ)) (found : Found) → is_bound words ≡ true →
+    ((line : Line) → Spells line words → Finds line found)
     → found_bound found ≡ bound_says words
 unfolding bound_says word_at
 bound_found words found bound finds =
@@ -280,14 +320,16 @@ trial_spelled words trial =
     pair_spelled words two (digits_named (word_at words 1) (trial_number words trial))
 
 -- the plain word that is found is the number
-pub trial_plain : (words : List (List ℕ)) (found : Found) → is_trial words ≡ true → ((line : Line) → Spells line words → Finds line found)
+pub trial_plain : (words : List (List ℕ)) (found : Found) → is_trial words ≡ true →
+    ((line : Line) → Spells line words → Finds line found)
     → is_number (word_at (plain_of found) 0) ≡ true
 unfolding word_at
 trial_plain words found trial finds =
     let f = finds (pair_line words) (trial_spelled words trial) in
     ap (λ ws. is_number (word_at ws 0)) f.plain ∙ trial_number words trial
 
-pub trial_found : (words : List (List ℕ)) (found : Found) → is_trial words ≡ true → ((line : Line) → Spells line words → Finds line found)
+pub trial_found : (words : List (List ℕ)) (found : Found) → is_trial words ≡ true →
+    ((line : Line) → Spells line words → Finds line found)
     → found_trial found ≡ trial_says words
 unfolding trial_says word_at
 trial_found words found trial finds =
@@ -322,7 +364,8 @@ lots_parts words place ends = record {
   lots = grind (arith, common_steps);
 }
 
-pub running_spelled : (k : ℕ) (words : List (List ℕ)) → Files ends_in_lots (suc k) words → Spells (running_line (suc k) words) words
+pub running_spelled : (k : ℕ) (words : List (List ℕ)) → Files ends_in_lots (suc k) words →
+    Spells (running_line (suc k) words) words
 unfolding words_of slack_text closed_text draws_text lot_words closed_place draws_place lots_place
 running_spelled k words files =
     let n = suc k in
@@ -336,7 +379,9 @@ running_spelled k words files =
       is =
           words_here (suc n) 0 words (omega (arith, within))
           ∙ ap (λ k. words_from 0 words (suc n) ++ drop k words) here
-          ∙ ap (λ ws. words_from 0 words (suc n) ++ ws) (options_here words (suc n) (closed_place words (suc n)) (draws_place words (suc n)) refl refl slack closed draws);
+          ∙ ap (λ ws. words_from 0 words (suc n) ++ ws)
+          (options_here words (suc n) (closed_place words (suc n)) (draws_place words (suc n)) refl refl slack
+          closed draws);
       files = files.names;
       slack = slack;
       closed = closed;
@@ -345,7 +390,8 @@ running_spelled k words files =
     }
 
 -- what is found of a run behind so many files: its slack and its lots
-run_fits : (n : ℕ) (words : List (List ℕ)) (found : Found) → ends_in_lots words (suc n) ≡ true → Finds (running_line n words) found
+run_fits : (n : ℕ) (words : List (List ℕ)) (found : Found) → ends_in_lots words (suc n) ≡ true →
+    Finds (running_line n words) found
     → drop n (words_from 1 words n ++ lot_words words (suc n)) ≡ lot_words words (suc n) → RunFound found n
 run_fits n words found ends f behind =
     let is = lots_parts words (suc n) ends in
@@ -358,29 +404,37 @@ pub solve_files : (words : List (List ℕ)) → is_solve words ≡ true → File
 unfolding is_solve
 solve_files words is = record { names = grind (arith, common_steps); ends = grind (arith, common_steps) }
 
-pub solve_fits : (words : List (List ℕ)) (found : Found) → is_solve words ≡ true → ((line : Line) → Spells line words → Finds line found) → RunFound found 2
-solve_fits words found solve finds = run_fits 2 words found (solve_files words solve).ends (finds (running_line 2 words) (running_spelled 1 words (solve_files words solve))) refl
+pub solve_fits : (words : List (List ℕ)) (found : Found) → is_solve words ≡ true →
+    ((line : Line) → Spells line words → Finds line found) → RunFound found 2
+solve_fits words found solve finds = run_fits 2 words found (solve_files words solve).ends
+    (finds (running_line 2 words) (running_spelled 1 words (solve_files words solve))) refl
 
-pub solve_found : (words : List (List ℕ)) (found : Found) → is_solve words ≡ true → ((line : Line) → Spells line words → Finds line found)
+pub solve_found : (words : List (List ℕ)) (found : Found) → is_solve words ≡ true →
+    ((line : Line) → Spells line words → Finds line found)
     → found_solve found ≡ solve_says words
 unfolding solve_says word_at
 solve_found words found solve finds =
     let f = finds (running_line 2 words) (running_spelled 1 words (solve_files words solve)) in
-    λ i. Solves (word_at (f.plain i) 0) (word_at (f.plain i) 1) (f.closed i) (slack_says (f.slack i)) (drawing_says (f.draws i)) (map lot_says (drop 2 (f.plain i)))
+    λ i. Solves (word_at (f.plain i) 0) (word_at (f.plain i) 1) (f.closed i) (slack_says (f.slack i))
+    (drawing_says (f.draws i)) (map lot_says (drop 2 (f.plain i)))
 
 pub verify_files : (words : List (List ℕ)) → is_verify words ≡ true → Files ends_in_lots 3 words
 unfolding is_verify
 verify_files words is = record { names = grind (arith, common_steps); ends = grind (arith, common_steps) }
 
-pub verify_fits : (words : List (List ℕ)) (found : Found) → is_verify words ≡ true → ((line : Line) → Spells line words → Finds line found) → RunFound found 3
-verify_fits words found verify finds = run_fits 3 words found (verify_files words verify).ends (finds (running_line 3 words) (running_spelled 2 words (verify_files words verify))) refl
+pub verify_fits : (words : List (List ℕ)) (found : Found) → is_verify words ≡ true →
+    ((line : Line) → Spells line words → Finds line found) → RunFound found 3
+verify_fits words found verify finds = run_fits 3 words found (verify_files words verify).ends
+    (finds (running_line 3 words) (running_spelled 2 words (verify_files words verify))) refl
 
-pub verify_found : (words : List (List ℕ)) (found : Found) → is_verify words ≡ true → ((line : Line) → Spells line words → Finds line found)
+pub verify_found : (words : List (List ℕ)) (found : Found) → is_verify words ≡ true →
+    ((line : Line) → Spells line words → Finds line found)
     → found_verify found ≡ verify_says words
 unfolding verify_says word_at
 verify_found words found verify finds =
     let f = finds (running_line 3 words) (running_spelled 2 words (verify_files words verify)) in
-    λ i. Verifies (word_at (f.plain i) 0) (word_at (f.plain i) 1) (word_at (f.plain i) 2) (f.closed i) (slack_says (f.slack i)) (drawing_says (f.draws i)) (map lot_says (drop 3 (f.plain i)))
+    λ i. Verifies (word_at (f.plain i) 0) (word_at (f.plain i) 1) (word_at (f.plain i) 2) (f.closed i)
+    (slack_says (f.slack i)) (drawing_says (f.draws i)) (map lot_says (drop 3 (f.plain i)))
 
 -- ---- repair
 
@@ -401,7 +455,11 @@ record IsRepair (words : List (List ℕ)) : Type 0 where
 
 repair_parts : (words : List (List ℕ)) → is_repair words ≡ true → IsRepair words
 unfolding is_repair
-repair_parts words repair = record { names = grind (arith, common_steps); closed = grind (arith, common_steps); lots = grind (arith, common_steps) }
+repair_parts words repair = record {
+  names = grind (arith, common_steps);
+  closed = grind (arith, common_steps);
+  lots = grind (arith, common_steps);
+}
 
 pub repair_spelled : (words : List (List ℕ)) → is_repair words ≡ true → Spells (repair_line words) words
 unfolding words_of option_words lot_place
@@ -419,10 +477,14 @@ repair_spelled words repair =
       behind = lots_named (drop (lot_place words) words) (lots_told (drop (lot_place words) words) is.lots);
     }
 
-pub repair_lots : (words : List (List ℕ)) (found : Found) → is_repair words ≡ true → ((line : Line) → Spells line words → Finds line found) → are_lots (drop 2 (plain_of found)) ≡ true
-repair_lots words found repair finds = ap (λ ws. are_lots (drop 2 ws)) (finds (repair_line words) (repair_spelled words repair)).plain ∙ (repair_parts words repair).lots
+pub repair_lots : (words : List (List ℕ)) (found : Found) → is_repair words ≡ true →
+    ((line : Line) → Spells line words → Finds line found) → are_lots (drop 2 (plain_of found)) ≡ true
+repair_lots words found repair finds =
+    ap (λ ws. are_lots (drop 2 ws)) (finds (repair_line words) (repair_spelled words repair)).plain
+    ∙ (repair_parts words repair).lots
 
-pub repair_found : (words : List (List ℕ)) (found : Found) → is_repair words ≡ true → ((line : Line) → Spells line words → Finds line found)
+pub repair_found : (words : List (List ℕ)) (found : Found) → is_repair words ≡ true →
+    ((line : Line) → Spells line words → Finds line found)
     → found_repair found ≡ repair_says words
 unfolding repair_says word_at
 repair_found words found repair finds =

@@ -1,11 +1,14 @@
 -- The one command takes the words of a line, and finds in them what the line has.
-use Rattle.std.proofs.Common.{◌≡◌, ◌∙◌, ◌++◌, ◌&&◌, ap, ap₂, subst, refl, codes, Bool, true, false, List, [], ◌∷◌, Option, Some, None, option_map, append-nil, if◌then◌else◌}
+use Rattle.std.proofs.Common.{◌≡◌, ◌∙◌, ◌++◌, ◌&&◌, ap, ap₂, subst, refl, codes, Bool, true, false, List, [], ◌∷◌}
+use Rattle.std.proofs.Common.{Option, Some, None, option_map, append-nil, if◌then◌else◌}
 use Rattle.std.specs.Prelude.{fold, unwrap_or, option_and_then, slice_get}
 use Rattle.std.specs.List.{list_all}
-use Rattle.clap.specs.Words.{App, HasMatchesOf, all_of, first_of, first_value, found_of, is_simple, matches_of, rows_of, takes}
+use Rattle.clap.specs.Words.{App, HasMatchesOf, all_of, first_of, first_value, found_of, is_simple, matches_of, rows_of}
+use Rattle.clap.specs.Words.{takes}
 use Rattle.clap.specs.Simple.{argument_words, built}
 use Rattle.clap.specs.Takes.{built_takes, level_passes, settle_passes}
-use Rattle.clap.specs.Walk.{Row, Rule, Text, Walk, default_rows, finished, idle, is_empty, nothing_held, reading_by, settled_rows, walked, with_default, has_row}
+use Rattle.clap.specs.Walk.{Row, Rule, Text, Walk, default_rows, finished, idle, is_empty, nothing_held, reading_by}
+use Rattle.clap.specs.Walk.{settled_rows, walked, with_default, has_row}
 use Rattle.clap.specs.declared.parser.matches.ArgMatches.{ArgMatches}
 use Rattle.clap.proofs.OnLiterals.{clap_on_literals}
 use Rattle.clap.proofs.SimpleLemmas.{is_nil}
@@ -13,7 +16,8 @@ use Rattle.clap.proofs.TakesLemmas.{leaf_takes}
 use Rattle.clap.proofs.WalkLemmas.{both, first_value-rows, raw_values-rows}
 use Rattle.ra_words.specs.Lines.{Finds, Line, Spells, line_app, option_words, words_of}
 use Rattle.ra_words.proofs.RowLaws.{first_all}
-use Rattle.ra_words.proofs.LineWalk.{Closed, Draws, Given, Goes, Holds, Reads, Seen, Slack, end_goes, id_of, line_rules, line_shape, maybe_goes, plains_go, seen_of, some_words, standing, with_seen}
+use Rattle.ra_words.proofs.LineWalk.{Closed, Draws, Given, Goes, Holds, Reads, Seen, Slack, end_goes, id_of, line_rules}
+use Rattle.ra_words.proofs.LineWalk.{line_shape, maybe_goes, plains_go, seen_of, some_words, standing, with_seen}
 
 -- the words behind the command word
 abbrev behind_command : Line → List Text
@@ -23,7 +27,12 @@ behind_command line =
 
 -- what is found in them
 abbrev seen_in : Line → Seen
-seen_in line = record { plain = line.files ++ line.behind; slack = line.slack; closed = line.closed; draws = line.draws }
+seen_in line = record {
+  plain = line.files ++ line.behind;
+  slack = line.slack;
+  closed = line.closed;
+  draws = line.draws;
+}
 
 abbrev nothing_seen : Seen
 nothing_seen = record { plain = []; slack = None; closed = None; draws = None }
@@ -44,7 +53,8 @@ at_start = record {
     options Closed = refl
     options Draws = refl
 
-line_goes : (line : Line) (words : List Text) → Spells line words → Goes (standing [] None idle) (behind_command line) (seen_in line)
+line_goes : (line : Line) (words : List Text) → Spells line words →
+    Goes (standing [] None idle) (behind_command line) (seen_in line)
 line_goes line words is =
     let all = seen_in line in
     let s1 : Seen = record nothing_seen { plain = line.files } in
@@ -64,7 +74,8 @@ line_goes line words is =
 
 -- ---- what is found
 
-none_by_default : (rules : List Rule) (rows : List Row) → list_all (λ a. is_empty a.defaults) rules ≡ true → fold with_default rows rules ≡ rows
+none_by_default : (rules : List Rule) (rows : List Row) → list_all (λ a. is_empty a.defaults) rules ≡ true →
+    fold with_default rows rules ≡ rows
 none_by_default [] rows none = refl
 none_by_default (a ∷ rules) rows none =
     let parts = both (is_empty a.defaults) (list_all (λ r. is_empty r.defaults) rules) none in
@@ -75,10 +86,13 @@ none_by_default (a ∷ rules) rows none =
     same false = refl
 
     one : (r : Rule) → is_empty r.defaults ≡ true → with_default rows r ≡ rows
-    one r empty = ap (λ rs. if has_row r.id rows then rows else rs) (ap (λ texts. default_rows r.id (reading_by r) texts rows) (is_nil r.defaults empty)) ∙ same (has_row r.id rows)
+    one r empty =
+        ap (λ rs. if has_row r.id rows then rows else rs)
+        (ap (λ texts. default_rows r.id (reading_by r) texts rows) (is_nil r.defaults empty)) ∙ same (has_row r.id rows)
 
 -- the rows at the end of the words
-line_rows : (line : Line) (words : List Text) → Spells line words → (rows : List Row) × (matches_of line_app words ≡ rows) × Reads rows (seen_in line)
+line_rows : (line : Line) (words : List Text) → Spells line words → (rows : List Row)
+    × (matches_of line_app words ≡ rows) × Reads rows (seen_in line)
 unfolding words_of
 line_rows line words is =
     let goes = line_goes line words is in
@@ -106,13 +120,17 @@ pub line_found : (app : App) (m : ArgMatches) (words : List Text) → app ≡ li
     → (line : Line) → Spells line words → Finds line (found_of m)
 line_found app m words is has line spelled =
     let end = line_rows line words spelled in
-    let rows : rows_of (found_of m) ≡ end.0 = (has (ap is_simple is ∙ line_simple)).0 ∙ ap (λ a. matches_of a words) is ∙ end.1 in
+    let rows : rows_of (found_of m) ≡ end.0 = (has (ap is_simple is ∙ line_simple)).0 ∙ ap (λ a. matches_of a words) is
+    ∙ end.1 in
     let option : (given : Given) → first_value (found_of m) (id_of given) ≡ seen_of given (seen_in line) =
-    λ given. first_value-rows (found_of m) (id_of given) ∙ ap (first_of (id_of given)) rows ∙ first_all (id_of given) end.0
-    ∙ ap (λ o. option_and_then (λ vs. slice_get vs 0) o) (end.2.options given) ∙ text_in (seen_of given (seen_in line)) in
+    λ given. first_value-rows (found_of m) (id_of given) ∙ ap (first_of (id_of given)) rows
+    ∙ first_all (id_of given) end.0
+    ∙ ap (λ o. option_and_then (λ vs. slice_get vs 0) o) (end.2.options given)
+    ∙ text_in (seen_of given (seen_in line)) in
     record {
       plain =
-          ap (λ o. unwrap_or o []) (raw_values-rows (found_of m) (codes "plain") ∙ ap (all_of (codes "plain")) rows ∙ end.2.plain)
+          ap (λ o. unwrap_or o []) (raw_values-rows (found_of m) (codes "plain") ∙ ap (all_of (codes "plain")) rows
+          ∙ end.2.plain)
           ∙ words_in (line.files ++ line.behind);
       slack = option Slack;
       closed = option Closed;
@@ -121,15 +139,19 @@ line_found app m words is has line spelled =
 
 -- ---- the words are taken
 
-pub line_taken : (app : App) (words : List Text) → app ≡ line_app → (line : Line) → Spells line words → takes app words ≡ true
+pub line_taken : (app : App) (words : List Text) → app ≡ line_app → (line : Line) → Spells line words →
+    takes app words ≡ true
 unfolding words_of
 line_taken app words is line spelled =
     let goes = line_goes line words spelled in
     let h = goes.holds in
     let rest = behind_command line in
-    let settles : settle_passes line_rules false (fold (walked line_rules []) (standing [] None idle) rest).held ≡ true =
+    let settles : settle_passes line_rules false (fold (walked line_rules []) (standing [] None idle) rest).held ≡
+    true =
     ap (λ (w : Walk). settle_passes line_rules false w.held) h.at ∙ h.settles in
-    let level : level_passes line_shape [] nothing_held rest false ≡ true = ap₂ (λ a b. a && b) goes.passes (ap (λ b. b && true) settles) in
+    let level : level_passes line_shape [] nothing_held rest false ≡ true =
+    ap₂ (λ a b. a && b) goes.passes (ap (λ b. b && true) settles) in
     ap (λ a. takes a words) is
     ∙ ap₂ (λ a b. a && b) line_simple
-    (ap (λ ws. built_takes (built line_app) nothing_held (argument_words line_app ws)) spelled.is ∙ leaf_takes (built line_app) nothing_held rest refl level)
+    (ap (λ ws. built_takes (built line_app) nothing_held (argument_words line_app ws)) spelled.is
+    ∙ leaf_takes (built line_app) nothing_held rest refl level)

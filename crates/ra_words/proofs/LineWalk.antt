@@ -1,5 +1,7 @@
 -- The walk of the one command over the words of a line: any word may come behind any.
-use Rattle.std.proofs.Common.{◌≡◌, ◌∙◌, ◌++◌, ◌&&◌, ◌||◌, ◌==◌, ap, ap₂, sym, subst, refl, codes, if◌then◌else◌, Bool, true, false, List, [], ◌∷◌, Option, Some, None, option_map, is_some, append-nil, append_assoc}
+use Rattle.std.proofs.Common.{◌≡◌, ◌∙◌, ◌++◌, ◌&&◌, ◌||◌, ◌==◌, ap, ap₂, sym, subst, refl, codes, if◌then◌else◌, Bool}
+use Rattle.std.proofs.Common.{true, false, List, [], ◌∷◌, Option, Some, None, option_map, is_some, append-nil}
+use Rattle.std.proofs.Common.{append_assoc}
 use Rattle.std.specs.Prelude.{fold, unwrap_or, option_and_then, nat_lt, not}
 use Rattle.clap.proofs.WalkLemmas.{both}
 use Rattle.std.specs.Option.{option_map_or}
@@ -8,8 +10,12 @@ use Rattle.std.specs.Str.{bytes_eq}
 use Rattle.clap.specs.Lexer.{long_of, long_of_rest, short_of, short_of_rest, strip_byte}
 use Rattle.clap.specs.Simple.{Shape, built}
 use Rattle.clap.specs.Simple.{filled, with_index}
-use Rattle.clap.specs.Takes.{bundle_passes, flag_word_passes, long_passes, other_passes, settle_passes, step_passes, turn_passes, use_passes, walk_passes, word_passes}
-use Rattle.clap.specs.Walk.{Held, Row, Rule, Step, Text, Waiting, Walk, after_flag, after_step, all_of, arg_by_id, arg_by_long, has_row, idle, is_pending, long_met, long_or_other, next, option, option_word, plain_word, positional, pushed, settled, settled_rows, short_or_plain, subcommand_met, subcommand_or_other, trailing, used_by_id, walked, with_values, word_met}
+use Rattle.clap.specs.Takes.{bundle_passes, flag_word_passes, long_passes, other_passes, settle_passes, step_passes}
+use Rattle.clap.specs.Takes.{turn_passes, use_passes, walk_passes, word_passes}
+use Rattle.clap.specs.Walk.{Held, Row, Rule, Step, Text, Waiting, Walk, after_flag, after_step, all_of, arg_by_id}
+use Rattle.clap.specs.Walk.{arg_by_long, has_row, idle, is_pending, long_met, long_or_other, next, option, option_word}
+use Rattle.clap.specs.Walk.{plain_word, positional, pushed, settled, settled_rows, short_or_plain, subcommand_met}
+use Rattle.clap.specs.Walk.{subcommand_or_other, trailing, used_by_id, walked, with_values, word_met}
 use Rattle.clap.specs.declared.builder.value_parser.Reading.TheVariants.{AsWritten}
 use Rattle.clap.specs.declared.parser.matches.ValueSource.TheVariants.{CommandLine}
 use Rattle.ra_words.specs.Words.{is_name}
@@ -65,7 +71,8 @@ module _ (s : Shape) (waiting : Waiting) (word : Text) (h : Held) (name : is_nam
       ap (λ o. other_passes s o word h) (no_command waiting word)
       ∙ ap (λ b. b || flag_word_passes s.rules s.args_override_self (long_of word) word h) (no_end word name)
       ∙ ap (λ o. flag_word_passes s.rules s.args_override_self o word h) (no_long word name)
-      ∙ ap (λ o. option_map_or (λ flags. bundle_passes s.rules s.args_override_self flags h) o true) (no_short word name)
+      ∙ ap (λ o. option_map_or (λ flags. bundle_passes s.rules s.args_override_self flags h) o true)
+      (no_short word name)
 
 -- ---- where the walk stands
 
@@ -73,7 +80,13 @@ abbrev pub held : List Row → Option (Text × List Text) → Held
 held rows pending = record { rows = rows; pending = pending; skip = 0 }
 
 abbrev pub standing : List Row → Option (Text × List Text) → Waiting → Walk
-standing rows pending waiting = record { held = held rows pending; waiting = waiting; position = 1; is_trailing = false; stopped = None }
+standing rows pending waiting = record {
+  held = held rows pending;
+  waiting = waiting;
+  position = 1;
+  is_trailing = false;
+  stopped = None;
+}
 
 -- nothing waits for a value
 abbrev pub is_free : Waiting → Bool
@@ -89,8 +102,10 @@ or_true true = refl
 or_true false = refl
 
 -- a plain word goes behind the plain words
-plain_walked : (rows : List Row) (pending : Option (Text × List Text)) (waiting : Waiting) (word : Text) → is_free waiting ≡ true → is_name word ≡ true
-    → walked line_rules [] (standing rows pending waiting) word ≡ standing (settled_rows line_rules pending rows) (Some (codes "plain", word ∷ [])) positional
+plain_walked : (rows : List Row) (pending : Option (Text × List Text)) (waiting : Waiting) (word : Text) →
+    is_free waiting ≡ true → is_name word ≡ true
+    → walked line_rules [] (standing rows pending waiting) word ≡ standing (settled_rows line_rules pending rows)
+    (Some (codes "plain", word ∷ [])) positional
 unfolding walked
 plain_walked rows pending waiting word free name = met waiting free ∙ settles
   where
@@ -106,20 +121,27 @@ plain_walked rows pending waiting word free name = met waiting free ∙ settles
       stopped = None;
     }
 
-    met : (w : Waiting) → is_free w ≡ true → walked line_rules [] (standing rows pending w) word ≡ at (is_pending plain pending && false)
-    met idle e = ap (λ (m : Held × Step). after_step line_rules word (standing rows pending idle) m.0 m.1) (plain_met line_shape idle word (held rows pending) name)
+    met : (w : Waiting) → is_free w ≡ true → walked line_rules [] (standing rows pending w) word ≡
+        at (is_pending plain pending && false)
+    met idle e = ap (λ (m : Held × Step). after_step line_rules word (standing rows pending idle) m.0 m.1)
+        (plain_met line_shape idle word (held rows pending) name)
     met (option id) e = cc
-    met positional e = ap (λ (m : Held × Step). after_step line_rules word (standing rows pending positional) m.0 m.1) (plain_met line_shape positional word (held rows pending) name)
+    met positional e = ap (λ (m : Held × Step). after_step line_rules word (standing rows pending positional) m.0 m.1)
+        (plain_met line_shape positional word (held rows pending) name)
 
-    settles : at (is_pending plain pending && false) ≡ standing (settled_rows line_rules pending rows) (Some (codes "plain", word ∷ [])) positional
+    settles : at (is_pending plain pending && false) ≡ standing (settled_rows line_rules pending rows)
+        (Some (codes "plain", word ∷ [])) positional
     settles = ap at (and_false (is_pending plain pending))
 
 -- the word is taken, if what waited before it is
-plain_turn : (rows : List Row) (pending : Option (Text × List Text)) (waiting : Waiting) (word : Text) → is_free waiting ≡ true → is_name word ≡ true
-    → settle_passes line_rules false (held rows pending) ≡ true → turn_passes line_shape [] (standing rows pending waiting) word ≡ true
+plain_turn : (rows : List Row) (pending : Option (Text × List Text)) (waiting : Waiting) (word : Text) →
+    is_free waiting ≡ true → is_name word ≡ true
+    → settle_passes line_rules false (held rows pending) ≡ true →
+    turn_passes line_shape [] (standing rows pending waiting) word ≡ true
 plain_turn rows pending waiting word free name settles =
     ap₂ (λ a b. a && b) (plain_passes line_shape waiting word (held rows pending) name)
-    (ap (λ (m : Held × Step). step_passes line_shape 1 m.0 m.1) (plain_met line_shape waiting word (held rows pending) name) ∙ steps waiting free)
+    (ap (λ (m : Held × Step). step_passes line_shape 1 m.0 m.1)
+    (plain_met line_shape waiting word (held rows pending) name) ∙ steps waiting free)
   where
     plain : Rule
     plain = with_index 1 (filled plain_rule)
@@ -128,7 +150,8 @@ plain_turn rows pending waiting word free name settles =
     here = ap (λ b. (is_pending plain pending && false) || b) settles ∙ or_true (is_pending plain pending && false)
 
     steps : (w : Waiting) → is_free w ≡ true
-        → step_passes line_shape 1 (plain_word line_rules w word (held rows pending)).0 (plain_word line_rules w word (held rows pending)).1 ≡ true
+        → step_passes line_shape 1 (plain_word line_rules w word (held rows pending)).0
+        (plain_word line_rules w word (held rows pending)).1 ≡ true
     steps idle e = here
     steps (option id) e = cc
     steps positional e = here
@@ -147,16 +170,20 @@ module _ (id flag : Text) (is : IsOption id flag) (rows : List Row) (pending : O
       ≡ (held (settled_rows line_rules pending rows) (Some (id, [])), next (option id))
   flag_met waiting =
       ap (λ o. subcommand_or_other line_rules o waiting 1 flag (held rows pending)) (no_command waiting flag)
-      ∙ ap (λ b. if b then (held rows pending, trailing 1) else long_or_other line_rules waiting flag (long_of flag) (held rows pending)) is.no_end
+      ∙ ap (λ b. if b then (held rows pending, trailing 1) else long_or_other line_rules waiting flag (long_of flag)
+      (held rows pending)) is.no_end
       ∙ ap (λ o. long_or_other line_rules waiting flag o (held rows pending)) is.long
-      ∙ ap (λ o. after_flag line_rules waiting flag (long_met line_rules o None (held rows pending)).0 (long_met line_rules o None (held rows pending)).1) is.by_long
+      ∙ ap (λ o. after_flag line_rules waiting flag (long_met line_rules o None (held rows pending)).0
+      (long_met line_rules o None (held rows pending)).1) is.by_long
 
   flag_walked : (waiting : Waiting) → walked line_rules [] (standing rows pending waiting) flag
       ≡ standing (settled_rows line_rules pending rows) (Some (id, [])) (option id)
   unfolding walked
-  flag_walked waiting = ap (λ (m : Held × Step). after_step line_rules flag (standing rows pending waiting) m.0 m.1) (flag_met waiting)
+  flag_walked waiting =
+      ap (λ (m : Held × Step). after_step line_rules flag (standing rows pending waiting) m.0 m.1) (flag_met waiting)
 
-  flag_turn : (waiting : Waiting) → settle_passes line_rules false (held rows pending) ≡ true → turn_passes line_shape [] (standing rows pending waiting) flag ≡ true
+  flag_turn : (waiting : Waiting) → settle_passes line_rules false (held rows pending) ≡ true →
+      turn_passes line_shape [] (standing rows pending waiting) flag ≡ true
   flag_turn waiting settles =
       ap₂ (λ a b. a && b) passes (ap (λ (m : Held × Step). step_passes line_shape 1 m.0 m.1) (flag_met waiting))
     where
@@ -169,15 +196,22 @@ module _ (id flag : Text) (is : IsOption id flag) (rows : List Row) (pending : O
           ∙ settles
 
 module _ (id flag : Text) (is : IsOption id flag) (rows : List Row) (word : Text) (name : is_name word ≡ true) where
-  value_met : word_met line_rules [] false (option id) 1 word (held rows (Some (id, []))) ≡ (held rows (Some (id, word ∷ [])), next idle)
+  value_met : word_met line_rules [] false (option id) 1 word (held rows (Some (id, []))) ≡
+      (held rows (Some (id, word ∷ [])), next idle)
   value_met =
       plain_met line_shape (option id) word (held rows (Some (id, []))) name
-      ∙ ap (λ o. ((option_word o id word (held rows (Some (id, [])))).0, next (option_word o id word (held rows (Some (id, [])))).1)) is.by_id
-      ∙ ap (λ b. (held rows (Some (id, word ∷ [])), next (if nat_lt (if b then 1 else 0) 1 then option id else idle))) (same_id id)
+      ∙ ap (λ o. (
+        (option_word o id word (held rows (Some (id, [])))).0,
+        next (option_word o id word (held rows (Some (id, [])))).1,
+      )) is.by_id
+      ∙ ap (λ b. (held rows (Some (id, word ∷ [])), next (if nat_lt (if b then 1 else 0) 1 then option id else idle)))
+      (same_id id)
 
-  value_walked : walked line_rules [] (standing rows (Some (id, [])) (option id)) word ≡ standing rows (Some (id, word ∷ [])) idle
+  value_walked : walked line_rules [] (standing rows (Some (id, [])) (option id)) word ≡
+      standing rows (Some (id, word ∷ [])) idle
   unfolding walked
-  value_walked = ap (λ (m : Held × Step). after_step line_rules word (standing rows (Some (id, [])) (option id)) m.0 m.1) value_met
+  value_walked =
+      ap (λ (m : Held × Step). after_step line_rules word (standing rows (Some (id, [])) (option id)) m.0 m.1) value_met
 
   value_turn : turn_passes line_shape [] (standing rows (Some (id, [])) (option id)) word ≡ true
   value_turn =
@@ -233,7 +267,8 @@ pub record Reads (rows : List Row) (seen : Seen) : Type 0 where
   pub plain : all_of (codes "plain") rows ≡ some_words seen.plain
   pub options : (given : Given) → all_of (id_of given) rows ≡ option_map (λ text. text ∷ []) (seen_of given seen)
 
-one_more : (words : List Text) (word : Text) → Some (unwrap_or (some_words words) [] ++ word ∷ []) ≡ some_words (words ++ word ∷ [])
+one_more : (words : List Text) (word : Text) → Some (unwrap_or (some_words words) [] ++ word ∷ []) ≡
+    some_words (words ++ word ∷ [])
 one_more [] word = refl
 one_more (w ∷ words) word = refl
 
@@ -243,12 +278,14 @@ plain_apart Closed = refl
 plain_apart Draws = refl
 
 plain_reads : (rows : List Row) (seen : Seen) (word : Text) → Reads rows seen
-    → Reads (settled_rows line_rules (Some (codes "plain", word ∷ [])) rows) (record seen { plain = seen.plain ++ word ∷ [] })
+    → Reads (settled_rows line_rules (Some (codes "plain", word ∷ [])) rows)
+    (record seen { plain = seen.plain ++ word ∷ [] })
 plain_reads rows seen word reads = record {
   plain =
       values_added (codes "plain") AsWritten CommandLine (word ∷ []) rows
       ∙ ap (λ o. Some (unwrap_or o [] ++ word ∷ [])) reads.plain ∙ one_more seen.plain word;
-  options = λ given. others_kept (codes "plain") (id_of given) AsWritten CommandLine (word ∷ []) rows (plain_apart given) ∙ options given;
+  options = λ given. others_kept (codes "plain") (id_of given) AsWritten CommandLine (word ∷ []) rows
+      (plain_apart given) ∙ options given;
 }
   where
     seen_now : Seen
@@ -269,13 +306,16 @@ settled_option given text rows none =
     ap (λ o. used_by_id o (text ∷ []) rows) (are_options given).by_id
     ∙ ap (λ rs. with_values (id_of given) AsWritten CommandLine (text ∷ []) rs) (none_out (id_of given) rows none)
 
-option_reads : (given : Given) (rows : List Row) (seen : Seen) (text : Text) → Reads rows seen → seen_of given seen ≡ None
+option_reads : (given : Given) (rows : List Row) (seen : Seen) (text : Text) → Reads rows seen →
+    seen_of given seen ≡ None
     → Reads (option_rows given text rows) (with_seen given (Some text) seen)
 option_reads given rows seen text reads none = record { plain = plain given; options = options given none }
   where
-    plain : (g : Given) → all_of (codes "plain") (option_rows g text rows) ≡ some_words (with_seen g (Some text) seen).plain
+    plain : (g : Given) → all_of (codes "plain") (option_rows g text rows) ≡
+        some_words (with_seen g (Some text) seen).plain
     plain Slack = others_kept (codes "slack") (codes "plain") AsWritten CommandLine (text ∷ []) rows refl ∙ reads.plain
-    plain Closed = others_kept (codes "closed") (codes "plain") AsWritten CommandLine (text ∷ []) rows refl ∙ reads.plain
+    plain Closed =
+        others_kept (codes "closed") (codes "plain") AsWritten CommandLine (text ∷ []) rows refl ∙ reads.plain
     plain Draws = others_kept (codes "draws") (codes "plain") AsWritten CommandLine (text ∷ []) rows refl ∙ reads.plain
 
     first : (g : Given) → seen_of g seen ≡ None → all_of (id_of g) (option_rows g text rows) ≡ Some (text ∷ [])
@@ -283,10 +323,12 @@ option_reads given rows seen text reads none = record { plain = plain given; opt
         values_added (id_of g) AsWritten CommandLine (text ∷ []) rows
         ∙ ap (λ o. Some (unwrap_or o [] ++ text ∷ [])) (reads.options g ∙ ap (λ o. option_map (λ t. t ∷ []) o) e)
 
-    other : (g o : Given) → bytes_eq (id_of g) (id_of o) ≡ false → all_of (id_of o) (option_rows g text rows) ≡ option_map (λ t. t ∷ []) (seen_of o seen)
+    other : (g o : Given) → bytes_eq (id_of g) (id_of o) ≡ false → all_of (id_of o) (option_rows g text rows) ≡
+        option_map (λ t. t ∷ []) (seen_of o seen)
     other g o apart = others_kept (id_of g) (id_of o) AsWritten CommandLine (text ∷ []) rows apart ∙ reads.options o
 
-    options : (g : Given) → seen_of g seen ≡ None → (o : Given) → all_of (id_of o) (option_rows g text rows) ≡ option_map (λ t. t ∷ []) (seen_of o (with_seen g (Some text) seen))
+    options : (g : Given) → seen_of g seen ≡ None → (o : Given) → all_of (id_of o) (option_rows g text rows) ≡
+        option_map (λ t. t ∷ []) (seen_of o (with_seen g (Some text) seen))
     options Slack e Slack = first Slack e
     options Slack e Closed = other Slack Closed refl
     options Slack e Draws = other Slack Draws refl
@@ -315,11 +357,13 @@ pub record Goes (w : Walk) (words : List Text) (seen : Seen) : Type 0 where
   pub holds : Holds (fold (walked line_rules []) w words) seen
 
 -- one word more in front
-one_turn : (w v : Walk) (word : Text) (words : List Text) (seen : Seen) → turn_passes line_shape [] w word ≡ true → walked line_rules [] w word ≡ v
+one_turn : (w v : Walk) (word : Text) (words : List Text) (seen : Seen) → turn_passes line_shape [] w word ≡ true →
+    walked line_rules [] w word ≡ v
     → Goes v words seen → Goes w (word ∷ words) seen
 unfolding walk_passes
 one_turn w v word words seen passes is goes =
-    let here : walk_passes line_shape [] (walked line_rules [] w word) words ≡ true = ap (λ u. walk_passes line_shape [] u words) is ∙ goes.passes in
+    let here : walk_passes line_shape [] (walked line_rules [] w word) words ≡ true =
+    ap (λ u. walk_passes line_shape [] u words) is ∙ goes.passes in
     record {
       passes = ap₂ (λ a b. a && b) passes here;
       holds = subst (λ (u : Walk). Holds (fold (walked line_rules []) u words) seen) (sym is) goes.holds;
@@ -330,7 +374,8 @@ unfolding walk_passes
 end_goes w seen holds = record { passes = refl; holds = holds }
 
 plain_goes : (w : Walk) (seen all : Seen) (word : Text) (words : List Text) → Holds w seen → is_name word ≡ true
-    → ((v : Walk) → Holds v (record seen { plain = seen.plain ++ word ∷ [] }) → Goes v words all) → Goes w (word ∷ words) all
+    → ((v : Walk) → Holds v (record seen { plain = seen.plain ++ word ∷ [] }) → Goes v words all) →
+    Goes w (word ∷ words) all
 plain_goes w seen all word words h name more =
     let v = standing (settled_rows line_rules h.pending h.rows) (Some (codes "plain", word ∷ [])) positional in
     subst (λ (u : Walk). Goes u (word ∷ words) all) (sym h.at)
@@ -347,8 +392,10 @@ plain_goes w seen all word words h name more =
       reads = plain_reads (settled_rows line_rules h.pending h.rows) seen word h.reads;
     })))
 
-option_goes : (w : Walk) (seen all : Seen) (given : Given) (text : Text) (words : List Text) → Holds w seen → is_name text ≡ true → seen_of given seen ≡ None
-    → ((v : Walk) → Holds v (with_seen given (Some text) seen) → Goes v words all) → Goes w (flag_of given ∷ text ∷ words) all
+option_goes : (w : Walk) (seen all : Seen) (given : Given) (text : Text) (words : List Text) → Holds w seen →
+    is_name text ≡ true → seen_of given seen ≡ None
+    → ((v : Walk) → Holds v (with_seen given (Some text) seen) → Goes v words all) →
+    Goes w (flag_of given ∷ text ∷ words) all
 option_goes w seen all given text words h name none more =
     let rows = settled_rows line_rules h.pending h.rows in
     let id = id_of given in
@@ -356,9 +403,11 @@ option_goes w seen all given text words h name none more =
     let missing : all_of id rows ≡ None = h.reads.options given ∙ ap (λ o. option_map (λ t. t ∷ []) o) none in
     let new : has_row id rows ≡ false = has_row_all id rows ∙ ap is_some missing in
     let settles : settle_passes line_rules false (held rows (Some (id, text ∷ []))) ≡ true =
-    ap (λ o. option_map_or (λ a. use_passes false a (text ∷ []) rows) o true) is.by_id ∙ ap (λ b. (not b || false) && true) new in
+    ap (λ o. option_map_or (λ a. use_passes false a (text ∷ []) rows) o true) is.by_id
+    ∙ ap (λ b. (not b || false) && true) new in
     let reads : Reads (settled_rows line_rules (Some (id, text ∷ [])) rows) (with_seen given (Some text) seen) =
-    subst (λ rs. Reads rs (with_seen given (Some text) seen)) (sym (settled_option given text rows missing)) (option_reads given rows seen text h.reads none) in
+    subst (λ rs. Reads rs (with_seen given (Some text) seen)) (sym (settled_option given text rows missing))
+    (option_reads given rows seen text h.reads none) in
     let last : Walk = standing rows (Some (id, text ∷ [])) idle in
     let between : Walk = standing rows (Some (id, [])) (option id) in
     subst (λ (u : Walk). Goes u (flag_of given ∷ text ∷ words) all) (sym h.at)
@@ -368,21 +417,34 @@ option_goes w seen all given text words h name none more =
     (one_turn between last text words all
     (value_turn id (flag_of given) is rows text name)
     (value_walked id (flag_of given) is rows text name)
-    (more last (record { rows = rows; pending = Some (id, text ∷ []); waiting = idle; at = refl; free = refl; settles = settles; reads = reads }))))
+    (more last (record {
+      rows = rows;
+      pending = Some (id, text ∷ []);
+      waiting = idle;
+      at = refl;
+      free = refl;
+      settles = settles;
+      reads = reads;
+    }))))
 
 -- plain words, one behind the other
 pub plains_go : (w : Walk) (seen all : Seen) (plain words : List Text) → Holds w seen → list_all is_name plain ≡ true
-    → ((v : Walk) → Holds v (record seen { plain = seen.plain ++ plain }) → Goes v words all) → Goes w (plain ++ words) all
-plains_go w seen all [] words h names more = more w (subst (λ ps. Holds w (record seen { plain = ps })) (sym (append-nil seen.plain)) h)
+    → ((v : Walk) → Holds v (record seen { plain = seen.plain ++ plain }) → Goes v words all) →
+    Goes w (plain ++ words) all
+plains_go w seen all [] words h names more =
+    more w (subst (λ ps. Holds w (record seen { plain = ps })) (sym (append-nil seen.plain)) h)
 plains_go w seen all (word ∷ plain) words h names more =
     let parts = both (is_name word) (list_all is_name plain) names in
     plain_goes w seen all word (plain ++ words) h parts.0
     (λ v holds. plains_go v (record seen { plain = seen.plain ++ word ∷ [] }) all plain words holds parts.1
-    (λ u last. more u (subst (λ ps. Holds u (record seen { plain = ps })) (append_assoc seen.plain (word ∷ []) plain) last)))
+    (λ u last. more u (subst (λ ps. Holds u (record seen { plain = ps })) (append_assoc seen.plain (word ∷ []) plain)
+    last)))
 
 -- an option, if it is given
-pub maybe_goes : (w : Walk) (seen all : Seen) (given : Given) (text : Option Text) (words : List Text) → Holds w seen → option_map_or is_name text true ≡ true → seen_of given seen ≡ None
-    → ((v : Walk) → Holds v (with_seen given text seen) → Goes v words all) → Goes w (option_words (flag_of given) text ++ words) all
+pub maybe_goes : (w : Walk) (seen all : Seen) (given : Given) (text : Option Text) (words : List Text) → Holds w seen →
+    option_map_or is_name text true ≡ true → seen_of given seen ≡ None
+    → ((v : Walk) → Holds v (with_seen given text seen) → Goes v words all) →
+    Goes w (option_words (flag_of given) text ++ words) all
 unfolding option_words
 maybe_goes w seen all given None words h named none more = more w (same given none)
   where
@@ -390,4 +452,5 @@ maybe_goes w seen all given None words h named none more = more w (same given no
     same Slack e = subst (λ o. Holds w (record seen { slack = o })) e h
     same Closed e = subst (λ o. Holds w (record seen { closed = o })) e h
     same Draws e = subst (λ o. Holds w (record seen { draws = o })) e h
-maybe_goes w seen all given (Some text) words h named none more = option_goes w seen all given text words h named none more
+maybe_goes w seen all given (Some text) words h named none more =
+    option_goes w seen all given text words h named none more

@@ -1,5 +1,7 @@
 -- The lots of the words from a place on.
-use Rattle.std.proofs.Common.{◌≡◌, ℕ, zero, suc, ◌+◌, ◌*◌, ◌/◌, ◌%◌, ◌<◌, ◌≤◌, Some, None, Bool, true, false, ◌&&◌, if◌then◌else◌, nat_le, ◌-◌, append_assoc, append-nil, List, [], ◌∷◌, ◌++◌, map, length, drop, sum_by, refl, sym, ap, ◌∙◌, arith, add-one}
+use Rattle.std.proofs.Common.{◌≡◌, ℕ, zero, suc, ◌+◌, ◌*◌, ◌/◌, ◌%◌, ◌<◌, ◌≤◌, Some, None, Bool, true, false, ◌&&◌}
+use Rattle.std.proofs.Common.{if◌then◌else◌, nat_le, ◌-◌, append_assoc, append-nil, List, [], ◌∷◌, ◌++◌, map, length}
+use Rattle.std.proofs.Common.{drop, sum_by, refl, sym, ap, ◌∙◌, arith, add-one}
 use Rattle.std.proofs.Math.Nat.{div-add-mod}
 use Rattle.std.proofs.Math.Seq.{drop-cons}
 use Rattle.std.proofs.lemmas.Grind.{common_steps}
@@ -11,7 +13,9 @@ use Rattle.ra_draws.specs.declared.sources.Lot.{Lot}
 use Rattle.ra_draws.specs.Lots.{IsFitting, IsLots, lot_at}
 use Rattle.ra_words.specs.Words.{word_at}
 use Rattle.ra_words.specs.Numbers.{has_digits, is_number, worth}
-use Rattle.ra_words.specs.LotTexts.{FromSeed, FromWords, first_place, seed_text, budget_text, is_seed_lot, is_written, written_pieces, is_written_lot, is_lot, source_says, budget_says, lot_says, are_lots}
+use Rattle.ra_words.specs.LotTexts.{FromSeed, FromWords, first_place, seed_text, budget_text, is_seed_lot, is_written}
+use Rattle.ra_words.specs.LotTexts.{written_pieces, is_written_lot, is_lot, source_says, budget_says, lot_says}
+use Rattle.ra_words.specs.LotTexts.{are_lots}
 use Rattle.ra_words.specs.Said.{said_source, said_lot}
 
 -- without a colon no budget stands there
@@ -49,7 +53,8 @@ pub record IsLeft (words : List (List ℕ)) (place k left : ℕ) : Type 0 where
 pub none_left : (words : List (List ℕ)) (k : ℕ) → length words ≤ k → drop k words ≡ []
 none_left words k past = drop_all k words past
 
-pub all_read : (words : List (List ℕ)) (place k left : ℕ) → IsLeft words place k left → length words ≤ k → true ≡ Together words place
+pub all_read : (words : List (List ℕ)) (place k left : ℕ) → IsLeft words place k left → length words ≤ k →
+    true ≡ Together words place
 all_read words place k left is past =
     let none = none_left words k past in
     let all : list_all is_lot (drop place words) ≡ true = sym is.all ∙ ap (list_all is_lot) none in
@@ -57,40 +62,50 @@ all_read words place k left is past =
     let fits : sum_by budget_says (drop place words) ≤ 1000000 = omega (arith, is.sum) in
     grind (arith, common_steps)
 
-pub not_lot : (words : List (List ℕ)) (place k left : ℕ) (word : List ℕ) → IsLeft words place k left → k < length words → word ≡ word_at words k
+pub not_lot : (words : List (List ℕ)) (place k left : ℕ) (word : List ℕ) → IsLeft words place k left →
+    k < length words → word ≡ word_at words k
     → None ≡ (if is_lot word then Some (budget_says word) else None) → false ≡ Together words place
 not_lot words place k left word is within read none =
     let no : is_lot (word_at words k) ≡ false = ap is_lot (sym read) ∙ no_by (is_lot word) (budget_says word) none in
-    let all : list_all is_lot (drop place words) ≡ false = sym is.all ∙ ap (list_all is_lot) (left_here words k within) ∙ ap (λ b. b && list_all is_lot (drop (k + 1) words)) no in
+    let all : list_all is_lot (drop place words) ≡ false = sym is.all ∙ ap (list_all is_lot) (left_here words k within)
+    ∙ ap (λ b. b && list_all is_lot (drop (k + 1) words)) no in
     ap (λ b. b && nat_le (sum_by budget_says (drop place words)) 1000000) (sym all)
 
 -- the sum of the budgets from a word on
-one_summed : (words : List (List ℕ)) (k b : ℕ) (word : List ℕ) → k < length words → word ≡ word_at words k → budget_says word ≡ b
+one_summed : (words : List (List ℕ)) (k b : ℕ) (word : List ℕ) → k < length words → word ≡ word_at words k →
+    budget_says word ≡ b
     → sum_by budget_says (drop k words) ≡ b + sum_by budget_says (drop (k + 1) words)
 one_summed words k b word within read is =
     let e : budget_says (word_at words k) ≡ b = ap budget_says (sym read) ∙ is in
-    let s : sum_by budget_says (drop k words) ≡ budget_says (word_at words k) + sum_by budget_says (drop (k + 1) words) =
-    ap (sum_by budget_says) (left_here words k within) ∙ sum_by-cons budget_says (word_at words k) (drop (k + 1) words) in
+    let s : sum_by budget_says (drop k words) ≡ budget_says (word_at words k) + sum_by budget_says
+    (drop (k + 1) words) =
+    ap (sum_by budget_says) (left_here words k within)
+    ∙ sum_by-cons budget_says (word_at words k) (drop (k + 1) words) in
     omega arith
 
 above_by : (a : Bool) (x most : ℕ) → most < x → false ≡ (a && nat_le x most)
 above_by true x most above = grind (arith, common_steps)
 above_by false x most above = refl
 
-pub too_much : (words : List (List ℕ)) (place k left b : ℕ) (word : List ℕ) → IsLeft words place k left → k < length words → word ≡ word_at words k
+pub too_much : (words : List (List ℕ)) (place k left b : ℕ) (word : List ℕ) → IsLeft words place k left →
+    k < length words → word ≡ word_at words k
     → Some b ≡ (if is_lot word then Some (budget_says word) else None) → left < b → false ≡ Together words place
 too_much words place k left b word is within read some above =
     let told = yes_by (is_lot word) b (budget_says word) some in
     let s = one_summed words k b word within read told.1 in
-    above_by (list_all is_lot (drop place words)) (sum_by budget_says (drop place words)) 1000000 (omega (arith, s, is.sum))
+    above_by (list_all is_lot (drop place words)) (sum_by budget_says (drop place words)) 1000000
+    (omega (arith, s, is.sum))
 
-pub one_lot : (words : List (List ℕ)) (place k left b : ℕ) (word : List ℕ) → IsLeft words place k left → k < length words → word ≡ word_at words k
-    → Some b ≡ (if is_lot word then Some (budget_says word) else None) → b ≤ left → IsLeft words place (k + 1) (left - b)
+pub one_lot : (words : List (List ℕ)) (place k left b : ℕ) (word : List ℕ) → IsLeft words place k left →
+    k < length words → word ≡ word_at words k
+    → Some b ≡ (if is_lot word then Some (budget_says word) else None) → b ≤ left →
+    IsLeft words place (k + 1) (left - b)
 one_lot words place k left b word is within read some enough =
     let told = yes_by (is_lot word) b (budget_says word) some in
     let s = one_summed words k b word within read told.1 in
     let yes : is_lot (word_at words k) ≡ true = ap is_lot (sym read) ∙ told.0 in
-    let all : list_all is_lot (drop k words) ≡ list_all is_lot (drop (k + 1) words) = ap (list_all is_lot) (left_here words k within) ∙ ap (λ b. b && list_all is_lot (drop (k + 1) words)) yes in
+    let all : list_all is_lot (drop k words) ≡ list_all is_lot (drop (k + 1) words) =
+    ap (list_all is_lot) (left_here words k within) ∙ ap (λ b. b && list_all is_lot (drop (k + 1) words)) yes in
     record { all = sym all ∙ is.all; sum = omega (arith, s, is.sum) }
 
 -- the words before k are read
@@ -102,12 +117,18 @@ pub lots_told : (words : List (List ℕ)) → are_lots words ≡ true → list_a
 unfolding are_lots
 lots_told words h = grind (arith, common_steps)
 
-pub none_read : (words : List (List ℕ)) (place : ℕ) (lots : List Lot) → are_lots (drop place words) ≡ true → lots ≡ [] → IsRead words place place lots
-none_read words place lots h none = record { all = lots_told (drop place words) h; said = ap (λ (ls : List Lot). map said_lot ls ++ map lot_says (drop place words)) none }
+pub none_read : (words : List (List ℕ)) (place : ℕ) (lots : List Lot) → are_lots (drop place words) ≡ true → lots ≡ [] →
+    IsRead words place place lots
+none_read words place lots h none = record {
+  all = lots_told (drop place words) h;
+  said = ap (λ (ls : List Lot). map said_lot ls ++ map lot_says (drop place words)) none;
+}
 
-pub lot_told : (words : List (List ℕ)) (place k : ℕ) (lots : List Lot) (word : List ℕ) → IsRead words place k lots → k < length words → word ≡ word_at words k → is_lot word ≡ true
+pub lot_told : (words : List (List ℕ)) (place k : ℕ) (lots : List Lot) (word : List ℕ) → IsRead words place k lots →
+    k < length words → word ≡ word_at words k → is_lot word ≡ true
 lot_told words place k lots word is within read =
-    let h : (is_lot (word_at words k) && list_all is_lot (drop (k + 1) words)) ≡ true = sym (ap (list_all is_lot) (left_here words k within)) ∙ is.all in
+    let h : (is_lot (word_at words k) && list_all is_lot (drop (k + 1) words)) ≡ true =
+    sym (ap (list_all is_lot) (left_here words k within)) ∙ is.all in
     let yes : is_lot (word_at words k) ≡ true = grind (arith, common_steps) in
     ap is_lot read ∙ yes
 
@@ -115,11 +136,13 @@ rest_told : (a b : Bool) → (a && b) ≡ true → b ≡ true
 rest_told true b h = h
 rest_told false b h = cc
 
-pub one_read : (words : List (List ℕ)) (place k : ℕ) (lots more : List Lot) (lot : Lot) (word : List ℕ) → IsRead words place k lots → k < length words → word ≡ word_at words k
+pub one_read : (words : List (List ℕ)) (place k : ℕ) (lots more : List Lot) (lot : Lot) (word : List ℕ) →
+    IsRead words place k lots → k < length words → word ≡ word_at words k
     → said_lot lot ≡ lot_says word → more ≡ lots ++ lot ∷ [] → IsRead words place (k + 1) more
 one_read words place k lots more lot word is within read said added =
     let here = left_here words k within in
-    let h : (is_lot (word_at words k) && list_all is_lot (drop (k + 1) words)) ≡ true = sym (ap (list_all is_lot) here) ∙ is.all in
+    let h : (is_lot (word_at words k) && list_all is_lot (drop (k + 1) words)) ≡ true = sym (ap (list_all is_lot) here)
+    ∙ is.all in
     let last : said_lot lot ≡ lot_says (word_at words k) = said ∙ ap lot_says read in
     record {
       all = rest_told (is_lot (word_at words k)) (list_all is_lot (drop (k + 1) words)) h;
@@ -132,14 +155,19 @@ one_read words place k lots more lot word is within read said added =
           ∙ is.said;
     }
 
-pub lots_said : (words : List (List ℕ)) (place k : ℕ) (lots : List Lot) → IsRead words place k lots → length words ≤ k → map said_lot lots ≡ map lot_says (drop place words)
+pub lots_said : (words : List (List ℕ)) (place k : ℕ) (lots : List Lot) → IsRead words place k lots → length words ≤ k →
+    map said_lot lots ≡ map lot_says (drop place words)
 lots_said words place k lots is past =
-    let e : map said_lot lots ++ map lot_says (drop k words) ≡ map said_lot lots = ap (λ ls. map said_lot lots ++ map lot_says ls) (none_left words k past) ∙ append-nil (map said_lot lots) in
+    let e : map said_lot lots ++ map lot_says (drop k words) ≡ map said_lot lots =
+    ap (λ ls. map said_lot lots ++ map lot_says ls) (none_left words k past) ∙ append-nil (map said_lot lots) in
     sym e ∙ is.said
 
-eight_by : (words : Listed ℕ) (word : List ℕ) (test : Bool) (budget : ℕ) → is_written word ≡ test → (if test then is_written_lot word else is_seed_lot word) ≡ true
-    → FromWords words.items ≡ (if test then FromWords (map worth (written_pieces word)) else FromSeed (worth (seed_text word)))
-    → budget ≡ (if test then length (written_pieces word) / 8 else worth (budget_text word)) → length words.items ≡ 8 * budget
+eight_by : (words : Listed ℕ) (word : List ℕ) (test : Bool) (budget : ℕ) → is_written word ≡ test →
+    (if test then is_written_lot word else is_seed_lot word) ≡ true
+    → FromWords words.items ≡
+    (if test then FromWords (map worth (written_pieces word)) else FromSeed (worth (seed_text word)))
+    → budget ≡ (if test then length (written_pieces word) / 8 else worth (budget_text word)) →
+    length words.items ≡ 8 * budget
 unfolding is_written_lot
 eight_by words word true budget is lot source many =
     let whole : length (written_pieces word) % 8 ≡ 0 = grind (arith, common_steps) in
@@ -151,17 +179,21 @@ eight_by words word false budget is lot source many = cc
 pub one_fits : (lot : Lot) (word : List ℕ) → is_lot word ≡ true → said_lot lot ≡ lot_says word → IsFitting lot
 unfolding is_lot lot_says source_says budget_says
 one_fits lot word passed said = record {
-  eight_each = λ words is. eight_by words word (is_written word) lot.budget refl passed (sym (ap said_source is) ∙ ap (λ s. s.source) said) (ap (λ s. s.budget) said);
+  eight_each = λ words is. eight_by words word (is_written word) lot.budget refl passed
+      (sym (ap said_source is) ∙ ap (λ s. s.source) said) (ap (λ s. s.budget) said);
 }
 
-each_fits : (lots : List Lot) (words : List (List ℕ)) → list_all is_lot words ≡ true → map said_lot lots ≡ map lot_says words → (w : ℕ) → w < length lots → IsFitting (lot_at lots w)
+each_fits : (lots : List Lot) (words : List (List ℕ)) → list_all is_lot words ≡ true →
+    map said_lot lots ≡ map lot_says words → (w : ℕ) → w < length lots → IsFitting (lot_at lots w)
 unfolding lot_at
 each_fits [] words all said w within = absurd (omega arith)
 each_fits (lot ∷ lots) [] all said w within = cc
 each_fits (lot ∷ lots) (word ∷ words) all said zero within = one_fits lot word (grind (arith, common_steps)) cc
-each_fits (lot ∷ lots) (word ∷ words) all said (suc w) within = each_fits lots words (rest_told (is_lot word) (list_all is_lot words) all) (cc) w (omega arith)
+each_fits (lot ∷ lots) (word ∷ words) all said (suc w) within =
+    each_fits lots words (rest_told (is_lot word) (list_all is_lot words) all) (cc) w (omega arith)
 
-same_budgets : (lots : List Lot) (words : List (List ℕ)) → map said_lot lots ≡ map lot_says words → sum_by (λ lot. lot.budget) lots ≡ sum_by budget_says words
+same_budgets : (lots : List Lot) (words : List (List ℕ)) → map said_lot lots ≡ map lot_says words →
+    sum_by (λ lot. lot.budget) lots ≡ sum_by budget_says words
 unfolding lot_says
 same_budgets [] [] said = refl
 same_budgets (lot ∷ lots) [] said = cc
@@ -181,12 +213,19 @@ pub record AreLots (words : List (List ℕ)) : Type 0 where
 
 are_told : (words : List (List ℕ)) → are_lots words ≡ true → AreLots words
 unfolding are_lots
-are_told words h = record { some = grind (arith, common_steps); few = grind (arith, common_steps); all = grind (arith, common_steps); together = grind (arith, common_steps) }
+are_told words h = record {
+  some = grind (arith, common_steps);
+  few = grind (arith, common_steps);
+  all = grind (arith, common_steps);
+  together = grind (arith, common_steps);
+}
 
-pub lots_fit : (lots : List Lot) (words : List (List ℕ)) → are_lots words ≡ true → map said_lot lots ≡ map lot_says words → IsLots lots
+pub lots_fit : (lots : List Lot) (words : List (List ℕ)) → are_lots words ≡ true →
+    map said_lot lots ≡ map lot_says words → IsLots lots
 lots_fit lots words h said =
     let told = are_told words h in
-    let many : length lots ≡ length words = sym (length-map lots said_lot) ∙ ap length said ∙ length-map words lot_says in
+    let many : length lots ≡ length words = sym (length-map lots said_lot) ∙ ap length said
+    ∙ length-map words lot_says in
     record {
       some = omega (arith, told.some);
       few = omega (arith, told.few);

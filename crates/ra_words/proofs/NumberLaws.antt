@@ -3,7 +3,8 @@ use Rattle.std.proofs.Common.{◌≡◌, ℕ, ◌+◌, ◌-◌, ◌*◌, ◌^◌
 use Rattle.std.proofs.lemmas.Grind.{common_steps}
 use Rattle.std.proofs.lemmas.Int.Digits.{digits_value_more}
 use Rattle.std.proofs.lemmas.Str.{digit_value_digit}
-use Rattle.std.proofs.lemmas.Str.Parse.{IsNumeralModel, numerals_by_value, tells_all_ascii_digits, digits_value_short, digits_value-take-le, digit_at}
+use Rattle.std.proofs.lemmas.Str.Parse.{IsNumeralModel, numerals_by_value, tells_all_ascii_digits, digits_value_short}
+use Rattle.std.proofs.lemmas.Str.Parse.{digits_value-take-le, digit_at}
 use Rattle.std.specs.Int.{IsInRange}
 use Rattle.std.specs.Str.{all_ascii_digits}
 use Rattle.std.specs.Str.Parse.{digits_value}
@@ -31,7 +32,8 @@ pub record OneMore (text : List ℕ) (i value : ℕ) : Type 0 where
 next_by : (a b v d x : ℕ) → a ≡ b * 10 + d → d + 48 ≡ x → v ≡ b → a ≡ v * 10 + (x - 48)
 next_by a b v d x more digit is = omega arith
 
-pub one_more : (text : List ℕ) (i value : ℕ) → has_digits text ≡ true → i < length text → value ≡ worth (take i text) → OneMore text i value
+pub one_more : (text : List ℕ) (i value : ℕ) → has_digits text ≡ true → i < length text → value ≡ worth (take i text) →
+    OneMore text i value
 unfolding worth
 one_more text i value h within is =
     let told = digits_told text h in
@@ -39,6 +41,11 @@ one_more text i value h within is =
     record {
       low = byte.0;
       high = omega (arith, byte.1);
-      small = omega (arith, is, digits_value-take-le 10 text i (omega arith), digits_value_short own text 20 told.digits told.short);
+      small = omega (
+        arith,
+        is,
+        digits_value-take-le 10 text i (omega arith),
+        digits_value_short own text 20 told.digits told.short,
+      );
       next = next_by _ _ value _ _ (digits_value_more 10 text i within) (digit_value_digit (get_or text i 0) byte) is;
     }

@@ -1,12 +1,17 @@
 -- A repair that words say has one lot.
-use Rattle.std.proofs.Common.{◌≡◌, ◌∙◌, ◌+◌, ℕ, Bool, true, false, if◌then◌else◌, List, Option, Some, None, length, drop, map, subst, refl, arith}
+use Rattle.std.proofs.Common.{◌≡◌, ◌∙◌, ◌+◌, ℕ, Bool, true, false, if◌then◌else◌, List, Option, Some, None, length}
+use Rattle.std.proofs.Common.{drop, map, subst, refl, arith}
 use Rattle.std.proofs.lemmas.Grind.{common_steps}
 use Rattle.std.proofs.lemmas.List.{length-drop, length-map}
 use Rattle.ra_words.specs.LotTexts.{lot_says}
-use Rattle.ra_words.specs.Jobs.{HasOneLot, JobSays, job_of, is_check, check_says, is_bound, bound_says, is_bound_from, bound_from_says, is_solve, solve_says, is_trial, trial_says, is_verify, verify_says, is_repair, repair_says, lot_place, is_edit, edit_says}
+use Rattle.ra_words.specs.Jobs.{HasOneLot, JobSays, job_of, is_check, check_says, is_bound, bound_says, is_bound_from}
+use Rattle.ra_words.specs.Jobs.{bound_from_says, is_solve, solve_says, is_trial, trial_says, is_verify, verify_says}
+use Rattle.ra_words.specs.Jobs.{is_repair, repair_says, lot_place, is_edit, edit_says}
 
 -- what holds of the job of a form, and of those that come behind it, holds of the job of the words
-by_form : (P : JobSays → Type 0) (test : Bool) (says : JobSays) (others : Option JobSays) (found : JobSays) → (test ≡ true → P says) → (others ≡ Some found → P found) → (if test then Some says else others) ≡ Some found → P found
+by_form : (P : JobSays → Type 0) (test : Bool) (says : JobSays) (others : Option JobSays) (found : JobSays) →
+    (test ≡ true → P says) → (others ≡ Some found → P found) → (if test then Some says else others) ≡ Some found →
+    P found
 by_form P true says others found first more is = let same : says ≡ found = cc in subst P same (first refl)
 by_form P false says others found first more is = more is
 

@@ -1,5 +1,7 @@
 -- The pieces of a text from a place on.
-use Rattle.std.proofs.Common.{◌≡◌, ◌≢◌, ℕ, zero, suc, ◌+◌, ◌-◌, ◌<◌, ◌≤◌, Bool, true, false, ◌&&◌, ◌==◌, if◌then◌else◌, List, [], ◌∷◌, map, length, take, drop, get_or, refl, sym, ap, ◌∙◌, arith, add-one, length-drop, ◌++◌, append_assoc, append-nil, length-append}
+use Rattle.std.proofs.Common.{◌≡◌, ◌≢◌, ℕ, zero, suc, ◌+◌, ◌-◌, ◌<◌, ◌≤◌, Bool, true, false, ◌&&◌, ◌==◌, if◌then◌else◌}
+use Rattle.std.proofs.Common.{List, [], ◌∷◌, map, length, take, drop, get_or, refl, sym, ap, ◌∙◌, arith, add-one}
+use Rattle.std.proofs.Common.{length-drop, ◌++◌, append_assoc, append-nil, length-append}
 use Rattle.std.proofs.Math.Seq.{drop-cons, take-length}
 use Rattle.std.proofs.lemmas.List.{length-map, length-take-le}
 use Rattle.std.specs.List.{list_all}
@@ -14,18 +16,23 @@ all_from text start = ap (λ n. take n (drop start text)) (sym (length-drop star
 pub place_within : (separator : ℕ) (text : List ℕ) → first_place separator text ≤ length text
 unfolding first_place
 place_within separator [] = omega arith
-place_within separator (byte ∷ bytes) = let h : first_place separator bytes ≤ length bytes = place_within separator bytes in grind (arith, common_steps)
+place_within separator (byte ∷ bytes) =
+    let h : first_place separator bytes ≤ length bytes = place_within separator bytes in grind (arith, common_steps)
 
-pub place_here : (separator : ℕ) (text : List ℕ) (k : ℕ) → k < length text → get_or text k 0 ≡ separator → first_place separator (drop k text) ≡ 0
+pub place_here : (separator : ℕ) (text : List ℕ) (k : ℕ) → k < length text → get_or text k 0 ≡ separator →
+    first_place separator (drop k text) ≡ 0
 unfolding first_place
 place_here separator text k within here = rw (drop-cons text k 0 within) (grind (arith, common_steps))
 
 next_by : (byte separator n : ℕ) → byte ≢ separator → (if byte == separator then 0 else suc n) ≡ 1 + n
 next_by byte separator n other = grind (arith, common_steps)
 
-pub place_next : (separator : ℕ) (text : List ℕ) (k : ℕ) → k < length text → get_or text k 0 ≢ separator → first_place separator (drop k text) ≡ 1 + first_place separator (drop (k + 1) text)
+pub place_next : (separator : ℕ) (text : List ℕ) (k : ℕ) → k < length text → get_or text k 0 ≢ separator →
+    first_place separator (drop k text) ≡ 1 + first_place separator (drop (k + 1) text)
 unfolding first_place
-place_next separator text k within other = rw (drop-cons text k 0 within, add-one) (next_by (get_or text k 0) separator (first_place separator (drop (suc k) text)) other)
+place_next separator text k within other =
+    rw (drop-cons text k 0 within, add-one)
+    (next_by (get_or text k 0) separator (first_place separator (drop (suc k) text)) other)
 
 pub place_end : (separator : ℕ) (text : List ℕ) (k : ℕ) → length text ≤ k → first_place separator (drop k text) ≡ 0
 unfolding first_place
@@ -40,48 +47,63 @@ left_from text zero = pieces text
 left_from [] (suc k) = []
 left_from (byte ∷ bytes) (suc k) = left_from bytes k
 
-split_by : (byte : ℕ) (bytes : List ℕ) (test : Bool) → (byte == 44) ≡ test → pieces bytes ≡ take (first_place 44 bytes) bytes ∷ left_from bytes (suc (first_place 44 bytes))
-    → (if test then [] ∷ pieces bytes else in_front byte (pieces bytes)) ≡ take (if test then 0 else suc (first_place 44 bytes)) (byte ∷ bytes) ∷ left_from (byte ∷ bytes) (suc (if test then 0 else suc (first_place 44 bytes)))
+split_by : (byte : ℕ) (bytes : List ℕ) (test : Bool) → (byte == 44) ≡ test →
+    pieces bytes ≡ take (first_place 44 bytes) bytes ∷ left_from bytes (suc (first_place 44 bytes))
+    → (if test then [] ∷ pieces bytes else in_front byte (pieces bytes)) ≡
+    take (if test then 0 else suc (first_place 44 bytes)) (byte ∷ bytes) ∷ left_from (byte ∷ bytes)
+    (suc (if test then 0 else suc (first_place 44 bytes)))
 unfolding left_from in_front
 split_by byte bytes true is h = refl
 split_by byte bytes false is h = ap (in_front byte) h
 
 -- the first piece, and those behind its comma
-pub first_piece : (text : List ℕ) → pieces text ≡ take (first_place 44 text) text ∷ left_from text (suc (first_place 44 text))
+pub first_piece : (text : List ℕ) → pieces text ≡ take (first_place 44 text) text ∷ left_from text
+    (suc (first_place 44 text))
 unfolding pieces first_place left_from in_front
 first_piece [] = refl
 first_piece (byte ∷ bytes) = split_by byte bytes (byte == 44) refl (first_piece bytes)
 
 -- the place behind a piece and its comma
-split_at : (text : List ℕ) (start k : ℕ) → k ≡ start + first_place 44 (drop start text) + 1 → start ≤ length text → left_from text start ≡ piece_at text start ∷ left_from text k
+split_at : (text : List ℕ) (start k : ℕ) → k ≡ start + first_place 44 (drop start text) + 1 → start ≤ length text →
+    left_from text start ≡ piece_at text start ∷ left_from text k
 unfolding left_from piece_at
-split_at text zero k is within = let e : suc (first_place 44 text) ≡ k = omega arith in first_piece text ∙ ap (λ j. take (first_place 44 text) text ∷ left_from text j) e
+split_at text zero k is within = let e : suc (first_place 44 text) ≡ k = omega arith in first_piece text
+    ∙ ap (λ j. take (first_place 44 text) text ∷ left_from text j) e
 split_at [] (suc start) k is within = absurd (omega arith)
 split_at (byte ∷ bytes) (suc start) zero is within = absurd (omega arith)
 split_at (byte ∷ bytes) (suc start) (suc k) is within = split_at bytes start k (omega arith) (omega arith)
 
 piece_length : (text : List ℕ) (start : ℕ) → length (piece_at text start) ≡ first_place 44 (drop start text)
 unfolding piece_at
-piece_length text start = length-take-le (first_place 44 (drop start text)) (drop start text) (place_within 44 (drop start text))
+piece_length text start =
+    length-take-le (first_place 44 (drop start text)) (drop start text) (place_within 44 (drop start text))
 
 -- the piece at a place, and those behind its comma
-pub next_piece : (text : List ℕ) (start : ℕ) → start ≤ length text → left_from text start ≡ piece_at text start ∷ left_from text (start + length (piece_at text start) + 1)
+pub next_piece : (text : List ℕ) (start : ℕ) → start ≤ length text →
+    left_from text start ≡ piece_at text start ∷ left_from text (start + length (piece_at text start) + 1)
 next_piece text start within = split_at text start _ (omega (arith, piece_length text start)) within
 
-pub piece_refused : (text : List ℕ) (start : ℕ) → start ≤ length text → is_number (piece_at text start) ≡ false → list_all is_number (left_from text start) ≡ false
+pub piece_refused : (text : List ℕ) (start : ℕ) → start ≤ length text → is_number (piece_at text start) ≡ false →
+    list_all is_number (left_from text start) ≡ false
 piece_refused text start within refused = rw (next_piece text start within, refused) refl
 
 pub piece_accepted : (text : List ℕ) (start : ℕ) → start ≤ length text → is_number (piece_at text start) ≡ true
-    → list_all is_number (left_from text start) ≡ list_all is_number (left_from text (start + length (piece_at text start) + 1))
-piece_accepted text start within passed = ap (list_all is_number) (next_piece text start within) ∙ ap (λ b. b && list_all is_number (left_from text (start + length (piece_at text start) + 1))) passed
+    → list_all is_number (left_from text start) ≡ list_all is_number
+    (left_from text (start + length (piece_at text start) + 1))
+piece_accepted text start within passed = ap (list_all is_number) (next_piece text start within)
+    ∙ ap (λ b. b && list_all is_number (left_from text (start + length (piece_at text start) + 1))) passed
 
-pub piece_told : (text : List ℕ) (start : ℕ) → start ≤ length text → list_all is_number (left_from text start) ≡ true → is_number (piece_at text start) ≡ true
+pub piece_told : (text : List ℕ) (start : ℕ) → start ≤ length text → list_all is_number (left_from text start) ≡ true →
+    is_number (piece_at text start) ≡ true
 piece_told text start within all = let h = rw (next_piece text start within) at all in grind (arith, common_steps)
 
-pub piece_counted : (text : List ℕ) (start : ℕ) → start ≤ length text → length (left_from text start) ≡ 1 + length (left_from text (start + length (piece_at text start) + 1))
+pub piece_counted : (text : List ℕ) (start : ℕ) → start ≤ length text →
+    length (left_from text start) ≡ 1 + length (left_from text (start + length (piece_at text start) + 1))
 piece_counted text start within = ap length (next_piece text start within) ∙ omega arith
 
-pub piece_valued : (text : List ℕ) (start : ℕ) → start ≤ length text → map worth (left_from text start) ≡ worth (piece_at text start) ∷ map worth (left_from text (start + length (piece_at text start) + 1))
+pub piece_valued : (text : List ℕ) (start : ℕ) → start ≤ length text →
+    map worth (left_from text start) ≡ worth (piece_at text start) ∷ map worth
+    (left_from text (start + length (piece_at text start) + 1))
 piece_valued text start within = ap (map worth) (next_piece text start within)
 
 pub left_past : (text : List ℕ) (start : ℕ) → length text < start → left_from text start ≡ []
@@ -98,18 +120,31 @@ pub record IsPut (text : List ℕ) (start : ℕ) (list : List ℕ) : Type 0 wher
 
 pub none_put : (text list : List ℕ) → list_all is_number (pieces text) ≡ true → list ≡ [] → IsPut text 0 list
 unfolding left_from
-none_put text list all none = record { within = omega arith; all = all; put = ap (λ ns. ns ++ map worth (pieces text)) none }
+none_put text list all none = record {
+  within = omega arith;
+  all = all;
+  put = ap (λ ns. ns ++ map worth (pieces text)) none;
+}
 
-pub piece_read : (text : List ℕ) (start : ℕ) (list piece : List ℕ) → IsPut text start list → start ≤ length text → piece ≡ piece_at text start → is_number piece ≡ true
+pub piece_read : (text : List ℕ) (start : ℕ) (list piece : List ℕ) → IsPut text start list → start ≤ length text →
+    piece ≡ piece_at text start → is_number piece ≡ true
 piece_read text start list piece is within read = ap is_number read ∙ piece_told text start within is.all
 
 -- there is room for one more
-pub one_room : (text : List ℕ) (start : ℕ) (list : List ℕ) → IsPut text start list → start ≤ length text → length list < length (pieces text)
+pub one_room : (text : List ℕ) (start : ℕ) (list : List ℕ) → IsPut text start list → start ≤ length text →
+    length list < length (pieces text)
 one_room text start list is within =
-    let e : length list + length (map worth (left_from text start)) ≡ length (map worth (pieces text)) = sym (length-append list (map worth (left_from text start))) ∙ ap length is.put in
-    omega (arith, length-map (left_from text start) worth, length-map (pieces text) worth, piece_counted text start within)
+    let e : length list + length (map worth (left_from text start)) ≡ length (map worth (pieces text)) =
+    sym (length-append list (map worth (left_from text start))) ∙ ap length is.put in
+    omega (
+      arith,
+      length-map (left_from text start) worth,
+      length-map (pieces text) worth,
+      piece_counted text start within,
+    )
 
-pub one_put : (text : List ℕ) (start : ℕ) (list more piece : List ℕ) (number : ℕ) → IsPut text start list → start ≤ length text → piece ≡ piece_at text start → length piece + start ≤ length text
+pub one_put : (text : List ℕ) (start : ℕ) (list more piece : List ℕ) (number : ℕ) → IsPut text start list →
+    start ≤ length text → piece ≡ piece_at text start → length piece + start ≤ length text
     → number ≡ worth piece → more ≡ list ++ number ∷ [] → IsPut text (start + length piece + 1) more
 one_put text start list more piece number is within read end worth_is added =
     let next : ℕ = start + length (piece_at text start) + 1 in
@@ -117,7 +152,8 @@ one_put text start list more piece number is within read end worth_is added =
     let last : number ≡ worth (piece_at text start) = worth_is ∙ ap worth read in
     record {
       within = omega arith;
-      all = ap (λ k. list_all is_number (left_from text k)) (sym same) ∙ (sym (piece_accepted text start within (piece_told text start within is.all)) ∙ is.all);
+      all = ap (λ k. list_all is_number (left_from text k)) (sym same)
+          ∙ (sym (piece_accepted text start within (piece_told text start within is.all)) ∙ is.all);
       put =
           ap (λ ns. ns ++ map worth (left_from text (start + length piece + 1))) added
           ∙ append_assoc list (number ∷ []) (map worth (left_from text (start + length piece + 1)))
@@ -127,5 +163,7 @@ one_put text start list more piece number is within read end worth_is added =
           ∙ is.put;
     }
 
-pub all_put : (text : List ℕ) (start : ℕ) (list : List ℕ) → IsPut text start list → length text < start → list ≡ map worth (pieces text)
-all_put text start list is past = sym (append-nil list) ∙ ap (λ ps. list ++ map worth ps) (sym (left_past text start past)) ∙ is.put
+pub all_put : (text : List ℕ) (start : ℕ) (list : List ℕ) → IsPut text start list → length text < start →
+    list ≡ map worth (pieces text)
+all_put text start list is past =
+    sym (append-nil list) ∙ ap (λ ps. list ++ map worth ps) (sym (left_past text start past)) ∙ is.put

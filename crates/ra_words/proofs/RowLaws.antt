@@ -1,5 +1,6 @@
 -- What rows have of an argument after a use of it.
-use Rattle.std.proofs.Common.{◌≡◌, ◌∙◌, ◌++◌, ap, sym, refl, Bool, true, false, List, [], ◌∷◌, Option, Some, None, option_map, is_some}
+use Rattle.std.proofs.Common.{◌≡◌, ◌∙◌, ◌++◌, ap, sym, refl, Bool, true, false, List, [], ◌∷◌, Option, Some, None}
+use Rattle.std.proofs.Common.{option_map, is_some}
 use Rattle.std.specs.Prelude.{find, unwrap_or, option_and_then, slice_get}
 use Rattle.std.specs.Str.{bytes_eq}
 use Rattle.std.proofs.lemmas.Slice.Eq.{bytes_eq-Decides}
@@ -19,18 +20,23 @@ pub values_added : (id : Text) (how : Reading) (s : ValueSource) (vs : List Text
 values_added id how s vs [] = rw (same_id id) refl
 values_added id how s vs (r ∷ rows) = go (values_added id how s vs rows) (bytes_eq r.id id) refl
   where
-    go : all_of id (with_values id how s vs rows) ≡ Some (unwrap_or (all_of id rows) [] ++ vs) → (b : Bool) → bytes_eq r.id id ≡ b
+    go : all_of id (with_values id how s vs rows) ≡ Some (unwrap_or (all_of id rows) [] ++ vs) → (b : Bool) →
+        bytes_eq r.id id ≡ b
         → all_of id (with_values id how s vs (r ∷ rows)) ≡ Some (unwrap_or (all_of id (r ∷ rows)) [] ++ vs)
     go more true e = rw e (rw e refl)
     go more false e = rw e (rw e more)
 
 -- what another id had stays
-pub others_kept : (id other : Text) (how : Reading) (s : ValueSource) (vs : List Text) (rows : List Row) → bytes_eq id other ≡ false
+pub others_kept : (id other : Text) (how : Reading) (s : ValueSource) (vs : List Text) (rows : List Row) →
+    bytes_eq id other ≡ false
     → all_of other (with_values id how s vs rows) ≡ all_of other rows
 others_kept id other how s vs [] apart = rw apart refl
-others_kept id other how s vs (r ∷ rows) apart = go (others_kept id other how s vs rows apart) (bytes_eq r.id id) refl (bytes_eq r.id other) refl
+others_kept id other how s vs (r ∷ rows) apart =
+    go (others_kept id other how s vs rows apart) (bytes_eq r.id id) refl (bytes_eq r.id other) refl
   where
-    go : all_of other (with_values id how s vs rows) ≡ all_of other rows → (b : Bool) → bytes_eq r.id id ≡ b → (d : Bool) → bytes_eq r.id other ≡ d → all_of other (with_values id how s vs (r ∷ rows)) ≡ all_of other (r ∷ rows)
+    go : all_of other (with_values id how s vs rows) ≡ all_of other rows → (b : Bool) → bytes_eq r.id id ≡ b →
+        (d : Bool) → bytes_eq r.id other ≡ d → all_of other (with_values id how s vs (r ∷ rows)) ≡
+        all_of other (r ∷ rows)
     go more true e d is = let no = other_id r.id id other e apart in rw e (rw no refl)
     go more false e true is = rw e (rw is refl)
     go more false e false is = rw e (rw is more)
@@ -40,7 +46,8 @@ pub has_row_all : (id : Text) (rows : List Row) → has_row id rows ≡ is_some 
 has_row_all id [] = refl
 has_row_all id (r ∷ rows) = go (has_row_all id rows) (bytes_eq r.id id) refl
   where
-    go : has_row id rows ≡ is_some (all_of id rows) → (b : Bool) → bytes_eq r.id id ≡ b → has_row id (r ∷ rows) ≡ is_some (all_of id (r ∷ rows))
+    go : has_row id rows ≡ is_some (all_of id rows) → (b : Bool) → bytes_eq r.id id ≡ b →
+        has_row id (r ∷ rows) ≡ is_some (all_of id (r ∷ rows))
     go more true e = rw e refl
     go more false e = rw e more
 
@@ -49,7 +56,8 @@ pub none_out : (id : Text) (rows : List Row) → all_of id rows ≡ None → wit
 none_out id [] none = refl
 none_out id (r ∷ rows) none = go (none_out id rows) (bytes_eq r.id id) refl
   where
-    go : (all_of id rows ≡ None → without id rows ≡ rows) → (b : Bool) → bytes_eq r.id id ≡ b → without id (r ∷ rows) ≡ r ∷ rows
+    go : (all_of id rows ≡ None → without id rows ≡ rows) → (b : Bool) → bytes_eq r.id id ≡ b →
+        without id (r ∷ rows) ≡ r ∷ rows
     go more true e =
         let has : is_some (all_of id (r ∷ rows)) ≡ true = rw e refl in
         let not : is_some (all_of id (r ∷ rows)) ≡ false = ap is_some none in
@@ -59,9 +67,11 @@ none_out id (r ∷ rows) none = go (none_out id rows) (bytes_eq r.id id) refl
         rw e (ap (λ rs. r ∷ rs) (more (sym less ∙ none)))
 
 -- the first value is the first of all
-pub first_all : (id : Text) (rows : List Row) → first_of id rows ≡ option_and_then (λ vs. slice_get vs 0) (all_of id rows)
+pub first_all : (id : Text) (rows : List Row) → first_of id rows ≡ option_and_then (λ vs. slice_get vs 0)
+    (all_of id rows)
 first_all id rows = go (find (λ r. bytes_eq r.id id) rows)
   where
-    go : (o : Option Row) → option_and_then (λ (r : Row). slice_get r.values 0) o ≡ option_and_then (λ vs. slice_get vs 0) (option_map (λ (r : Row). r.values) o)
+    go : (o : Option Row) → option_and_then (λ (r : Row). slice_get r.values 0) o ≡
+        option_and_then (λ vs. slice_get vs 0) (option_map (λ (r : Row). r.values) o)
     go None = refl
     go (Some r) = refl

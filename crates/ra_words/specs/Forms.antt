@@ -9,7 +9,9 @@ use Rattle.ra_words.specs.Words.{word_at}
 use Rattle.ra_words.specs.Numbers.{is_number, worth}
 use Rattle.ra_words.specs.LotTexts.{lot_says, are_lots}
 use Rattle.ra_words.specs.Lines.{plain_of}
-use Rattle.ra_words.specs.Jobs.{JobSays, Checks, Bounds, Solves, Trials, Verifies, Repairs, Edits, is_check, is_bound, is_bound_from, is_solve, is_trial, is_verify, is_repair, is_edit, is_slack, slack_says, drawing_says}
+use Rattle.ra_words.specs.Jobs.{JobSays, Checks, Bounds, Solves, Trials, Verifies, Repairs, Edits, is_check, is_bound}
+use Rattle.ra_words.specs.Jobs.{is_bound_from, is_solve, is_trial, is_verify, is_repair, is_edit, is_slack, slack_says}
+use Rattle.ra_words.specs.Jobs.{drawing_says}
 
 -- the form of the words, and none if they are no job
 unfoldable pub form_of : List (List ℕ) → Option Form

@@ -1,5 +1,6 @@
 -- The texts of lots: `SEED:BUDGET`, or `w:` and the words themselves.
-use Rattle.std.specs.Prelude.{ℕ, suc, ◌/◌, ◌%◌, List, [], ◌∷◌, map, length, take, drop, sum_by, codes, Bool, nat_lt, nat_le, ◌==◌, ◌&&◌, if◌then◌else◌}
+use Rattle.std.specs.Prelude.{ℕ, suc, ◌/◌, ◌%◌, List, [], ◌∷◌, map, length, take, drop, sum_by, codes, Bool, nat_lt}
+use Rattle.std.specs.Prelude.{nat_le, ◌==◌, ◌&&◌, if◌then◌else◌}
 use Rattle.std.specs.List.{list_all}
 use Rattle.std.specs.Str.{bytes_eq}
 use Rattle.ra_words.specs.Numbers.{is_number, worth}

@@ -1,5 +1,6 @@
 -- What one entry more makes of a state.
-use Rattle.std.proofs.Common.{◌≡◌, ℕ, suc, ◌+◌, ◌<◌, ◌≤◌, eqb, List, length, Option, Some, None, refl, sym, ap, ◌∙◌, add-one, arith}
+use Rattle.std.proofs.Common.{◌≡◌, ℕ, suc, ◌+◌, ◌<◌, ◌≤◌, eqb, List, length, Option, Some, None, refl, sym, ap, ◌∙◌}
+use Rattle.std.proofs.Common.{add-one, arith}
 use Rattle.ra_base.specs.declared.ids.Machine.{Machine}
 use Rattle.ra_base.specs.declared.causes.Cause.{Cause}
 use Rattle.ra_base.specs.Sums.{one_if}
@@ -23,25 +24,32 @@ use Rattle.ra_journal.proofs.StandingLemmas.{unbroken_if_done, legal_offered}
 use Rattle.ra_worker.specs.Following.{IsJudged}
 
 -- a move that is done breaks nothing
-pub done_unbroken : (i : Tables) (a0 a : List Machine) (steps : List Step) (cost : ℕ) (verdict : Verdict) → IsJudged i a0 a steps verdict → verdict ≡ Done cost → broken_by i a0 a steps ≡ None
+pub done_unbroken : (i : Tables) (a0 a : List Machine) (steps : List Step) (cost : ℕ) (verdict : Verdict) →
+    IsJudged i a0 a steps verdict → verdict ≡ Done cost → broken_by i a0 a steps ≡ None
 done_unbroken i a0 a steps cost verdict is done = unbroken_if_done i a0 a steps is.allowed cost verdict is.judged done
 
 -- so what was offered is a move
-pub done_moves : (i : Tables) (a0 a : List Machine) (steps : List Step) (cost : ℕ) (verdict : Verdict) → IsJudged i a0 a steps verdict → verdict ≡ Done cost → IsMove i a steps
+pub done_moves : (i : Tables) (a0 a : List Machine) (steps : List Step) (cost : ℕ) (verdict : Verdict) →
+    IsJudged i a0 a steps verdict → verdict ≡ Done cost → IsMove i a steps
 unfolding broken_by
-done_moves i a0 a steps cost verdict is done = is.offered (left_none (repeat_of steps) _ (done_unbroken i a0 a steps cost verdict is done))
+done_moves i a0 a steps cost verdict is done =
+    is.offered (left_none (repeat_of steps) _ (done_unbroken i a0 a steps cost verdict is done))
 
 -- the state after an entry by its verdict
-pub after_done : (a : List Machine) (steps : List Step) (cost : ℕ) (verdict : Verdict) → verdict ≡ Done cost → applied a steps ≡ after_made a (steps_made verdict steps)
+pub after_done : (a : List Machine) (steps : List Step) (cost : ℕ) (verdict : Verdict) → verdict ≡ Done cost →
+    applied a steps ≡ after_made a (steps_made verdict steps)
 unfolding after_made steps_made
 after_done a steps cost verdict done = rw done refl
 
-pub after_refused : (a : List Machine) (steps : List Step) (cause : Cause) (verdict : Verdict) → verdict ≡ Refused cause → a ≡ after_made a (steps_made verdict steps)
+pub after_refused : (a : List Machine) (steps : List Step) (cause : Cause) (verdict : Verdict) →
+    verdict ≡ Refused cause → a ≡ after_made a (steps_made verdict steps)
 unfolding after_made steps_made
 after_refused a steps cause verdict refused = rw refused refl
 
 -- each entry of a legal journal was offered and judged at the state of its own place
-pub entry_judged : (i : Tables) (a0 a : List Machine) (l : Lots) (h : List Entry) (j : ℕ) (e : Entry) → WellFormed i → IsAssignment i a0 → Legal i a0 l h → j < length h → e ≡ entry_at h j → a ≡ state a0 h j → IsJudged i a0 a e.mv.steps e.verdict
+pub entry_judged : (i : Tables) (a0 a : List Machine) (l : Lots) (h : List Entry) (j : ℕ) (e : Entry) → WellFormed i →
+    IsAssignment i a0 → Legal i a0 l h → j < length h → e ≡ entry_at h j → a ≡ state a0 h j →
+    IsJudged i a0 a e.mv.steps e.verdict
 entry_judged i a0 a l h j e limits fits legal within e_is a_is = rw (e_is, a_is) (record {
   allowed = _;
   offered = (legal_offered i a0 l h limits fits legal j within).here;
@@ -49,15 +57,18 @@ entry_judged i a0 a l h j e limits fits legal within e_is a_is = rw (e_is, a_is)
 })
 
 -- the state at the next place
-pub next_state : (a0 a b : List Machine) (h : List Entry) (j : ℕ) (e : Entry) → a ≡ state a0 h j → e ≡ entry_at h j → b ≡ after_made a (made_by e) → b ≡ state a0 h (j + 1)
+pub next_state : (a0 a b : List Machine) (h : List Entry) (j : ℕ) (e : Entry) → a ≡ state a0 h j → e ≡ entry_at h j →
+    b ≡ after_made a (made_by e) → b ≡ state a0 h (j + 1)
 unfolding state
 next_state a0 a b h j e a_is e_is b_is = rw (add-one, ← e_is, ← a_is) b_is
 
-pub next_stated : (a0 a b : List Machine) (h : List Entry) (j : ℕ) (e : Entry) → a ≡ state a0 h j → e ≡ entry_at h j → b ≡ after_made a (steps_made e.verdict e.mv.steps) → b ≡ state a0 h (j + 1)
+pub next_stated : (a0 a b : List Machine) (h : List Entry) (j : ℕ) (e : Entry) → a ≡ state a0 h j → e ≡ entry_at h j →
+    b ≡ after_made a (steps_made e.verdict e.mv.steps) → b ≡ state a0 h (j + 1)
 unfolding made_by
 next_stated a0 a b h j e a_is e_is b_is = next_state a0 a b h j e a_is e_is b_is
 
 -- and how many entries each worker has before it
-pub next_count : (h : List Entry) (j w n : ℕ) (e : Entry) → e ≡ entry_at h j → n ≡ entries_of h j w → n + one_if (eqb e.worker w) ≡ entries_of h (j + 1) w
+pub next_count : (h : List Entry) (j w n : ℕ) (e : Entry) → e ≡ entry_at h j → n ≡ entries_of h j w →
+    n + one_if (eqb e.worker w) ≡ entries_of h (j + 1) w
 unfolding entries_of
 next_count h j w n e e_is n_is = rw (e_is, n_is) (sym (count_more j (λ k. eqb (entry_at h k).worker w)))

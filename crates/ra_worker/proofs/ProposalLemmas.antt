@@ -22,7 +22,9 @@ unfolding words words_of
 lot_words l w k lot is = ap (λ (x : Lot). proposal_words x.source k) is
 
 -- the words of proposal k are drawn
-pub drawn_next : (l : Lots) (w k : ℕ) (lot : Lot) (before after : Drawn) (x : List ℕ) → w < worker_count l → k ≤ budget l w → lot ≡ lot_at l.lots.items w → before.lot ≡ lot → after.lot ≡ before.lot → (k < lot.budget → after.made ≡ k + 1) → (k < lot.budget → x ≡ proposal_words lot.source k) → AreDrawn l w after k x
+pub drawn_next : (l : Lots) (w k : ℕ) (lot : Lot) (before after : Drawn) (x : List ℕ) → w < worker_count l →
+    k ≤ budget l w → lot ≡ lot_at l.lots.items w → before.lot ≡ lot → after.lot ≡ before.lot →
+    (k < lot.budget → after.made ≡ k + 1) → (k < lot.budget → x ≡ proposal_words lot.source k) → AreDrawn l w after k x
 drawn_next l w k lot before after x exists within lot_is before_lot after_lot made drawn =
     let same = lot_budget l w lot lot_is in
     record {
@@ -34,5 +36,6 @@ drawn_next l w k lot before after x exists within lot_is before_lot after_lot ma
     }
 
 -- what is planned from the same words
-pub plan_alike : (i : Tables) (a0 a : List Machine) (x y : List ℕ) (d e : Drawing) (r s : ℕ) → x ≡ y → d ≡ e → r ≡ s → plan_of i a0 a x d r ≡ plan_of i a0 a y e s
+pub plan_alike : (i : Tables) (a0 a : List Machine) (x y : List ℕ) (d e : Drawing) (r s : ℕ) → x ≡ y → d ≡ e → r ≡ s →
+    plan_of i a0 a x d r ≡ plan_of i a0 a y e s
 plan_alike i a0 a x y d e r s x_is d_is r_is = rw (x_is, d_is, r_is) refl

@@ -15,22 +15,31 @@ use Rattle.ra_worker.specs.Replicas.{IsAt}
 use Rattle.ra_worker.proofs.FollowingLemmas.{entry_judged}
 
 -- the entry at the place of a replica was judged at its state
-pub here_judged : (i : Tables) (a0 : List Machine) (l : Lots) (h : List Entry) (r : Replica) (e : Entry) → WellFormed i → IsAssignment i a0 → Legal i a0 l h → IsAt i a0 l h r → r.place < length h → e ≡ entry_at h r.place → IsJudged r.world.inst.now.tables r.world.start.now.items r.world.kept.assignment.items e.mv.steps e.verdict
-here_judged i a0 l h r e limits fits legal at within e_is = rw (at.instance, at.initial) (entry_judged i a0 r.world.kept.assignment.items l h r.place e limits fits legal within e_is at.state)
+pub here_judged : (i : Tables) (a0 : List Machine) (l : Lots) (h : List Entry) (r : Replica) (e : Entry) →
+    WellFormed i → IsAssignment i a0 → Legal i a0 l h → IsAt i a0 l h r → r.place < length h → e ≡ entry_at h r.place →
+    IsJudged r.world.inst.now.tables r.world.start.now.items r.world.kept.assignment.items e.mv.steps e.verdict
+here_judged i a0 l h r e limits fits legal at within e_is =
+    rw (at.instance, at.initial)
+    (entry_judged i a0 r.world.kept.assignment.items l h r.place e limits fits legal within e_is at.state)
 
 -- if that entry is of its worker, the worker has some budget left
-pub here_left : (i : Tables) (a0 : List Machine) (l : Lots) (h : List Entry) (r : Replica) (e : Entry) → Legal i a0 l h → IsAt i a0 l h r → r.place < length h → e ≡ entry_at h r.place → e.worker ≡ r.proposals.worker → r.proposals.number < budget r.proposals.lots.now r.proposals.worker
+pub here_left : (i : Tables) (a0 : List Machine) (l : Lots) (h : List Entry) (r : Replica) (e : Entry) →
+    Legal i a0 l h → IsAt i a0 l h r → r.place < length h → e ≡ entry_at h r.place → e.worker ≡ r.proposals.worker →
+    r.proposals.number < budget r.proposals.lots.now r.proposals.worker
 here_left i a0 l h r e legal at within e_is own =
     let numbered = (legal.each r.place within).numbered in
     let here : (entry_at h r.place).worker ≡ r.proposals.worker = ap (λ (x : Entry). x.worker) (sym e_is) ∙ own in
-    let left : entries_of h r.place (entry_at h r.place).worker < budget l (entry_at h r.place).worker = omega (arith, numbered.number, numbered.budget) in
+    let left : entries_of h r.place (entry_at h r.place).worker < budget l (entry_at h r.place).worker =
+    omega (arith, numbered.number, numbered.budget) in
     let number : r.proposals.number ≡ entries_of h r.place r.proposals.worker = at.number in
     let lots : r.proposals.lots.now ≡ l = at.lots in
-    let some : entries_of h r.place r.proposals.worker < budget l r.proposals.worker = subst (λ w. entries_of h r.place w < budget l w) here left in
+    let some : entries_of h r.place r.proposals.worker < budget l r.proposals.worker =
+    subst (λ w. entries_of h r.place w < budget l w) here left in
     omega (arith, number, some, ap (λ (m : Lots). budget m r.proposals.worker) lots)
 
 -- and there are few entries
-pub here_few : (i : Tables) (a0 : List Machine) (l : Lots) (h : List Entry) (r : Replica) → Legal i a0 l h → r.place < length h → r.place < 2 ^ 63
+pub here_few : (i : Tables) (a0 : List Machine) (l : Lots) (h : List Entry) (r : Replica) → Legal i a0 l h →
+    r.place < length h → r.place < 2 ^ 63
 here_few i a0 l h r legal within =
     let numbered : AreNumbered l h (length h) = record { each = λ k there. (legal.each k there).numbered } in
     omega (arith, within, entries_few l h (length h) numbered, proposals_few l)

@@ -26,27 +26,40 @@ one_left [] e long is = absurd (omega (arith, long))
 one_left (x ∷ []) e long is = ap (λ (y : Entry). y ∷ []) is
 one_left (x ∷ y ∷ rest) e long is = absurd (omega (arith, long))
 
-entry_is : (e : Entry) (w : ℕ) (plan : Plan) (verdict : Verdict) → e.worker ≡ w → e.k ≡ plan.k → e.q ≡ plan.q → e.mv ≡ plan.mv → e.verdict ≡ verdict → e ≡ entry_of w plan verdict
+entry_is : (e : Entry) (w : ℕ) (plan : Plan) (verdict : Verdict) → e.worker ≡ w → e.k ≡ plan.k → e.q ≡ plan.q →
+    e.mv ≡ plan.mv → e.verdict ≡ verdict → e ≡ entry_of w plan verdict
 entry_is e w plan verdict worker k q mv judged = rw (← worker, ← k, ← q, ← mv, ← judged) refl
 
 -- if a plan is recorded at a place, the entries from there on are its own entry alone
-recorded_next : (w place : ℕ) (plan : Plan) (mine seen' mine' : List Entry) (j : ℕ) (verdict : Verdict) → IsRecorded w plan mine seen' mine' j verdict → j ≡ place → batch_from seen' place ≡ entry_of w plan verdict ∷ []
+recorded_next : (w place : ℕ) (plan : Plan) (mine seen' mine' : List Entry) (j : ℕ) (verdict : Verdict) →
+    IsRecorded w plan mine seen' mine' j verdict → j ≡ place → batch_from seen' place ≡ entry_of w plan verdict ∷ []
 recorded_next w place plan mine seen' mine' j verdict is same =
     let long : length (batch_from seen' place) ≡ 1 = omega (arith, batch_long seen' place, is.last, same) in
-    let first : entry_at (batch_from seen' place) 0 ≡ entry_at seen' j = batch_entry seen' place 0 (omega (arith, long)) ∙ ap (entry_at seen') (let at : place + 0 ≡ j = omega (arith, same) in at) in
-    one_left (batch_from seen' place) (entry_of w plan verdict) long (first ∙ entry_is (entry_at seen' j) w plan verdict is.worker is.k is.q is.mv is.judged)
+    let first : entry_at (batch_from seen' place) 0 ≡ entry_at seen' j = batch_entry seen' place 0 (omega (arith, long))
+    ∙ ap (entry_at seen') (let at : place + 0 ≡ j = omega (arith, same) in at) in
+    one_left (batch_from seen' place) (entry_of w plan verdict) long
+    (first ∙ entry_is (entry_at seen' j) w plan verdict is.worker is.k is.q is.mv is.judged)
 
-pub own_next : (s : Shared) (w w' : Worker) (plan : Plan) (j : ℕ) (verdict : Verdict) → IsAtWork s w → HasOwn w → w.replica.proposals.number < budget w.replica.proposals.lots.now w.replica.proposals.worker → IsNextPlan w.replica plan → w'.replica ≡ w.replica → w'.pass.number ≡ w.pass.number
-    → IsCommitted (start_of s) w.pass.number plan.q (seen_by w.pass) (made_by w.pass) (seen_by w'.pass) (made_by w'.pass) (Recorded j verdict) → j ≡ w'.replica.place → IsOwnNext w' plan verdict
+pub own_next : (s : Shared) (w w' : Worker) (plan : Plan) (j : ℕ) (verdict : Verdict) → IsAtWork s w → HasOwn w →
+    w.replica.proposals.number < budget w.replica.proposals.lots.now w.replica.proposals.worker →
+    IsNextPlan w.replica plan → w'.replica ≡ w.replica → w'.pass.number ≡ w.pass.number
+    → IsCommitted (start_of s) w.pass.number plan.q (seen_by w.pass) (made_by w.pass) (seen_by w'.pass)
+    (made_by w'.pass) (Recorded j verdict) → j ≡ w'.replica.place → IsOwnNext w' plan verdict
 own_next s w w' plan j verdict work own left next same number done here =
-    let is = recorded_stands (start_of s) w.pass.number plan (seen_by w.pass) (made_by w.pass) (seen_by w'.pass) (made_by w'.pass) j verdict work.rest.own (next_commit s w plan work own left next) done in
-    record { next = recorded_next w.pass.number w'.replica.place plan (made_by w.pass) (seen_by w'.pass) (made_by w'.pass) j verdict is here ∙ ap (λ (n : ℕ). entry_of n plan verdict ∷ []) (sym number) }
+    let is = recorded_stands (start_of s) w.pass.number plan (seen_by w.pass) (made_by w.pass) (seen_by w'.pass)
+    (made_by w'.pass) j verdict work.rest.own (next_commit s w plan work own left next) done in
+    record {
+      next = recorded_next w.pass.number w'.replica.place plan (made_by w.pass) (seen_by w'.pass) (made_by w'.pass) j
+          verdict is here ∙ ap (λ (n : ℕ). entry_of n plan verdict ∷ []) (sym number);
+    }
 
 -- the entry that a worker writes itself, with its number as its pass tells it
-pub own_entry : (w : Worker) (plan : Plan) (verdict : Verdict) (n : ℕ) → IsOwnNext w plan verdict → n ≡ w.pass.number → entry_of n plan verdict ∷ [] ≡ batch_from (seen_by w.pass) w.replica.place
+pub own_entry : (w : Worker) (plan : Plan) (verdict : Verdict) (n : ℕ) → IsOwnNext w plan verdict → n ≡ w.pass.number →
+    entry_of n plan verdict ∷ [] ≡ batch_from (seen_by w.pass) w.replica.place
 own_entry w plan verdict n own is = ap (λ (m : ℕ). entry_of m plan verdict ∷ []) is ∙ sym own.next
 
-pub shown_at : (reply : Reply) (j : ℕ) (verdict : Verdict) (place : ℕ) → reply ≡ Recorded j verdict → j ≡ place → shown_in reply ≡ place
+pub shown_at : (reply : Reply) (j : ℕ) (verdict : Verdict) (place : ℕ) → reply ≡ Recorded j verdict → j ≡ place →
+    shown_in reply ≡ place
 unfolding shown_in
 shown_at reply j verdict place is here = ap shown_in is ∙ here
 
@@ -55,5 +68,6 @@ pub behind_same : (w after : Worker) (shown : ℕ) → IsBehind shown w → afte
 behind_same w after shown behind same = record { within = rw same behind.within; own = rw same behind.own }
 
 -- it took no turn for that
-pub turned_own : (w after : Worker) → after.pass ≡ w.pass → after.replica.place ≡ w.replica.place + 1 → HasTurned w after
+pub turned_own : (w after : Worker) → after.pass ≡ w.pass → after.replica.place ≡ w.replica.place + 1 →
+    HasTurned w after
 turned_own w after same place = rw same (record { number = refl; turns = omega (arith, place); fewer = omega arith })

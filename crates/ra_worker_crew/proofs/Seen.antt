@@ -1,5 +1,6 @@
 -- What a longer history keeps, and how many entries of it are a worker's own.
-use Rattle.std.proofs.Common.{◌≡◌, ℕ, zero, suc, ◌+◌, ◌<◌, ◌≤◌, Bool, true, false, cond, eqb, List, [], ◌∷◌, ◌++◌, length, refl, sym, ap, ◌∙◌, subst, arith}
+use Rattle.std.proofs.Common.{◌≡◌, ℕ, zero, suc, ◌+◌, ◌<◌, ◌≤◌, Bool, true, false, cond, eqb, List, [], ◌∷◌, ◌++◌}
+use Rattle.std.proofs.Common.{length, refl, sym, ap, ◌∙◌, subst, arith}
 use Rattle.std.proofs.lemmas.List.{length-append, get_or_append_left}
 use mathlib.Core.List.{IsPrefix}
 use Rattle.ra_base.specs.Sums.{one_if}
@@ -19,7 +20,8 @@ use Rattle.ra_worker.specs.declared.replica.Replica.{Replica}
 use Rattle.ra_worker.specs.Replicas.{IsAt}
 
 -- a legal journal has at most as many entries as all budgets together
-pub legal_few : (i : Tables) (a0 : List Machine) (l : Lots) (h : List Entry) → Legal i a0 l h → length h ≤ proposal_count l
+pub legal_few : (i : Tables) (a0 : List Machine) (l : Lots) (h : List Entry) → Legal i a0 l h →
+    length h ≤ proposal_count l
 legal_few i a0 l h legal = entries_few l h (length h) (record { each = λ j there. (legal.each j there).numbered })
 
 -- a beginning of a history
@@ -28,10 +30,14 @@ prefix_long h g p = omega (arith, length-append h p.0, ap (λ (x : List Entry). 
 
 pub prefix_same : (h g : List Entry) → IsPrefix h g → SameBelow (length h) h g
 unfolding entry_at
-prefix_same h g p = record { each = λ j before. subst (λ (x : List Entry). entry_at h j ≡ entry_at x j) p.1 (sym (get_or_append_left h p.0 _ j before)) }
+prefix_same h g p = record {
+  each = λ j before. subst (λ (x : List Entry). entry_at h j ≡ entry_at x j) p.1
+      (sym (get_or_append_left h p.0 _ j before));
+}
 
 -- a replica stays at a state
-pub prefix_at : (i : Tables) (a0 : List Machine) (l : Lots) (h g : List Entry) (r : Replica) → IsPrefix h g → IsAt i a0 l h r → IsAt i a0 l g r
+pub prefix_at : (i : Tables) (a0 : List Machine) (l : Lots) (h g : List Entry) (r : Replica) → IsPrefix h g →
+    IsAt i a0 l h r → IsAt i a0 l g r
 prefix_at i a0 l h g r p at =
     let here = same_fewer r.place (length h) h g at.place (prefix_same h g p) in
     record {

@@ -13,7 +13,8 @@ use Rattle.ra_shared.specs.Shares.{start_of, IsAtRest}
 use Rattle.ra_worker.specs.Replicas.{IsAt}
 use Rattle.ra_worker_crew.specs.declared.worker.Worker.{Worker}
 
--- a worker that has no turn: its pass is at rest, and its replica is the same worker's, at a state of what that has seen
+-- a worker that has no turn: its pass is at rest, and its replica is the same worker's, at a state of what that has
+-- seen
 pub record IsAtWork (s : Shared) (w : Worker) : Type 0 where
   pub rest : IsAtRest s w.pass
   pub same : w.replica.proposals.worker ≡ w.pass.number

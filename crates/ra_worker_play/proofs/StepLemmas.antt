@@ -1,5 +1,6 @@
 -- A step of the core keeps a legal journal legal, and the places within its length.
-use Rattle.std.proofs.Common.{◌≡◌, ℕ, ◌+◌, ◌-◌, ◌<◌, ◌≤◌, min, false, ◌||◌, List, set, get_or, length, sym, ◌∙◌, subst, ⊎_elim, arith}
+use Rattle.std.proofs.Common.{◌≡◌, ℕ, ◌+◌, ◌-◌, ◌<◌, ◌≤◌, min, false, ◌||◌, List, set, get_or, length, sym, ◌∙◌, subst}
+use Rattle.std.proofs.Common.{⊎_elim, arith}
 use Rattle.std.proofs.lemmas.Bool.{cond_both, or_parts, cases_eq}
 use Rattle.std.proofs.lemmas.List.{length-set, get_or-set_same, get_or-set_other}
 use Rattle.ra_base.specs.declared.ids.Machine.{Machine}
@@ -21,11 +22,18 @@ use Rattle.ra_worker_core.proofs.CoreLemmas.{turn_longer}
 use Rattle.ra_worker_play.specs.Laws.{StepKeepsLegal, StepKeepsPlaces}
 
 -- a worker that is not skipped may hand in
-pub may_hand_in : (l : Lots) (h : List Entry) (w q : ℕ) → w < worker_count l → q ≤ length h → has_used l h w ≡ false → is_behind h w q ≡ false → MayCommit l h w q
-may_hand_in l h w q exists within unused not_behind = record { worker = exists; left = some_left l h w unused; place = within; seen = seen_before h w q not_behind }
+pub may_hand_in : (l : Lots) (h : List Entry) (w q : ℕ) → w < worker_count l → q ≤ length h → has_used l h w ≡ false →
+    is_behind h w q ≡ false → MayCommit l h w q
+may_hand_in l h w q exists within unused not_behind = record {
+  worker = exists;
+  left = some_left l h w unused;
+  place = within;
+  seen = seen_before h w q not_behind;
+}
 
 -- a worker's turn keeps the journal legal
-turn_legal : (i : Tables) (a0 : List Machine) (l : Lots) (h : List Entry) (w q : ℕ) → WellFormed i → IsAssignment i a0 → Feasible i a0 a0 → Legal i a0 l h → w < worker_count l → q ≤ length h → Legal i a0 l (turn i a0 l h w q).journal
+turn_legal : (i : Tables) (a0 : List Machine) (l : Lots) (h : List Entry) (w q : ℕ) → WellFormed i → IsAssignment i a0 →
+    Feasible i a0 a0 → Legal i a0 l h → w < worker_count l → q ≤ length h → Legal i a0 l (turn i a0 l h w q).journal
 unfolding turn answered is_skipped
 turn_legal i a0 l h w q limits fits feasible legal exists within =
     cond_both (has_used l h w || is_behind h w q) _ _ (λ (t : Turn). Legal i a0 l t.journal)
@@ -37,12 +45,15 @@ turn_legal i a0 l h w q limits fits feasible legal exists within =
 pub step_legal : StepKeepsLegal
 unfolding step caught_up handed_in worker_of
 step_legal i a0 l c (CatchUp w) limits fits feasible legal within exists = legal
-step_legal i a0 l c (Commit w) limits fits feasible legal within exists = turn_legal i a0 l c.journal w (place_of c w) limits fits feasible legal exists (within.each w exists)
+step_legal i a0 l c (Commit w) limits fits feasible legal within exists =
+    turn_legal i a0 l c.journal w (place_of c w) limits fits feasible legal exists (within.each w exists)
 
 -- a place that is set
-place_set : (places : List ℕ) (w v p n : ℕ) → w < length places → p ≤ n → get_or places v 0 ≤ n → get_or (set places w p) v 0 ≤ n
+place_set : (places : List ℕ) (w v p n : ℕ) → w < length places → p ≤ n → get_or places v 0 ≤ n →
+    get_or (set places w p) v 0 ≤ n
 place_set places w v p n there set_within within = ⊎_elim
-    (λ (here : v ≡ w). subst (λ k. get_or (set places w p) k 0 ≤ n) (sym here) (omega (arith, get_or-set_same places w p 0 there)))
+    (λ (here : v ≡ w). subst (λ k. get_or (set places w p) k 0 ≤ n) (sym here)
+    (omega (arith, get_or-set_same places w p 0 there)))
     (λ (apart : v ≡ w → ⊥). omega (arith, get_or-set_other places w v p 0 apart))
     (cases_eq v w)
 
@@ -53,6 +64,10 @@ pub step_within : StepKeepsPlaces
 unfolding step caught_up handed_in worker_of place_of
 step_within i a0 l c (CatchUp w) within exists = record {
   one_each = length-set c.places w _ ∙ within.one_each;
-  each = λ v there. place_set c.places w v _ (length c.journal) (omega (arith, within.one_each)) (more_within (get_or c.places w 0) (length c.journal) (within.each w exists)) (within.each v there);
+  each = λ v there. place_set c.places w v _ (length c.journal) (omega (arith, within.one_each))
+      (more_within (get_or c.places w 0) (length c.journal) (within.each w exists)) (within.each v there);
 }
-step_within i a0 l c (Commit w) within exists = record { one_each = within.one_each; each = λ v there. omega (arith, within.each v there, turn_longer i a0 l c.journal w (get_or c.places w 0)) }
+step_within i a0 l c (Commit w) within exists = record {
+  one_each = within.one_each;
+  each = λ v there. omega (arith, within.each v there, turn_longer i a0 l c.journal w (get_or c.places w 0));
+}

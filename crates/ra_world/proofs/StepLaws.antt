@@ -1,5 +1,6 @@
 -- The steps of a move that the judge doesn't refuse, one after another.
-use Rattle.std.proofs.Common.{◌≡◌, ℕ, ◌+◌, ◌*◌, ◌<◌, ◌≤◌, List, length, None, ap, ◌∙◌, add-one, suc-mul, arith, mul-le-mul_right}
+use Rattle.std.proofs.Common.{◌≡◌, ℕ, ◌+◌, ◌*◌, ◌<◌, ◌≤◌, List, length, None, ap, ◌∙◌, add-one, suc-mul, arith}
+use Rattle.std.proofs.Common.{mul-le-mul_right}
 use Rattle.ra_base.specs.declared.ids.Machine.{Machine}
 use Rattle.ra_base.proofs.Searches.{left_none, right_none}
 use Rattle.ra_model.specs.declared.raw.Tables.{Tables}
@@ -14,7 +15,8 @@ use Rattle.ra_moves.proofs.FollowLemmas.{apart_from_none, IsStep, step_needs}
 use Rattle.ra_moves.proofs.Repeats.{distinct_from_none}
 use Rattle.ra_world.specs.Following.{AreSteps}
 
-pub steps_from : (i : Tables) (a0 a : List Machine) (steps : List Step) → StandsAt from_in steps a → ((j : ℕ) → j < length steps → to_in steps j < machine_count i) → broken_by i a0 a steps ≡ None → AreSteps i a steps
+pub steps_from : (i : Tables) (a0 a : List Machine) (steps : List Step) → StandsAt from_in steps a →
+    ((j : ℕ) → j < length steps → to_in steps j < machine_count i) → broken_by i a0 a steps ≡ None → AreSteps i a steps
 unfolding broken_by
 steps_from i a0 a steps stand reach none = record {
   stand = stand;
@@ -24,16 +26,21 @@ steps_from i a0 a steps stand reach none = record {
 }
 
 -- no constraint is broken after the move
-pub unbroken_from : (i : Tables) (a0 a b : List Machine) (steps : List Step) → broken_by i a0 a steps ≡ None → b ≡ applied a steps → first_broken i a0 b ≡ None
+pub unbroken_from : (i : Tables) (a0 a b : List Machine) (steps : List Step) → broken_by i a0 a steps ≡ None →
+    b ≡ applied a steps → first_broken i a0 b ≡ None
 unfolding broken_by
-unbroken_from i a0 a b steps none is = ap (first_broken i a0) is ∙ right_none (same_of steps) (first_broken i a0 (applied a steps)) (right_none (repeat_of steps) _ none)
+unbroken_from i a0 a b steps none is = ap (first_broken i a0) is
+    ∙ right_none (same_of steps) (first_broken i a0 (applied a steps)) (right_none (repeat_of steps) _ none)
 
 -- what one of the steps needs, where those before it are done
-pub step_of : (i : Tables) (a b : List Machine) (steps : List Step) (j : ℕ) (s : Step) → IsAssignment i a → AreSteps i a steps → j < length steps → b ≡ after_steps a steps j → s ≡ step_at steps j → IsStep i b s
-step_of i a b steps j s fits are within made is = step_needs i a b steps j s fits are.stand are.distinct are.apart are.reach within made is
+pub step_of : (i : Tables) (a b : List Machine) (steps : List Step) (j : ℕ) (s : Step) → IsAssignment i a →
+    AreSteps i a steps → j < length steps → b ≡ after_steps a steps j → s ≡ step_at steps j → IsStep i b s
+step_of i a b steps j s fits are within made is =
+    step_needs i a b steps j s fits are.stand are.distinct are.apart are.reach within made is
 
 -- one more step reads one more row
-pub counted_more : (base j width now next : ℕ) → now ≡ base + j * width → next ≡ now + width → next ≡ base + (j + 1) * width
+pub counted_more : (base j width now next : ℕ) → now ≡ base + j * width → next ≡ now + width →
+    next ≡ base + (j + 1) * width
 counted_more base j width now next is more = rw add-one (rw suc-mul (omega arith))
 
 -- and three steps at most read three rows at most

@@ -1,7 +1,8 @@
 -- The filter rows of all machines in one flat list, row after row: those of the resources, then the first ones of the
 -- balance objectives, then their second ones. Each row goes on at the first machine after the last one, for 63 numbers
 -- more, so that sixty-four neighbouring machines stand side by side wherever they begin.
-use Rattle.std.specs.Prelude.{◌≡◌, ◌≢◌, ℕ, ◌+◌, ◌-◌, ◌*◌, ◌%◌, ◌^◌, ◌<◌, ◌≤◌, ◌⊎◌, min, if◌then◌else◌, nat_lt, List, length}
+use Rattle.std.specs.Prelude.{◌≡◌, ◌≢◌, ℕ, ◌+◌, ◌-◌, ◌*◌, ◌%◌, ◌^◌, ◌<◌, ◌≤◌, ◌⊎◌, min, if◌then◌else◌, nat_lt, List}
+use Rattle.std.specs.Prelude.{length}
 use Rattle.ra_base.specs.Tables.{cell}
 use Rattle.ra_base.specs.declared.ids.Machine.{Machine}
 use Rattle.ra_model.specs.declared.raw.Tables.{Tables}

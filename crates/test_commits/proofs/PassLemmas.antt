@@ -9,6 +9,9 @@ use Rattle.ra_shared.specs.Books.{IsCommitOf}
 use Rattle.test_commits.specs.FirstPlans.{IsFirstPlan}
 use Rattle.test_commits.proofs.FirstLemmas.{first_commit}
 
-pub new_commit : (o : Opening) (seen : List Entry) (number w : ℕ) (plan : Plan) → seen ≡ [] → number ≡ w → w < worker_count o.lots → 0 < budget o.lots w → IsFirstPlan o.inst.tables o.a0.items o.lots w plan → IsCommitOf o seen number plan
+pub new_commit : (o : Opening) (seen : List Entry) (number w : ℕ) (plan : Plan) → seen ≡ [] → number ≡ w →
+    w < worker_count o.lots → 0 < budget o.lots w → IsFirstPlan o.inst.tables o.a0.items o.lots w plan →
+    IsCommitOf o seen number plan
 unfolding entries_of total
-new_commit o seen number w plan none is exists some first = rw (none, is) (first_commit o.inst.tables o.a0.items o.lots [] w plan first exists some refl)
+new_commit o seen number w plan none is exists some first =
+    rw (none, is) (first_commit o.inst.tables o.a0.items o.lots [] w plan first exists some refl)

@@ -9,6 +9,9 @@ use Rattle.ra_journal.specs.declared.journal.Journal.{Journal}
 use Rattle.ra_worker.specs.declared.replica.Replica.{Replica}
 use Rattle.ra_worker_core.specs.Replicas.{AreAt}
 
-pub are_at_journal : (inst : Instance) (a0 : Listed Machine) (l : Lots) (journal : Journal) (replicas : List Replica) → journal.inst.now ≡ inst → journal.a0.now ≡ a0 → journal.lots.now ≡ l → ((h : List Entry) → AreAt inst.tables a0.items l h replicas)
+pub are_at_journal : (inst : Instance) (a0 : Listed Machine) (l : Lots) (journal : Journal) (replicas : List Replica) →
+    journal.inst.now ≡ inst → journal.a0.now ≡ a0 → journal.lots.now ≡ l →
+    ((h : List Entry) → AreAt inst.tables a0.items l h replicas)
     → AreAt journal.inst.now.tables journal.a0.now.items journal.lots.now journal.book.entries.items replicas
-are_at_journal inst a0 l journal replicas instance initial lots at = rw (instance, initial, lots) (at journal.book.entries.items)
+are_at_journal inst a0 l journal replicas instance initial lots at =
+    rw (instance, initial, lots) (at journal.book.entries.items)

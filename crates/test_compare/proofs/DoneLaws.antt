@@ -16,10 +16,13 @@ unfolding verdict_of
 done_none None x cost is = refl
 done_none (Some cause) x cost is = absurd (cc)
 
-pub done_unbroken : (i : Tables) (a0 a : List Machine) (steps : List Step) (rise cost : ℕ) (verdict : Verdict) → verdict ≡ judge i a0 a steps rise → verdict ≡ Done cost → broken_by i a0 a steps ≡ None
+pub done_unbroken : (i : Tables) (a0 a : List Machine) (steps : List Step) (rise cost : ℕ) (verdict : Verdict) →
+    verdict ≡ judge i a0 a steps rise → verdict ≡ Done cost → broken_by i a0 a steps ≡ None
 unfolding judge
 done_unbroken i a0 a steps rise cost verdict is done = left_none _ _ (done_none _ _ cost (sym is ∙ done))
 
-pub done_distinct : (i : Tables) (a0 a : List Machine) (steps : List Step) (rise cost : ℕ) (verdict : Verdict) → verdict ≡ judge i a0 a steps rise → verdict ≡ Done cost → Distinct steps
+pub done_distinct : (i : Tables) (a0 a : List Machine) (steps : List Step) (rise cost : ℕ) (verdict : Verdict) →
+    verdict ≡ judge i a0 a steps rise → verdict ≡ Done cost → Distinct steps
 unfolding broken_by
-done_distinct i a0 a steps rise cost verdict is done = distinct_from_none steps (left_none (repeat_of steps) _ (done_unbroken i a0 a steps rise cost verdict is done))
+done_distinct i a0 a steps rise cost verdict is done =
+    distinct_from_none steps (left_none (repeat_of steps) _ (done_unbroken i a0 a steps rise cost verdict is done))

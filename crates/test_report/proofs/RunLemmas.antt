@@ -10,10 +10,12 @@ use Rattle.ra_worker_crew.specs.Runs.{IsRun}
 use Rattle.ra_report.specs.JournalTexts.{best_state}
 
 -- its best state is that of its journal
-pub best_told : (i : Tables) (a0 : List Machine) (l : Lots) (run : Solved) → IsRun i a0 l run → run.best.items ≡ best_state run.journal
+pub best_told : (i : Tables) (a0 : List Machine) (l : Lots) (run : Solved) → IsRun i a0 l run →
+    run.best.items ≡ best_state run.journal
 unfolding best_state
 best_told i a0 l run is = is.best ∙ rw (sym is.instance, sym is.initial) refl
 
 -- the bound of the instance and the start is that of its journal
-pub bound_told : (i : Tables) (a0 : List Machine) (l : Lots) (run : Solved) (bound : Bound) → IsRun i a0 l run → bound ≡ pinned_bound_of i a0 → bound ≡ pinned_bound_of run.journal.inst.now.tables run.journal.a0.now.items
+pub bound_told : (i : Tables) (a0 : List Machine) (l : Lots) (run : Solved) (bound : Bound) → IsRun i a0 l run →
+    bound ≡ pinned_bound_of i a0 → bound ≡ pinned_bound_of run.journal.inst.now.tables run.journal.a0.now.items
 bound_told i a0 l run bound is told = told ∙ ap₂ pinned_bound_of (sym is.instance) (sym is.initial)

@@ -8,9 +8,15 @@ unfolding lot_at
 each_of_one a fits zero within = fits
 each_of_one a fits (suc w) within = absurd (omega arith)
 
-pub one_lot : (a : Lot) (none lots : List Lot) → none ≡ [] → lots ≡ none ++ a ∷ [] → IsFitting a → a.budget ≤ 1000000 → IsLots lots
+pub one_lot : (a : Lot) (none lots : List Lot) → none ≡ [] → lots ≡ none ++ a ∷ [] → IsFitting a → a.budget ≤ 1000000 →
+    IsLots lots
 one_lot a none lots empty one fits small =
-    let fine : IsLots (a ∷ []) = record { some = omega arith; few = omega arith; together = omega arith; each = λ w within. each_of_one a fits w within } in
+    let fine : IsLots (a ∷ []) = record {
+      some = omega arith;
+      few = omega arith;
+      together = omega arith;
+      each = λ w within. each_of_one a fits w within;
+    } in
     let all : lots ≡ a ∷ [] = one ∙ ap (λ (l : List Lot). l ++ a ∷ []) empty in
     rw all fine
 
@@ -20,8 +26,15 @@ each_of_two a b a_fits b_fits zero within = a_fits
 each_of_two a b a_fits b_fits (suc zero) within = b_fits
 each_of_two a b a_fits b_fits (suc (suc w)) within = absurd (omega arith)
 
-pub two_lots : (a b : Lot) (none first lots : List Lot) → none ≡ [] → first ≡ none ++ a ∷ [] → lots ≡ first ++ b ∷ [] → IsFitting a → IsFitting b → a.budget + b.budget ≤ 1000000 → IsLots lots
+pub two_lots : (a b : Lot) (none first lots : List Lot) → none ≡ [] → first ≡ none ++ a ∷ [] → lots ≡ first ++ b ∷ [] →
+    IsFitting a → IsFitting b → a.budget + b.budget ≤ 1000000 → IsLots lots
 two_lots a b none first lots empty one two a_fits b_fits small =
-    let fine : IsLots (a ∷ b ∷ []) = record { some = omega arith; few = omega arith; together = omega arith; each = λ w within. each_of_two a b a_fits b_fits w within } in
-    let all : lots ≡ a ∷ b ∷ [] = two ∙ ap (λ (l : List Lot). l ++ b ∷ []) (one ∙ ap (λ (l : List Lot). l ++ a ∷ []) empty) in
+    let fine : IsLots (a ∷ b ∷ []) = record {
+      some = omega arith;
+      few = omega arith;
+      together = omega arith;
+      each = λ w within. each_of_two a b a_fits b_fits w within;
+    } in
+    let all : lots ≡ a ∷ b ∷ [] = two
+    ∙ ap (λ (l : List Lot). l ++ b ∷ []) (one ∙ ap (λ (l : List Lot). l ++ a ∷ []) empty) in
     rw all fine

@@ -13,6 +13,9 @@ use Rattle.ra_worker_crew.specs.Running.{MayRun}
 use Rattle.ra_worker_crew.proofs.Runs.{ready_as}
 
 -- the only worker of a journal
-pub may_run : (s : Shared) (i : Instance) (a0 : Listed Machine) (l : Lots) (w : Worker) → (start_of s).inst ≡ i → (start_of s).a0 ≡ a0 → (start_of s).lots ≡ l
-    → w.replica.proposals.worker ≡ 0 → ((h : List Entry) → IsAt i.tables a0.items l h w.replica) → IsNew s 0 w.pass → MayRun s w
-may_run s i a0 l w inst initial lots own at new = (ready_as s i a0 l w 0 inst initial lots (record { worker = own ∙ sym new.number; at = at }) new).may
+pub may_run : (s : Shared) (i : Instance) (a0 : Listed Machine) (l : Lots) (w : Worker) → (start_of s).inst ≡ i →
+    (start_of s).a0 ≡ a0 → (start_of s).lots ≡ l
+    → w.replica.proposals.worker ≡ 0 → ((h : List Entry) → IsAt i.tables a0.items l h w.replica) → IsNew s 0 w.pass →
+    MayRun s w
+may_run s i a0 l w inst initial lots own at new =
+    (ready_as s i a0 l w 0 inst initial lots (record { worker = own ∙ sym new.number; at = at }) new).may

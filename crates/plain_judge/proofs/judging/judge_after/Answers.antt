@@ -11,5 +11,7 @@ returns-in-Some-clause-verdict c = settled_broken _ _ _ _ (sym c.first_broken.en
 pub returns-clause-verdict : goal.returns-clause-verdict
 unfolding parts_of
 returns-clause-verdict c =
-    let cost : c.parts.result.total ≡ objective c.args.inst.now.tables c.args.a0.now.items c.args.after.now.items = ap (λ (p : Parts). p.total) c.parts.ensures.value in
-    c.by_rise.ensures ∙ ap (λ n. verdict_of (rise_test c.args.before n c.args.allowed) n) cost ∙ settled_whole _ _ _ (sym c.first_broken.ensures.first ∙ c.in_default.is)
+    let cost : c.parts.result.total ≡ objective c.args.inst.now.tables c.args.a0.now.items c.args.after.now.items =
+    ap (λ (p : Parts). p.total) c.parts.ensures.value in
+    c.by_rise.ensures ∙ ap (λ n. verdict_of (rise_test c.args.before n c.args.allowed) n) cost
+    ∙ settled_whole _ _ _ (sym c.first_broken.ensures.first ∙ c.in_default.is)

@@ -9,19 +9,25 @@ use Rattle.plain_judge.proofs.planning.plan_plainly.Goals as goal
 
 pub loop-option-init : goal.loop-option-init
 loop-option-init c =
-    let cost = option_cost c.args.inst.now.tables c.args.a0.now.items c.args.a.now.items c.args.words.now c.args.drawing c.args.allowed in
+    let cost = option_cost c.args.inst.now.tables c.args.a0.now.items c.args.a.now.items c.args.words.now c.args.drawing
+    c.args.allowed in
     record {
-      best = rw (first_place cost) (option_is _ _ _ c.args.other.now.items _ _ _ _ 0 _ c.machines-machines.ensures c.requires.same c.resolve-mv.ensures.option c.judge_plainly-verdict.ensures.verdict);
+      best = rw (first_place cost)
+          (option_is _ _ _ c.args.other.now.items _ _ _ _ 0 _ c.machines-machines.ensures c.requires.same
+          c.resolve-mv.ensures.option c.judge_plainly-verdict.ensures.verdict);
       unchanged = c.judge_plainly-verdict.ensures.unchanged;
       made = c.judge_plainly-verdict.ensures.kept;
     }
 
 pub loop-option-preserved : goal.loop-option-preserved
 loop-option-preserved c =
-    let same : c.loop-option.other.items ≡ c.args.a.now.items = ap (λ (l : Listed Machine). l.items) c.loop-option.invariant.unchanged ∙ c.requires.same in
-    let next = option_is _ _ _ _ _ _ _ _ c.loop-option.option _ c.machines-machines.ensures same c.resolve-mv-in-loop-option.ensures.option c.judge_plainly-verdict-in-loop-option.ensures.verdict in
+    let same : c.loop-option.other.items ≡ c.args.a.now.items =
+    ap (λ (l : Listed Machine). l.items) c.loop-option.invariant.unchanged ∙ c.requires.same in
+    let next = option_is _ _ _ _ _ _ _ _ c.loop-option.option _ c.machines-machines.ensures same
+    c.resolve-mv-in-loop-option.ensures.option c.judge_plainly-verdict-in-loop-option.ensures.verdict in
     record {
-      best = rw c.cheaper-best.ensures (cheapest_more _ _ _ _ _ _ _ _ _ (omega arith) c.loop-option.invariant.best next);
+      best = rw c.cheaper-best.ensures
+          (cheapest_more _ _ _ _ _ _ _ _ _ (omega arith) c.loop-option.invariant.best next);
       unchanged = c.judge_plainly-verdict-in-loop-option.ensures.unchanged ∙ c.loop-option.invariant.unchanged;
       made = c.judge_plainly-verdict-in-loop-option.ensures.kept;
     }
@@ -35,12 +41,17 @@ returns-clause-planned c =
 pub returns-clause-stands : goal.returns-clause-stands
 returns-clause-stands c =
     let inst = c.args.inst.now in
-    rw c.loop-option.invariant.best.move (option_stands _ _ _ _ _ (omega (arith, c.requires.fits.one_each, inst.well_formed.some_process)) inst.well_formed.some_machine)
+    rw c.loop-option.invariant.best.move
+    (option_stands _ _ _ _ _ (omega (arith, c.requires.fits.one_each, inst.well_formed.some_process))
+    inst.well_formed.some_machine)
 
 pub returns-clause-reaches : goal.returns-clause-reaches
 returns-clause-reaches c =
     let inst = c.args.inst.now in
-    rw c.loop-option.invariant.best.move (option_reaches _ _ _ _ _ (omega (arith, c.requires.fits.one_each, inst.well_formed.some_process)) inst.well_formed.some_machine (λ p within. c.requires.fits.in_range p (omega (arith, c.requires.fits.one_each))))
+    rw c.loop-option.invariant.best.move
+    (option_reaches _ _ _ _ _ (omega (arith, c.requires.fits.one_each, inst.well_formed.some_process))
+    inst.well_formed.some_machine
+    (λ p within. c.requires.fits.in_range p (omega (arith, c.requires.fits.one_each))))
 
 pub returns-clause-distinct : goal.returns-clause-distinct
 returns-clause-distinct c = distinct_from_none _

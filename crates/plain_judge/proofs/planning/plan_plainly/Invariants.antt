@@ -8,7 +8,8 @@ use Rattle.plain_judge.proofs.planning.plan_plainly.Given as goal
 
 abbrev pub invariant-loop-option : goal.invariant-loop-option
 invariant-loop-option l = record {
-  best : IsOption l.inst.tables l.a0.items l.a.items l.words l.drawing l.allowed (least_place l.option (option_cost l.inst.tables l.a0.items l.a.items l.words l.drawing l.allowed)) l.best;
+  best : IsOption l.inst.tables l.a0.items l.a.items l.words l.drawing l.allowed
+      (least_place l.option (option_cost l.inst.tables l.a0.items l.a.items l.words l.drawing l.allowed)) l.best;
   unchanged : l.other ≡ l.fn.other;
   made : IsMadeFor l.scratch l.inst.tables;
 }

@@ -10,7 +10,11 @@ unfolding state
 loop-j-init c = record { items = c.copy_to.ensures.items; room = c.copy_to.ensures.room }
 
 pub advance-requires-clause-distinct : goal.advance-requires-clause-distinct
-advance-requires-clause-distinct c = subst (λ (e : Entry). IsDistinctIfDone e.mv.steps e.verdict) (sym c.entry-e.ensures) (c.requires.can.distinct c.loop-j.j c.loop-j-test.true)
+advance-requires-clause-distinct c = subst (λ (e : Entry). IsDistinctIfDone e.mv.steps e.verdict)
+    (sym c.entry-e.ensures) (c.requires.can.distinct c.loop-j.j c.loop-j-test.true)
 
 pub loop-j-preserved : goal.loop-j-preserved
-loop-j-preserved c = record { items = c.advance.ensures.items ∙ state_next _ _ _ _ _ c.loop-j.invariant.items c.entry-e.ensures; room = c.advance.ensures.room ∙ c.loop-j.invariant.room }
+loop-j-preserved c = record {
+  items = c.advance.ensures.items ∙ state_next _ _ _ _ _ c.loop-j.invariant.items c.entry-e.ensures;
+  room = c.advance.ensures.room ∙ c.loop-j.invariant.room;
+}

@@ -4,4 +4,11 @@ use Rattle.ra_journal.specs.Entries.{entry_at}
 use Rattle.plain_legal.proofs.places.count_of.Goals as goal
 
 pub overflow_add-count : goal.overflow_add-count
-overflow_add-count c = omega (arith, c.loop-j.invariant, c.loop-j-test.true, c.ranges.n.fits, count_le c.loop-j.j (λ j. eqb (entry_at c.args.entries.now j).worker c.args.worker))
+overflow_add-count c =
+    omega (
+      arith,
+      c.loop-j.invariant,
+      c.loop-j-test.true,
+      c.ranges.n.fits,
+      count_le c.loop-j.j (λ j. eqb (entry_at c.args.entries.now j).worker c.args.worker),
+    )

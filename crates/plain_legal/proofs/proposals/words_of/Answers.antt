@@ -10,15 +10,31 @@ lot-lot-requires c = c.requires.there
 
 pub make-draws-requires : goal.make-draws-requires
 unfolding worker_count
-make-draws-requires c = subst IsFitting (sym c.lot-lot.ensures) (c.args.lots.now.fitting.each c.args.worker c.requires.there)
+make-draws-requires c =
+    subst IsFitting (sym c.lot-lot.ensures) (c.args.lots.now.fitting.each c.args.worker c.requires.there)
 
 pub words_for_next-earlier-requires : goal.words_for_next-earlier-requires
 unfolding budget budget_of
-words_for_next-earlier-requires c = omega (arith, c.requires.left, c.loop-made-test.true, c.loop-made.invariant.drawn, ap (λ (x : Lot). x.budget) c.loop-made.invariant.lot)
+words_for_next-earlier-requires c =
+    omega (
+      arith,
+      c.requires.left,
+      c.loop-made-test.true,
+      c.loop-made.invariant.drawn,
+      ap (λ (x : Lot). x.budget) c.loop-made.invariant.lot,
+    )
 
 pub words_for_next-requires : goal.words_for_next-requires
 unfolding budget budget_of
-words_for_next-requires c = omega (arith, c.requires.left, c.loop-made-test.false, c.loop-made.auto._made-end, c.loop-made.invariant.drawn, ap (λ (x : Lot). x.budget) c.loop-made.invariant.lot)
+words_for_next-requires c =
+    omega (
+      arith,
+      c.requires.left,
+      c.loop-made-test.false,
+      c.loop-made.auto._made-end,
+      c.loop-made.invariant.drawn,
+      ap (λ (x : Lot). x.budget) c.loop-made.invariant.lot,
+    )
 
 pub returns : goal.returns
 unfolding words words_of

@@ -10,5 +10,6 @@ returns-in-Done c = done_apart _ _ _ _ _ _ c.in-Done.is c.keeps_apart.ensures
 pub returns-in-Refused : goal.returns-in-Refused
 unfolding made_by
 returns-in-Refused c =
-    let apart = refused_apart c.args.inst.now.tables c.args.mv.now.steps c.args.other.now.mv.steps _ _ c.in-Refused.is in
+    let apart = refused_apart c.args.inst.now.tables c.args.mv.now.steps c.args.other.now.mv.steps _ _
+    c.in-Refused.is in
     (λ yes. apart, λ all. refl)

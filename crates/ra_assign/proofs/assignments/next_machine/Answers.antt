@@ -4,13 +4,18 @@ use Rattle.ra_token.proofs.ToldLemmas.{at_exit, went_as, refuses_as, refuses_her
 use Rattle.ra_assign.proofs.assignments.next_machine.Goals as goal
 
 pub returns-in_err-token-clause-refuses : goal.returns-in_err-token-clause-refuses
-returns-in_err-token-clause-refuses g c = at_exit _ _ _ c.from_residual.ensures (refuses_as c.in_err-token.ensures.refuses (λ bytes x h e. stopped bytes _ x _ _ h e))
+returns-in_err-token-clause-refuses g c =
+    at_exit _ _ _ c.from_residual.ensures
+    (refuses_as c.in_err-token.ensures.refuses (λ bytes x h e. stopped bytes _ x _ _ h e))
 
 pub returns-in_default-clause-refuses : goal.returns-in_default-clause-refuses
-returns-in_default-clause-refuses g c = refuses_here (rw c.in_default.is at c.in_ok-token.ensures.gives) (λ e. cc) (λ bytes x y h e. missing bytes _ x y _ h e)
+returns-in_default-clause-refuses g c = refuses_here (rw c.in_default.is at c.in_ok-token.ensures.gives) (λ e. cc)
+    (λ bytes x y h e. missing bytes _ x y _ h e)
 
 pub returns-then-token-machines-clause-refuses : goal.returns-then-token-machines-clause-refuses
-returns-then-token-machines-clause-refuses g c = refuses_here (rw c.in-Some.is at c.in_ok-token.ensures.gives) (λ e. cc) (λ bytes x y h e. outside bytes _ x y _ c.in-Some.token h (omega (arith, c.machines.ensures)) e)
+returns-then-token-machines-clause-refuses g c = refuses_here (rw c.in-Some.is at c.in_ok-token.ensures.gives) (λ e. cc)
+    (λ bytes x y h e. outside bytes _ x y _ c.in-Some.token h (omega (arith, c.machines.ensures)) e)
 
 pub returns-clause-gives : goal.returns-clause-gives
-returns-clause-gives g c = went_as (rw c.in-Some.is at c.in_ok-token.ensures.gives) (λ bytes x y h. takes bytes _ x y c.in-Some.token h (omega (arith, c.machines.ensures)))
+returns-clause-gives g c = went_as (rw c.in-Some.is at c.in_ok-token.ensures.gives)
+    (λ bytes x y h. takes bytes _ x y c.in-Some.token h (omega (arith, c.machines.ensures)))

@@ -3,10 +3,14 @@ use Rattle.ra_token.proofs.ToldLemmas.{at_exit, went_as, refuses_as, refuses_her
 use Rattle.ra_assign.proofs.assignments.read_end.Goals as goal
 
 pub returns-in_err-next-clause-refuses : goal.returns-in_err-next-clause-refuses
-returns-in_err-next-clause-refuses g c = at_exit _ _ _ c.from_residual.ensures (refuses_as c.in_err-next.ensures.refuses (λ bytes x h. stopped_behind bytes x _ h))
+returns-in_err-next-clause-refuses g c =
+    at_exit _ _ _ c.from_residual.ensures
+    (refuses_as c.in_err-next.ensures.refuses (λ bytes x h. stopped_behind bytes x _ h))
 
 pub returns-in-Some-clause-refuses : goal.returns-in-Some-clause-refuses
-returns-in-Some-clause-refuses g c = refuses_here (rw c.in-Some.is at c.in_ok-next.ensures.gives) (λ e. cc) (λ bytes x y h. extra bytes x y c.in-Some.token h)
+returns-in-Some-clause-refuses g c = refuses_here (rw c.in-Some.is at c.in_ok-next.ensures.gives) (λ e. cc)
+    (λ bytes x y h. extra bytes x y c.in-Some.token h)
 
 pub returns-in-None-clause-gives : goal.returns-in-None-clause-gives
-returns-in-None-clause-gives g c = went_as (rw c.in-None.is at c.in_ok-next.ensures.gives) (λ bytes x y h. ended bytes x y h)
+returns-in-None-clause-gives g c =
+    went_as (rw c.in-None.is at c.in_ok-next.ensures.gives) (λ bytes x y h. ended bytes x y h)

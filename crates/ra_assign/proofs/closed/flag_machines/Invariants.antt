@@ -6,6 +6,8 @@ use Rattle.ra_assign.proofs.closed.flag_machines.Given as goal
 
 abbrev pub invariant-loop-taken : goal.invariant-loop-taken
 invariant-loop-taken g l = record {
-  went : Went (λ bytes before after. HasFlaggedFirst bytes l.inst.tables after l.taken l.flags.items) (here (g.F.Files.held l.initial.files) (g.F.Files.faults l.initial.files) l.initial.tokens) (here (g.F.Files.held l.files) (g.F.Files.faults l.files) l.tokens);
+  went : Went (λ bytes before after. HasFlaggedFirst bytes l.inst.tables after l.taken l.flags.items)
+      (here (g.F.Files.held l.initial.files) (g.F.Files.faults l.initial.files) l.initial.tokens)
+      (here (g.F.Files.held l.files) (g.F.Files.faults l.files) l.tokens);
   size : length l.flags.items ≡ machine_count l.inst.tables;
 }

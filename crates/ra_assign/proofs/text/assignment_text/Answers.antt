@@ -12,10 +12,12 @@ loop-p-init c = record {
 
 pub loop-p-preserved : goal.loop-p-preserved
 loop-p-preserved c = record {
-  written = more_written c.loop-p.p _ _ _ _ _ (omega arith) c.loop-p.invariant.written refl c.push_machine.ensures.items;
+  written = more_written c.loop-p.p _ _ _ _ _ (omega arith) c.loop-p.invariant.written refl
+      c.push_machine.ensures.items;
   short = omega arith;
   room = c.push_machine.ensures.room ∙ c.loop-p.invariant.room;
 }
 
 pub returns : goal.returns
-returns c = written c.loop-p.p _ _ _ (omega arith) c.loop-p.invariant.written c.push.ensures.items ∙ ap assignment_bytes c.as_slice-machines.ensures
+returns c = written c.loop-p.p _ _ _ (omega arith) c.loop-p.invariant.written c.push.ensures.items
+    ∙ ap assignment_bytes c.as_slice-machines.ensures

@@ -6,4 +6,7 @@ use Rattle.ra_bounds.specs.Bounds.{lack}
 use Rattle.ra_bounds.proofs.balance.balance_bound.Given as goal
 
 abbrev pub invariant-loop-b : goal.invariant-loop-b
-invariant-loop-b l = record { value : l.cost ≡ total l.b (λ b. balance_weight_of l.inst.tables b * lack l.inst.tables b); fits : l.cost ≤ l.b * 2 ^ 114 }
+invariant-loop-b l = record {
+  value : l.cost ≡ total l.b (λ b. balance_weight_of l.inst.tables b * lack l.inst.tables b);
+  fits : l.cost ≤ l.b * 2 ^ 114;
+}

@@ -6,4 +6,7 @@ use Rattle.ra_bounds.specs.Bounds.{overload}
 use Rattle.ra_bounds.proofs.load.load_bound.Given as goal
 
 abbrev pub invariant-loop-r : goal.invariant-loop-r
-invariant-loop-r l = record { value : l.cost ≡ total l.r (λ r. load_weight_of l.inst.tables r * overload l.inst.tables r); fits : l.cost ≤ l.r * 2 ^ 96 }
+invariant-loop-r l = record {
+  value : l.cost ≡ total l.r (λ r. load_weight_of l.inst.tables r * overload l.inst.tables r);
+  fits : l.cost ≤ l.r * 2 ^ 96;
+}

@@ -6,4 +6,10 @@ use Rattle.ra_bounds.proofs.lower.bound.Goals as goal
 
 pub returns-clause-below : goal.returns-clause-below
 unfolding bound_of
-returns-clause-below c = λ a0 a fits feasible. omega (arith, c.load_bound-load.ensures.value, c.balance_bound-balance.ensures.value, (none_costs_less c.args.inst.now.tables a0 a c.args.inst.now.well_formed fits feasible).total)
+returns-clause-below c = λ a0 a fits feasible.
+    omega (
+      arith,
+      c.load_bound-load.ensures.value,
+      c.balance_bound-balance.ensures.value,
+      (none_costs_less c.args.inst.now.tables a0 a c.args.inst.now.well_formed fits feasible).total,
+    )

@@ -6,12 +6,26 @@ use Rattle.ra_bounds.proofs.PinnedLemmas.{none_costs_less_pinned, pinned_is_at_l
 use Rattle.ra_bounds.proofs.pinned.pinned_bound.Goals as goal
 
 pub returns-clause-value : goal.returns-clause-value
-returns-clause-value c = λ (a0 : List Machine) stand. bound_made c.args.inst.now.tables a0 c.pinned_load_bound-load.result c.balance_bound-balance.result (c.pinned_load_bound-load.ensures.value a0 stand) c.balance_bound-balance.ensures.value
+returns-clause-value c = λ (a0 : List Machine) stand.
+    bound_made c.args.inst.now.tables a0 c.pinned_load_bound-load.result c.balance_bound-balance.result
+    (c.pinned_load_bound-load.ensures.value a0 stand) c.balance_bound-balance.ensures.value
 
 pub returns-clause-at_least : goal.returns-clause-at_least
 unfolding pinned_bound_of
-returns-clause-at_least c = omega (arith, c.pinned_load_bound-load.ensures.value c.requires.pins.a0 c.requires.pins.stand, c.balance_bound-balance.ensures.value, pinned_is_at_least c.args.inst.now.tables c.requires.pins.a0)
+returns-clause-at_least c =
+    omega (
+      arith,
+      c.pinned_load_bound-load.ensures.value c.requires.pins.a0 c.requires.pins.stand,
+      c.balance_bound-balance.ensures.value,
+      pinned_is_at_least c.args.inst.now.tables c.requires.pins.a0,
+    )
 
 pub returns-clause-below : goal.returns-clause-below
 unfolding pinned_bound_of
-returns-clause-below c = λ (a0 : List Machine) (a : List Machine) stand fits feasible. omega (arith, c.pinned_load_bound-load.ensures.value a0 stand, c.balance_bound-balance.ensures.value, (none_costs_less_pinned c.args.inst.now.tables a0 a c.args.inst.now.well_formed fits feasible).total)
+returns-clause-below c = λ (a0 : List Machine) (a : List Machine) stand fits feasible.
+    omega (
+      arith,
+      c.pinned_load_bound-load.ensures.value a0 stand,
+      c.balance_bound-balance.ensures.value,
+      (none_costs_less_pinned c.args.inst.now.tables a0 a c.args.inst.now.well_formed fits feasible).total,
+    )

@@ -8,4 +8,8 @@ use Rattle.ra_bounds.specs.PinnedBounds.{pinned_overload}
 use Rattle.ra_bounds.proofs.pinned.pinned_load_bound.Given as goal
 
 abbrev pub invariant-loop-r : goal.invariant-loop-r
-invariant-loop-r l = record { value : (a0 : List Machine) → ArePins l.pins l.inst.tables a0 → l.cost ≡ total l.r (λ r. load_weight_of l.inst.tables r * pinned_overload l.inst.tables a0 r); fits : l.cost ≤ l.r * 2 ^ 96 }
+invariant-loop-r l = record {
+  value : (a0 : List Machine) → ArePins l.pins l.inst.tables a0 →
+      l.cost ≡ total l.r (λ r. load_weight_of l.inst.tables r * pinned_overload l.inst.tables a0 r);
+  fits : l.cost ≤ l.r * 2 ^ 96;
+}

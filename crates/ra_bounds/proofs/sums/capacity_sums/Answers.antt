@@ -4,4 +4,5 @@ use Rattle.ra_bounds.proofs.TotalLemmas.{totals_none}
 use Rattle.ra_bounds.proofs.sums.capacity_sums.Goals as goal
 
 pub loop-m-init : goal.loop-m-init
-loop-m-init c = totals_none (resource_count c.args.inst.now.tables) (capacity_of c.args.inst.now.tables) c.args.inst.now.well_formed.few_resources
+loop-m-init c = totals_none (resource_count c.args.inst.now.tables) (capacity_of c.args.inst.now.tables)
+    c.args.inst.now.well_formed.few_resources

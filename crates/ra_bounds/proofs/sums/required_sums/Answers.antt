@@ -4,4 +4,5 @@ use Rattle.ra_bounds.proofs.TotalLemmas.{totals_none}
 use Rattle.ra_bounds.proofs.sums.required_sums.Goals as goal
 
 pub loop-p-init : goal.loop-p-init
-loop-p-init g c = totals_none (resource_count c.args.inst.now.tables) (requirement_of c.args.inst.now.tables) c.args.inst.now.well_formed.few_resources
+loop-p-init g c = totals_none (resource_count c.args.inst.now.tables) (requirement_of c.args.inst.now.tables)
+    c.args.inst.now.well_formed.few_resources

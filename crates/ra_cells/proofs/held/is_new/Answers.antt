@@ -13,10 +13,17 @@ returns-clause-new c is =
     let labels = c.args.labels.now.items in
     let k = c.args.k in
     let differ = not-true _ is in
-    new_at labels c.args.start k c.requires.ascends (omega arith) (λ same. both_ways _ differ (eq-eqb c.label_at.result c.label_at-label.result (get_or_read labels (k - 1) c.label_at.result (omega arith) c.label_at.ensures 0 ∙ same ∙ sym (get_or_read labels k c.label_at-label.result c.requires.there c.label_at-label.ensures 0))))
+    new_at labels c.args.start k c.requires.ascends (omega arith)
+    (λ same. both_ways _ differ
+    (eq-eqb c.label_at.result c.label_at-label.result
+    (get_or_read labels (k - 1) c.label_at.result (omega arith) c.label_at.ensures 0 ∙ same
+    ∙ sym (get_or_read labels k c.label_at-label.result c.requires.there c.label_at-label.ensures 0))))
 
 pub returns-clause-again : goal.returns-clause-again
 returns-clause-again c is =
     let labels = c.args.labels.now.items in
     let k = c.args.k in
-    again_at labels c.args.start k (omega arith) (sym (get_or_read labels (k - 1) c.label_at.result (omega arith) c.label_at.ensures 0) ∙ eqb-true c.label_at.result c.label_at-label.result (not-false _ is) ∙ get_or_read labels k c.label_at-label.result c.requires.there c.label_at-label.ensures 0)
+    again_at labels c.args.start k (omega arith)
+    (sym (get_or_read labels (k - 1) c.label_at.result (omega arith) c.label_at.ensures 0)
+    ∙ eqb-true c.label_at.result c.label_at-label.result (not-false _ is)
+    ∙ get_or_read labels k c.label_at-label.result c.requires.there c.label_at-label.ensures 0)

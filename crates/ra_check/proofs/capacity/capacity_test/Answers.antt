@@ -9,11 +9,17 @@ use Rattle.ra_check.proofs.capacity.capacity_test.Goals as goal
 pub returns-then-from-used : goal.returns-then-from-used
 returns-then-from-used c = λ (a : List Machine) sums.
     let i = c.args.inst.now.tables in
-    let read : c.read_cell-used.result ≡ cell (resource_count i) c.args.used.now.items c.args.m.0 c.args.r.0 = rw (← c.resources.ensures) c.read_cell-used.ensures in
-    over_capacity i a c.args.m.0 c.args.r.0 c.read_cell-used.result c.capacity-cap.result (use_read i a c.args.used.now.items c.args.m.0 c.args.r.0 _ sums c.requires.resource read) c.capacity-cap.ensures (omega arith)
+    let read : c.read_cell-used.result ≡ cell (resource_count i) c.args.used.now.items c.args.m.0 c.args.r.0 =
+    rw (← c.resources.ensures) c.read_cell-used.ensures in
+    over_capacity i a c.args.m.0 c.args.r.0 c.read_cell-used.result c.capacity-cap.result
+    (use_read i a c.args.used.now.items c.args.m.0 c.args.r.0 _ sums c.requires.resource read)
+    c.capacity-cap.ensures (omega arith)
 
 pub returns-else-from-used : goal.returns-else-from-used
 returns-else-from-used c = λ (a : List Machine) sums.
     let i = c.args.inst.now.tables in
-    let read : c.read_cell-used.result ≡ cell (resource_count i) c.args.used.now.items c.args.m.0 c.args.r.0 = rw (← c.resources.ensures) c.read_cell-used.ensures in
-    within_capacity i a c.args.m.0 c.args.r.0 c.read_cell-used.result c.capacity-cap.result (use_read i a c.args.used.now.items c.args.m.0 c.args.r.0 _ sums c.requires.resource read) c.capacity-cap.ensures (omega arith)
+    let read : c.read_cell-used.result ≡ cell (resource_count i) c.args.used.now.items c.args.m.0 c.args.r.0 =
+    rw (← c.resources.ensures) c.read_cell-used.ensures in
+    within_capacity i a c.args.m.0 c.args.r.0 c.read_cell-used.result c.capacity-cap.result
+    (use_read i a c.args.used.now.items c.args.m.0 c.args.r.0 _ sums c.requires.resource read)
+    c.capacity-cap.ensures (omega arith)

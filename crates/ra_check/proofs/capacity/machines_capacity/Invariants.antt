@@ -7,4 +7,5 @@ use Rattle.ra_check.specs.Stands.{IsUsage}
 use Rattle.ra_check.proofs.capacity.machines_capacity.Given as goal
 
 abbrev pub invariant-loop-m : goal.invariant-loop-m
-invariant-loop-m l = (a : List Machine) → IsUsage l.inst.tables a l.used.items → first l.m (row_capacity l.inst.tables a) ≡ None
+invariant-loop-m l =
+    (a : List Machine) → IsUsage l.inst.tables a l.used.items → first l.m (row_capacity l.inst.tables a) ≡ None

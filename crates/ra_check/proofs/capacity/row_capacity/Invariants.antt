@@ -7,4 +7,5 @@ use Rattle.ra_check.specs.Stands.{IsUsage}
 use Rattle.ra_check.proofs.capacity.row_capacity.Given as goal
 
 abbrev pub invariant-loop-r : goal.invariant-loop-r
-invariant-loop-r l = (a : List Machine) → IsUsage l.inst.tables a l.used.items → first l.r (capacity_test l.inst.tables a l.m.0) ≡ None
+invariant-loop-r l =
+    (a : List Machine) → IsUsage l.inst.tables a l.used.items → first l.r (capacity_test l.inst.tables a l.m.0) ≡ None

@@ -13,16 +13,25 @@ pub stamp_service-requires-clause-seated : goal.stamp_service-requires-clause-se
 stamp_service-requires-clause-seated c =
     let i = c.args.inst.now.tables in
     let needs : Service = get_or c.depends-all_needs.result.now c.loop-k.k (record { 0 = 0 }) in
-    let below : c.loop-k.k < dependency_count c.args.inst.now.tables c.args.service.0 = omega (arith, c.loop-k-test.true, c.depends-all_needs.ensures.count) in
-    let inside : needs.0 < service_count c.args.inst.now.tables = omega (arith, c.depends-all_needs.ensures.each c.loop-k.k below, need_within i c.args.service.0 c.loop-k.k c.args.inst.now.well_formed c.requires.there below) in
-    seated i c.args.a.now.items c.args.members.now needs.0 (length c.loop-k.marks.items) c.requires.assigned c.requires.members inside c.loop-k.invariant.marks.one_each
+    let below : c.loop-k.k < dependency_count c.args.inst.now.tables c.args.service.0 =
+    omega (arith, c.loop-k-test.true, c.depends-all_needs.ensures.count) in
+    let inside : needs.0 < service_count c.args.inst.now.tables =
+    omega (
+      arith,
+      c.depends-all_needs.ensures.each c.loop-k.k below,
+      need_within i c.args.service.0 c.loop-k.k c.args.inst.now.well_formed c.requires.there below,
+    ) in
+    seated i c.args.a.now.items c.args.members.now needs.0 (length c.loop-k.marks.items) c.requires.assigned
+    c.requires.members inside c.loop-k.invariant.marks.one_each
 
 pub neighbourhood-requires : goal.neighbourhood-requires
 neighbourhood-requires c =
     let i = c.args.inst.now.tables in
     let needs : Service = get_or c.depends-all_needs.result.now c.loop-k.k (record { 0 = 0 }) in
-    far_within c.stamp_service.new.marks.items (needs.0 + 1) (machine_count i) c.args.places.now.neighbourhoods c.args.a.now.items (members_of c.args.members.now c.args.service.0) c.in-Some.machine
-    (seated i c.args.a.now.items c.args.members.now c.args.service.0 (machine_count i) c.requires.assigned c.requires.members c.requires.there refl)
+    far_within c.stamp_service.new.marks.items (needs.0 + 1) (machine_count i) c.args.places.now.neighbourhoods
+    c.args.a.now.items (members_of c.args.members.now c.args.service.0) c.in-Some.machine
+    (seated i c.args.a.now.items c.args.members.now c.args.service.0 (machine_count i) c.requires.assigned
+    c.requires.members c.requires.there refl)
     (rw c.of-own.ensures at c.in-Some.ensures)
 
 pub returns-in-Some-clause-cause : goal.returns-in-Some-clause-cause
@@ -33,10 +42,16 @@ returns-in-Some-clause-cause c =
     let s = c.args.service.0 in
     let k = c.loop-k.k in
     let needs : Service = get_or c.depends-all_needs.result.now c.loop-k.k (record { 0 = 0 }) in
-    let below : c.loop-k.k < dependency_count c.args.inst.now.tables c.args.service.0 = omega (arith, c.loop-k-test.true, c.depends-all_needs.ensures.count) in
-    sym (first_found k (dependency_count i s) (pair_dependency i a s) (Dependency c.args.service needs c.neighbourhood.result) below c.loop-k.invariant.none
-    (pair_some i a c.args.places.now c.args.members.now c.stamp_service.new.marks.items (length c.loop-k.marks.items) c.stamp_service.new.last s k c.neighbourhood.result needs c.in-Some.machine
-    c.requires.assigned c.requires.members c.requires.places c.requires.there (c.depends-all_needs.ensures.each k below) (need_within i s k c.args.inst.now.well_formed c.requires.there below) c.loop-k.invariant.marks.one_each c.stamp_service.ensures.marks c.stamp_service.ensures.last c.neighbourhood.ensures (rw c.of-own.ensures at c.in-Some.ensures)))
+    let below : c.loop-k.k < dependency_count c.args.inst.now.tables c.args.service.0 =
+    omega (arith, c.loop-k-test.true, c.depends-all_needs.ensures.count) in
+    sym (first_found k (dependency_count i s) (pair_dependency i a s)
+    (Dependency c.args.service needs c.neighbourhood.result) below c.loop-k.invariant.none
+    (pair_some i a c.args.places.now c.args.members.now c.stamp_service.new.marks.items (length c.loop-k.marks.items)
+    c.stamp_service.new.last s k c.neighbourhood.result needs c.in-Some.machine
+    c.requires.assigned c.requires.members c.requires.places c.requires.there (c.depends-all_needs.ensures.each k below)
+    (need_within i s k c.args.inst.now.well_formed c.requires.there below) c.loop-k.invariant.marks.one_each
+    c.stamp_service.ensures.marks c.stamp_service.ensures.last c.neighbourhood.ensures
+    (rw c.of-own.ensures at c.in-Some.ensures)))
 
 pub loop-k-preserved : goal.loop-k-preserved
 loop-k-preserved c =
@@ -45,10 +60,15 @@ loop-k-preserved c =
     let s = c.args.service.0 in
     let k = c.loop-k.k in
     let needs : Service = get_or c.depends-all_needs.result.now c.loop-k.k (record { 0 = 0 }) in
-    let below : c.loop-k.k < dependency_count c.args.inst.now.tables c.args.service.0 = omega (arith, c.loop-k-test.true, c.depends-all_needs.ensures.count) in
+    let below : c.loop-k.k < dependency_count c.args.inst.now.tables c.args.service.0 =
+    omega (arith, c.loop-k-test.true, c.depends-all_needs.ensures.count) in
     record {
       none = first_more_none k (pair_dependency i a s) c.loop-k.invariant.none
-          (pair_none i a c.args.places.now c.args.members.now c.stamp_service.new.marks.items (length c.loop-k.marks.items) c.stamp_service.new.last s k needs
-          c.requires.assigned c.requires.members c.requires.places c.requires.there (c.depends-all_needs.ensures.each k below) (need_within i s k c.args.inst.now.well_formed c.requires.there below) c.loop-k.invariant.marks.one_each c.stamp_service.ensures.marks c.stamp_service.ensures.last (rw c.of-own.ensures at c.in_default.ensures));
+          (pair_none i a c.args.places.now c.args.members.now c.stamp_service.new.marks.items
+          (length c.loop-k.marks.items) c.stamp_service.new.last s k needs
+          c.requires.assigned c.requires.members c.requires.places c.requires.there
+          (c.depends-all_needs.ensures.each k below)
+          (need_within i s k c.args.inst.now.well_formed c.requires.there below) c.loop-k.invariant.marks.one_each
+          c.stamp_service.ensures.marks c.stamp_service.ensures.last (rw c.of-own.ensures at c.in_default.ensures));
       marks = rw c.loop-k.invariant.marks.one_each at c.stamp_service.ensures.marks;
     }

@@ -6,4 +6,7 @@ use Rattle.ra_check.specs.Stamps.{TellTrue}
 use Rattle.ra_check.proofs.dependency.service_apart.Given as goal
 
 abbrev pub invariant-loop-k : goal.invariant-loop-k
-invariant-loop-k l = record { none : first l.k (pair_dependency l.inst.tables l.a.items l.service.0) ≡ None; marks : TellTrue l.members l.places.neighbourhoods l.a.items (machine_count l.inst.tables) l.marks.items l.last }
+invariant-loop-k l = record {
+  none : first l.k (pair_dependency l.inst.tables l.a.items l.service.0) ≡ None;
+  marks : TellTrue l.members l.places.neighbourhoods l.a.items (machine_count l.inst.tables) l.marks.items l.last;
+}

@@ -6,4 +6,7 @@ use Rattle.ra_check.specs.Stamps.{AreBelow}
 use Rattle.ra_check.proofs.spread.first_narrow.Given as goal
 
 abbrev pub invariant-loop-s : goal.invariant-loop-s
-invariant-loop-s l = record { none : first l.s (spread_test l.inst.tables l.a.items) ≡ None; marks : AreBelow l.marks.items (machine_count l.inst.tables) (l.s + 1) }
+invariant-loop-s l = record {
+  none : first l.s (spread_test l.inst.tables l.a.items) ≡ None;
+  marks : AreBelow l.marks.items (machine_count l.inst.tables) (l.s + 1);
+}

@@ -7,4 +7,5 @@ use Rattle.ra_check.specs.Stands.{IsTransientUse}
 use Rattle.ra_check.proofs.transient.machines_transient.Given as goal
 
 abbrev pub invariant-loop-m : goal.invariant-loop-m
-invariant-loop-m l = (a0 a : List Machine) → IsTransientUse l.inst.tables a0 a l.used.items → first l.m (row_transient l.inst.tables a0 a) ≡ None
+invariant-loop-m l = (a0 a : List Machine) → IsTransientUse l.inst.tables a0 a l.used.items →
+    first l.m (row_transient l.inst.tables a0 a) ≡ None

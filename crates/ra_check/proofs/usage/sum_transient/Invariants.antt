@@ -6,4 +6,7 @@ use Rattle.ra_check.specs.Stands.{IsTally}
 use Rattle.ra_check.proofs.usage.sum_transient.Given as goal
 
 abbrev pub invariant-loop-p : goal.invariant-loop-p
-invariant-loop-p g l = record { sums : IsTally (resource_count l.inst.tables) l.p (transient_share l.inst.tables l.a0.items) l.a.items l.table.items; grid : length l.table.items ≡ machine_count l.inst.tables * resource_count l.inst.tables }
+invariant-loop-p g l = record {
+  sums : IsTally (resource_count l.inst.tables) l.p (transient_share l.inst.tables l.a0.items) l.a.items l.table.items;
+  grid : length l.table.items ≡ machine_count l.inst.tables * resource_count l.inst.tables;
+}

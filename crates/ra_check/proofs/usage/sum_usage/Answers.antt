@@ -16,7 +16,9 @@ pub add_row-requires-clause-below : goal.add_row-requires-clause-below
 add_row-requires-clause-below g c =
     let i = c.args.inst.now.tables in
     let few : c.loop-p.p ≤ 50000 = omega (arith, c.args.inst.now.well_formed.few_processes) in
-    below_grows (resource_count i) c.loop-p.table.items (tally_below (resource_count i) c.loop-p.p (use_share i) c.args.a.now.items c.loop-p.table.items (use_share_small i c.args.inst.now.small) few c.loop-p.invariant.sums)
+    below_grows (resource_count i) c.loop-p.table.items
+    (tally_below (resource_count i) c.loop-p.p (use_share i) c.args.a.now.items c.loop-p.table.items
+    (use_share_small i c.args.inst.now.small) few c.loop-p.invariant.sums)
 
 pub loop-p-preserved : goal.loop-p-preserved
 loop-p-preserved g c = record {

@@ -5,4 +5,7 @@ use Rattle.ra_model.specs.Costs.{process_share}
 use Rattle.ra_check.proofs.ways.moved_sum.Given as goal
 
 abbrev pub invariant-loop-p : goal.invariant-loop-p
-invariant-loop-p l = record { value : l.sum ≡ tally l.p (process_share l.inst.tables l.a0.items) l.a.items; bound : l.sum ≤ l.p * 2 ^ 32 }
+invariant-loop-p l = record {
+  value : l.sum ≡ tally l.p (process_share l.inst.tables l.a0.items) l.a.items;
+  bound : l.sum ≤ l.p * 2 ^ 32;
+}

@@ -6,7 +6,12 @@ pub of-requires-2 : goal.of-requires-2
 of-requires-2 c = raw_well _ _ c.raw-raw.ensures.lists c.requires
 
 pub returns : goal.returns
-returns c = rw (c.closing.ensures, c.of-2.ensures) (built c.args.inst.now.tables _ _ c.raw-raw.result.0 c.raw-raw.result.1 c.raw-raw.ensures.lists c.raw-raw.ensures.closed)
+returns c = rw (c.closing.ensures, c.of-2.ensures)
+    (built c.args.inst.now.tables _ _ c.raw-raw.result.0 c.raw-raw.result.1 c.raw-raw.ensures.lists
+    c.raw-raw.ensures.closed)
 
 pub closing-requires : goal.closing-requires
-closing-requires c = rw c.of-2.ensures (flags_fit c.args.inst.now.tables _ _ c.raw-raw.result.0 (length c.raw-raw.result.1.items) c.raw-raw.ensures.lists c.raw-raw.ensures.one_each)
+closing-requires c =
+    rw c.of-2.ensures
+    (flags_fit c.args.inst.now.tables _ _ c.raw-raw.result.0 (length c.raw-raw.result.1.items) c.raw-raw.ensures.lists
+    c.raw-raw.ensures.one_each)

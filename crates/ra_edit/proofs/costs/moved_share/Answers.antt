@@ -7,13 +7,23 @@ use Rattle.ra_edit.proofs.ScanLaws.{few, cost_told, cost_stays, cost_moves}
 use Rattle.ra_edit.proofs.costs.moved_share.Goals as goal
 
 pub machine_of-requires : goal.machine_of-requires
-machine_of-requires c = let f = few c.args.inst.now.tables c.args.lists.now c.requires.sound in omega (arith, f.current, c.requires.process)
+machine_of-requires c =
+    let f = few c.args.inst.now.tables c.args.lists.now c.requires.sound in omega (arith, f.current, c.requires.process)
 
 pub machine_of-requires-2 : goal.machine_of-requires-2
-machine_of-requires-2 c = let f = few c.args.inst.now.tables c.args.lists.now c.requires.sound in omega (arith, f.initial, c.requires.process)
+machine_of-requires-2 c =
+    let f = few c.args.inst.now.tables c.args.lists.now c.requires.sound in omega (arith, f.initial, c.requires.process)
 
 pub returns-then-machine_of : goal.returns-then-machine_of
-returns-then-machine_of c = cost_stays (tables_with c.args.inst.now.tables c.args.lists.now) c.args.lists.now.initial.items c.args.p.0 (machine_at c.args.lists.now.current.items c.args.p.0) (process_weight_of c.args.inst.now.tables) (sym c.machine_of.ensures ∙ c.if-machine_of.true ∙ c.machine_of-2.ensures)
+returns-then-machine_of c =
+    cost_stays (tables_with c.args.inst.now.tables c.args.lists.now) c.args.lists.now.initial.items c.args.p.0
+    (machine_at c.args.lists.now.current.items c.args.p.0) (process_weight_of c.args.inst.now.tables)
+    (sym c.machine_of.ensures ∙ c.if-machine_of.true ∙ c.machine_of-2.ensures)
 
 pub returns : goal.returns
-returns c = cost_moves (tables_with c.args.inst.now.tables c.args.lists.now) c.args.lists.now.initial.items c.args.p.0 (machine_at c.args.lists.now.current.items c.args.p.0) (process_weight_of c.args.inst.now.tables) c.from.result c.from-2.result (λ e. c.if-machine_of.false (c.machine_of.ensures ∙ e ∙ sym c.machine_of-2.ensures)) (c.from.ensures ∙ c.process_weight.ensures) (c.from-2.ensures ∙ cost_told c.args.inst.now.tables c.args.lists.now c.args.p.0 c.get-row.result c.requires.process c.get-row.ensures)
+returns c = cost_moves (tables_with c.args.inst.now.tables c.args.lists.now) c.args.lists.now.initial.items c.args.p.0
+    (machine_at c.args.lists.now.current.items c.args.p.0) (process_weight_of c.args.inst.now.tables) c.from.result
+    c.from-2.result (λ e. c.if-machine_of.false (c.machine_of.ensures ∙ e ∙ sym c.machine_of-2.ensures))
+    (c.from.ensures ∙ c.process_weight.ensures)
+    (c.from-2.ensures ∙ cost_told c.args.inst.now.tables c.args.lists.now c.args.p.0 c.get-row.result c.requires.process
+    c.get-row.ensures)

@@ -7,10 +7,12 @@ use Rattle.ra_edit.proofs.VerdictLaws.{here_in, home_in}
 use Rattle.ra_edit.proofs.costs.way_share.Goals as goal
 
 pub machine_of-requires : goal.machine_of-requires
-machine_of-requires c = let f = few c.args.inst.now.tables c.args.lists.now c.requires.sound in omega (arith, f.initial, c.requires.process)
+machine_of-requires c =
+    let f = few c.args.inst.now.tables c.args.lists.now c.requires.sound in omega (arith, f.initial, c.requires.process)
 
 pub machine_of-requires-2 : goal.machine_of-requires-2
-machine_of-requires-2 c = let f = few c.args.inst.now.tables c.args.lists.now c.requires.sound in omega (arith, f.current, c.requires.process)
+machine_of-requires-2 c =
+    let f = few c.args.inst.now.tables c.args.lists.now c.requires.sound in omega (arith, f.current, c.requires.process)
 
 pub move_cost-way-requires : goal.move_cost-way-requires
 move_cost-way-requires c =
@@ -21,4 +23,5 @@ move_cost-way-requires c =
     }
 
 pub returns : goal.returns
-returns c = ap₂ (λ x y. x * y) (c.from.ensures ∙ c.machine_weight.ensures) (c.from-2.ensures ∙ c.move_cost-way.ensures ∙ ap₂ (way_cost_of c.args.inst.now.tables) c.machine_of.ensures c.machine_of-2.ensures)
+returns c = ap₂ (λ x y. x * y) (c.from.ensures ∙ c.machine_weight.ensures) (c.from-2.ensures ∙ c.move_cost-way.ensures
+    ∙ ap₂ (way_cost_of c.args.inst.now.tables) c.machine_of.ensures c.machine_of-2.ensures)

@@ -17,19 +17,35 @@ get-requires c = omega (arith, c.loop-r-test.true, c.resources-r-end.ensures, c.
 pub returns-in-Some : goal.returns-in-Some
 unfolding row_transient
 returns-in-Some c =
-    let column : c.loop-r.r < resource_count c.args.inst.now.tables = omega (arith, c.loop-r-test.true, c.resources-r-end.ensures) in
-    let within : c.loop-r.r < resource_count (tables_with c.args.inst.now.tables c.args.lists.now) = omega (arith, column, resources_in c.args.inst.now.tables c.args.lists.now) in
-    let used = get_or_read c.in_ok-row.row.items c.loop-r.r c.get.result (omega (arith, column, c.in_ok-row.ensures.one_each)) c.get.ensures 0 ∙ c.in_ok-row.ensures.each c.loop-r.r column in
-    sym (first_found c.loop-r.r (resource_count (tables_with c.args.inst.now.tables c.args.lists.now)) _ c.in-Some.cause within c.loop-r.invariant (sym (c.transient_test.ensures c.args.lists.now used) ∙ c.in-Some.is))
+    let column : c.loop-r.r < resource_count c.args.inst.now.tables =
+    omega (arith, c.loop-r-test.true, c.resources-r-end.ensures) in
+    let within : c.loop-r.r < resource_count (tables_with c.args.inst.now.tables c.args.lists.now) =
+    omega (arith, column, resources_in c.args.inst.now.tables c.args.lists.now) in
+    let used = get_or_read c.in_ok-row.row.items c.loop-r.r c.get.result
+    (omega (arith, column, c.in_ok-row.ensures.one_each)) c.get.ensures 0
+    ∙ c.in_ok-row.ensures.each c.loop-r.r column in
+    sym (first_found c.loop-r.r (resource_count (tables_with c.args.inst.now.tables c.args.lists.now)) _ c.in-Some.cause
+    within c.loop-r.invariant (sym (c.transient_test.ensures c.args.lists.now used) ∙ c.in-Some.is))
 
 pub loop-r-preserved : goal.loop-r-preserved
 loop-r-preserved c =
-    let column : c.loop-r.r < resource_count c.args.inst.now.tables = omega (arith, c.loop-r-test.true, c.resources-r-end.ensures) in
-    let used = get_or_read c.in_ok-row.row.items c.loop-r.r c.get.result (omega (arith, column, c.in_ok-row.ensures.one_each)) c.get.ensures 0 ∙ c.in_ok-row.ensures.each c.loop-r.r column in
-    first_more_none c.loop-r.r _ c.loop-r.invariant (sym (c.transient_test.ensures c.args.lists.now used) ∙ c.in_default.is)
+    let column : c.loop-r.r < resource_count c.args.inst.now.tables =
+    omega (arith, c.loop-r-test.true, c.resources-r-end.ensures) in
+    let used = get_or_read c.in_ok-row.row.items c.loop-r.r c.get.result
+    (omega (arith, column, c.in_ok-row.ensures.one_each)) c.get.ensures 0
+    ∙ c.in_ok-row.ensures.each c.loop-r.r column in
+    first_more_none c.loop-r.r _ c.loop-r.invariant (sym (c.transient_test.ensures c.args.lists.now used)
+    ∙ c.in_default.is)
 
 pub returns : goal.returns
 unfolding row_transient
 returns c =
-    let all : c.loop-r.r ≡ resource_count (tables_with c.args.inst.now.tables c.args.lists.now) = omega (arith, c.loop-r-test.false, c.loop-r.auto.r-end, c.resources-r-end.ensures, resources_in c.args.inst.now.tables c.args.lists.now) in
+    let all : c.loop-r.r ≡ resource_count (tables_with c.args.inst.now.tables c.args.lists.now) =
+    omega (
+      arith,
+      c.loop-r-test.false,
+      c.loop-r.auto.r-end,
+      c.resources-r-end.ensures,
+      resources_in c.args.inst.now.tables c.args.lists.now,
+    ) in
     sym (rw all at c.loop-r.invariant)

@@ -6,4 +6,6 @@ use Rattle.ra_edit.specs.Keeping.{tables_with}
 use Rattle.ra_edit.proofs.judging.row_transient.Given as goal
 
 abbrev pub invariant-loop-r : goal.invariant-loop-r
-invariant-loop-r l = first l.r (transient_test (tables_with l.inst.tables l.lists) l.lists.initial.items l.lists.current.items l.m.0) ≡ None
+invariant-loop-r l =
+    first l.r (transient_test (tables_with l.inst.tables l.lists) l.lists.initial.items l.lists.current.items l.m.0) ≡
+    None

@@ -15,4 +15,12 @@ loop-p-init c =
     }
 
 pub returns : goal.returns
-returns c = all_seen (tables_with c.args.inst.now.tables c.args.lists.now) c.args.lists.now.current.items c.args.s.0 c.loop-p.p c.loop-p.has (omega (arith, c.loop-p-test.false, c.loop-p.auto.p-end, c.processes-p-end.ensures.value, processes_in c.args.inst.now.tables c.args.lists.now)) c.loop-p.invariant.value
+returns c = all_seen (tables_with c.args.inst.now.tables c.args.lists.now) c.args.lists.now.current.items c.args.s.0
+    c.loop-p.p c.loop-p.has
+    (omega (
+      arith,
+      c.loop-p-test.false,
+      c.loop-p.auto.p-end,
+      c.processes-p-end.ensures.value,
+      processes_in c.args.inst.now.tables c.args.lists.now,
+    )) c.loop-p.invariant.value

@@ -16,7 +16,8 @@ loop-p-init c = record {
 pub count_moved-requires-clause-below : goal.count_moved-requires-clause-below
 count_moved-requires-clause-below c =
     let few : c.loop-p.p < 50000 = omega (arith, c.loop-p-test.true, c.processes-p-end.ensures.bound) in
-    moved_below (tables_with c.args.inst.now.tables c.args.lists.now) c.args.lists.now.initial.items c.args.lists.now.current.items c.loop-p.p c.loop-p.counts.items few c.loop-p.invariant.counted
+    moved_below (tables_with c.args.inst.now.tables c.args.lists.now) c.args.lists.now.initial.items
+    c.args.lists.now.current.items c.loop-p.p c.loop-p.counts.items few c.loop-p.invariant.counted
 
 pub loop-p-preserved : goal.loop-p-preserved
 loop-p-preserved c = record {
@@ -28,5 +29,6 @@ pub returns-clause-counted : goal.returns-clause-counted
 returns-clause-counted c =
     let i = c.args.inst.now.tables in
     let l = c.args.lists.now in
-    let all : c.loop-p.p ≡ process_count (tables_with i l) = omega (arith, c.loop-p-test.false, c.loop-p.auto.p-end, c.processes-p-end.ensures.value, processes_in i l) in
+    let all : c.loop-p.p ≡ process_count (tables_with i l) =
+    omega (arith, c.loop-p-test.false, c.loop-p.auto.p-end, c.processes-p-end.ensures.value, processes_in i l) in
     rw all at c.loop-p.invariant.counted

@@ -6,4 +6,7 @@ use Rattle.ra_edit.specs.Keeping.{tables_with}
 use Rattle.ra_edit.proofs.moved.moved_counts.Given as goal
 
 abbrev pub invariant-loop-p : goal.invariant-loop-p
-invariant-loop-p l = record { counted : HasMoved (tables_with l.inst.tables l.lists) l.lists.initial.items l.lists.current.items l.p l.counts.items; slots : length l.counts.items ≡ service_count l.inst.tables }
+invariant-loop-p l = record {
+  counted : HasMoved (tables_with l.inst.tables l.lists) l.lists.initial.items l.lists.current.items l.p l.counts.items;
+  slots : length l.counts.items ≡ service_count l.inst.tables;
+}

@@ -10,7 +10,11 @@ pub returns-clause-value : goal.returns-clause-value
 returns-clause-value c =
     let i = c.args.inst.now.tables in
     let l = c.args.lists.now in
-    service_cost_from (tables_with i l) l.initial.items l.current.items c.in_ok-counts.counts.items c.from.result c.from-2.result c.in_ok-counts.ensures.counted (c.in_ok-counts.ensures.slots ∙ sym (services_in i l)) (c.from.ensures ∙ c.service_weight.ensures ∙ sym (service_weight_in i l)) (c.from-2.ensures ∙ c.most-most.ensures)
+    service_cost_from (tables_with i l) l.initial.items l.current.items c.in_ok-counts.counts.items c.from.result
+    c.from-2.result c.in_ok-counts.ensures.counted (c.in_ok-counts.ensures.slots ∙ sym (services_in i l))
+    (c.from.ensures ∙ c.service_weight.ensures ∙ sym (service_weight_in i l))
+    (c.from-2.ensures ∙ c.most-most.ensures)
 
 pub returns-clause-bound : goal.returns-clause-bound
-returns-clause-bound c = times_small c.from.result c.from-2.result (omega (arith, c.from.ensures)) (omega (arith, c.from-2.ensures))
+returns-clause-bound c =
+    times_small c.from.result c.from-2.result (omega (arith, c.from.ensures)) (omega (arith, c.from-2.ensures))

@@ -7,4 +7,8 @@ use Rattle.ra_edit.specs.Spots.{is_there}
 use Rattle.ra_edit.proofs.scanning.members.Given as goal
 
 abbrev pub invariant-loop-p : goal.invariant-loop-p
-invariant-loop-p l = record { value : l.count ≡ tally l.p (of_service (tables_with l.inst.tables l.lists) l.s.0 (is_there l.inst.tables l.spot)) l.lists.current.items; bound : l.count ≤ l.p }
+invariant-loop-p l = record {
+  value : l.count ≡ tally l.p (of_service (tables_with l.inst.tables l.lists) l.s.0 (is_there l.inst.tables l.spot))
+      l.lists.current.items;
+  bound : l.count ≤ l.p;
+}

@@ -13,13 +13,20 @@ use Rattle.ra_edit_job.proofs.edit.edit.Goals as goal
 pub returns : goal.returns
 returns g c =
     let held = g.F.Files.held c.args.files.now in
-    let names = edit_names c.args.model.now c.args.initial.now c.args.current.now c.args.edits.now (option_copied c.args.closed) in
+    let names = edit_names c.args.model.now c.args.initial.now c.args.current.now c.args.edits.now
+    (option_copied c.args.closed) in
     let t = c.in_ok-taken.taken in
     let out = writing g.O.Sink c.args.out.now c.edit_from.new.out in
     record {
-      printed = on_ok_then c.edit_from.result _ _ (edited_all held names t.inst.tables t.lists.initial.items t.lists.changed.items t.edits (Took out) c.in_ok-taken.ensures.read) c.edit_from.ensures.printed;
-      refused = if_err_then c.edit_from.result _ _ (reason_run held names t.inst.tables t.lists.initial.items t.lists.changed.items t.edits (g.F.Files.faults c.args.files.now) (g.F.Files.faults c.read_taken.new.files) (BrokeOff out) refl refl c.in_ok-taken.ensures.read) c.edit_from.ensures.refused;
-      no_output = if_err_then c.edit_from.result _ _ (λ r same first. same (not_write r first)) c.edit_from.ensures.no_output;
+      printed = on_ok_then c.edit_from.result _ _
+          (edited_all held names t.inst.tables t.lists.initial.items t.lists.changed.items t.edits
+          (Took out) c.in_ok-taken.ensures.read) c.edit_from.ensures.printed;
+      refused = if_err_then c.edit_from.result _ _
+          (reason_run held names t.inst.tables t.lists.initial.items t.lists.changed.items t.edits
+          (g.F.Files.faults c.args.files.now) (g.F.Files.faults c.read_taken.new.files) (BrokeOff out) refl refl
+          c.in_ok-taken.ensures.read) c.edit_from.ensures.refused;
+      no_output = if_err_then c.edit_from.result _ _ (λ r same first. same (not_write r first))
+          c.edit_from.ensures.no_output;
       leaves = record { kept = c.read_taken.ensures.kept; never_fall = c.read_taken.ensures.never_fall };
       never_falls = c.edit_from.ensures.out_never_falls;
     }
@@ -27,8 +34,12 @@ returns g c =
 pub returns-in_err-taken : goal.returns-in_err-taken
 returns-in_err-taken g c =
     let held = g.F.Files.held c.args.files.now in
-    let names = edit_names c.args.model.now c.args.initial.now c.args.current.now c.args.edits.now (option_copied c.args.closed) in
+    let names = edit_names c.args.model.now c.args.initial.now c.args.current.now c.args.edits.now
+    (option_copied c.args.closed) in
     let out = output g.O.Sink c.args.out.now c.args.out.now in
-    not_tried (edit_command c.args.model.now c.args.initial.now c.args.current.now c.args.edits.now (option_copied c.args.closed)) (reading g.F.Files c.args.files.now c.read_taken.new.files) out _ _ c.from_residual.ensures
-    (reason_untaken held names (g.F.Files.faults c.args.files.now) (g.F.Files.faults c.read_taken.new.files) (Edited held names (BrokeOff out.sink)) _ c.in_err-taken.ensures.refused)
+    not_tried (edit_command c.args.model.now c.args.initial.now c.args.current.now c.args.edits.now
+    (option_copied c.args.closed)) (reading g.F.Files c.args.files.now c.read_taken.new.files) out _ _
+    c.from_residual.ensures
+    (reason_untaken held names (g.F.Files.faults c.args.files.now) (g.F.Files.faults c.read_taken.new.files)
+    (Edited held names (BrokeOff out.sink)) _ c.in_err-taken.ensures.refused)
     refl (record { kept = c.read_taken.ensures.kept; never_fall = c.read_taken.ensures.never_fall }) (omega arith)

@@ -10,5 +10,8 @@ pub finish-requires : goal.finish-requires
 finish-requires g c = if_err_then c.edit-ended.result _ _ (can_tell_edits _ _ _ _ _) c.edit-ended.ensures.refused
 
 pub returns : goal.returns
-returns g c = edit_so c.args.model.now (option_copied c.args.closed) c.args.initial.now c.args.current.now c.args.edits.now
-    (reading g.F.Files c.args.files.now c.edit-ended.new.files) (output g.O.Sink c.args.out.now c.edit-ended.new.out) (output g.E.Sink c.args.err.now c.finish.new.err) c.edit-ended.result c.finish.result c.edit-ended.ensures c.finish.ensures
+returns g c =
+    edit_so c.args.model.now (option_copied c.args.closed) c.args.initial.now c.args.current.now c.args.edits.now
+    (reading g.F.Files c.args.files.now c.edit-ended.new.files) (output g.O.Sink c.args.out.now c.edit-ended.new.out)
+    (output g.E.Sink c.args.err.now c.finish.new.err) c.edit-ended.result c.finish.result c.edit-ended.ensures
+    c.finish.ensures

@@ -12,38 +12,73 @@ returns-clause-read g c =
     let held = g.F.Files.held c.args.files.now in
     let i = c.in_ok-inst.inst.tables in
     let l = c.in_ok-lists.lists in
-    let accepts = accepts_lists held (g.F.Files.held c.read_instance.new.files) c.args.model.now (option_copied c.args.closed) c.args.initial.now c.args.current.now c.args.edits.now i l.initial.items l.changed.items c.read_instance.ensures.kept c.in_ok-inst.ensures.read c.in_ok-lists.ensures.read in
-    taken_all held (g.F.Files.held c.read_lists.new.files) c.args.model.now (option_copied c.args.closed) c.args.initial.now c.args.current.now c.args.edits.now i l.initial.items l.changed.items c.in_ok-edits.edits (λ other. c.read_lists.ensures.kept other ∙ c.read_instance.ensures.kept other) accepts c.in_ok-lists.ensures.read.initial_fits c.in_ok-lists.ensures.read.changed_fits c.in_ok-edits.ensures.read
+    let accepts = accepts_lists held (g.F.Files.held c.read_instance.new.files) c.args.model.now
+    (option_copied c.args.closed) c.args.initial.now c.args.current.now c.args.edits.now i l.initial.items
+    l.changed.items c.read_instance.ensures.kept c.in_ok-inst.ensures.read c.in_ok-lists.ensures.read in
+    taken_all held (g.F.Files.held c.read_lists.new.files) c.args.model.now (option_copied c.args.closed)
+    c.args.initial.now c.args.current.now c.args.edits.now i l.initial.items l.changed.items c.in_ok-edits.edits
+    (λ other. c.read_lists.ensures.kept other ∙ c.read_instance.ensures.kept other) accepts
+    c.in_ok-lists.ensures.read.initial_fits c.in_ok-lists.ensures.read.changed_fits c.in_ok-edits.ensures.read
 
 pub returns-in_err-edits-clause-refused : goal.returns-in_err-edits-clause-refused
 returns-in_err-edits-clause-refused g c =
     let held = g.F.Files.held c.args.files.now in
     let i = c.in_ok-inst.inst.tables in
     let l = c.in_ok-lists.lists in
-    let accepts = accepts_lists held (g.F.Files.held c.read_instance.new.files) c.args.model.now (option_copied c.args.closed) c.args.initial.now c.args.current.now c.args.edits.now i l.initial.items l.changed.items c.read_instance.ensures.kept c.in_ok-inst.ensures.read c.in_ok-lists.ensures.read in
-    at_exit _ _ _ c.from_residual-in_err-edits.ensures (reason_edits held (g.F.Files.held c.read_lists.new.files) c.args.model.now (option_copied c.args.closed) c.args.initial.now c.args.current.now c.args.edits.now i l.initial.items l.changed.items (g.F.Files.faults c.args.files.now) (g.F.Files.faults c.read_lists.new.files) (g.F.Files.faults c.take_edits.new.files) ⊥
-    (λ other. c.read_lists.ensures.kept other ∙ c.read_instance.ensures.kept other) (λ other. le_trans (c.read_instance.ensures.never_fall other) (c.read_lists.ensures.never_fall other)) accepts _ c.in_err-edits.ensures.refused)
+    let accepts = accepts_lists held (g.F.Files.held c.read_instance.new.files) c.args.model.now
+    (option_copied c.args.closed) c.args.initial.now c.args.current.now c.args.edits.now i l.initial.items
+    l.changed.items c.read_instance.ensures.kept c.in_ok-inst.ensures.read c.in_ok-lists.ensures.read in
+    at_exit _ _ _ c.from_residual-in_err-edits.ensures
+    (reason_edits held (g.F.Files.held c.read_lists.new.files) c.args.model.now (option_copied c.args.closed)
+    c.args.initial.now c.args.current.now c.args.edits.now i l.initial.items l.changed.items
+    (g.F.Files.faults c.args.files.now) (g.F.Files.faults c.read_lists.new.files)
+    (g.F.Files.faults c.take_edits.new.files) ⊥
+    (λ other. c.read_lists.ensures.kept other ∙ c.read_instance.ensures.kept other)
+    (λ other. le_trans (c.read_instance.ensures.never_fall other) (c.read_lists.ensures.never_fall other)) accepts _
+    c.in_err-edits.ensures.refused)
 
 pub returns-in_err-lists-clause-refused : goal.returns-in_err-lists-clause-refused
-returns-in_err-lists-clause-refused g c = at_exit _ _ _ c.from_residual-in_err-lists.ensures (reason_listed (g.F.Files.held c.args.files.now) (g.F.Files.held c.read_instance.new.files) c.args.model.now (option_copied c.args.closed) c.args.initial.now c.args.current.now c.args.edits.now c.in_ok-inst.inst.tables (g.F.Files.faults c.args.files.now) (g.F.Files.faults c.read_instance.new.files) (g.F.Files.faults c.read_lists.new.files) (EditOwn (g.F.Files.held c.args.files.now) (edit_names c.args.model.now c.args.initial.now c.args.current.now c.args.edits.now (option_copied c.args.closed)) ⊥) c.read_instance.ensures.kept c.read_instance.ensures.never_fall c.in_ok-inst.ensures.read _ c.in_err-lists.ensures.refused)
+returns-in_err-lists-clause-refused g c =
+    at_exit _ _ _ c.from_residual-in_err-lists.ensures
+    (reason_listed (g.F.Files.held c.args.files.now) (g.F.Files.held c.read_instance.new.files) c.args.model.now
+    (option_copied c.args.closed) c.args.initial.now c.args.current.now c.args.edits.now c.in_ok-inst.inst.tables
+    (g.F.Files.faults c.args.files.now) (g.F.Files.faults c.read_instance.new.files)
+    (g.F.Files.faults c.read_lists.new.files)
+    (EditOwn (g.F.Files.held c.args.files.now)
+    (edit_names c.args.model.now c.args.initial.now c.args.current.now c.args.edits.now
+    (option_copied c.args.closed)) ⊥) c.read_instance.ensures.kept c.read_instance.ensures.never_fall
+    c.in_ok-inst.ensures.read _ c.in_err-lists.ensures.refused)
 
 pub returns-in_err-inst-clause-refused : goal.returns-in_err-inst-clause-refused
-returns-in_err-inst-clause-refused g c = at_exit _ _ _ c.from_residual.ensures (reason_source (g.F.Files.held c.args.files.now) (edit_names c.args.model.now c.args.initial.now c.args.current.now c.args.edits.now (option_copied c.args.closed)) (g.F.Files.faults c.args.files.now) (g.F.Files.faults c.read_instance.new.files) (EditOwn (g.F.Files.held c.args.files.now) (edit_names c.args.model.now c.args.initial.now c.args.current.now c.args.edits.now (option_copied c.args.closed)) ⊥) _ c.in_err-inst.ensures.refused)
+returns-in_err-inst-clause-refused g c =
+    at_exit _ _ _ c.from_residual.ensures
+    (reason_source (g.F.Files.held c.args.files.now)
+    (edit_names c.args.model.now c.args.initial.now c.args.current.now c.args.edits.now
+    (option_copied c.args.closed)) (g.F.Files.faults c.args.files.now)
+    (g.F.Files.faults c.read_instance.new.files)
+    (EditOwn (g.F.Files.held c.args.files.now)
+    (edit_names c.args.model.now c.args.initial.now c.args.current.now c.args.edits.now
+    (option_copied c.args.closed)) ⊥) _ c.in_err-inst.ensures.refused)
 
 pub returns-clause-kept : goal.returns-clause-kept
-returns-clause-kept g c = λ other. c.take_edits.ensures.kept other ∙ (c.read_lists.ensures.kept other ∙ c.read_instance.ensures.kept other)
+returns-clause-kept g c =
+    λ other. c.take_edits.ensures.kept other ∙ (c.read_lists.ensures.kept other ∙ c.read_instance.ensures.kept other)
 
 pub returns-clause-never_fall : goal.returns-clause-never_fall
-returns-clause-never_fall g c = λ other. le_trans (c.read_instance.ensures.never_fall other) (le_trans (c.read_lists.ensures.never_fall other) (c.take_edits.ensures.never_fall other))
+returns-clause-never_fall g c = λ other. le_trans (c.read_instance.ensures.never_fall other)
+    (le_trans (c.read_lists.ensures.never_fall other) (c.take_edits.ensures.never_fall other))
 
 pub returns-in_err-edits-clause-kept : goal.returns-in_err-edits-clause-kept
-returns-in_err-edits-clause-kept g c = λ other. c.take_edits.ensures.kept other ∙ (c.read_lists.ensures.kept other ∙ c.read_instance.ensures.kept other)
+returns-in_err-edits-clause-kept g c =
+    λ other. c.take_edits.ensures.kept other ∙ (c.read_lists.ensures.kept other ∙ c.read_instance.ensures.kept other)
 
 pub returns-in_err-edits-clause-never_fall : goal.returns-in_err-edits-clause-never_fall
-returns-in_err-edits-clause-never_fall g c = λ other. le_trans (c.read_instance.ensures.never_fall other) (le_trans (c.read_lists.ensures.never_fall other) (c.take_edits.ensures.never_fall other))
+returns-in_err-edits-clause-never_fall g c = λ other. le_trans (c.read_instance.ensures.never_fall other)
+    (le_trans (c.read_lists.ensures.never_fall other) (c.take_edits.ensures.never_fall other))
 
 pub returns-in_err-lists-clause-kept : goal.returns-in_err-lists-clause-kept
 returns-in_err-lists-clause-kept g c = λ other. c.read_lists.ensures.kept other ∙ c.read_instance.ensures.kept other
 
 pub returns-in_err-lists-clause-never_fall : goal.returns-in_err-lists-clause-never_fall
-returns-in_err-lists-clause-never_fall g c = λ other. le_trans (c.read_instance.ensures.never_fall other) (c.read_lists.ensures.never_fall other)
+returns-in_err-lists-clause-never_fall g c =
+    λ other. le_trans (c.read_instance.ensures.never_fall other) (c.read_lists.ensures.never_fall other)

@@ -17,9 +17,13 @@ write_edited-ended-requires g c = c.requires.parts ∙ sym c.of-edited.ensures.p
 pub returns-in-Ok-clause-printed : goal.returns-in-Ok-clause-printed
 returns-in-Ok-clause-printed g c =
     let x = c.of-edited.result in
-    outcome_written c.args.inst.tables x.instance.tables c.args.outcome x.initial.items x.current.items (Took (writing g.O.Sink c.args.out.now c.write_edited-ended.new.sink)) c.of-edited.ensures.lists c.of-edited.ensures.initial c.of-edited.ensures.current c.of-edited.ensures.parts c.in-Ok.ensures.whole
+    outcome_written c.args.inst.tables x.instance.tables c.args.outcome x.initial.items x.current.items
+    (Took (writing g.O.Sink c.args.out.now c.write_edited-ended.new.sink)) c.of-edited.ensures.lists
+    c.of-edited.ensures.initial c.of-edited.ensures.current c.of-edited.ensures.parts c.in-Ok.ensures.whole
 
 pub returns-in-Err-clause-refused : goal.returns-in-Err-clause-refused
 returns-in-Err-clause-refused g c =
     let x = c.of-edited.result in
-    outcome_written c.args.inst.tables x.instance.tables c.args.outcome x.initial.items x.current.items (BrokeOff (writing g.O.Sink c.args.out.now c.write_edited-ended.new.sink)) c.of-edited.ensures.lists c.of-edited.ensures.initial c.of-edited.ensures.current c.of-edited.ensures.parts c.in-Err.ensures.part
+    outcome_written c.args.inst.tables x.instance.tables c.args.outcome x.initial.items x.current.items
+    (BrokeOff (writing g.O.Sink c.args.out.now c.write_edited-ended.new.sink)) c.of-edited.ensures.lists
+    c.of-edited.ensures.initial c.of-edited.ensures.current c.of-edited.ensures.parts c.in-Err.ensures.part

@@ -7,4 +7,5 @@ use Rattle.ra_edit_job.proofs.edited.add_model_part.Goals as goal
 
 pub returns : goal.returns
 unfolding model_part
-returns g c = adds_more g.O.Sink.taken g.O.Sink.faults c.args.text.now c.add_pieces.new.text c.add_model.new.text (joined (codes "model\n" ∷ [])) (model_text c.args.inst.now.tables) c.add_pieces.ensures c.add_model.ensures
+returns g c = adds_more g.O.Sink.taken g.O.Sink.faults c.args.text.now c.add_pieces.new.text c.add_model.new.text
+    (joined (codes "model\n" ∷ [])) (model_text c.args.inst.now.tables) c.add_pieces.ensures c.add_model.ensures

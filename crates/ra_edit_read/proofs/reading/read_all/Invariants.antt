@@ -8,7 +8,9 @@ use Rattle.ra_edit_read.proofs.reading.read_all.Given as goal
 
 abbrev pub invariant-loop-k : goal.invariant-loop-k
 invariant-loop-k g l = record {
-  went : Went (λ bytes before after. HasEdits bytes l.inst.tables after l.k l.edits.items l.requirements.items) (here (g.F.Files.held l.initial.files) (g.F.Files.faults l.initial.files) l.initial.tokens) (here (g.F.Files.held l.files) (g.F.Files.faults l.files) l.tokens);
+  went : Went (λ bytes before after. HasEdits bytes l.inst.tables after l.k l.edits.items l.requirements.items)
+      (here (g.F.Files.held l.initial.files) (g.F.Files.faults l.initial.files) l.initial.tokens)
+      (here (g.F.Files.held l.files) (g.F.Files.faults l.files) l.tokens);
   size : length l.edits.items ≡ l.k;
   rows : length l.requirements.items ≡ l.k * resource_count l.inst.tables;
   edits_room : l.edits.room ≡ l.initial.edits.room;

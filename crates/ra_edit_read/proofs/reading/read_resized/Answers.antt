@@ -3,10 +3,15 @@ use Rattle.ra_edit_read.proofs.EditLaws.{resized_process, at_resized_requirement
 use Rattle.ra_edit_read.proofs.reading.read_resized.Goals as goal
 
 pub returns-in_err-process-clause-refuses : goal.returns-in_err-process-clause-refuses
-returns-in_err-process-clause-refuses g c = at_exit _ _ _ c.from_residual.ensures (refuses_as c.in_err-process.ensures.refuses (λ bytes x says. resized_process bytes _ _ x _ says))
+returns-in_err-process-clause-refuses g c =
+    at_exit _ _ _ c.from_residual.ensures
+    (refuses_as c.in_err-process.ensures.refuses (λ bytes x says. resized_process bytes _ _ x _ says))
 
 pub returns-in_err-take_numbers-clause-refuses : goal.returns-in_err-take_numbers-clause-refuses
-returns-in_err-take_numbers-clause-refuses g c = at_exit _ _ _ c.from_residual-in_err-take_numbers.ensures (refuses_next c.in_ok-process.ensures.gives c.in_err-take_numbers.ensures.refuses (λ bytes x y one says. at_resized_requirements bytes _ _ _ x y _ _ c.resources.ensures one says))
+returns-in_err-take_numbers-clause-refuses g c = at_exit _ _ _ c.from_residual-in_err-take_numbers.ensures
+    (refuses_next c.in_ok-process.ensures.gives c.in_err-take_numbers.ensures.refuses
+    (λ bytes x y one says. at_resized_requirements bytes _ _ _ x y _ _ c.resources.ensures one says))
 
 pub returns-clause-gives : goal.returns-clause-gives
-returns-clause-gives g c = went_on c.in_ok-process.ensures.gives c.in_ok-take_numbers.ensures.gives (λ bytes x y z one two. at_resized bytes _ _ _ x y z c.in_ok-process.process _ _ c.resources.ensures one two)
+returns-clause-gives g c = went_on c.in_ok-process.ensures.gives c.in_ok-take_numbers.ensures.gives
+    (λ bytes x y z one two. at_resized bytes _ _ _ x y z c.in_ok-process.process _ _ c.resources.ensures one two)

@@ -3,4 +3,5 @@ use Rattle.ra_guards.specs.Lowest.{IsLower, IsWrittenBelow}
 use Rattle.ra_guards.proofs.lowest.least_guard.Given as goal
 
 abbrev pub invariant-loop-j : goal.invariant-loop-j
-invariant-loop-j l = IsLower l.fn.inst.tables (version_in l.fn.versions) l.fn.q (IsWrittenBelow l.fn.inst.tables l.fn.mv.steps l.j) l.initial.least l.least
+invariant-loop-j l = IsLower l.fn.inst.tables (version_in l.fn.versions) l.fn.q
+    (IsWrittenBelow l.fn.inst.tables l.fn.mv.steps l.j) l.initial.least l.least

@@ -7,10 +7,16 @@ use Rattle.ra_guards.proofs.JoinLemmas.{needs_known, dependants_known, both_list
 use Rattle.ra_guards.proofs.lowest.lower_joined.Goals as goal
 
 pub lower_listed-least-requires-clause-services : goal.lower_listed-least-requires-clause-services
-lower_listed-least-requires-clause-services c = needs_known c.args.inst.now.tables c.args.service.0 c.needs.result.now (subst (AreNeedsOf c.args.inst.now.tables c.args.service.0) (sym c.needs.ensures) (c.requires.topology.needs.each c.args.service.0 c.requires.service)) c.args.inst.now.well_formed c.requires.service
+lower_listed-least-requires-clause-services c = needs_known c.args.inst.now.tables c.args.service.0 c.needs.result.now
+    (subst (AreNeedsOf c.args.inst.now.tables c.args.service.0) (sym c.needs.ensures)
+    (c.requires.topology.needs.each c.args.service.0 c.requires.service)) c.args.inst.now.well_formed
+    c.requires.service
 
 pub lower_listed-requires-clause-services : goal.lower_listed-requires-clause-services
-lower_listed-requires-clause-services c = dependants_known c.args.inst.now.tables c.args.service.0 c.dependants.result.now (subst (AreDependantsOf c.args.inst.now.tables c.args.service.0) (sym c.dependants.ensures) (c.requires.topology.dependants.each c.args.service.0 c.requires.service))
+lower_listed-requires-clause-services c =
+    dependants_known c.args.inst.now.tables c.args.service.0 c.dependants.result.now
+    (subst (AreDependantsOf c.args.inst.now.tables c.args.service.0) (sym c.dependants.ensures)
+    (c.requires.topology.dependants.each c.args.service.0 c.requires.service))
 
 pub returns : goal.returns
 returns c =
@@ -19,8 +25,12 @@ returns c =
     let s = c.args.service.0 in
     let needs = c.needs.result.now in
     let dependants = c.dependants.result.now in
-    let are_needs = subst (AreNeedsOf i s) (sym c.needs.ensures) (c.requires.topology.needs.each s c.requires.service) in
-    let are_dependants = subst (AreDependantsOf i s) (sym c.dependants.ensures) (c.requires.topology.dependants.each s c.requires.service) in
-    lower_both i (version_in c.args.versions.now) c.args.q (IsReadIn i steps needs (length needs)) (IsReadIn i steps dependants (length dependants)) (IsReadBy i steps s) c.args.before c.lower_listed-least.result c.lower_listed.result
+    let are_needs =
+    subst (AreNeedsOf i s) (sym c.needs.ensures) (c.requires.topology.needs.each s c.requires.service) in
+    let are_dependants = subst (AreDependantsOf i s) (sym c.dependants.ensures)
+    (c.requires.topology.dependants.each s c.requires.service) in
+    lower_both i (version_in c.args.versions.now) c.args.q (IsReadIn i steps needs (length needs))
+    (IsReadIn i steps dependants (length dependants)) (IsReadBy i steps s) c.args.before c.lower_listed-least.result
+    c.lower_listed.result
     (both_lists i steps s needs dependants are_needs are_dependants c.args.inst.now.well_formed c.requires.service)
     c.lower_listed-least.ensures c.lower_listed.ensures

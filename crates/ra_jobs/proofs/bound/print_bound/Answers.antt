@@ -33,6 +33,8 @@ returns-in_err-bound g c =
     let held = g.F.Files.held c.args.files.now in
     let names = bound_names c.args.model.now (option_copied c.args.initial) (option_copied c.args.closed) in
     let out = output g.O.Sink c.args.out.now c.args.out.now in
-    not_tried (bound_command c.args.model.now (option_copied c.args.initial) (option_copied c.args.closed)) (reading g.F.Files c.args.files.now c.read_bound.new.files) out _ _ c.from_residual.ensures
-    (reason_anywhere held names (g.F.Files.faults c.args.files.now) (g.F.Files.faults c.read_bound.new.files) (OnlyWrites (BoundPrinted held names (BrokeOff out.sink))) _ c.in_err-bound.ensures.refused)
+    not_tried (bound_command c.args.model.now (option_copied c.args.initial) (option_copied c.args.closed))
+    (reading g.F.Files c.args.files.now c.read_bound.new.files) out _ _ c.from_residual.ensures
+    (reason_anywhere held names (g.F.Files.faults c.args.files.now) (g.F.Files.faults c.read_bound.new.files)
+    (OnlyWrites (BoundPrinted held names (BrokeOff out.sink))) _ c.in_err-bound.ensures.refused)
     refl (record { kept = c.read_bound.ensures.kept; never_fall = c.read_bound.ensures.never_fall }) (omega arith)

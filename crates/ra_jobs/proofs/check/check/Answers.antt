@@ -10,7 +10,10 @@ use Rattle.ra_jobs.proofs.check.check.Goals as goal
 
 pub returns-in-Ok : goal.returns-in-Ok
 returns-in-Ok g c = record {
-  printed = printed (g.F.Files.held c.args.files.now) (check_names c.args.model.now c.args.initial.now c.args.changed.now (option_copied c.args.closed)) c.in_ok-parts.parts (Took (writing g.O.Sink c.args.out.now c.write_parts.new.sink)) c.in_ok-parts.ensures.passed c.in-Ok.ensures.whole;
+  printed = printed (g.F.Files.held c.args.files.now)
+      (check_names c.args.model.now c.args.initial.now c.args.changed.now (option_copied c.args.closed))
+      c.in_ok-parts.parts (Took (writing g.O.Sink c.args.out.now c.write_parts.new.sink)) c.in_ok-parts.ensures.passed
+      c.in-Ok.ensures.whole;
   refused = tt;
   no_output = tt;
   leaves = record { kept = c.read_parts.ensures.kept; never_fall = c.read_parts.ensures.never_fall };
@@ -20,7 +23,10 @@ returns-in-Ok g c = record {
 pub returns-in-Err : goal.returns-in-Err
 returns-in-Err g c = record {
   printed = tt;
-  refused = printed (g.F.Files.held c.args.files.now) (check_names c.args.model.now c.args.initial.now c.args.changed.now (option_copied c.args.closed)) c.in_ok-parts.parts (BrokeOff (writing g.O.Sink c.args.out.now c.write_parts.new.sink)) c.in_ok-parts.ensures.passed c.in-Err.ensures.part;
+  refused = printed (g.F.Files.held c.args.files.now)
+      (check_names c.args.model.now c.args.initial.now c.args.changed.now (option_copied c.args.closed))
+      c.in_ok-parts.parts (BrokeOff (writing g.O.Sink c.args.out.now c.write_parts.new.sink))
+      c.in_ok-parts.ensures.passed c.in-Err.ensures.part;
   no_output = λ first. absurd cc;
   leaves = record { kept = c.read_parts.ensures.kept; never_fall = c.read_parts.ensures.never_fall };
   never_falls = c.write_parts.ensures.never_falls;
@@ -31,6 +37,8 @@ returns-in_err-parts g c =
     let held = g.F.Files.held c.args.files.now in
     let names = check_names c.args.model.now c.args.initial.now c.args.changed.now (option_copied c.args.closed) in
     let out = output g.O.Sink c.args.out.now c.args.out.now in
-    not_tried (check_command c.args.model.now c.args.initial.now c.args.changed.now (option_copied c.args.closed)) (reading g.F.Files c.args.files.now c.read_parts.new.files) out _ _ c.from_residual.ensures
-    (reason_unwritten held names (g.F.Files.faults c.args.files.now) (g.F.Files.faults c.read_parts.new.files) (CheckPrinted held names (BrokeOff out.sink)) _ c.in_err-parts.ensures.refused)
+    not_tried (check_command c.args.model.now c.args.initial.now c.args.changed.now (option_copied c.args.closed))
+    (reading g.F.Files c.args.files.now c.read_parts.new.files) out _ _ c.from_residual.ensures
+    (reason_unwritten held names (g.F.Files.faults c.args.files.now) (g.F.Files.faults c.read_parts.new.files)
+    (CheckPrinted held names (BrokeOff out.sink)) _ c.in_err-parts.ensures.refused)
     refl (record { kept = c.read_parts.ensures.kept; never_fall = c.read_parts.ensures.never_fall }) (omega arith)

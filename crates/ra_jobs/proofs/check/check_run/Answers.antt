@@ -12,5 +12,8 @@ pub finish-requires : goal.finish-requires
 finish-requires g c = if_err_then c.check-ended.result _ _ (can_tell_judged _ _ _ _ _) c.check-ended.ensures.refused
 
 pub returns : goal.returns
-returns g c = check_so (check_names c.args.model.now c.args.initial.now c.args.changed.now (option_copied c.args.closed))
-    (reading g.F.Files c.args.files.now c.check-ended.new.files) (output g.O.Sink c.args.out.now c.check-ended.new.out) (output g.E.Sink c.args.err.now c.finish.new.err) c.check-ended.result c.finish.result c.check-ended.ensures c.finish.ensures
+returns g c =
+    check_so (check_names c.args.model.now c.args.initial.now c.args.changed.now (option_copied c.args.closed))
+    (reading g.F.Files c.args.files.now c.check-ended.new.files) (output g.O.Sink c.args.out.now c.check-ended.new.out)
+    (output g.E.Sink c.args.err.now c.finish.new.err) c.check-ended.result c.finish.result c.check-ended.ensures
+    c.finish.ensures

@@ -9,32 +9,61 @@ use Rattle.ra_jobs.proofs.check.read_parts.Goals as goal
 
 pub returns-clause-passed : goal.returns-clause-passed
 returns-clause-passed g c =
-    let accepts = accepts_all (g.F.Files.held c.args.files.now) (g.F.Files.held c.read_instance.new.files) c.args.model.now (option_copied c.args.closed) c.args.initial.now c.args.changed.now c.in_ok-inst.inst.tables c.in_ok-lists.lists.initial.items c.in_ok-lists.lists.changed.items c.read_instance.ensures.kept c.in_ok-inst.ensures.read c.in_ok-lists.ensures.read in
+    let accepts = accepts_all (g.F.Files.held c.args.files.now) (g.F.Files.held c.read_instance.new.files)
+    c.args.model.now (option_copied c.args.closed) c.args.initial.now c.args.changed.now c.in_ok-inst.inst.tables
+    c.in_ok-lists.lists.initial.items c.in_ok-lists.lists.changed.items c.read_instance.ensures.kept
+    c.in_ok-inst.ensures.read c.in_ok-lists.ensures.read in
     MatchResult-weaker c.judge.result c.judge.ensures.passes
-    (λ x h. passed_all (g.F.Files.held c.args.files.now) (check_names c.args.model.now c.args.initial.now c.args.changed.now (option_copied c.args.closed)) c.in_ok-inst.inst.tables c.in_ok-lists.lists.initial.items c.in_ok-lists.lists.changed.items x accepts h)
+    (λ x h. passed_all (g.F.Files.held c.args.files.now)
+    (check_names c.args.model.now c.args.initial.now c.args.changed.now (option_copied c.args.closed))
+    c.in_ok-inst.inst.tables c.in_ok-lists.lists.initial.items c.in_ok-lists.lists.changed.items x accepts h)
     (λ y h. h)
 
 pub returns-clause-refused : goal.returns-clause-refused
 returns-clause-refused g c =
-    let accepts = accepts_all (g.F.Files.held c.args.files.now) (g.F.Files.held c.read_instance.new.files) c.args.model.now (option_copied c.args.closed) c.args.initial.now c.args.changed.now c.in_ok-inst.inst.tables c.in_ok-lists.lists.initial.items c.in_ok-lists.lists.changed.items c.read_instance.ensures.kept c.in_ok-inst.ensures.read c.in_ok-lists.ensures.read in
+    let accepts = accepts_all (g.F.Files.held c.args.files.now) (g.F.Files.held c.read_instance.new.files)
+    c.args.model.now (option_copied c.args.closed) c.args.initial.now c.args.changed.now c.in_ok-inst.inst.tables
+    c.in_ok-lists.lists.initial.items c.in_ok-lists.lists.changed.items c.read_instance.ensures.kept
+    c.in_ok-inst.ensures.read c.in_ok-lists.ensures.read in
     MatchResult-weaker c.judge.result c.judge.ensures.refused
     (λ x h. h)
-    (λ y h. reason_judge (g.F.Files.held c.args.files.now) (check_names c.args.model.now c.args.initial.now c.args.changed.now (option_copied c.args.closed)) c.in_ok-inst.inst.tables c.in_ok-lists.lists.initial.items c.in_ok-lists.lists.changed.items (g.F.Files.faults c.args.files.now) (g.F.Files.faults c.read_lists.new.files) ⊥ refl refl accepts y h)
+    (λ y h. reason_judge (g.F.Files.held c.args.files.now)
+    (check_names c.args.model.now c.args.initial.now c.args.changed.now (option_copied c.args.closed))
+    c.in_ok-inst.inst.tables c.in_ok-lists.lists.initial.items c.in_ok-lists.lists.changed.items
+    (g.F.Files.faults c.args.files.now) (g.F.Files.faults c.read_lists.new.files) ⊥ refl refl accepts y h)
 
 pub returns-in_err-lists-clause-refused : goal.returns-in_err-lists-clause-refused
-returns-in_err-lists-clause-refused g c = at_exit _ _ _ c.from_residual-in_err-lists.ensures (reason_lists (g.F.Files.held c.args.files.now) (g.F.Files.held c.read_instance.new.files) c.args.model.now (option_copied c.args.closed) c.args.initial.now c.args.changed.now c.in_ok-inst.inst.tables (g.F.Files.faults c.args.files.now) (g.F.Files.faults c.read_instance.new.files) (g.F.Files.faults c.read_lists.new.files) (Judges (g.F.Files.held c.args.files.now) (check_names c.args.model.now c.args.initial.now c.args.changed.now (option_copied c.args.closed)) ⊥) c.read_instance.ensures.kept c.read_instance.ensures.never_fall c.in_ok-inst.ensures.read _ c.in_err-lists.ensures.refused)
+returns-in_err-lists-clause-refused g c =
+    at_exit _ _ _ c.from_residual-in_err-lists.ensures
+    (reason_lists (g.F.Files.held c.args.files.now) (g.F.Files.held c.read_instance.new.files) c.args.model.now
+    (option_copied c.args.closed) c.args.initial.now c.args.changed.now c.in_ok-inst.inst.tables
+    (g.F.Files.faults c.args.files.now) (g.F.Files.faults c.read_instance.new.files)
+    (g.F.Files.faults c.read_lists.new.files)
+    (Judges (g.F.Files.held c.args.files.now)
+    (check_names c.args.model.now c.args.initial.now c.args.changed.now (option_copied c.args.closed)) ⊥)
+    c.read_instance.ensures.kept c.read_instance.ensures.never_fall c.in_ok-inst.ensures.read _
+    c.in_err-lists.ensures.refused)
 
 pub returns-in_err-inst-clause-refused : goal.returns-in_err-inst-clause-refused
-returns-in_err-inst-clause-refused g c = at_exit _ _ _ c.from_residual.ensures (reason_source (g.F.Files.held c.args.files.now) (check_names c.args.model.now c.args.initial.now c.args.changed.now (option_copied c.args.closed)) (g.F.Files.faults c.args.files.now) (g.F.Files.faults c.read_instance.new.files) (Judges (g.F.Files.held c.args.files.now) (check_names c.args.model.now c.args.initial.now c.args.changed.now (option_copied c.args.closed)) ⊥) _ c.in_err-inst.ensures.refused)
+returns-in_err-inst-clause-refused g c =
+    at_exit _ _ _ c.from_residual.ensures
+    (reason_source (g.F.Files.held c.args.files.now)
+    (check_names c.args.model.now c.args.initial.now c.args.changed.now (option_copied c.args.closed))
+    (g.F.Files.faults c.args.files.now) (g.F.Files.faults c.read_instance.new.files)
+    (Judges (g.F.Files.held c.args.files.now)
+    (check_names c.args.model.now c.args.initial.now c.args.changed.now (option_copied c.args.closed)) ⊥) _
+    c.in_err-inst.ensures.refused)
 
 pub returns-clause-kept : goal.returns-clause-kept
 returns-clause-kept g c = λ other. c.read_lists.ensures.kept other ∙ c.read_instance.ensures.kept other
 
 pub returns-clause-never_fall : goal.returns-clause-never_fall
-returns-clause-never_fall g c = λ other. le_trans (c.read_instance.ensures.never_fall other) (c.read_lists.ensures.never_fall other)
+returns-clause-never_fall g c =
+    λ other. le_trans (c.read_instance.ensures.never_fall other) (c.read_lists.ensures.never_fall other)
 
 pub returns-in_err-lists-clause-kept : goal.returns-in_err-lists-clause-kept
 returns-in_err-lists-clause-kept g c = λ other. c.read_lists.ensures.kept other ∙ c.read_instance.ensures.kept other
 
 pub returns-in_err-lists-clause-never_fall : goal.returns-in_err-lists-clause-never_fall
-returns-in_err-lists-clause-never_fall g c = λ other. le_trans (c.read_instance.ensures.never_fall other) (c.read_lists.ensures.never_fall other)
+returns-in_err-lists-clause-never_fall g c =
+    λ other. le_trans (c.read_instance.ensures.never_fall other) (c.read_lists.ensures.never_fall other)

@@ -5,10 +5,12 @@ pub returns-clause-kept : goal.returns-clause-kept
 returns-clause-kept g c = λ other. c.read_list-2.ensures.kept other ∙ c.read_list.ensures.kept other
 
 pub returns-clause-never_fall : goal.returns-clause-never_fall
-returns-clause-never_fall g c = λ other. le_trans (c.read_list.ensures.never_fall other) (c.read_list-2.ensures.never_fall other)
+returns-clause-never_fall g c =
+    λ other. le_trans (c.read_list.ensures.never_fall other) (c.read_list-2.ensures.never_fall other)
 
 pub returns-in_err-changed-clause-kept : goal.returns-in_err-changed-clause-kept
 returns-in_err-changed-clause-kept g c = λ other. c.read_list-2.ensures.kept other ∙ c.read_list.ensures.kept other
 
 pub returns-in_err-changed-clause-never_fall : goal.returns-in_err-changed-clause-never_fall
-returns-in_err-changed-clause-never_fall g c = λ other. le_trans (c.read_list.ensures.never_fall other) (c.read_list-2.ensures.never_fall other)
+returns-in_err-changed-clause-never_fall g c =
+    λ other. le_trans (c.read_list.ensures.never_fall other) (c.read_list-2.ensures.never_fall other)

@@ -3,7 +3,13 @@ use Rattle.ra_jobs.specs.declared.refusals.Refusal.{Refusal}
 use Rattle.ra_jobs.proofs.refusing.finish.Goals as goal
 
 pub returns-in-Ok : goal.returns-in-Ok
-returns-in-Ok g c = record { done = λ _. refl; no_line = λ _. refl; is = rw c.in-Ok.is tt; line = rw c.in-Ok.is tt; never_falls = omega arith }
+returns-in-Ok g c = record {
+  done = λ _. refl;
+  no_line = λ _. refl;
+  is = rw c.in-Ok.is tt;
+  line = rw c.in-Ok.is tt;
+  never_falls = omega arith;
+}
 
 pub returns-in-Err : goal.returns-in-Err
 returns-in-Err g c = record {

@@ -28,10 +28,15 @@ returns g c =
     let one = one_lot lots c.lot.result.now c.requires.one c.lot.ensures in
     let start = c.in_ok-start.ensures.read in
     record {
-      printed = on_ok_then c.try_from-ended.result _ _ (λ tried. (lots, refl, tried_all held names lots i a0 c.lot.result.now None (Took out) start one tried)) c.try_from-ended.ensures.printed;
+      printed = on_ok_then c.try_from-ended.result _ _
+          (λ tried. (lots, refl, tried_all held names lots i a0 c.lot.result.now None (Took out) start one tried))
+          c.try_from-ended.ensures.printed;
       refused = if_err_then c.try_from-ended.result _ _
-          (λ r reason. reason_more held names before now (RepairOwn held names lots (Took out) (BrokeOff out)) ((repaired names (These lots)).refuses held (Took out) (BrokeOff out)) (λ refusal own. (lots, refl, own)) r
-          (reason_try held names lots i a0 c.lot.result.now before now (Took out) (BrokeOff out) start one r reason)) c.try_from-ended.ensures.refused;
+          (λ r reason. reason_more held names before now (RepairOwn held names lots (Took out) (BrokeOff out))
+          ((repaired names (These lots)).refuses held (Took out) (BrokeOff out))
+          (λ refusal own. (lots, refl, own)) r
+          (reason_try held names lots i a0 c.lot.result.now before now (Took out) (BrokeOff out) start one r reason))
+          c.try_from-ended.ensures.refused;
       no_output = c.try_from-ended.ensures.no_output;
       leaves = record { kept = c.read_start.ensures.kept; never_fall = c.read_start.ensures.never_fall };
       never_falls = c.try_from-ended.ensures.out_never_falls;
@@ -42,6 +47,9 @@ returns-in_err-start g c =
     let held = g.F.Files.held c.args.files.now in
     let names = solve_names c.args.model.now c.args.initial.now (option_copied c.args.closed) in
     let out = output g.O.Sink c.args.out.now c.args.out.now in
-    not_tried (repair_command c.args.model.now c.args.initial.now (option_copied c.args.closed) (These c.args.lots.now)) (reading g.F.Files c.args.files.now c.read_start.new.files) out _ _ c.from_residual.ensures
-    (reason_anywhere held names (g.F.Files.faults c.args.files.now) (g.F.Files.faults c.read_start.new.files) ((repaired names (These c.args.lots.now)).refuses held (Took out.sink) (BrokeOff out.sink)) _ c.in_err-start.ensures.refused)
+    not_tried (repair_command c.args.model.now c.args.initial.now (option_copied c.args.closed) (These c.args.lots.now))
+    (reading g.F.Files c.args.files.now c.read_start.new.files) out _ _ c.from_residual.ensures
+    (reason_anywhere held names (g.F.Files.faults c.args.files.now) (g.F.Files.faults c.read_start.new.files)
+    ((repaired names (These c.args.lots.now)).refuses held (Took out.sink) (BrokeOff out.sink)) _
+    c.in_err-start.ensures.refused)
     refl (record { kept = c.read_start.ensures.kept; never_fall = c.read_start.ensures.never_fall }) (omega arith)

@@ -17,8 +17,13 @@ finish-requires g c =
     let names = solve_names c.args.model.now c.args.initial.now (option_copied c.args.closed) in
     let out = writing g.O.Sink c.args.out.now c.mend-ended.new.out in
     let own = (repaired names (These c.args.lots.now)).refuses held (Took out) (BrokeOff out) in
-    if_err_then c.mend-ended.result _ _ (can_tell held names _ _ own (λ r reason. own_tells held names reason.0 (Took out) (BrokeOff out) refl r reason.2)) c.mend-ended.ensures.refused
+    if_err_then c.mend-ended.result _ _
+    (can_tell held names _ _ own
+    (λ r reason. own_tells held names reason.0 (Took out) (BrokeOff out) refl r reason.2))
+    c.mend-ended.ensures.refused
 
 pub returns : goal.returns
 returns g c = repair_so c.args.model.now (option_copied c.args.closed) c.args.initial.now c.args.lots.now
-    (reading g.F.Files c.args.files.now c.mend-ended.new.files) (output g.O.Sink c.args.out.now c.mend-ended.new.out) (output g.E.Sink c.args.err.now c.finish.new.err) c.mend-ended.result c.finish.result c.mend-ended.ensures c.finish.ensures
+    (reading g.F.Files c.args.files.now c.mend-ended.new.files) (output g.O.Sink c.args.out.now c.mend-ended.new.out)
+    (output g.E.Sink c.args.err.now c.finish.new.err) c.mend-ended.result c.finish.result c.mend-ended.ensures
+    c.finish.ensures

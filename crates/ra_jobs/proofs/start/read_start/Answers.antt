@@ -7,22 +7,37 @@ use Rattle.ra_jobs.proofs.StageLemmas.{reason_initial, reason_source, starts}
 use Rattle.ra_jobs.proofs.start.read_start.Goals as goal
 
 pub returns-in_err-initial-clause-refused : goal.returns-in_err-initial-clause-refused
-returns-in_err-initial-clause-refused g c = at_exit _ _ _ c.from_residual-in_err-initial.ensures (reason_initial (g.F.Files.held c.args.files.now) (g.F.Files.held c.read_instance.new.files) c.args.model.now (option_copied c.args.closed) c.args.initial.now c.in_ok-inst.inst.tables (g.F.Files.faults c.args.files.now) (g.F.Files.faults c.read_instance.new.files) (g.F.Files.faults c.read_list.new.files) Nothing c.read_instance.ensures.kept c.read_instance.ensures.never_fall c.in_ok-inst.ensures.read _ c.in_err-initial.ensures.refused)
+returns-in_err-initial-clause-refused g c =
+    at_exit _ _ _ c.from_residual-in_err-initial.ensures
+    (reason_initial (g.F.Files.held c.args.files.now) (g.F.Files.held c.read_instance.new.files) c.args.model.now
+    (option_copied c.args.closed) c.args.initial.now c.in_ok-inst.inst.tables (g.F.Files.faults c.args.files.now)
+    (g.F.Files.faults c.read_instance.new.files) (g.F.Files.faults c.read_list.new.files) Nothing
+    c.read_instance.ensures.kept c.read_instance.ensures.never_fall c.in_ok-inst.ensures.read _
+    c.in_err-initial.ensures.refused)
 
 pub returns-in_err-inst-clause-refused : goal.returns-in_err-inst-clause-refused
-returns-in_err-inst-clause-refused g c = at_exit _ _ _ c.from_residual.ensures (reason_source (g.F.Files.held c.args.files.now) (solve_names c.args.model.now c.args.initial.now (option_copied c.args.closed)) (g.F.Files.faults c.args.files.now) (g.F.Files.faults c.read_instance.new.files) Nothing _ c.in_err-inst.ensures.refused)
+returns-in_err-inst-clause-refused g c =
+    at_exit _ _ _ c.from_residual.ensures
+    (reason_source (g.F.Files.held c.args.files.now)
+    (solve_names c.args.model.now c.args.initial.now (option_copied c.args.closed))
+    (g.F.Files.faults c.args.files.now) (g.F.Files.faults c.read_instance.new.files) Nothing _
+    c.in_err-inst.ensures.refused)
 
 pub returns-clause-kept : goal.returns-clause-kept
 returns-clause-kept g c = λ other. c.read_list.ensures.kept other ∙ c.read_instance.ensures.kept other
 
 pub returns-clause-never_fall : goal.returns-clause-never_fall
-returns-clause-never_fall g c = λ other. le_trans (c.read_instance.ensures.never_fall other) (c.read_list.ensures.never_fall other)
+returns-clause-never_fall g c =
+    λ other. le_trans (c.read_instance.ensures.never_fall other) (c.read_list.ensures.never_fall other)
 
 pub returns-in_err-initial-clause-kept : goal.returns-in_err-initial-clause-kept
 returns-in_err-initial-clause-kept g c = λ other. c.read_list.ensures.kept other ∙ c.read_instance.ensures.kept other
 
 pub returns-in_err-initial-clause-never_fall : goal.returns-in_err-initial-clause-never_fall
-returns-in_err-initial-clause-never_fall g c = λ other. le_trans (c.read_instance.ensures.never_fall other) (c.read_list.ensures.never_fall other)
+returns-in_err-initial-clause-never_fall g c =
+    λ other. le_trans (c.read_instance.ensures.never_fall other) (c.read_list.ensures.never_fall other)
 
 pub returns-clause-read : goal.returns-clause-read
-returns-clause-read g c = starts (g.F.Files.held c.args.files.now) (g.F.Files.held c.read_instance.new.files) c.args.model.now (option_copied c.args.closed) c.args.initial.now c.in_ok-inst.inst.tables c.in_ok-initial.initial.items c.read_instance.ensures.kept c.in_ok-inst.ensures.read c.in_ok-initial.ensures.read
+returns-clause-read g c = starts (g.F.Files.held c.args.files.now) (g.F.Files.held c.read_instance.new.files)
+    c.args.model.now (option_copied c.args.closed) c.args.initial.now c.in_ok-inst.inst.tables
+    c.in_ok-initial.initial.items c.read_instance.ensures.kept c.in_ok-inst.ensures.read c.in_ok-initial.ensures.read

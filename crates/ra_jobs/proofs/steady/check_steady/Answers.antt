@@ -8,10 +8,18 @@ use Rattle.ra_jobs.proofs.EndLemmas.{ends_of}
 use Rattle.ra_jobs.proofs.steady.check_steady.Goals as goal
 
 pub returns-clause-no_read_fault : goal.returns-clause-no_read_fault
-returns-clause-no_read_fault c = no_read_fault (ends_of (checked (check_names c.args.model.now c.args.initial.now c.args.changed.now (option_copied c.args.closed))) _ _ _ _ c.check_run.ensures) (λ name. never_rose)
+returns-clause-no_read_fault c =
+    no_read_fault
+    (ends_of (checked
+    (check_names c.args.model.now c.args.initial.now c.args.changed.now (option_copied c.args.closed))) _ _ _ _
+    c.check_run.ensures) (λ name. never_rose)
 
 pub returns-clause-no_write_fault : goal.returns-clause-no_write_fault
-returns-clause-no_write_fault c = no_write_fault (ends_of (checked (check_names c.args.model.now c.args.initial.now c.args.changed.now (option_copied c.args.closed))) _ _ _ _ c.check_run.ensures) (λ printed. never_rose printed.text.1)
+returns-clause-no_write_fault c =
+    no_write_fault
+    (ends_of (checked
+    (check_names c.args.model.now c.args.initial.now c.args.changed.now (option_copied c.args.closed))) _ _ _ _
+    c.check_run.ensures) (λ printed. never_rose printed.text.1)
 
 pub returns-clause-complete : goal.returns-clause-complete
 returns-clause-complete c = λ valid. c.check_run.ensures.complete (valid, λ f named. never_rose) never_rose

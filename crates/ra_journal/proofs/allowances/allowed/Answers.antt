@@ -16,8 +16,14 @@ share_of-requires-clause-left c = omega (arith, c.requires.left, ap (λ (lot : L
 
 pub share_of-requires-clause-few : goal.share_of-requires-clause-few
 unfolding budget budget_of
-share_of-requires-clause-few c = omega (arith, budgets_few c.args.lots.now c.args.worker c.requires.worker, ap (λ (lot : Lot). lot.budget) c.lot.ensures)
+share_of-requires-clause-few c =
+    omega (
+      arith,
+      budgets_few c.args.lots.now c.args.worker c.requires.worker,
+      ap (λ (lot : Lot). lot.budget) c.lot.ensures,
+    )
 
 pub returns : goal.returns
 unfolding allowed allowance_of budget_of
-returns c = c.share_of.ensures ∙ ap₂ (λ slack (lot : Lot). allowance slack lot.budget c.args.k) c.slack.ensures c.lot.ensures
+returns c = c.share_of.ensures ∙ ap₂ (λ slack (lot : Lot). allowance slack lot.budget c.args.k) c.slack.ensures
+    c.lot.ensures

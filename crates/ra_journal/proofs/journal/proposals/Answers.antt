@@ -25,10 +25,12 @@ loop-w-preserved c =
 
 pub returns-clause-value : goal.returns-clause-value
 unfolding proposal_count worker_count
-returns-clause-value c = c.loop-w.invariant ∙ ap (λ n. total n (budget c.args.lots.now)) (omega (arith, c.len-w-end.ensures.value))
+returns-clause-value c =
+    c.loop-w.invariant ∙ ap (λ n. total n (budget c.args.lots.now)) (omega (arith, c.len-w-end.ensures.value))
 
 pub returns-clause-few : goal.returns-clause-few
 unfolding proposal_count worker_count
 returns-clause-few c =
-    let all = ap (λ n. total n (budget c.args.lots.now)) (let e : c.loop-w.w ≡ worker_count c.args.lots.now = omega (arith, c.len-w-end.ensures.value) in e) in
+    let all = ap (λ n. total n (budget c.args.lots.now))
+    (let e : c.loop-w.w ≡ worker_count c.args.lots.now = omega (arith, c.len-w-end.ensures.value) in e) in
     omega (arith, proposals_few c.args.lots.now, c.loop-w.invariant, all)

@@ -12,8 +12,12 @@ allowed-rise-requires-clause-left c = c.requires.next.commit.within
 
 pub settle_now-requires : goal.settle_now-requires
 settle_now-requires c =
-    let settling = settling_now c.args.inst.now.tables c.args.a0.now.items c.args.lots.now c.args.book.now c.args.worker c.args.plan.now c.requires.start c.requires.kept c.requires.next.commit c.requires.next.untouched in
-    record { some = has_settling c.args.inst.now.tables c.args.a0.now.items _ c.args.plan.now.mv.steps c.args.book.now c.args.plan.now settling }
+    let settling = settling_now c.args.inst.now.tables c.args.a0.now.items c.args.lots.now c.args.book.now c.args.worker
+    c.args.plan.now c.requires.start c.requires.kept c.requires.next.commit c.requires.next.untouched in
+    record {
+      some = has_settling c.args.inst.now.tables c.args.a0.now.items _ c.args.plan.now.mv.steps c.args.book.now
+          c.args.plan.now settling;
+    }
 
 pub returns : goal.returns
 returns c =
@@ -21,5 +25,7 @@ returns c =
     let a0 = c.args.a0.now.items in
     let h = c.args.book.now.entries.items in
     let steps = c.args.plan.now.mv.steps in
-    let settling = settling_now i a0 c.args.lots.now c.args.book.now c.args.worker c.args.plan.now c.requires.start c.requires.kept c.requires.next.commit c.requires.next.untouched in
-    c.settle_now.ensures a0 (state a0 h (length h)) steps settling ∙ ap (judge i a0 (state a0 h (length h)) steps) c.allowed-rise.ensures
+    let settling = settling_now i a0 c.args.lots.now c.args.book.now c.args.worker c.args.plan.now c.requires.start
+    c.requires.kept c.requires.next.commit c.requires.next.untouched in
+    c.settle_now.ensures a0 (state a0 h (length h)) steps settling
+    ∙ ap (judge i a0 (state a0 h (length h)) steps) c.allowed-rise.ensures

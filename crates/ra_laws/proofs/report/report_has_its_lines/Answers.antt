@@ -11,7 +11,13 @@ pub returns-clause-entries : goal.returns-clause-entries
 returns-clause-entries c = entries_before
 
 pub returns-clause-report : goal.returns-clause-report
-returns-clause-report c = λ i a0 l h. (report_parts i a0 l h, record { ten = head_line_count i a0 l h; before = head_before i a0 l h })
+returns-clause-report c = λ i a0 l h. (
+  report_parts i a0 l h,
+  record {
+    ten = head_line_count i a0 l h;
+    before = head_before i a0 l h;
+  },
+)
 
 pub returns-clause-behind : goal.returns-clause-behind
 returns-clause-behind c = lines_behind

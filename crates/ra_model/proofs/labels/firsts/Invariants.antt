@@ -6,4 +6,8 @@ use Rattle.ra_model.proofs.PlaceLemmas.{IsKnown}
 use Rattle.ra_model.proofs.labels.firsts.Given as goal
 
 abbrev pub invariant-loop-m : goal.invariant-loop-m
-invariant-loop-m l = record { known : IsKnown (label_of l.inst.tables l.label) l.m (get nat_cmp l.known); places : AreFirst (label_of l.inst.tables l.label) l.m l.places.items; room : l.places.room ≡ l.count }
+invariant-loop-m l = record {
+  known : IsKnown (label_of l.inst.tables l.label) l.m (get nat_cmp l.known);
+  places : AreFirst (label_of l.inst.tables l.label) l.m l.places.items;
+  room : l.places.room ≡ l.count;
+}

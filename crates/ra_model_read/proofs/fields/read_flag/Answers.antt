@@ -6,7 +6,8 @@ use Rattle.ra_model_read.proofs.fields.read_flag.Goals as goal
 
 pub returns-in_err-token-clause-refuses : goal.returns-in_err-token-clause-refuses
 unfolding flag
-returns-in_err-token-clause-refuses g c = refused_at_exit _ c.from_residual.ensures (refuses_first _ c.in_err-token.ensures.refuses)
+returns-in_err-token-clause-refuses g c =
+    refused_at_exit _ c.from_residual.ensures (refuses_first _ c.in_err-token.ensures.refuses)
 
 pub returns-in-0-clause-gives : goal.returns-in-0-clause-gives
 unfolding flag
@@ -18,4 +19,6 @@ returns-in-1-clause-gives g c = gives_then _ c.in_ok-token.ensures.gives (flag_o
 
 pub returns-in_default-clause-refuses : goal.returns-in_default-clause-refuses
 unfolding flag
-returns-in_default-clause-refuses g c = refuses_next _ c.in_ok-token.ensures.gives (flag_refuses _ _ c.in_ok-token.ensures.gives.goes.stands (omega arith) (omega arith))
+returns-in_default-clause-refuses g c =
+    refuses_next _ c.in_ok-token.ensures.gives
+    (flag_refuses _ _ c.in_ok-token.ensures.gives.goes.stands (omega arith) (omega arith))

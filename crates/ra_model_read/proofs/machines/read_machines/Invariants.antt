@@ -8,5 +8,11 @@ use Rattle.ra_model_read.proofs.machines.read_machines.Given as goal
 
 abbrev pub invariant-loop-m : goal.invariant-loop-m
 invariant-loop-m g l =
-    Gives (along l.m (machine l.resource_count l.count) (record { rows = []; capacities = []; safeties = []; move_costs = [] })) (here (g.F.Files.held l.initial.files) (g.F.Files.faults l.initial.files) l.initial.tokens) (here (g.F.Files.held l.files) (g.F.Files.faults l.files) l.tokens) (machine_lists l.tables)
+    Gives (along l.m (machine l.resource_count l.count) (record {
+      rows = [];
+      capacities = [];
+      safeties = [];
+      move_costs = [];
+    })) (here (g.F.Files.held l.initial.files) (g.F.Files.faults l.initial.files) l.initial.tokens)
+    (here (g.F.Files.held l.files) (g.F.Files.faults l.files) l.tokens) (machine_lists l.tables)
     × HasMachines l.resource_count l.count l.m l.tables

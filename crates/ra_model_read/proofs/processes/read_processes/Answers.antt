@@ -1,30 +1,42 @@
 use Rattle.std.proofs.Common.{sym, subst, arith}
 use Rattle.ra_model_read.specs.ModelText.{processes}
-use Rattle.ra_model_read.proofs.Steps.{gives_bind, gives_more, gives_start, gives_all, refuses_first, refuses_next, refuses_memory, refuses_step, refused_at_exit}
+use Rattle.ra_model_read.proofs.Steps.{gives_bind, gives_more, gives_start, gives_all, refuses_first, refuses_next}
+use Rattle.ra_model_read.proofs.Steps.{refuses_memory, refuses_step, refused_at_exit}
 use Rattle.ra_model_read.specs.Reading.{Refuses}
 use Rattle.ra_model_read.proofs.Rows.{no_processes, all_processes}
 use Rattle.ra_model_read.proofs.processes.read_processes.Goals as goal
 
 pub returns-in_err-count-clause-refuses : goal.returns-in_err-count-clause-refuses
 unfolding processes
-returns-in_err-count-clause-refuses g c = refused_at_exit _ c.from_residual.ensures (refuses_first _ c.in_err-count.ensures.refuses)
+returns-in_err-count-clause-refuses g c =
+    refused_at_exit _ c.from_residual.ensures (refuses_first _ c.in_err-count.ensures.refuses)
 
 pub returns-in_err-tables-clause-refuses : goal.returns-in_err-tables-clause-refuses
-returns-in_err-tables-clause-refuses g c = refused_at_exit _ c.from_residual-in_err-tables.ensures (subst (Refuses _ _ _) (sym c.in_err-tables.ensures.memory) (refuses_memory _ c.in_ok-count.ensures.gives.goes))
+returns-in_err-tables-clause-refuses g c = refused_at_exit _ c.from_residual-in_err-tables.ensures
+    (subst (Refuses _ _ _) (sym c.in_err-tables.ensures.memory) (refuses_memory _ c.in_ok-count.ensures.gives.goes))
 
 pub loop-p-init : goal.loop-p-init
-loop-p-init g c = (gives_start _ c.in_ok-count.ensures.gives.goes.stands (no_processes _ _ _ _ c.in_ok-tables.ensures.none), c.in_ok-tables.ensures.none)
+loop-p-init g c = (
+  gives_start _ c.in_ok-count.ensures.gives.goes.stands (no_processes _ _ _ _ c.in_ok-tables.ensures.none),
+  c.in_ok-tables.ensures.none,
+)
 
 pub returns-in_err-read_process-clause-refuses : goal.returns-in_err-read_process-clause-refuses
 unfolding processes
-returns-in_err-read_process-clause-refuses g c = refused_at_exit _ c.from_residual-in_err-read_process.ensures (refuses_next _ c.in_ok-count.ensures.gives (refuses_step _ _ _ _ (omega arith) c.loop-p.invariant.0 c.in_err-read_process.ensures.refuses))
+returns-in_err-read_process-clause-refuses g c = refused_at_exit _ c.from_residual-in_err-read_process.ensures
+    (refuses_next _ c.in_ok-count.ensures.gives
+    (refuses_step _ _ _ _ (omega arith) c.loop-p.invariant.0 c.in_err-read_process.ensures.refuses))
 
 pub loop-p-preserved : goal.loop-p-preserved
-loop-p-preserved g c = (gives_more _ _ _ c.loop-p.invariant.0 c.in_ok-read_process.ensures.gives, c.in_ok-read_process.ensures.has)
+loop-p-preserved g c =
+    (gives_more _ _ _ c.loop-p.invariant.0 c.in_ok-read_process.ensures.gives, c.in_ok-read_process.ensures.has)
 
 pub returns-clause-gives : goal.returns-clause-gives
 unfolding processes
-returns-clause-gives g c = gives_bind _ c.in_ok-count.ensures.gives (gives_all _ _ _ _ c.loop-p-test.false c.loop-p.auto.p-end c.loop-p.invariant.0)
+returns-clause-gives g c =
+    gives_bind _ c.in_ok-count.ensures.gives
+    (gives_all _ _ _ _ c.loop-p-test.false c.loop-p.auto.p-end c.loop-p.invariant.0)
 
 pub returns-clause-shape : goal.returns-clause-shape
-returns-clause-shape g c = all_processes _ _ _ _ _ c.loop-p.invariant.1 c.loop-p-test.false c.loop-p.auto.p-end c.in_ok-count.ensures.low
+returns-clause-shape g c =
+    all_processes _ _ _ _ _ c.loop-p.invariant.1 c.loop-p-test.false c.loop-p.auto.p-end c.in_ok-count.ensures.low

@@ -8,15 +8,19 @@ use Rattle.ra_model_read.proofs.resources.read_resource.Goals as goal
 
 pub returns-in_err-transient-clause-refuses : goal.returns-in_err-transient-clause-refuses
 unfolding resource
-returns-in_err-transient-clause-refuses g c = refused_at_exit _ c.from_residual.ensures (refuses_first _ c.in_err-transient.ensures.refuses)
+returns-in_err-transient-clause-refuses g c =
+    refused_at_exit _ c.from_residual.ensures (refuses_first _ c.in_err-transient.ensures.refuses)
 
 pub returns-in_err-load_weight-clause-refuses : goal.returns-in_err-load_weight-clause-refuses
 unfolding resource
-returns-in_err-load_weight-clause-refuses g c = refused_at_exit _ c.from_residual-in_err-load_weight.ensures (refuses_next _ c.in_ok-transient.ensures.gives (refuses_first _ c.in_err-load_weight.ensures.refuses))
+returns-in_err-load_weight-clause-refuses g c = refused_at_exit _ c.from_residual-in_err-load_weight.ensures
+    (refuses_next _ c.in_ok-transient.ensures.gives (refuses_first _ c.in_err-load_weight.ensures.refuses))
 
 pub returns-clause-gives : goal.returns-clause-gives
 unfolding resource
-returns-clause-gives g c = gives_bind _ c.in_ok-transient.ensures.gives (gives_then _ c.in_ok-load_weight.ensures.gives (ap pure (sym (resource_pushed _ _ _ c.push.ensures.items))))
+returns-clause-gives g c =
+    gives_bind _ c.in_ok-transient.ensures.gives
+    (gives_then _ c.in_ok-load_weight.ensures.gives (ap pure (sym (resource_pushed _ _ _ c.push.ensures.items))))
 
 pub returns-clause-length : goal.returns-clause-length
 returns-clause-length g c = ap length c.push.ensures.items ∙ length_push _ _

@@ -13,12 +13,19 @@ loop-k-init g c = (gives_none _ _ _ c.requires.stands, omega arith, c.requires.h
 
 pub returns-in_err-needed-clause-refuses : goal.returns-in_err-needed-clause-refuses
 unfolding dependency
-returns-in_err-needed-clause-refuses g c = refused_at_exit _ c.from_residual.ensures (refuses_step _ _ _ _ (omega arith) c.loop-k.invariant.0 (refuses_first _ (rw c.len-first.ensures.value at c.in_err-needed.ensures.refuses)))
+returns-in_err-needed-clause-refuses g c =
+    refused_at_exit _ c.from_residual.ensures
+    (refuses_step _ _ _ _ (omega arith) c.loop-k.invariant.0
+    (refuses_first _ (rw c.len-first.ensures.value at c.in_err-needed.ensures.refuses)))
 
 pub loop-k-preserved : goal.loop-k-preserved
 unfolding dependency
 loop-k-preserved g c = (
-  gives_more _ _ _ c.loop-k.invariant.0 (gives_then _ (rw c.len-first.ensures.value at c.in_ok-needed.ensures.gives) (ap pure (sym c.push.ensures.items))),
+  gives_more _ _ _ c.loop-k.invariant.0
+      (gives_then _ (rw c.len-first.ensures.value at c.in_ok-needed.ensures.gives)
+      (ap pure (sym c.push.ensures.items))),
   grind (arith, length-append),
-  has_dependency _ _ _ _ c.loop-k.invariant.2 c.push.ensures.items c.push.ensures.room (omega (arith, c.loop-k.invariant.1, c.loop-k-test.true, c.requires.room, c.requires.has.room)) (omega (arith, c.in_ok-needed.ensures.high, c.requires.some)),
+  has_dependency _ _ _ _ c.loop-k.invariant.2 c.push.ensures.items c.push.ensures.room
+      (omega (arith, c.loop-k.invariant.1, c.loop-k-test.true, c.requires.room, c.requires.has.room))
+      (omega (arith, c.in_ok-needed.ensures.high, c.requires.some)),
 )

@@ -8,5 +8,7 @@ use Rattle.ra_model_read.proofs.services.read_services.Given as goal
 
 abbrev pub invariant-loop-s : goal.invariant-loop-s
 invariant-loop-s g l =
-    Gives (along l.s (service l.count) (record { rows = []; dependencies = [] })) (here (g.F.Files.held l.initial.files) (g.F.Files.faults l.initial.files) l.initial.tokens) (here (g.F.Files.held l.files) (g.F.Files.faults l.files) l.tokens) (service_lists l.tables)
+    Gives (along l.s (service l.count) (record { rows = []; dependencies = [] }))
+    (here (g.F.Files.held l.initial.files) (g.F.Files.faults l.initial.files) l.initial.tokens)
+    (here (g.F.Files.held l.files) (g.F.Files.faults l.files) l.tokens) (service_lists l.tables)
     × HasServices l.count l.s l.tables

@@ -10,5 +10,6 @@ unfolding balance_text first_of second_of target_of balance_weight_of
 returns g c =
     let i = c.args.inst.now.tables in
     let b = c.args.b in
-    adds_more g.O.Sink.taken g.O.Sink.faults c.args.text.now c.add_three.new.text c.add_one.new.text (line_text (first_of i b ∷ second_of i b ∷ target_of i b ∷ [])) (line_text (balance_weight_of i b ∷ []))
+    adds_more g.O.Sink.taken g.O.Sink.faults c.args.text.now c.add_three.new.text c.add_one.new.text
+    (line_text (first_of i b ∷ second_of i b ∷ target_of i b ∷ [])) (line_text (balance_weight_of i b ∷ []))
     (rw c.balance-row.ensures at c.add_three.ensures) (rw c.balance-row.ensures at c.add_one.ensures)

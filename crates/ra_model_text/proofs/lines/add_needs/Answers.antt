@@ -8,5 +8,7 @@ loop-k-init g c = row_none g.O.Sink.taken g.O.Sink.faults (need_of c.args.inst.n
 
 pub loop-k-preserved : goal.loop-k-preserved
 loop-k-preserved g c =
-    let need = c.depends-needs.ensures.each c.loop-k.k (omega (arith, c.depends-needs.ensures.count, c.loop-k-test.true)) in
-    row_more g.O.Sink.taken g.O.Sink.faults c.loop-k.k (need_of c.args.inst.now.tables c.args.s.0) c.args.text.now c.loop-k.text c.add_more.new.text c.loop-k.invariant (rw need at c.add_more.ensures)
+    let need = c.depends-needs.ensures.each c.loop-k.k
+    (omega (arith, c.depends-needs.ensures.count, c.loop-k-test.true)) in
+    row_more g.O.Sink.taken g.O.Sink.faults c.loop-k.k (need_of c.args.inst.now.tables c.args.s.0) c.args.text.now
+    c.loop-k.text c.add_more.new.text c.loop-k.invariant (rw need at c.add_more.ensures)

@@ -6,4 +6,5 @@ use Rattle.ra_model_text.proofs.lines.add_one.Goals as goal
 
 pub returns : goal.returns
 unfolding line_text more_text
-returns g c = adds_more g.O.Sink.taken g.O.Sink.faults c.args.text.now c.add_digits.new.text c.add.new.self (decimal c.args.a) (10 ∷ []) c.add_digits.ensures c.add.ensures
+returns g c = adds_more g.O.Sink.taken g.O.Sink.faults c.args.text.now c.add_digits.new.text c.add.new.self
+    (decimal c.args.a) (10 ∷ []) c.add_digits.ensures c.add.ensures

@@ -9,7 +9,16 @@ use Rattle.ra_model_text.proofs.lines.add_service.Goals as goal
 pub returns : goal.returns
 returns g c =
     let i = c.args.inst.now.tables in
-    rw (service_is i c.args.s.0) (adds_more g.O.Sink.taken g.O.Sink.faults c.args.text.now c.add_digits.new.text c.add.new.self (decimal (spread_of i c.args.s.0)) ((32 ∷ decimal (dependency_count i c.args.s.0)) ++ ((spaced (dependency_count i c.args.s.0) (need_of i c.args.s.0)) ++ (10 ∷ []))) (rw c.spread_min.ensures at c.add_digits.ensures)
-    (adds_more g.O.Sink.taken g.O.Sink.faults c.add_digits.new.text c.add_more.new.text c.add.new.self (32 ∷ decimal (dependency_count i c.args.s.0)) ((spaced (dependency_count i c.args.s.0) (need_of i c.args.s.0)) ++ (10 ∷ [])) (rw c.depends.ensures.count at c.add_more.ensures)
-    (adds_more g.O.Sink.taken g.O.Sink.faults c.add_more.new.text c.add_needs.new.text c.add.new.self (spaced (dependency_count i c.args.s.0) (need_of i c.args.s.0)) (10 ∷ []) c.add_needs.ensures
+    rw (service_is i c.args.s.0)
+    (adds_more g.O.Sink.taken g.O.Sink.faults c.args.text.now c.add_digits.new.text c.add.new.self
+    (decimal (spread_of i c.args.s.0))
+    ((32 ∷ decimal (dependency_count i c.args.s.0)) ++
+    ((spaced (dependency_count i c.args.s.0) (need_of i c.args.s.0)) ++ (10 ∷ [])))
+    (rw c.spread_min.ensures at c.add_digits.ensures)
+    (adds_more g.O.Sink.taken g.O.Sink.faults c.add_digits.new.text c.add_more.new.text c.add.new.self
+    (32 ∷ decimal (dependency_count i c.args.s.0))
+    ((spaced (dependency_count i c.args.s.0) (need_of i c.args.s.0)) ++ (10 ∷ []))
+    (rw c.depends.ensures.count at c.add_more.ensures)
+    (adds_more g.O.Sink.taken g.O.Sink.faults c.add_more.new.text c.add_needs.new.text c.add.new.self
+    (spaced (dependency_count i c.args.s.0) (need_of i c.args.s.0)) (10 ∷ []) c.add_needs.ensures
     c.add.ensures)))

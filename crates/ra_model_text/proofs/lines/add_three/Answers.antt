@@ -6,7 +6,10 @@ use Rattle.ra_model_text.proofs.lines.add_three.Goals as goal
 
 pub returns : goal.returns
 unfolding line_text more_text
-returns g c = adds_more g.O.Sink.taken g.O.Sink.faults c.args.text.now c.add_digits.new.text c.add.new.self (decimal c.args.a) ((32 ∷ decimal c.args.b) ++ ((32 ∷ decimal c.args.c) ++ (10 ∷ []))) c.add_digits.ensures
-    (adds_more g.O.Sink.taken g.O.Sink.faults c.add_digits.new.text c.add_more.new.text c.add.new.self (32 ∷ decimal c.args.b) ((32 ∷ decimal c.args.c) ++ (10 ∷ [])) c.add_more.ensures
-    (adds_more g.O.Sink.taken g.O.Sink.faults c.add_more.new.text c.add_more-2.new.text c.add.new.self (32 ∷ decimal c.args.c) (10 ∷ []) c.add_more-2.ensures
+returns g c = adds_more g.O.Sink.taken g.O.Sink.faults c.args.text.now c.add_digits.new.text c.add.new.self
+    (decimal c.args.a) ((32 ∷ decimal c.args.b) ++ ((32 ∷ decimal c.args.c) ++ (10 ∷ []))) c.add_digits.ensures
+    (adds_more g.O.Sink.taken g.O.Sink.faults c.add_digits.new.text c.add_more.new.text c.add.new.self
+    (32 ∷ decimal c.args.b) ((32 ∷ decimal c.args.c) ++ (10 ∷ [])) c.add_more.ensures
+    (adds_more g.O.Sink.taken g.O.Sink.faults c.add_more.new.text c.add_more-2.new.text c.add.new.self
+    (32 ∷ decimal c.args.c) (10 ∷ []) c.add_more-2.ensures
     c.add.ensures))

@@ -5,4 +5,6 @@ use Rattle.ra_model_text.specs.ModelLines.{group_to}
 use Rattle.ra_model_text.proofs.model.add_machines.Given as goal
 
 abbrev pub invariant-loop-m : goal.invariant-loop-m
-invariant-loop-m g l = Adds g.O.Sink.taken g.O.Sink.faults l.fn.text l.text (group_to (machine_count l.inst.tables) l.m (machine_text l.inst.tables))
+invariant-loop-m g l =
+    Adds g.O.Sink.taken g.O.Sink.faults l.fn.text l.text
+    (group_to (machine_count l.inst.tables) l.m (machine_text l.inst.tables))

@@ -5,4 +5,6 @@ use Rattle.ra_model_text.specs.ModelLines.{group_to}
 use Rattle.ra_model_text.proofs.model.add_processes.Given as goal
 
 abbrev pub invariant-loop-p : goal.invariant-loop-p
-invariant-loop-p g l = Adds g.O.Sink.taken g.O.Sink.faults l.fn.text l.text (group_to (process_count l.inst.tables) l.p (process_text l.inst.tables))
+invariant-loop-p g l =
+    Adds g.O.Sink.taken g.O.Sink.faults l.fn.text l.text
+    (group_to (process_count l.inst.tables) l.p (process_text l.inst.tables))

@@ -5,4 +5,6 @@ use Rattle.ra_model_text.specs.ModelLines.{group_to}
 use Rattle.ra_model_text.proofs.model.add_services.Given as goal
 
 abbrev pub invariant-loop-s : goal.invariant-loop-s
-invariant-loop-s g l = Adds g.O.Sink.taken g.O.Sink.faults l.fn.text l.text (group_to (service_count l.inst.tables) l.s (service_text l.inst.tables))
+invariant-loop-s g l =
+    Adds g.O.Sink.taken g.O.Sink.faults l.fn.text l.text
+    (group_to (service_count l.inst.tables) l.s (service_text l.inst.tables))

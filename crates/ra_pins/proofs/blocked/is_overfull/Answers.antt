@@ -8,4 +8,6 @@ use Rattle.ra_pins.proofs.blocked.is_overfull.Goals as goal
 pub returns-then-exceeds : goal.returns-then-exceeds
 returns-then-exceeds g c =
     let column : c.loop-r.r < resource_count c.args.inst.now.tables = omega arith in
-    sym (some_yes (resource_count c.args.inst.now.tables) c.loop-r.r (overfull c.args.inst.now.tables c.args.kept.now.items c.args.p.0 c.args.m.0) column (sym c.exceeds.ensures ∙ c.if-exceeds.true))
+    sym (some_yes (resource_count c.args.inst.now.tables) c.loop-r.r
+    (overfull c.args.inst.now.tables c.args.kept.now.items c.args.p.0 c.args.m.0) column
+    (sym c.exceeds.ensures ∙ c.if-exceeds.true))

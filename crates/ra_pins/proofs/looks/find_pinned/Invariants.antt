@@ -4,4 +4,7 @@ use Rattle.ra_pins.specs.Searches.{IsBetween, flag_count}
 use Rattle.ra_pins.proofs.looks.find_pinned.Given as goal
 
 abbrev pub invariant-loop-t : goal.invariant-loop-t
-invariant-loop-t g l = record { between : IsBetween l.inst.tables l.a0.items l.search l.t; flagged : l.t ≤ flag_count l.inst.tables l.search }
+invariant-loop-t g l = record {
+  between : IsBetween l.inst.tables l.a0.items l.search l.t;
+  flagged : l.t ≤ flag_count l.inst.tables l.search;
+}

@@ -13,19 +13,27 @@ look-requires-clause-search g c = c.loop-p.invariant.search
 
 pub loop-p-preserved : goal.loop-p-preserved
 loop-p-preserved g c = elim c.if-look.branch [
-  | then-look w ↦ pass_next_flags c.args.inst.now.tables c.args.a0.now.items c.args.search.now c.loop-p.search c.look.new.search c.args.t c.loop-p.p c.loop-p.some c.look.result c.if-look.some w.if-look.true w.some-is c.loop-p.invariant c.look.ensures
-  | else-look w ↦ pass_next_stays c.args.inst.now.tables c.args.a0.now.items c.args.search.now c.loop-p.search c.look.new.search c.args.t c.loop-p.p c.loop-p.some c.look.result c.if-look.some w.if-look.false w.some-is c.loop-p.invariant c.look.ensures
+  | then-look w ↦ pass_next_flags c.args.inst.now.tables c.args.a0.now.items c.args.search.now c.loop-p.search
+      c.look.new.search c.args.t c.loop-p.p c.loop-p.some c.look.result c.if-look.some w.if-look.true w.some-is
+      c.loop-p.invariant c.look.ensures
+  | else-look w ↦ pass_next_stays c.args.inst.now.tables c.args.a0.now.items c.args.search.now c.loop-p.search
+      c.look.new.search c.args.t c.loop-p.p c.loop-p.some c.look.result c.if-look.some w.if-look.false w.some-is
+      c.loop-p.invariant c.look.ensures
 ]
 
 pub returns-clause-between : goal.returns-clause-between
 returns-clause-between g c =
-    let all : c.loop-p.p ≡ process_count c.args.inst.now.tables = omega (arith, c.processes-p-end.ensures, c.loop-p-test.false, c.loop-p.auto.p-end) in
-    pass_ends c.args.inst.now.tables c.args.a0.now.items c.args.search.now c.loop-p.search c.args.t c.loop-p.p c.loop-p.some all c.loop-p.invariant
+    let all : c.loop-p.p ≡ process_count c.args.inst.now.tables =
+    omega (arith, c.processes-p-end.ensures, c.loop-p-test.false, c.loop-p.auto.p-end) in
+    pass_ends c.args.inst.now.tables c.args.a0.now.items c.args.search.now c.loop-p.search c.args.t c.loop-p.p
+    c.loop-p.some all c.loop-p.invariant
 
 pub returns-clause-more : goal.returns-clause-more
 returns-clause-more g c = c.loop-p.invariant.more
 
 pub returns-clause-none : goal.returns-clause-none
 returns-clause-none g c = λ none.
-    let all : c.loop-p.p ≡ process_count c.args.inst.now.tables = omega (arith, c.processes-p-end.ensures, c.loop-p-test.false, c.loop-p.auto.p-end) in
-    pass_exact c.args.inst.now.tables c.args.a0.now.items c.args.search.now c.loop-p.search c.args.t c.loop-p.p c.loop-p.some c.requires.fits c.requires.between all none c.loop-p.invariant
+    let all : c.loop-p.p ≡ process_count c.args.inst.now.tables =
+    omega (arith, c.processes-p-end.ensures, c.loop-p-test.false, c.loop-p.auto.p-end) in
+    pass_exact c.args.inst.now.tables c.args.a0.now.items c.args.search.now c.loop-p.search c.args.t c.loop-p.p
+    c.loop-p.some c.requires.fits c.requires.between all none c.loop-p.invariant

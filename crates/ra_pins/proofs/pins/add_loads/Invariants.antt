@@ -5,4 +5,5 @@ use Rattle.ra_pins.specs.Loads.{IsTally}
 use Rattle.ra_pins.proofs.pins.add_loads.Given as goal
 
 abbrev pub invariant-loop-p : goal.invariant-loop-p
-invariant-loop-p g l = IsTally l.inst.tables l.p (flagged_share l.inst.tables (flag_at l.flags.items)) l.a0.items l.table.items
+invariant-loop-p g l =
+    IsTally l.inst.tables l.p (flagged_share l.inst.tables (flag_at l.flags.items)) l.a0.items l.table.items

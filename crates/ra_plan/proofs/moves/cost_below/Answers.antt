@@ -5,7 +5,8 @@ use Rattle.ra_plan.proofs.Weighed.{flawed, flawless, flawless_move, processes_kn
 use Rattle.ra_plan.proofs.moves.cost_below.Goals as goal
 
 pub requirements-required-requires : goal.requirements-required-requires
-requirements-required-requires g c = rw c.instance.ensures (processes_known _ _ _ (flawless_move _ _ _ c.requires.offered c.in_default.ensures))
+requirements-required-requires g c =
+    rw c.instance.ensures (processes_known _ _ _ (flawless_move _ _ _ c.requires.offered c.in_default.ensures))
 
 pub has_room-requires-clause-moves : goal.has_room-requires-clause-moves
 has_room-requires-clause-moves g c = flawless_move _ _ _ c.requires.offered c.in_default.ensures
@@ -29,13 +30,20 @@ pub returns-in-Some-clause-below : goal.returns-in-Some-clause-below
 returns-in-Some-clause-below g c = none_below _ _ _ (λ none. absurd (cc (none, flawed _ _ _ _ _ c.in-Some.ensures)))
 
 pub returns-then-not-has_room-clause-below : goal.returns-then-not-has_room-clause-below
-returns-then-not-has_room-clause-below g c = unfit_below c.args.world.now c.args.mv.now.steps c.args.bound c.has_room.result c.has_room.ensures c.if-not-has_room.true (room_free _ _ _ _ (flawless_move _ _ _ c.requires.offered c.in_default.ensures))
+returns-then-not-has_room-clause-below g c =
+    unfit_below c.args.world.now c.args.mv.now.steps c.args.bound c.has_room.result c.has_room.ensures
+    c.if-not-has_room.true (room_free _ _ _ _ (flawless_move _ _ _ c.requires.offered c.in_default.ensures))
 
 pub returns-then-bound-cost-clause-below : goal.returns-then-bound-cost-clause-below
-returns-then-bound-cost-clause-below g c = none_below _ _ _ (λ none. omega (arith, c.if-bound-cost.true, c.cost_after_move-cost.ensures))
+returns-then-bound-cost-clause-below g c =
+    none_below _ _ _ (λ none. omega (arith, c.if-bound-cost.true, c.cost_after_move-cost.ensures))
 
 pub returns-then-not-is_unbroken-clause-below : goal.returns-then-not-is_unbroken-clause-below
-returns-then-not-is_unbroken-clause-below g c = unfit_below c.args.world.now c.args.mv.now.steps c.args.bound c.is_unbroken.result c.is_unbroken.ensures c.if-not-is_unbroken.true (λ none. sym (flawless _ _ _ _ c.in_default.ensures) ∙ none)
+returns-then-not-is_unbroken-clause-below g c =
+    unfit_below c.args.world.now c.args.mv.now.steps c.args.bound c.is_unbroken.result c.is_unbroken.ensures
+    c.if-not-is_unbroken.true (λ none. sym (flawless _ _ _ _ c.in_default.ensures) ∙ none)
 
 pub returns-clause-below : goal.returns-clause-below
-returns-clause-below g c = some_below c.args.world.now c.args.mv.now.steps c.args.bound c.cost_after_move-cost.result (flawless _ _ _ _ c.in_default.ensures ∙ c.is_unbroken.ensures.0 c.if-not-is_unbroken.false) c.cost_after_move-cost.ensures (omega (arith, c.if-bound-cost.false))
+returns-clause-below g c = some_below c.args.world.now c.args.mv.now.steps c.args.bound c.cost_after_move-cost.result
+    (flawless _ _ _ _ c.in_default.ensures ∙ c.is_unbroken.ensures.0 c.if-not-is_unbroken.false)
+    c.cost_after_move-cost.ensures (omega (arith, c.if-bound-cost.false))

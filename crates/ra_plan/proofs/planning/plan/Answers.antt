@@ -4,10 +4,12 @@ use Rattle.ra_plan.proofs.OptionSizes.{option_some}
 use Rattle.ra_plan.proofs.planning.plan.Goals as goal
 
 pub resolve-first-requires-clause-named : goal.resolve-first-requires-clause-named
-resolve-first-requires-clause-named g c = option_some _ _ _ (rw (c.machines-machines.ensures) c.instance.result.now.well_formed.some_machine)
+resolve-first-requires-clause-named g c =
+    option_some _ _ _ (rw (c.machines-machines.ensures) c.instance.result.now.well_formed.some_machine)
 
 pub planned_by-mv-requires : goal.planned_by-mv-requires
 planned_by-mv-requires g c =
     let world = c.args.world.now in
-    let machines : c.machines-machines.result ≡ machine_count world.inst.now.tables = rw c.instance.ensures at c.machines-machines.ensures in
+    let machines : c.machines-machines.result ≡ machine_count world.inst.now.tables =
+    rw c.instance.ensures at c.machines-machines.ensures in
     rw (c.assignment.ensures.value, machines) at c.resolve-first.ensures.option

@@ -6,4 +6,5 @@ pub planned_shift-requires-clause-shift : goal.planned_shift-requires-clause-shi
 planned_shift-requires-clause-shift g c = asks_shift _ _ _ _ _ _ c.requires (sym c.kind.ensures ∙ c.in-Shift.is)
 
 pub planned_move-requires-clause-other : goal.planned_move-requires-clause-other
-planned_move-requires-clause-other g c = λ is. c.in_default.not-Shift (c.kind.ensures ∙ is_shift _ _ _ _ _ _ c.requires is)
+planned_move-requires-clause-other g c =
+    λ is. c.in_default.not-Shift (c.kind.ensures ∙ is_shift _ _ _ _ _ _ c.requires is)

@@ -7,48 +7,79 @@ use Rattle.ra_plan.proofs.Bests.{best_below, best_planned, best_unbroken, option
 use Rattle.ra_plan.proofs.planning.planned_move.Goals as goal
 
 pub weigh-weighed-requires : goal.weigh-weighed-requires
-weigh-weighed-requires g c = rw c.requires.first (option_offered _ _ _ _ _ c.args.world.now.inst.now.well_formed c.args.world.now.keeps.stand.fits)
+weigh-weighed-requires g c =
+    rw c.requires.first
+    (option_offered _ _ _ _ _ c.args.world.now.inst.now.well_formed c.args.world.now.keeps.stand.fits)
 
 pub verdict-requires : goal.verdict-requires
-verdict-requires g c = record { some = record { steps = c.args.first.now.steps; offered = rw c.requires.first (option_offered _ _ _ _ _ c.args.world.now.inst.now.well_formed c.args.world.now.keeps.stand.fits); is = c.weigh-weighed.ensures.value } }
+verdict-requires g c = record {
+  some = record {
+    steps = c.args.first.now.steps;
+    offered = rw c.requires.first
+        (option_offered _ _ _ _ _ c.args.world.now.inst.now.well_formed c.args.world.now.keeps.stand.fits);
+    is = c.weigh-weighed.ensures.value;
+  };
+}
 
 pub best_move-best-requires : goal.best_move-best-requires
 best_move-best-requires g c =
     let world = c.args.world.now in
-    let offered : IsOffered world.inst.now.tables world.kept.assignment.items c.args.first.now.steps = rw c.requires.first (option_offered _ _ _ _ _ world.inst.now.well_formed world.keeps.stand.fits) in
+    let offered : IsOffered world.inst.now.tables world.kept.assignment.items c.args.first.now.steps =
+    rw c.requires.first (option_offered _ _ _ _ _ world.inst.now.well_formed world.keeps.stand.fits) in
     let judged = c.verdict.ensures c.args.first.now.steps offered c.weigh-weighed.ensures.value in
     let same = option_in world _ _ _ 0 _ refl c.requires.first in
-    record { first = c.consider-judged.ensures world c.args.words.now c.args.drawing c.args.allowed (c.none.ensures world c.args.words.now c.args.drawing c.args.allowed) (judged_in world _ _ _ _ _ _ same judged) }
+    record {
+      first = c.consider-judged.ensures world c.args.words.now c.args.drawing c.args.allowed
+          (c.none.ensures world c.args.words.now c.args.drawing c.args.allowed)
+          (judged_in world _ _ _ _ _ _ same judged);
+    }
 
 pub move_of-mv-requires-clause-named : goal.move_of-mv-requires-clause-named
-move_of-mv-requires-clause-named g c = best_below c.args.world.now _ _ _ _ _ refl c.args.world.now.inst.now.well_formed.some_machine c.best_move-best.ensures.best
+move_of-mv-requires-clause-named g c =
+    best_below c.args.world.now _ _ _ _ _ refl c.args.world.now.inst.now.well_formed.some_machine
+    c.best_move-best.ensures.best
 
 pub weighing-requires-clause-offered : goal.weighing-requires-clause-offered
-weighing-requires-clause-offered g c = rw c.move_of-mv.ensures (option_offered _ _ _ _ _ c.args.world.now.inst.now.well_formed c.args.world.now.keeps.stand.fits)
+weighing-requires-clause-offered g c =
+    rw c.move_of-mv.ensures
+    (option_offered _ _ _ _ _ c.args.world.now.inst.now.well_formed c.args.world.now.keeps.stand.fits)
 
 pub weighing-requires-clause-best : goal.weighing-requires-clause-best
-weighing-requires-clause-best g c = λ cost there. best_unbroken c.args.world.now _ _ _ _ cost _ _ c.best_move-best.ensures.best (option_in c.args.world.now _ _ _ _ _ refl c.move_of-mv.ensures) there
+weighing-requires-clause-best g c =
+    λ cost there. best_unbroken c.args.world.now _ _ _ _ cost _ _ c.best_move-best.ensures.best
+    (option_in c.args.world.now _ _ _ _ _ refl c.move_of-mv.ensures) there
 
 pub returns : goal.returns
 returns g c =
     let world = c.args.world.now in
-    let reads = rest_reads c.args.words.now (machine_count world.inst.now.tables) c.args.drawing (resource_count world.inst.now.tables) c.requires.other in
+    let reads = rest_reads c.args.words.now (machine_count world.inst.now.tables) c.args.drawing
+    (resource_count world.inst.now.tables) c.requires.other in
     record {
       planned = record {
         planned = best_planned world _ _ _ _ _ _ refl c.best_move-best.ensures.best c.move_of-mv.ensures;
         weighing = c.weighing.ensures.value;
         offered = rw c.move_of-mv.ensures (option_offered _ _ _ _ _ world.inst.now.well_formed world.keeps.stand.fits);
       };
-      counted = omega (arith, reads, c.weigh-weighed.ensures.counted, c.best_move-best.ensures.counted, c.weighing.ensures.counted);
+      counted = omega (
+        arith,
+        reads,
+        c.weigh-weighed.ensures.counted,
+        c.best_move-best.ensures.counted,
+        c.weighing.ensures.counted,
+      );
     }
 
 pub returns-then-best-eq0 : goal.returns-then-best-eq0
 returns-then-best-eq0 g c =
     let world = c.args.world.now in
-    let reads = rest_reads c.args.words.now (machine_count world.inst.now.tables) c.args.drawing (resource_count world.inst.now.tables) c.requires.other in
+    let reads = rest_reads c.args.words.now (machine_count world.inst.now.tables) c.args.drawing
+    (resource_count world.inst.now.tables) c.requires.other in
     record {
       planned = record {
-        planned = best_planned world _ _ _ _ _ _ refl c.best_move-best.ensures.best (c.requires.first ∙ ap (λ o. option_at world.kept.assignment.items c.args.words.now (machine_count world.inst.now.tables) c.args.drawing o) (sym c.if-best-eq0.true));
+        planned = best_planned world _ _ _ _ _ _ refl c.best_move-best.ensures.best
+            (c.requires.first
+            ∙ ap (λ o. option_at world.kept.assignment.items c.args.words.now (machine_count world.inst.now.tables)
+            c.args.drawing o) (sym c.if-best-eq0.true));
         weighing = c.weigh-weighed.ensures.value;
         offered = rw c.requires.first (option_offered _ _ _ _ _ world.inst.now.well_formed world.keeps.stand.fits);
       };

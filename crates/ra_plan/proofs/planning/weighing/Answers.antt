@@ -4,7 +4,8 @@ use Rattle.ra_plan.proofs.Weighed.{move_of, processes_known, reads_few}
 use Rattle.ra_plan.proofs.planning.weighing.Goals as goal
 
 pub requirements-required-requires : goal.requirements-required-requires
-requirements-required-requires g c = rw c.instance.ensures (processes_known _ _ _ (move_of _ _ _ _ c.requires.offered (c.requires.best _ c.in-Some.is)))
+requirements-required-requires g c =
+    rw c.instance.ensures (processes_known _ _ _ (move_of _ _ _ _ c.requires.offered (c.requires.best _ c.in-Some.is)))
 
 pub changed_by-requires-clause-moves : goal.changed_by-requires-clause-moves
 changed_by-requires-clause-moves g c = move_of _ _ _ _ c.requires.offered (c.requires.best _ c.in-Some.is)

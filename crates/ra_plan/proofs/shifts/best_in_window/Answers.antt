@@ -23,38 +23,73 @@ unfolding parts_of
 overflow_add-most c =
     let world = c.args.world.now in
     let kept : c.parts.result.total ≡ cost_now world = ap (λ (x : Parts). x.total) c.parts.ensures in
-    omega (arith, kept, c.from.ensures, objective_under world.inst.now.tables world.start.now.items world.kept.assignment.items world.inst.now.well_formed world.inst.now.small)
+    omega (
+      arith,
+      kept,
+      c.from.ensures,
+      objective_under world.inst.now.tables world.start.now.items
+          world.kept.assignment.items world.inst.now.well_formed world.inst.now.small,
+    )
 
 pub overflow_add-most-2 : goal.overflow_add-most-2
 unfolding parts_of
 overflow_add-most-2 c =
     let world = c.args.world.now in
     let kept : c.parts.result.total ≡ cost_now world = ap (λ (x : Parts). x.total) c.parts.ensures in
-    omega (arith, kept, c.from.ensures, objective_under world.inst.now.tables world.start.now.items world.kept.assignment.items world.inst.now.well_formed world.inst.now.small)
+    omega (
+      arith,
+      kept,
+      c.from.ensures,
+      objective_under world.inst.now.tables world.start.now.items
+          world.kept.assignment.items world.inst.now.well_formed world.inst.now.small,
+    )
 
 pub marks-requires-clause-first : goal.marks-requires-clause-first
 marks-requires-clause-first c =
     let machines = c.machines-machines.ensures ∙ ap (λ (j : Instance). machine_count j.tables) c.instance.ensures in
-    rw c.requires.world (omega (arith, machines, c.args.world.now.inst.now.well_formed.some_machine, c.args.world.now.inst.now.well_formed.few_machines))
+    rw c.requires.world
+    (omega (
+      arith,
+      machines,
+      c.args.world.now.inst.now.well_formed.some_machine,
+      c.args.world.now.inst.now.well_formed.few_machines,
+    ))
 
 pub marks-requires-clause-bound : goal.marks-requires-clause-bound
 unfolding parts_of
 marks-requires-clause-bound c =
     let world = c.args.world.now in
     let kept : c.parts.result.total ≡ cost_now world = ap (λ (x : Parts). x.total) c.parts.ensures in
-    omega (arith, kept, c.from.ensures, objective_under world.inst.now.tables world.start.now.items world.kept.assignment.items world.inst.now.well_formed world.inst.now.small)
+    omega (
+      arith,
+      kept,
+      c.from.ensures,
+      objective_under world.inst.now.tables world.start.now.items
+          world.kept.assignment.items world.inst.now.well_formed world.inst.now.small,
+    )
 
 pub best_marked-requires-clause-first : goal.best_marked-requires-clause-first
 best_marked-requires-clause-first c =
     let machines = c.machines-machines.ensures ∙ ap (λ (j : Instance). machine_count j.tables) c.instance.ensures in
-    omega (arith, machines, c.args.world.now.inst.now.well_formed.some_machine, c.args.world.now.inst.now.well_formed.few_machines)
+    omega (
+      arith,
+      machines,
+      c.args.world.now.inst.now.well_formed.some_machine,
+      c.args.world.now.inst.now.well_formed.few_machines,
+    )
 
 pub best_marked-requires-clause-most : goal.best_marked-requires-clause-most
 unfolding parts_of
 best_marked-requires-clause-most c =
     let world = c.args.world.now in
     let kept : c.parts.result.total ≡ cost_now world = ap (λ (x : Parts). x.total) c.parts.ensures in
-    omega (arith, kept, c.from.ensures, objective_under world.inst.now.tables world.start.now.items world.kept.assignment.items world.inst.now.well_formed world.inst.now.small)
+    omega (
+      arith,
+      kept,
+      c.from.ensures,
+      objective_under world.inst.now.tables world.start.now.items
+          world.kept.assignment.items world.inst.now.well_formed world.inst.now.small,
+    )
 
 pub best_marked-requires-clause-marked : goal.best_marked-requires-clause-marked
 best_marked-requires-clause-marked c = rw c.requires.world at c.in-Some.ensures
@@ -67,4 +102,6 @@ returns-in-Some c =
     let kept : c.parts.result.total ≡ cost_now world = ap (λ (x : Parts). x.total) c.parts.ensures in
     let count = window_count c.args.words.now (machine_count (tables_of world)) c.requires.shift in
     subst (λ n. IsBest world c.args.words.now Two c.args.allowed n c.best_marked.result) (sym count)
-    (c.best_marked.ensures c.args.words.now c.args.allowed (omega (arith, kept, c.from.ensures)) (window_of world c.args.words.now c.machines-machines.result _ _ machines c.requires.shift c.requires.named refl))
+    (c.best_marked.ensures c.args.words.now c.args.allowed (omega (arith, kept, c.from.ensures))
+    (window_of world c.args.words.now c.machines-machines.result _ _ machines c.requires.shift c.requires.named
+    refl))

@@ -31,15 +31,21 @@ loop-option-init c =
     let p = c.args.shift.now.process.0 in
     let machines = c.machines-machines.ensures ∙ ap (λ (j : Instance). machine_count j.tables) c.instance.ensures in
     let few : c.min-count.result ≤ 64 = omega (arith, c.min-count.ensures) in
-    let home = with_home w p c.args.first c.min-count.result c.home.result.0 c.machines-machines.result c.args.marks c.with_mark-all.result (rw c.requires.world at c.home.ensures.value) machines c.min-count.ensures c.with_mark-all.ensures.here c.with_mark-all.ensures.others in
+    let home = with_home w p c.args.first c.min-count.result c.home.result.0 c.machines-machines.result c.args.marks
+    c.with_mark-all.result (rw c.requires.world at c.home.ensures.value) machines c.min-count.ensures
+    c.with_mark-all.ensures.here c.with_mark-all.ensures.others in
     let low = none_low w c.none-best.result c.args.most (c.none-best.ensures w [] Two 0) in
     record {
       within = c.next_mark-option.ensures.end;
       set = c.next_mark-option.ensures.marked;
       bound = low;
       best = λ x allowed is window.
-          skips w x allowed p c.args.first c.args.most 0 c.next_mark-option.result c.none-best.result is window low c.next_mark-option.ensures.from
-          (λ k after before. unmarked_dear w p c.args.first c.args.most c.min-count.result c.args.marks c.with_mark-all.result k c.args.sums.now c.requires.marked home few (omega (arith, before, c.next_mark-option.ensures.end)) (c.next_mark-option.ensures.none k after before))
+          skips w x allowed p c.args.first c.args.most 0 c.next_mark-option.result c.none-best.result is window low
+          c.next_mark-option.ensures.from
+          (λ k after before. unmarked_dear w p c.args.first c.args.most c.min-count.result c.args.marks
+          c.with_mark-all.result k c.args.sums.now c.requires.marked home few
+          (omega (arith, before, c.next_mark-option.ensures.end))
+          (c.next_mark-option.ensures.none k after before))
           (c.none-best.ensures w x Two allowed);
     }
 
@@ -49,17 +55,26 @@ loop-option-preserved c =
     let p = c.args.shift.now.process.0 in
     let machines = c.machines-machines.ensures ∙ ap (λ (j : Instance). machine_count j.tables) c.instance.ensures in
     let few : c.min-count.result ≤ 64 = omega (arith, c.min-count.ensures) in
-    let home = with_home w p c.args.first c.min-count.result c.home.result.0 c.machines-machines.result c.args.marks c.with_mark-all.result (rw c.requires.world at c.home.ensures.value) machines c.min-count.ensures c.with_mark-all.ensures.here c.with_mark-all.ensures.others in
+    let home = with_home w p c.args.first c.min-count.result c.home.result.0 c.machines-machines.result c.args.marks
+    c.with_mark-all.result (rw c.requires.world at c.home.ensures.value) machines c.min-count.ensures
+    c.with_mark-all.ensures.here c.with_mark-all.ensures.others in
     let low = c.with_sum-best.ensures.bound in
-    let to : c.wrapped.result ≡ machine_in w c.args.first c.loop-option.option = c.wrapped.ensures ∙ ap (λ m. (c.args.first + c.loop-option.option) % m) machines in
+    let to : c.wrapped.result ≡ machine_in w c.args.first c.loop-option.option = c.wrapped.ensures
+    ∙ ap (λ m. (c.args.first + c.loop-option.option) % m) machines in
     record {
       within = c.next_mark-option-in-loop-option.ensures.end;
       set = c.next_mark-option-in-loop-option.ensures.marked;
       bound = low;
       best = λ x allowed is window.
-          skips w x allowed p c.args.first c.args.most (c.loop-option.option + 1) c.next_mark-option-in-loop-option.result c.with_sum-best.result is window low c.next_mark-option-in-loop-option.ensures.from
-          (λ k after before. unmarked_dear w p c.args.first c.args.most c.min-count.result c.args.marks c.with_mark-all.result k c.args.sums.now c.requires.marked home few (omega (arith, before, c.next_mark-option-in-loop-option.ensures.end)) (c.next_mark-option-in-loop-option.ensures.none k after before))
-          (c.with_sum-best.ensures.best x allowed is (c.loop-option.invariant.best x allowed is window) (rw (← to) at (window.each c.loop-option.option)));
+          skips w x allowed p c.args.first c.args.most (c.loop-option.option + 1)
+          c.next_mark-option-in-loop-option.result c.with_sum-best.result is window low
+          c.next_mark-option-in-loop-option.ensures.from
+          (λ k after before. unmarked_dear w p c.args.first c.args.most c.min-count.result c.args.marks
+          c.with_mark-all.result k c.args.sums.now c.requires.marked home few
+          (omega (arith, before, c.next_mark-option-in-loop-option.ensures.end))
+          (c.next_mark-option-in-loop-option.ensures.none k after before))
+          (c.with_sum-best.ensures.best x allowed is (c.loop-option.invariant.best x allowed is window)
+          (rw (← to) at (window.each c.loop-option.option)));
     }
 
 pub with_sum-best-requires-clause-sum : goal.with_sum-best-requires-clause-sum
@@ -68,13 +83,19 @@ with_sum-best-requires-clause-sum c = λ apart.
     let p = c.args.shift.now.process.0 in
     let machines = c.machines-machines.ensures ∙ ap (λ (j : Instance). machine_count j.tables) c.instance.ensures in
     let few : c.min-count.result ≤ 64 = omega (arith, c.min-count.ensures) in
-    let home = with_home w p c.args.first c.min-count.result c.home.result.0 c.machines-machines.result c.args.marks c.with_mark-all.result (rw c.requires.world at c.home.ensures.value) machines c.min-count.ensures c.with_mark-all.ensures.here c.with_mark-all.ensures.others in
-    let to : c.wrapped.result ≡ machine_in w c.args.first c.loop-option.option = c.wrapped.ensures ∙ ap (λ m. (c.args.first + c.loop-option.option) % m) machines in
-    rw to (marked_sum w p c.args.first c.args.most c.min-count.result c.args.marks c.with_mark-all.result c.loop-option.option c.args.sums.now c.requires.marked home few c.loop-option-test.true (c.loop-option.invariant.set c.loop-option-test.true) (rw to at apart))
+    let home = with_home w p c.args.first c.min-count.result c.home.result.0 c.machines-machines.result c.args.marks
+    c.with_mark-all.result (rw c.requires.world at c.home.ensures.value) machines c.min-count.ensures
+    c.with_mark-all.ensures.here c.with_mark-all.ensures.others in
+    let to : c.wrapped.result ≡ machine_in w c.args.first c.loop-option.option = c.wrapped.ensures
+    ∙ ap (λ m. (c.args.first + c.loop-option.option) % m) machines in
+    rw to (marked_sum w p c.args.first c.args.most c.min-count.result c.args.marks c.with_mark-all.result
+    c.loop-option.option c.args.sums.now c.requires.marked home few c.loop-option-test.true
+    (c.loop-option.invariant.set c.loop-option-test.true) (rw to at apart))
 
 pub returns : goal.returns
 returns c = λ x allowed is window.
     let w = c.args.world.now in
     let machines = c.machines-machines.ensures ∙ ap (λ (j : Instance). machine_count j.tables) c.instance.ensures in
-    let all : c.loop-option.option ≡ min 64 (machine_count (tables_of w)) = omega (arith, c.loop-option-test.false, c.loop-option.invariant.within, c.min-count.ensures, machines) in
+    let all : c.loop-option.option ≡ min 64 (machine_count (tables_of w)) =
+    omega (arith, c.loop-option-test.false, c.loop-option.invariant.within, c.min-count.ensures, machines) in
     subst (λ n. IsBest w x Two allowed n c.loop-option.best) all (c.loop-option.invariant.best x allowed is window)

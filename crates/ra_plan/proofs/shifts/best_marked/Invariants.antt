@@ -11,7 +11,8 @@ invariant-loop-option l = record {
   within : l.option ≤ l.count;
   set : l.option < l.count → bit_at l.all l.option ≡ 1;
   bound : bound_of l.best.cost l.most ≤ l.most;
-  best : (x : List ℕ) (allowed : ℕ) → l.most ≡ cost_now l.world + allowed + 1 → IsWindowOf l.world x l.shift.process.0 l.first → IsBest l.world x Two allowed l.option l.best;
+  best : (x : List ℕ) (allowed : ℕ) → l.most ≡ cost_now l.world + allowed + 1 →
+      IsWindowOf l.world x l.shift.process.0 l.first → IsBest l.world x Two allowed l.option l.best;
 }
 
 abbrev pub decreases-loop-option : goal.decreases-loop-option

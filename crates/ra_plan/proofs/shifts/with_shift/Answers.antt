@@ -15,4 +15,5 @@ returns c = λ x d allowed most is same.
     let world = c.args.world.now in
     let below = rw c.requires.world at c.cost_below.ensures in
     c.or_found.ensures.best world x d allowed c.args.shift.now.process.0 c.args.to.0 is same
-    (subst (λ b. IsCostBelow world c.args.shift.now.process.0 c.args.to.0 b c.cost_below.result) (c.bound.ensures ∙ ap (bound_of c.args.best.cost) most) below)
+    (subst (λ b. IsCostBelow world c.args.shift.now.process.0 c.args.to.0 b c.cost_below.result)
+    (c.bound.ensures ∙ ap (bound_of c.args.best.cost) most) below)

@@ -19,9 +19,16 @@ returns-clause-best c = λ x allowed most is same.
     let world = c.args.world.now in
     let below = rw c.requires.world at c.cost_summed.ensures in
     c.or_found.ensures.best world x Two allowed c.args.shift.now.process.0 c.args.to.0 is same
-    (subst (λ b. IsCostBelow world c.args.shift.now.process.0 c.args.to.0 b c.cost_summed.result) (c.bound.ensures ∙ ap (bound_of c.args.best.cost) most) below)
+    (subst (λ b. IsCostBelow world c.args.shift.now.process.0 c.args.to.0 b c.cost_summed.result)
+    (c.bound.ensures ∙ ap (bound_of c.args.best.cost) most) below)
 
 pub returns-clause-bound : goal.returns-clause-bound
 returns-clause-bound c =
-    let below = subst (λ b. IsCostBelow c.args.shift.now.world.now c.args.shift.now.process.0 c.args.to.0 b c.cost_summed.result) c.bound.ensures c.cost_summed.ensures in
-    omega (arith, c.or_found.ensures.bound c.args.shift.now.world.now c.args.shift.now.process.0 c.args.to.0 c.args.most below, c.requires.bound)
+    let below = subst (λ b. IsCostBelow c.args.shift.now.world.now c.args.shift.now.process.0 c.args.to.0 b
+    c.cost_summed.result) c.bound.ensures c.cost_summed.ensures in
+    omega (
+      arith,
+      c.or_found.ensures.bound c.args.shift.now.world.now c.args.shift.now.process.0 c.args.to.0 c.args.most
+          below,
+      c.requires.bound,
+    )

@@ -4,7 +4,8 @@ use Rattle.ra_plan.proofs.Weighed.{flawed, flawless, flawless_move, processes_kn
 use Rattle.ra_plan.proofs.weighing.weigh.Goals as goal
 
 pub requirements-required-requires : goal.requirements-required-requires
-requirements-required-requires g c = rw c.instance.ensures (processes_known _ _ _ (flawless_move _ _ _ c.requires c.in_default.ensures))
+requirements-required-requires g c =
+    rw c.instance.ensures (processes_known _ _ _ (flawless_move _ _ _ c.requires c.in_default.ensures))
 
 pub first_broken-requires-clause-moves : goal.first_broken-requires-clause-moves
 first_broken-requires-clause-moves g c = flawless_move _ _ _ c.requires c.in_default.ensures
@@ -19,13 +20,16 @@ pub changed_by-requires-clause-required : goal.changed_by-requires-clause-requir
 changed_by-requires-clause-required g c = rw c.instance.ensures at c.requirements-required.ensures.required
 
 pub changed_by-requires-clause-unbroken : goal.changed_by-requires-clause-unbroken
-changed_by-requires-clause-unbroken g c = flawless _ _ _ _ c.in_default.ensures ∙ sym c.first_broken.ensures ∙ c.in-None.is
+changed_by-requires-clause-unbroken g c =
+    flawless _ _ _ _ c.in_default.ensures ∙ sym c.first_broken.ensures ∙ c.in-None.is
 
 pub returns-in-Some-clause-value : goal.returns-in-Some-clause-value
 returns-in-Some-clause-value g c = c.bare.ensures ∙ sym (bare_is _ _ _ _ _ (flawed _ _ _ _ _ c.in-Some.ensures))
 
 pub returns-in-Some-first_broken-clause-value : goal.returns-in-Some-first_broken-clause-value
-returns-in-Some-first_broken-clause-value g c = c.bare-in-Some-first_broken.ensures ∙ sym (bare_is _ _ _ _ _ (flawless _ _ _ _ c.in_default.ensures ∙ sym c.first_broken.ensures ∙ c.in-Some-first_broken.is))
+returns-in-Some-first_broken-clause-value g c = c.bare-in-Some-first_broken.ensures
+    ∙ sym (bare_is _ _ _ _ _ (flawless _ _ _ _ c.in_default.ensures ∙ sym c.first_broken.ensures
+    ∙ c.in-Some-first_broken.is))
 
 pub returns-in-Some-first_broken-clause-counted : goal.returns-in-Some-first_broken-clause-counted
 returns-in-Some-first_broken-clause-counted g c =

@@ -5,4 +5,7 @@ use Rattle.ra_repair.specs.Penalty.{transient_above}
 use Rattle.ra_repair.proofs.above.row_transient_above.Given as goal
 
 abbrev pub invariant-loop-r : goal.invariant-loop-r
-invariant-loop-r l = record { value : l.sum ≡ total l.r (transient_above l.inst.tables l.start.items l.kept.assignment.items l.m.0); few : l.sum ≤ l.r * 2 ^ 48 }
+invariant-loop-r l = record {
+  value : l.sum ≡ total l.r (transient_above l.inst.tables l.start.items l.kept.assignment.items l.m.0);
+  few : l.sum ≤ l.r * 2 ^ 48;
+}

@@ -5,4 +5,7 @@ use Rattle.ra_repair.specs.Keeping.{Keeps}
 use Rattle.ra_repair.proofs.following.follow.Given as goal
 
 abbrev pub invariant-loop-j : goal.invariant-loop-j
-invariant-loop-j g l = record { keeps : Keeps l.kept l.inst.tables l.start.items; made : l.kept.assignment.items ≡ after_steps l.fn.kept.assignment.items l.mv.steps l.j }
+invariant-loop-j g l = record {
+  keeps : Keeps l.kept l.inst.tables l.start.items;
+  made : l.kept.assignment.items ≡ after_steps l.fn.kept.assignment.items l.mv.steps l.j;
+}

@@ -10,19 +10,35 @@ loop-j-init g c = record { stands = c.requires.stands; made = sym (after_none _ 
 
 pub put-requires-clause-process : goal.put-requires-clause-process
 unfolding turned_step
-put-requires-clause-process g c = (back_of c.args.inst.now.tables c.args.kept.now.assignment.items c.loop-j.kept.assignment.items c.args.mv.now.steps c.loop-j.j c.step-step.result c.requires.stands.fits c.requires.made (omega (arith, c.loop-j-test.true, c.steps-j-end.ensures.value)) c.loop-j.invariant.made c.step-step.ensures).known
+put-requires-clause-process g c =
+    (back_of c.args.inst.now.tables c.args.kept.now.assignment.items c.loop-j.kept.assignment.items c.args.mv.now.steps
+    c.loop-j.j c.step-step.result c.requires.stands.fits c.requires.made
+    (omega (arith, c.loop-j-test.true, c.steps-j-end.ensures.value)) c.loop-j.invariant.made
+    c.step-step.ensures).known
 
 pub put-requires-clause-to : goal.put-requires-clause-to
 unfolding turned_step
-put-requires-clause-to g c = (back_of c.args.inst.now.tables c.args.kept.now.assignment.items c.loop-j.kept.assignment.items c.args.mv.now.steps c.loop-j.j c.step-step.result c.requires.stands.fits c.requires.made (omega (arith, c.loop-j-test.true, c.steps-j-end.ensures.value)) c.loop-j.invariant.made c.step-step.ensures).reach
+put-requires-clause-to g c =
+    (back_of c.args.inst.now.tables c.args.kept.now.assignment.items c.loop-j.kept.assignment.items c.args.mv.now.steps
+    c.loop-j.j c.step-step.result c.requires.stands.fits c.requires.made
+    (omega (arith, c.loop-j-test.true, c.steps-j-end.ensures.value)) c.loop-j.invariant.made
+    c.step-step.ensures).reach
 
 pub put-requires-clause-apart : goal.put-requires-clause-apart
 unfolding turned_step
-put-requires-clause-apart g c = (back_of c.args.inst.now.tables c.args.kept.now.assignment.items c.loop-j.kept.assignment.items c.args.mv.now.steps c.loop-j.j c.step-step.result c.requires.stands.fits c.requires.made (omega (arith, c.loop-j-test.true, c.steps-j-end.ensures.value)) c.loop-j.invariant.made c.step-step.ensures).apart
+put-requires-clause-apart g c =
+    (back_of c.args.inst.now.tables c.args.kept.now.assignment.items c.loop-j.kept.assignment.items c.args.mv.now.steps
+    c.loop-j.j c.step-step.result c.requires.stands.fits c.requires.made
+    (omega (arith, c.loop-j-test.true, c.steps-j-end.ensures.value)) c.loop-j.invariant.made
+    c.step-step.ensures).apart
 
 pub put-requires-clause-at_from : goal.put-requires-clause-at_from
 unfolding turned_step
-put-requires-clause-at_from g c = (back_of c.args.inst.now.tables c.args.kept.now.assignment.items c.loop-j.kept.assignment.items c.args.mv.now.steps c.loop-j.j c.step-step.result c.requires.stands.fits c.requires.made (omega (arith, c.loop-j-test.true, c.steps-j-end.ensures.value)) c.loop-j.invariant.made c.step-step.ensures).at_from
+put-requires-clause-at_from g c =
+    (back_of c.args.inst.now.tables c.args.kept.now.assignment.items c.loop-j.kept.assignment.items c.args.mv.now.steps
+    c.loop-j.j c.step-step.result c.requires.stands.fits c.requires.made
+    (omega (arith, c.loop-j-test.true, c.steps-j-end.ensures.value)) c.loop-j.invariant.made
+    c.step-step.ensures).at_from
 
 pub loop-j-preserved : goal.loop-j-preserved
 loop-j-preserved g c = record {
@@ -33,5 +49,7 @@ loop-j-preserved g c = record {
 
 pub returns-clause-assignment : goal.returns-clause-assignment
 returns-clause-assignment g c =
-    let all : c.loop-j.j ≡ length c.args.mv.now.steps = omega (arith, c.loop-j-test.false, c.loop-j.auto.j-end, c.steps-j-end.ensures.value) in
-    c.loop-j.invariant.made ∙ ap (after_steps c.args.kept.now.assignment.items (turned c.args.mv.now.steps)) all ∙ sym (back_all _ _)
+    let all : c.loop-j.j ≡ length c.args.mv.now.steps =
+    omega (arith, c.loop-j-test.false, c.loop-j.auto.j-end, c.steps-j-end.ensures.value) in
+    c.loop-j.invariant.made ∙ ap (after_steps c.args.kept.now.assignment.items (turned c.args.mv.now.steps)) all
+    ∙ sym (back_all _ _)

@@ -5,4 +5,8 @@ use Rattle.ra_repair.specs.Keeping.{Stands}
 use Rattle.ra_repair.proofs.following.go_back.Given as goal
 
 abbrev pub invariant-loop-j : goal.invariant-loop-j
-invariant-loop-j g l = record { stands : Stands l.kept l.inst.tables l.start.items; made : l.kept.assignment.items ≡ after_steps l.fn.kept.assignment.items (turned l.mv.steps) l.j; penalty : l.kept.penalty ≡ l.fn.kept.penalty }
+invariant-loop-j g l = record {
+  stands : Stands l.kept l.inst.tables l.start.items;
+  made : l.kept.assignment.items ≡ after_steps l.fn.kept.assignment.items (turned l.mv.steps) l.j;
+  penalty : l.kept.penalty ≡ l.fn.kept.penalty;
+}

@@ -11,6 +11,8 @@ returns-clause-stands g c =
     let a0 = c.args.start.now.items in
     let a = kept.assignment.items in
     let stands = c.requires.stands in
-    stands_on _ i a0 (set a c.args.p.0 c.args.to) c.set.ensures.items (fits_set i a c.args.p.0 c.args.to stands.fits c.requires.process c.requires.to)
+    stands_on _ i a0 (set a c.args.p.0 c.args.to) c.set.ensures.items
+    (fits_set i a c.args.p.0 c.args.to stands.fits c.requires.process c.requires.to)
     (c.shift.ensures.tables ∙ stands.tables) (c.shift.ensures.start ∙ stands.start)
-    (c.shift.ensures.stands a stands.rows c.requires.at_from) (c.change.ensures.stand i a0 a stands.cells c.requires.at_from)
+    (c.shift.ensures.stands a stands.rows c.requires.at_from)
+    (c.change.ensures.stand i a0 a stands.cells c.requires.at_from)

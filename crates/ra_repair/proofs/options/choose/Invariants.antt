@@ -7,7 +7,8 @@ use Rattle.ra_repair.proofs.options.choose.Given as goal
 
 abbrev pub invariant-loop-option : goal.invariant-loop-option
 invariant-loop-option g l = record {
-  chosen : IsChosen l.option (option_penalty l.inst.tables l.start.items l.fn.kept.assignment.items l.words) (try_option l.inst.tables l.fn.kept.assignment.items l.words) l.best;
+  chosen : IsChosen l.option (option_penalty l.inst.tables l.start.items l.fn.kept.assignment.items l.words)
+      (try_option l.inst.tables l.fn.kept.assignment.items l.words) l.best;
   keeps : Keeps l.kept l.inst.tables l.start.items;
   same : l.kept.assignment.items ≡ l.fn.kept.assignment.items;
 }

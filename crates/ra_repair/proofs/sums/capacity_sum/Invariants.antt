@@ -5,4 +5,7 @@ use Rattle.ra_repair.specs.Penalty.{row_above}
 use Rattle.ra_repair.proofs.sums.capacity_sum.Given as goal
 
 abbrev pub invariant-loop-m : goal.invariant-loop-m
-invariant-loop-m l = record { value : l.sum ≡ total l.m (row_above l.inst.tables l.kept.assignment.items); few : l.sum ≤ l.m * (20 * 2 ^ 48) }
+invariant-loop-m l = record {
+  value : l.sum ≡ total l.m (row_above l.inst.tables l.kept.assignment.items);
+  few : l.sum ≤ l.m * (20 * 2 ^ 48);
+}

@@ -5,4 +5,7 @@ use Rattle.ra_repair.specs.Penalty.{service_crowd}
 use Rattle.ra_repair.proofs.sums.conflict_sum.Given as goal
 
 abbrev pub invariant-loop-s : goal.invariant-loop-s
-invariant-loop-s l = record { value : l.sum ≡ total l.s (service_crowd l.inst.tables l.kept.assignment.items); few : l.sum ≤ l.s * 2500000000 }
+invariant-loop-s l = record {
+  value : l.sum ≡ total l.s (service_crowd l.inst.tables l.kept.assignment.items);
+  few : l.sum ≤ l.s * 2500000000;
+}

@@ -5,4 +5,7 @@ use Rattle.ra_repair.specs.Penalty.{spread_lack}
 use Rattle.ra_repair.proofs.sums.spread_sum.Given as goal
 
 abbrev pub invariant-loop-s : goal.invariant-loop-s
-invariant-loop-s l = record { value : l.sum ≡ total l.s (spread_lack l.inst.tables l.kept.assignment.items); few : l.sum ≤ l.s * 2 ^ 32 }
+invariant-loop-s l = record {
+  value : l.sum ≡ total l.s (spread_lack l.inst.tables l.kept.assignment.items);
+  few : l.sum ≤ l.s * 2 ^ 32;
+}

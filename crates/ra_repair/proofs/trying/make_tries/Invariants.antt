@@ -7,7 +7,10 @@ use Rattle.ra_repair.proofs.trying.make_tries.Given as goal
 abbrev pub invariant-loop-k : goal.invariant-loop-k
 invariant-loop-k g l = record {
   keeps : Keeps l.kept l.inst.tables l.start.items;
-  run : (record { assignment = l.kept.assignment.items; tries = l.tries.items }) ≡ repaired_by l.inst.tables l.start.items l.lot l.k;
+  run : (record {
+    assignment = l.kept.assignment.items;
+    tries = l.tries.items;
+  }) ≡ repaired_by l.inst.tables l.start.items l.lot l.k;
   number : length l.tries.items ≡ l.k;
   room : l.tries.room ≡ l.fn.tries.room;
   lot : l.draws.lot ≡ l.lot;

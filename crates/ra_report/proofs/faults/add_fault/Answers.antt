@@ -13,6 +13,9 @@ returns g c =
     let front = joined (line.words.now ∷ line.name.now ∷ line.behind.now ∷ []) in
     let note = note_text line.note in
     let same : front ++ (note ++ line_end) ≡ line_said line = simp append_assoc refl in
-    subst (λ (t : List ℕ). Adds g.O.Sink.taken g.O.Sink.faults c.args.text.now c.add.new.self t) (same ∙ c.fault_line-line.ensures)
-    (adds_more g.O.Sink.taken g.O.Sink.faults c.args.text.now c.add_pieces.new.text c.add.new.self front (note ++ line_end) c.add_pieces.ensures
-    (adds_more g.O.Sink.taken g.O.Sink.faults c.add_pieces.new.text c.add_note.new.text c.add.new.self note line_end c.add_note.ensures c.add.ensures))
+    subst (λ (t : List ℕ). Adds g.O.Sink.taken g.O.Sink.faults c.args.text.now c.add.new.self t)
+    (same ∙ c.fault_line-line.ensures)
+    (adds_more g.O.Sink.taken g.O.Sink.faults c.args.text.now c.add_pieces.new.text c.add.new.self front
+    (note ++ line_end) c.add_pieces.ensures
+    (adds_more g.O.Sink.taken g.O.Sink.faults c.add_pieces.new.text c.add_note.new.text c.add.new.self note line_end
+    c.add_note.ensures c.add.ensures))

@@ -8,4 +8,6 @@ pub returns : goal.returns
 unfolding entry_front
 returns c =
     simp append_assoc (at_most 90 (omega arith)
-    (in_front (in_front (in_front (in_front (rw c.kind.ensures at c.prepend_kind.ensures) c.prepend_marked.ensures) c.prepend_marked-2.ensures) c.prepend_marked-3.ensures) c.prepend_number.ensures))
+    (in_front (in_front
+    (in_front (in_front (rw c.kind.ensures at c.prepend_kind.ensures) c.prepend_marked.ensures)
+    c.prepend_marked-2.ensures) c.prepend_marked-3.ensures) c.prepend_number.ensures))

@@ -6,4 +6,7 @@ use Rattle.ra_report.proofs.journal.prepend_step.Goals as goal
 
 pub returns : goal.returns
 unfolding step_text
-returns c = simp append_assoc (at_most 63 (omega arith) (in_front (in_front (in_front c.prepend_byte.ensures c.prepend_marked.ensures) c.prepend_marked-2.ensures) c.prepend_number.ensures))
+returns c = simp append_assoc
+    (at_most 63 (omega arith)
+    (in_front (in_front (in_front c.prepend_byte.ensures c.prepend_marked.ensures) c.prepend_marked-2.ensures)
+    c.prepend_number.ensures))

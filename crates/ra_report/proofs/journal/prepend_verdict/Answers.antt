@@ -9,4 +9,5 @@ returns-in-Done c = rw c.in-Done.is (at_most 113 (omega arith) (in_front c.prepe
 
 pub returns-in-Refused : goal.returns-in-Refused
 unfolding verdict_text
-returns-in-Refused c = rw c.in-Refused.is (at_most 113 (omega arith) (in_front c.prepend_cause.ensures c.prepend-in-Refused.ensures))
+returns-in-Refused c =
+    rw c.in-Refused.is (at_most 113 (omega arith) (in_front c.prepend_cause.ensures c.prepend-in-Refused.ensures))

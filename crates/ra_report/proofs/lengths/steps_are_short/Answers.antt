@@ -8,7 +8,9 @@ loop-i-init c = no_steps_length c.args.mv.now.steps
 
 pub loop-i-preserved : goal.loop-i-preserved
 unfolding step_at
-loop-i-preserved c = steps_length c.args.mv.now.steps c.loop-i.i _ (rw (← c.steps-i-end.ensures.value) c.loop-i-test.true) c.loop-i.invariant (rw c.step.ensures at c.step_is_short.ensures)
+loop-i-preserved c =
+    steps_length c.args.mv.now.steps c.loop-i.i _ (rw (← c.steps-i-end.ensures.value) c.loop-i-test.true)
+    c.loop-i.invariant (rw c.step.ensures at c.step_is_short.ensures)
 
 pub returns : goal.returns
 returns c = all_steps_length c.args.mv.now.steps c.loop-i.i (search rules) (search rules) c.loop-i.invariant

@@ -8,4 +8,6 @@ unfolding tries_text
 loop-place-init g c = adds_none g.O.Sink.taken g.O.Sink.faults c.args.text.now
 
 pub loop-place-preserved : goal.loop-place-preserved
-loop-place-preserved g c = adds_try g.O.Sink.taken g.O.Sink.faults c.args.repair.now.tries.items c.loop-place.place c.args.text.now c.loop-place.text c.add_try.new.text c.loop-place.invariant (rw (← c.entry.ensures) c.add_try.ensures)
+loop-place-preserved g c = adds_try g.O.Sink.taken g.O.Sink.faults c.args.repair.now.tries.items c.loop-place.place
+    c.args.text.now c.loop-place.text c.add_try.new.text c.loop-place.invariant
+    (rw (← c.entry.ensures) c.add_try.ensures)

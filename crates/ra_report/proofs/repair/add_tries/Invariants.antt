@@ -4,4 +4,5 @@ use Rattle.ra_report.specs.RepairTexts.{tries_text}
 use Rattle.ra_report.proofs.repair.add_tries.Given as goal
 
 abbrev pub invariant-loop-place : goal.invariant-loop-place
-invariant-loop-place g l = Adds g.O.Sink.taken g.O.Sink.faults l.initial.text l.text (tries_text l.repair.tries.items l.place)
+invariant-loop-place g l =
+    Adds g.O.Sink.taken g.O.Sink.faults l.initial.text l.text (tries_text l.repair.tries.items l.place)

@@ -10,5 +10,7 @@ returns g c =
     let outcome = outcome_text c.args.parts.now c.args.bound_total c.args.best_at in
     let assignment = assignment_line c.args.best.now.items in
     let drawing = number_line (codes "draws") (drawing_number c.args.drawing) in
-    let two = adds_more g.O.Sink.taken g.O.Sink.faults c.args.text.now c.add_outcome.new.text c.add_assignment.new.text outcome assignment c.add_outcome.ensures (rw c.as_slice.ensures at c.add_assignment.ensures) in
-    adds_more g.O.Sink.taken g.O.Sink.faults c.args.text.now c.add_assignment.new.text c.add_number.new.text (outcome ++ assignment) drawing two (rw c.drawing_number.ensures at c.add_number.ensures)
+    let two = adds_more g.O.Sink.taken g.O.Sink.faults c.args.text.now c.add_outcome.new.text c.add_assignment.new.text
+    outcome assignment c.add_outcome.ensures (rw c.as_slice.ensures at c.add_assignment.ensures) in
+    adds_more g.O.Sink.taken g.O.Sink.faults c.args.text.now c.add_assignment.new.text c.add_number.new.text
+    (outcome ++ assignment) drawing two (rw c.drawing_number.ensures at c.add_number.ensures)

@@ -8,4 +8,5 @@ unfolding report_lines
 returns g c =
     let head = head_text c.args.parts.now c.args.bound.now.total c.args.best_at c.args.best.now.items c.args.drawing in
     let entries = entries_text c.args.entries.now.items (length c.args.entries.now.items) in
-    adds_more g.O.Sink.taken g.O.Sink.faults c.args.text.now c.add_head.new.text c.add_entries.new.text head entries c.add_head.ensures c.add_entries.ensures
+    adds_more g.O.Sink.taken g.O.Sink.faults c.args.text.now c.add_head.new.text c.add_entries.new.text head entries
+    c.add_head.ensures c.add_entries.ensures

@@ -3,4 +3,6 @@ use Rattle.ra_report_text.proofs.GatheringLemmas.{writes}
 use Rattle.ra_report.proofs.writing.write_bound.Goals as goal
 
 pub returns : goal.returns
-returns g c = writes g.O.Sink.taken g.O.Sink.faults c.make-text.result c.add_bound.new.text c.finish.new.self c.make-text.ensures.same (search rules) c.make-text.ensures.sound c.make-text.ensures.none c.add_bound.ensures c.finish.ensures.adds c.finish.ensures.none c.finish.ensures.whole c.finish.ensures.part
+returns g c = writes g.O.Sink.taken g.O.Sink.faults c.make-text.result c.add_bound.new.text c.finish.new.self
+    c.make-text.ensures.same (search rules) c.make-text.ensures.sound c.make-text.ensures.none c.add_bound.ensures
+    c.finish.ensures.adds c.finish.ensures.none c.finish.ensures.whole c.finish.ensures.part

@@ -10,6 +10,14 @@ pub loop-i-preserved : goal.loop-i-preserved
 loop-i-preserved c =
     let few = c.loop-i.invariant.1 in
     elim c.if-bytes-i-eq10.branch [
-      | then-bytes-i-eq10 w ↦ (w.count-is ∙ count_end c.args.bytes.now c.loop-i.i _ c.loop-i.count (search rules) refl (search rules) c.loop-i.invariant.0, omega (arith, w.count-is))
-      | else-bytes-i-eq10 w ↦ (w.count-is ∙ count_next c.args.bytes.now c.loop-i.i _ c.loop-i.count (search rules) refl (search rules) c.loop-i.invariant.0, omega (arith, w.count-is))
+      | then-bytes-i-eq10 w ↦ (
+        w.count-is ∙ count_end c.args.bytes.now c.loop-i.i _ c.loop-i.count (search rules) refl (search rules)
+            c.loop-i.invariant.0,
+        omega (arith, w.count-is),
+      )
+      | else-bytes-i-eq10 w ↦ (
+        w.count-is ∙ count_next c.args.bytes.now c.loop-i.i _ c.loop-i.count (search rules) refl (search rules)
+            c.loop-i.invariant.0,
+        omega (arith, w.count-is),
+      )
     ]

@@ -10,4 +10,8 @@ returns-in-Nothing g c = rw c.in-Nothing.is (adds_none g.O.Sink.taken g.O.Sink.f
 
 pub returns-in-Cause : goal.returns-in-Cause
 unfolding note_text
-returns-in-Cause g c = rw c.in-Cause.is (adds_more g.O.Sink.taken g.O.Sink.faults c.args.text.now c.add_pieces-in-Cause.new.text c.add_cause.new.text c.in-Cause.words.now (cause_text c.in-Cause.cause) (rw append-nil at c.add_pieces-in-Cause.ensures) c.add_cause.ensures)
+returns-in-Cause g c =
+    rw c.in-Cause.is
+    (adds_more g.O.Sink.taken g.O.Sink.faults c.args.text.now c.add_pieces-in-Cause.new.text c.add_cause.new.text
+    c.in-Cause.words.now (cause_text c.in-Cause.cause) (rw append-nil at c.add_pieces-in-Cause.ensures)
+    c.add_cause.ensures)

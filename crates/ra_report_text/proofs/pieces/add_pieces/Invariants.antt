@@ -4,4 +4,5 @@ use Rattle.ra_report_text.specs.Pieces.{bytes_of}
 use Rattle.ra_report_text.proofs.pieces.add_pieces.Given as goal
 
 abbrev pub invariant-loop-piece : goal.invariant-loop-piece
-invariant-loop-piece g l = Adds g.O.Sink.taken g.O.Sink.faults l.initial.text l.text (bytes_of (take l.piece-index l.pieces))
+invariant-loop-piece g l =
+    Adds g.O.Sink.taken g.O.Sink.faults l.initial.text l.text (bytes_of (take l.piece-index l.pieces))

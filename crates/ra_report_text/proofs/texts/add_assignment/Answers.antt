@@ -9,5 +9,7 @@ unfolding assignment_line
 returns g c =
     let word = codes "assignment" in
     let machines = machines_text c.args.machines.now in
-    let listed = adds_more g.O.Sink.taken g.O.Sink.faults c.args.text.now c.add_pieces.new.text c.add_machines.new.text word machines c.add_pieces.ensures c.add_machines.ensures in
-    adds_more g.O.Sink.taken g.O.Sink.faults c.args.text.now c.add_machines.new.text c.add_pieces-2.new.text (word ++ machines) line_end listed c.add_pieces-2.ensures
+    let listed = adds_more g.O.Sink.taken g.O.Sink.faults c.args.text.now c.add_pieces.new.text c.add_machines.new.text
+    word machines c.add_pieces.ensures c.add_machines.ensures in
+    adds_more g.O.Sink.taken g.O.Sink.faults c.args.text.now c.add_machines.new.text c.add_pieces-2.new.text
+    (word ++ machines) line_end listed c.add_pieces-2.ensures

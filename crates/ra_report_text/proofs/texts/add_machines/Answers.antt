@@ -9,4 +9,6 @@ loop-machine-init g c = adds_none g.O.Sink.taken g.O.Sink.faults c.args.text.now
 
 pub loop-machine-preserved : goal.loop-machine-preserved
 unfolding machines_text
-loop-machine-preserved g c = adds_word g.O.Sink.taken g.O.Sink.faults machine_word c.args.machines.now c.loop-machine.machine-index _ c.args.text.now c.loop-machine.text c.add_pieces.new.text c.loop-machine-test.true c.loop-machine.invariant (simp append-nil at c.add_pieces.ensures)
+loop-machine-preserved g c = adds_word g.O.Sink.taken g.O.Sink.faults machine_word c.args.machines.now
+    c.loop-machine.machine-index _ c.args.text.now c.loop-machine.text c.add_pieces.new.text c.loop-machine-test.true
+    c.loop-machine.invariant (simp append-nil at c.add_pieces.ensures)

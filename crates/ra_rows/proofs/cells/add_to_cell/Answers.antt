@@ -4,4 +4,6 @@ use Rattle.ra_rows.proofs.CellLemmas.{cell_raised}
 use Rattle.ra_rows.proofs.cells.add_to_cell.Goals as goal
 
 pub returns : goal.returns
-returns c = cell_raised c.args.width c.args.row c.args.column _ c.args.amount c.args.table.now.items c.set.new.self.items c.requires.column c.requires.place (omega (arith, c.read_cell.ensures, c.from.ensures)) c.set.ensures.items
+returns c = cell_raised c.args.width c.args.row c.args.column _ c.args.amount c.args.table.now.items
+    c.set.new.self.items c.requires.column c.requires.place (omega (arith, c.read_cell.ensures, c.from.ensures))
+    c.set.ensures.items

@@ -4,4 +4,6 @@ use Rattle.ra_rows.proofs.CellLemmas.{cell_lowered}
 use Rattle.ra_rows.proofs.cells.take_from_cell.Goals as goal
 
 pub returns : goal.returns
-returns c = cell_lowered c.args.width c.args.row c.args.column (c.read_cell.result - c.from.result) c.args.amount c.args.table.now.items c.set.new.self.items c.requires.column c.requires.place (omega (arith, c.read_cell.ensures, c.from.ensures, c.requires.enough)) c.set.ensures.items
+returns c = cell_lowered c.args.width c.args.row c.args.column (c.read_cell.result - c.from.result) c.args.amount
+    c.args.table.now.items c.set.new.self.items c.requires.column c.requires.place
+    (omega (arith, c.read_cell.ensures, c.from.ensures, c.requires.enough)) c.set.ensures.items

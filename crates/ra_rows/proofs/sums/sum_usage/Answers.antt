@@ -13,8 +13,10 @@ loop-p-init g c = record {
 
 pub add_row-requires-clause-below : goal.add_row-requires-clause-below
 add_row-requires-clause-below g c =
-    let few : c.loop-p.p ≤ process_count c.args.inst.now.tables = omega (arith, c.loop-p-test.true, c.processes-p-end.ensures) in
-    tally_below c.args.inst.now.tables c.args.a.now.items c.loop-p.p c.loop-p.table.items c.args.inst.now.well_formed c.args.inst.now.small few c.loop-p.invariant.sums
+    let few : c.loop-p.p ≤ process_count c.args.inst.now.tables =
+    omega (arith, c.loop-p-test.true, c.processes-p-end.ensures) in
+    tally_below c.args.inst.now.tables c.args.a.now.items c.loop-p.p c.loop-p.table.items c.args.inst.now.well_formed
+    c.args.inst.now.small few c.loop-p.invariant.sums
 
 pub loop-p-preserved : goal.loop-p-preserved
 loop-p-preserved g c = record {

@@ -15,31 +15,48 @@ use Rattle.ra_run.proofs.job.do_job.Goals as goal
 
 -- the words of lots say these
 are_said : (lots l : Lots) → These lots l → AreLots lots.slack lots.drawing (map said_lot lots.lots.items) l
-are_said lots l is = record { slack_is = ap (λ (x : Lots). x.slack) is; drawing_is = ap (λ (x : Lots). x.drawing) is; lots_are = ap (λ (x : Lots). map said_lot x.lots.items) is }
+are_said lots l is = record {
+  slack_is = ap (λ (x : Lots). x.slack) is;
+  drawing_is = ap (λ (x : Lots). x.drawing) is;
+  lots_are = ap (λ (x : Lots). map said_lot x.lots.items) is;
+}
 
 pub repair_run-requires : goal.repair_run-requires
-repair_run-requires g c = record { one = let one = rw c.in-Repair.is at c.requires in sym (length-map c.in-Repair.lots.lots.items said_lot) ∙ one }
+repair_run-requires g c = record {
+  one = let one = rw c.in-Repair.is at c.requires in sym (length-map c.in-Repair.lots.lots.items said_lot) ∙ one;
+}
 
 pub returns-in-Check : goal.returns-in-Check
 returns-in-Check g c = rw c.in-Check.is (rw c.as_ref.ensures.value at c.check_run.ensures)
 
 pub returns-in-Bound : goal.returns-in-Bound
-returns-in-Bound g c = rw c.in-Bound.is (rw (c.as_ref-in-Bound.ensures.value, c.as_ref-in-Bound-2.ensures.value) at c.bound_run.ensures)
+returns-in-Bound g c =
+    rw c.in-Bound.is (rw (c.as_ref-in-Bound.ensures.value, c.as_ref-in-Bound-2.ensures.value) at c.bound_run.ensures)
 
 pub returns-in-Solve : goal.returns-in-Solve
 returns-in-Solve g c =
     let lots = c.in-Solve.lots in
-    rw c.in-Solve.is (solve_more (solve_names c.in-Solve.model c.in-Solve.initial c.in-Solve.closed) (These lots) (AreLots lots.slack lots.drawing (map said_lot lots.lots.items))
-    (reading g.F.Files c.args.files.now c.solve_run.new.files) (output g.O.Sink c.args.out.now c.solve_run.new.out) (output g.E.Sink c.args.err.now c.solve_run.new.err) c.solve_run.result (are_said lots) (rw c.as_ref-in-Solve.ensures.value at c.solve_run.ensures))
+    rw c.in-Solve.is (solve_more (solve_names c.in-Solve.model c.in-Solve.initial c.in-Solve.closed) (These lots)
+    (AreLots lots.slack lots.drawing (map said_lot lots.lots.items))
+    (reading g.F.Files c.args.files.now c.solve_run.new.files) (output g.O.Sink c.args.out.now c.solve_run.new.out)
+    (output g.E.Sink c.args.err.now c.solve_run.new.err) c.solve_run.result (are_said lots)
+    (rw c.as_ref-in-Solve.ensures.value at c.solve_run.ensures))
 
 pub returns-in-Trial : goal.returns-in-Trial
-returns-in-Trial g c = rw c.in-Trial.is (c.trial_run.ensures (reading g.F.Files c.args.files.now c.args.files.now) (record { kept = λ other. refl; never_fall = λ other. omega arith }))
+returns-in-Trial g c =
+    rw c.in-Trial.is (c.trial_run.ensures (reading g.F.Files c.args.files.now c.args.files.now) (record {
+      kept = λ other. refl;
+      never_fall = λ other. omega arith;
+    }))
 
 pub returns-in-Repair : goal.returns-in-Repair
 returns-in-Repair g c =
     let lots = c.in-Repair.lots in
-    rw c.in-Repair.is (repair_command_more (solve_names c.in-Repair.model c.in-Repair.initial c.in-Repair.closed) (These lots) (AreLots lots.slack lots.drawing (map said_lot lots.lots.items))
-    (reading g.F.Files c.args.files.now c.repair_run.new.files) (output g.O.Sink c.args.out.now c.repair_run.new.out) (output g.E.Sink c.args.err.now c.repair_run.new.err) c.repair_run.result (are_said lots) (rw c.as_ref-in-Repair.ensures.value at c.repair_run.ensures))
+    rw c.in-Repair.is (repair_command_more (solve_names c.in-Repair.model c.in-Repair.initial c.in-Repair.closed)
+    (These lots) (AreLots lots.slack lots.drawing (map said_lot lots.lots.items))
+    (reading g.F.Files c.args.files.now c.repair_run.new.files) (output g.O.Sink c.args.out.now c.repair_run.new.out)
+    (output g.E.Sink c.args.err.now c.repair_run.new.err) c.repair_run.result (are_said lots)
+    (rw c.as_ref-in-Repair.ensures.value at c.repair_run.ensures))
 
 pub returns-in-Edit : goal.returns-in-Edit
 returns-in-Edit g c = rw c.in-Edit.is (rw c.as_ref-in-Edit.ensures.value at c.edit_run.ensures)
@@ -47,5 +64,9 @@ returns-in-Edit g c = rw c.in-Edit.is (rw c.as_ref-in-Edit.ensures.value at c.ed
 pub returns-in-Verify : goal.returns-in-Verify
 returns-in-Verify g c =
     let lots = c.in-Verify.lots in
-    rw c.in-Verify.is (verify_more (verify_names c.in-Verify.model c.in-Verify.initial c.in-Verify.report c.in-Verify.closed) (These lots) (AreLots lots.slack lots.drawing (map said_lot lots.lots.items))
-    (reading g.F.Files c.args.files.now c.verify_run.new.files) (output g.O.Sink c.args.out.now c.verify_run.new.out) (output g.E.Sink c.args.err.now c.verify_run.new.err) c.verify_run.result (are_said lots) (rw c.as_ref-in-Verify.ensures.value at c.verify_run.ensures))
+    rw c.in-Verify.is
+    (verify_more (verify_names c.in-Verify.model c.in-Verify.initial c.in-Verify.report c.in-Verify.closed)
+    (These lots) (AreLots lots.slack lots.drawing (map said_lot lots.lots.items))
+    (reading g.F.Files c.args.files.now c.verify_run.new.files) (output g.O.Sink c.args.out.now c.verify_run.new.out)
+    (output g.E.Sink c.args.err.now c.verify_run.new.err) c.verify_run.result (are_said lots)
+    (rw c.as_ref-in-Verify.ensures.value at c.verify_run.ensures))

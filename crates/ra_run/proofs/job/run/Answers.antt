@@ -9,7 +9,8 @@ use Rattle.ra_run.proofs.RunLemmas.{memory_any}
 use Rattle.ra_run.proofs.job.run.Goals as goal
 
 pub do_job-status-requires-after_bounds : goal.do_job-status-requires-after_bounds
-do_job-status-requires-after_bounds g c lifetimes within = has_one_lot (texts c.args.words.now) (said c.in-Ok.job) c.in-Ok.ensures.ok
+do_job-status-requires-after_bounds g c lifetimes within =
+    has_one_lot (texts c.args.words.now) (said c.in-Ok.job) c.in-Ok.ensures.ok
 
 pub returns-in-Ok-clause-usage : goal.returns-in-Ok-clause-usage
 returns-in-Ok-clause-usage g c = record {
@@ -25,5 +26,12 @@ pub returns-in-Ok-clause-leaves : goal.returns-in-Ok-clause-leaves
 returns-in-Ok-clause-leaves g c = c.do_job-status.ensures.leaves
 
 pub returns-in-Err-NoMemory-clause-does : goal.returns-in-Err-NoMemory-clause-does
-returns-in-Err-NoMemory-clause-does g c = memory_any (job_of (texts c.args.words.now)) (reading g.F.Files c.args.files.now c.args.files.now) (output g.O.Sink c.args.out.now c.args.out.now) (output g.E.Sink c.args.err.now c.refuse_memory.new.err) c.refuse_memory.result c.refuse_memory.ensures.status c.refuse_memory.ensures.line refl
-    (record { of_files = record { kept = λ other. refl; never_fall = λ other. omega arith }; out_never_falls = omega arith; err_never_falls = c.refuse_memory.ensures.never_falls })
+returns-in-Err-NoMemory-clause-does g c =
+    memory_any (job_of (texts c.args.words.now)) (reading g.F.Files c.args.files.now c.args.files.now)
+    (output g.O.Sink c.args.out.now c.args.out.now) (output g.E.Sink c.args.err.now c.refuse_memory.new.err)
+    c.refuse_memory.result c.refuse_memory.ensures.status c.refuse_memory.ensures.line refl
+    (record {
+      of_files = record { kept = λ other. refl; never_fall = λ other. omega arith };
+      out_never_falls = omega arith;
+      err_never_falls = c.refuse_memory.ensures.never_falls;
+    })

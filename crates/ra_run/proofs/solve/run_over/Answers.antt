@@ -9,15 +9,21 @@ report-ended-requires-clause-best g c = best_told _ _ _ _ c.solve-run.ensures
 
 pub report-ended-requires-clause-bound : goal.report-ended-requires-clause-bound
 report-ended-requires-clause-bound g c =
-    let is = rw (c.in-Ok-make.ensures.instance, c.in-Ok-make.ensures.initial, c.in-Ok-make.ensures.lots) at c.solve-run.ensures in
+    let is = rw (c.in-Ok-make.ensures.instance, c.in-Ok-make.ensures.initial, c.in-Ok-make.ensures.lots) at
+    c.solve-run.ensures in
     bound_told c.args.inst.now.tables c.args.initial.now.items c.args.lots.now c.solve-run.result _ is c.in-Ok.ensures
 
 pub returns-in-Ok-ended-clause-printed : goal.returns-in-Ok-ended-clause-printed
 returns-in-Ok-ended-clause-printed g c =
-    let is = rw (c.in-Ok-make.ensures.instance, c.in-Ok-make.ensures.initial, c.in-Ok-make.ensures.lots) at c.solve-run.ensures in
-    run_told c.args.inst.now.tables c.args.initial.now.items c.args.lots.now c.solve-run.result (Took (writing g.O.Sink c.args.out.now c.report-ended.new.out)) is c.requires.feasible c.in-Ok-ended.ensures.whole
+    let is = rw (c.in-Ok-make.ensures.instance, c.in-Ok-make.ensures.initial, c.in-Ok-make.ensures.lots) at
+    c.solve-run.ensures in
+    run_told c.args.inst.now.tables c.args.initial.now.items c.args.lots.now c.solve-run.result
+    (Took (writing g.O.Sink c.args.out.now c.report-ended.new.out)) is c.requires.feasible
+    c.in-Ok-ended.ensures.whole
 
 pub returns-in-Err-clause-refused : goal.returns-in-Err-clause-refused
 returns-in-Err-clause-refused g c =
-    let is = rw (c.in-Ok-make.ensures.instance, c.in-Ok-make.ensures.initial, c.in-Ok-make.ensures.lots) at c.solve-run.ensures in
-    run_told c.args.inst.now.tables c.args.initial.now.items c.args.lots.now c.solve-run.result (BrokeOff (writing g.O.Sink c.args.out.now c.report-ended.new.out)) is c.requires.feasible c.in-Err.ensures.part
+    let is = rw (c.in-Ok-make.ensures.instance, c.in-Ok-make.ensures.initial, c.in-Ok-make.ensures.lots) at
+    c.solve-run.ensures in
+    run_told c.args.inst.now.tables c.args.initial.now.items c.args.lots.now c.solve-run.result
+    (BrokeOff (writing g.O.Sink c.args.out.now c.report-ended.new.out)) is c.requires.feasible c.in-Err.ensures.part

@@ -24,9 +24,19 @@ returns g c =
     let inst = c.in_ok-start.start.inst in
     let a0 = c.in_ok-start.start.initial.items in
     record {
-      printed = on_ok_then c.run_from-ended.result _ _ (λ told. (lots, refl, solved held names inst.tables a0 lots (Took out) inst.well_formed c.in_ok-start.ensures.read told)) c.run_from-ended.ensures.printed;
-      refused = if_err_then c.run_from-ended.result _ _ (λ r reason. reason_these held names lots before now (BrokeOff out) r (reason_run held names inst.tables a0 lots before now (BrokeOff out) refl inst.well_formed c.in_ok-start.ensures.read r reason)) c.run_from-ended.ensures.refused;
-      no_output = if_err_then c.run_from-ended.result _ _ (λ r same first. same (not_write r first)) c.run_from-ended.ensures.no_output;
+      printed = on_ok_then c.run_from-ended.result _ _
+          (λ told. (
+            lots,
+            refl,
+            solved held names inst.tables a0 lots (Took out) inst.well_formed
+                c.in_ok-start.ensures.read told,
+          )) c.run_from-ended.ensures.printed;
+      refused = if_err_then c.run_from-ended.result _ _
+          (λ r reason. reason_these held names lots before now (BrokeOff out) r
+          (reason_run held names inst.tables a0 lots before now (BrokeOff out) refl inst.well_formed
+          c.in_ok-start.ensures.read r reason)) c.run_from-ended.ensures.refused;
+      no_output = if_err_then c.run_from-ended.result _ _ (λ r same first. same (not_write r first))
+          c.run_from-ended.ensures.no_output;
       leaves = record { kept = c.read_start.ensures.kept; never_fall = c.read_start.ensures.never_fall };
       never_falls = c.run_from-ended.ensures.out_never_falls;
     }
@@ -36,6 +46,9 @@ returns-in_err-start g c =
     let held = g.F.Files.held c.args.files.now in
     let names = solve_names c.args.model.now c.args.initial.now (option_copied c.args.closed) in
     let out = output g.O.Sink c.args.out.now c.args.out.now in
-    not_tried (solve_command c.args.model.now c.args.initial.now (option_copied c.args.closed) (These c.args.lots.now)) (reading g.F.Files c.args.files.now c.read_start.new.files) out _ _ c.from_residual.ensures
-    (reason_anywhere held names (g.F.Files.faults c.args.files.now) (g.F.Files.faults c.read_start.new.files) ((solving names (These c.args.lots.now)).refuses held (Took out.sink) (BrokeOff out.sink)) _ c.in_err-start.ensures.refused)
+    not_tried (solve_command c.args.model.now c.args.initial.now (option_copied c.args.closed) (These c.args.lots.now))
+    (reading g.F.Files c.args.files.now c.read_start.new.files) out _ _ c.from_residual.ensures
+    (reason_anywhere held names (g.F.Files.faults c.args.files.now) (g.F.Files.faults c.read_start.new.files)
+    ((solving names (These c.args.lots.now)).refuses held (Took out.sink) (BrokeOff out.sink)) _
+    c.in_err-start.ensures.refused)
     refl (record { kept = c.read_start.ensures.kept; never_fall = c.read_start.ensures.never_fall }) (omega arith)

@@ -13,4 +13,6 @@ finish-requires g c = if_err_then c.solve-ended.result _ _ (can_tell_judged _ _ 
 
 pub returns : goal.returns
 returns g c = solve_so c.args.model.now (option_copied c.args.closed) c.args.initial.now (These c.args.lots.now)
-    (reading g.F.Files c.args.files.now c.solve-ended.new.files) (output g.O.Sink c.args.out.now c.solve-ended.new.out) (output g.E.Sink c.args.err.now c.finish.new.err) c.solve-ended.result c.finish.result c.solve-ended.ensures c.finish.ensures
+    (reading g.F.Files c.args.files.now c.solve-ended.new.files) (output g.O.Sink c.args.out.now c.solve-ended.new.out)
+    (output g.E.Sink c.args.err.now c.finish.new.err) c.solve-ended.result c.finish.result c.solve-ended.ensures
+    c.finish.ensures

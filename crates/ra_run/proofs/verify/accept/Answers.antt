@@ -11,7 +11,15 @@ use Rattle.ra_run.proofs.verify.accept.Goals as goal
 
 pub returns-in-Ok : goal.returns-in-Ok
 returns-in-Ok g c = record {
-  printed = (c.args.lots.now, refl, record { entries = c.in_ok-entries.entries; read = c.in_ok-entries.ensures.read; text = c.in-Ok.ensures.whole });
+  printed = (
+    c.args.lots.now,
+    refl,
+    record {
+      entries = c.in_ok-entries.entries;
+      read = c.in_ok-entries.ensures.read;
+      text = c.in-Ok.ensures.whole;
+    },
+  );
   refused = tt;
   no_output = tt;
   leaves = record { kept = c.read_report.ensures.kept; never_fall = c.read_report.ensures.never_fall };
@@ -21,7 +29,15 @@ returns-in-Ok g c = record {
 pub returns-in-Err : goal.returns-in-Err
 returns-in-Err g c = record {
   printed = tt;
-  refused = (c.args.lots.now, refl, record { entries = c.in_ok-entries.entries; read = c.in_ok-entries.ensures.read; text = c.in-Err.ensures.part });
+  refused = (
+    c.args.lots.now,
+    refl,
+    record {
+      entries = c.in_ok-entries.entries;
+      read = c.in_ok-entries.ensures.read;
+      text = c.in-Err.ensures.part;
+    },
+  );
   no_output = λ first. absurd cc;
   leaves = record { kept = c.read_report.ensures.kept; never_fall = c.read_report.ensures.never_fall };
   never_falls = c.write_accepted.ensures.never_falls;
@@ -35,6 +51,9 @@ returns-in_err-entries g c =
     let before = g.F.Files.faults c.args.files.now in
     let now = g.F.Files.faults c.read_report.new.files in
     let out = output g.O.Sink c.args.out.now c.args.out.now in
-    not_tried (verify_command c.args.model.now c.args.initial.now c.args.report.now (option_copied c.args.closed) (These lots)) (reading g.F.Files c.args.files.now c.read_report.new.files) out _ _ c.from_residual.ensures
-    (reason_these_lots held names lots before now (BrokeOff out.sink) _ (reason_unwritten_verdict held names before now lots (VerifyPrinted held names lots (BrokeOff out.sink)) _ c.in_err-entries.ensures.refused))
+    not_tried (verify_command c.args.model.now c.args.initial.now c.args.report.now (option_copied c.args.closed)
+    (These lots)) (reading g.F.Files c.args.files.now c.read_report.new.files) out _ _ c.from_residual.ensures
+    (reason_these_lots held names lots before now (BrokeOff out.sink) _
+    (reason_unwritten_verdict held names before now lots (VerifyPrinted held names lots (BrokeOff out.sink)) _
+    c.in_err-entries.ensures.refused))
     refl (record { kept = c.read_report.ensures.kept; never_fall = c.read_report.ensures.never_fall }) (omega arith)

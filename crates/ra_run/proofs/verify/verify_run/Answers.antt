@@ -16,8 +16,14 @@ finish-requires g c =
     let names = verify_names c.args.model.now c.args.initial.now c.args.report.now (option_copied c.args.closed) in
     let out = writing g.O.Sink c.args.out.now c.accept-ended.new.out in
     let own = (verifying names (These c.args.lots.now)).refuses held (Took out) (BrokeOff out) in
-    if_err_then c.accept-ended.result _ _ (can_tell held names _ _ own (λ r reason. own_tells held names reason.0 (VerifyPrinted held names reason.0 (BrokeOff out)) r reason.2)) c.accept-ended.ensures.refused
+    if_err_then c.accept-ended.result _ _
+    (can_tell held names _ _ own
+    (λ r reason. own_tells held names reason.0 (VerifyPrinted held names reason.0 (BrokeOff out)) r reason.2))
+    c.accept-ended.ensures.refused
 
 pub returns : goal.returns
-returns g c = verify_so c.args.model.now (option_copied c.args.closed) c.args.initial.now c.args.report.now c.args.lots.now
-    (reading g.F.Files c.args.files.now c.accept-ended.new.files) (output g.O.Sink c.args.out.now c.accept-ended.new.out) (output g.E.Sink c.args.err.now c.finish.new.err) c.accept-ended.result c.finish.result c.accept-ended.ensures c.finish.ensures
+returns g c =
+    verify_so c.args.model.now (option_copied c.args.closed) c.args.initial.now c.args.report.now c.args.lots.now
+    (reading g.F.Files c.args.files.now c.accept-ended.new.files)
+    (output g.O.Sink c.args.out.now c.accept-ended.new.out) (output g.E.Sink c.args.err.now c.finish.new.err)
+    c.accept-ended.result c.finish.result c.accept-ended.ensures c.finish.ensures

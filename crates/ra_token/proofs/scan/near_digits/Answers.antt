@@ -16,5 +16,7 @@ loop-k-preserved c =
       λ within. digit_first c.args.bytes.now c.args.from i (omega arith) c.loop-k.invariant.1 digit (omega arith),
       λ all start first low is run.
           subst (λ j. InRun all first (start + j) (value * 10 + (byte - 48))) next
-          (piece_more all c.args.bytes.now start first i value low is (omega arith) digit (near_small (value * 10 + (byte - 48)) (c.loop-k.k + 1) more (omega arith)) (c.loop-k.invariant.2 all start first low is run)),
+          (piece_more all c.args.bytes.now start first i value low is (omega arith) digit
+          (near_small (value * 10 + (byte - 48)) (c.loop-k.k + 1) more (omega arith))
+          (c.loop-k.invariant.2 all start first low is run)),
     )

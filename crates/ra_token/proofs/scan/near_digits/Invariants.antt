@@ -9,4 +9,5 @@ abbrev pub invariant-loop-k : goal.invariant-loop-k
 invariant-loop-k l =
     (l.value < 10 ^ l.k)
     × (l.from < l.from + l.k → digit_at l.bytes l.from ≡ true)
-    × ((all : List ℕ) (start first : ℕ) → start + length l.bytes ≤ PLACE_LIMIT → IsPiece all start l.bytes → InRun all first (start + l.from) 0 → InRun all first (start + (l.from + l.k)) l.value)
+    × ((all : List ℕ) (start first : ℕ) → start + length l.bytes ≤ PLACE_LIMIT → IsPiece all start l.bytes →
+    InRun all first (start + l.from) 0 → InRun all first (start + (l.from + l.k)) l.value)

@@ -5,7 +5,11 @@ use Rattle.ra_token.proofs.scan.take_runs.Goals.{then-bytes-at, else-bytes-at}
 use Rattle.ra_token.proofs.scan.take_runs.Goals as goal
 
 pub loop-taken-init : goal.loop-taken-init
-loop-taken-init c = (takes_none c.args.bytes.now c.args.from c.args.most c.args.values.now c.requires.within, omega (arith, c.len-before.ensures.value), c.len-before.ensures.value)
+loop-taken-init c = (
+  takes_none c.args.bytes.now c.args.from c.args.most c.args.values.now c.requires.within,
+  omega (arith, c.len-before.ensures.value),
+  c.len-before.ensures.value,
+)
 
 pub loop-taken-preserved : goal.loop-taken-preserved
 loop-taken-preserved c =
@@ -18,7 +22,9 @@ loop-taken-preserved c =
       | then-bytes-at w ↦ rw (w.values-is, w.end-is) w.block_runs-end.ensures
       | else-bytes-at w ↦ rw (w.values-is, w.end-is) (takes_more bytes _ _ 1 limit _ _ some w.one_run-end.ensures)
     ] in (
-      takes_then bytes c.args.from c.loop-taken.at c.if-bytes-at.end c.args.most c.args.most limit c.args.values.now c.loop-taken.values c.if-bytes-at.values before.0 more (omega (arith, more.most, before.1, before.2, c.loop-taken-test.true)),
+      takes_then bytes c.args.from c.loop-taken.at c.if-bytes-at.end c.args.most c.args.most limit c.args.values.now
+          c.loop-taken.values c.if-bytes-at.values before.0 more
+          (omega (arith, more.most, before.1, before.2, c.loop-taken-test.true)),
       omega (arith, more.grows, before.1, c.len.ensures.value),
       before.2,
     )

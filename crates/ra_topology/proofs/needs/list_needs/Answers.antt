@@ -15,14 +15,23 @@ pub extend_from_slice-requires : goal.extend_from_slice-requires
 extend_from_slice-requires c =
     let i = c.args.inst.now.tables in
     let there : c.loop-s.s < service_count i = omega (arith, c.loop-s-test.true, c.services-count.ensures) in
-    omega (arith, c.loop-s.invariant.listed.size, c.loop-s.invariant.room, c.depends.ensures.count, room_left i c.loop-s.s c.args.inst.now.well_formed there)
+    omega (
+      arith,
+      c.loop-s.invariant.listed.size,
+      c.loop-s.invariant.room,
+      c.depends.ensures.count,
+      room_left i c.loop-s.s c.args.inst.now.well_formed there,
+    )
 
 pub loop-s-preserved : goal.loop-s-preserved
 loop-s-preserved c =
     let i = c.args.inst.now.tables in
     let there : c.loop-s.s < service_count i = omega (arith, c.loop-s-test.true, c.services-count.ensures) in
     record {
-      listed = rw (c.push.ensures.items, c.extend_from_slice.ensures.items) (listed_more i c.loop-s.s _ c.loop-s.all.items c.depends.result.now c.loop-s.ends.items c.args.inst.now.well_formed there c.loop-s.invariant.listed c.depends.ensures.count c.depends.ensures.each (c.len.ensures.value ∙ ap length c.extend_from_slice.ensures.items));
+      listed = rw (c.push.ensures.items, c.extend_from_slice.ensures.items)
+          (listed_more i c.loop-s.s _ c.loop-s.all.items c.depends.result.now c.loop-s.ends.items
+          c.args.inst.now.well_formed there c.loop-s.invariant.listed c.depends.ensures.count c.depends.ensures.each
+          (c.len.ensures.value ∙ ap length c.extend_from_slice.ensures.items));
       room = c.extend_from_slice.ensures.room ∙ c.loop-s.invariant.room;
       end_room = c.push.ensures.room ∙ c.loop-s.invariant.end_room;
     }
@@ -30,11 +39,15 @@ loop-s-preserved c =
 pub invariant_of-result : goal.invariant_of-result
 invariant_of-result c =
     let i = c.args.inst.now.tables in
-    let all : c.loop-s.s ≡ service_count i = omega (arith, c.loop-s-test.false, c.loop-s.auto.s-end, c.services-count.ensures) in
-    needs_ascend i c.loop-s.all.items c.loop-s.ends.items c.loop-s.s c.args.inst.now.well_formed all c.loop-s.invariant.listed
+    let all : c.loop-s.s ≡ service_count i =
+    omega (arith, c.loop-s-test.false, c.loop-s.auto.s-end, c.services-count.ensures) in
+    needs_ascend i c.loop-s.all.items c.loop-s.ends.items c.loop-s.s c.args.inst.now.well_formed all
+    c.loop-s.invariant.listed
 
 pub returns : goal.returns
 returns c =
     let i = c.args.inst.now.tables in
-    let all : c.loop-s.s ≡ service_count i = omega (arith, c.loop-s-test.false, c.loop-s.auto.s-end, c.services-count.ensures) in
-    needs_are i c.loop-s.all.items c.loop-s.ends.items c.loop-s.s c.args.inst.now.well_formed all c.loop-s.invariant.listed
+    let all : c.loop-s.s ≡ service_count i =
+    omega (arith, c.loop-s-test.false, c.loop-s.auto.s-end, c.services-count.ensures) in
+    needs_are i c.loop-s.all.items c.loop-s.ends.items c.loop-s.s c.args.inst.now.well_formed all
+    c.loop-s.invariant.listed

@@ -7,7 +7,8 @@ pub loop-p-init : goal.loop-p-init
 loop-p-init c = adds_count _ _ _ _ _ c.push_line.ensures
 
 pub loop-p-preserved : goal.loop-p-preserved
-loop-p-preserved c = adds_line _ _ _ _ _ c.loop-p.p (12 + 67 * c.loop-p.p) 67 _ (omega arith) c.loop-p.invariant c.push_process.ensures
+loop-p-preserved c =
+    adds_line _ _ _ _ _ c.loop-p.p (12 + 67 * c.loop-p.p) 67 _ (omega arith) c.loop-p.invariant c.push_process.ensures
 
 pub returns : goal.returns
 unfolding process_lines

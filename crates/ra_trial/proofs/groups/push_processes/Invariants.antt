@@ -6,4 +6,6 @@ use Rattle.ra_trial.specs.Trials.{process_line}
 use Rattle.ra_trial.proofs.groups.push_processes.Given as goal
 
 abbrev pub invariant-loop-p : goal.invariant-loop-p
-invariant-loop-p l = Adds l.fn.text l.text (lines_text ((1000 ∷ []) ∷ listed l.p (process_line (trial_word l.words.number)))) (12 + 67 * l.p)
+invariant-loop-p l =
+    Adds l.fn.text l.text (lines_text ((1000 ∷ []) ∷ listed l.p (process_line (trial_word l.words.number))))
+    (12 + 67 * l.p)

@@ -6,4 +6,5 @@ use Rattle.ra_trial.proofs.groups.push_resource.Goals as goal
 
 pub returns : goal.returns
 unfolding resource_line
-returns c = adds_as _ _ _ _ _ _ (ap (λ (t : ℕ). line_text (t ∷ 10 ∷ [])) c.transient_flag.ensures) (omega arith) c.push_line.ensures
+returns c = adds_as _ _ _ _ _ _ (ap (λ (t : ℕ). line_text (t ∷ 10 ∷ [])) c.transient_flag.ensures) (omega arith)
+    c.push_line.ensures

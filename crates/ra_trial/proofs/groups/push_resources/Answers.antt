@@ -7,7 +7,8 @@ pub loop-r-init : goal.loop-r-init
 loop-r-init c = adds_count _ _ _ _ _ c.push_line.ensures
 
 pub loop-r-preserved : goal.loop-r-preserved
-loop-r-preserved c = adds_line _ _ _ _ _ c.loop-r.r (12 + 23 * c.loop-r.r) 23 _ (omega arith) c.loop-r.invariant c.push_resource.ensures
+loop-r-preserved c =
+    adds_line _ _ _ _ _ c.loop-r.r (12 + 23 * c.loop-r.r) 23 _ (omega arith) c.loop-r.invariant c.push_resource.ensures
 
 pub returns : goal.returns
 unfolding resource_lines

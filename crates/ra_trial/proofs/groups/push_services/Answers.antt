@@ -7,7 +7,8 @@ pub loop-s-init : goal.loop-s-init
 loop-s-init c = adds_count _ _ _ _ _ c.push_line.ensures
 
 pub loop-s-preserved : goal.loop-s-preserved
-loop-s-preserved c = adds_line _ _ _ _ _ c.loop-s.s (12 + 34 * c.loop-s.s) 34 _ (omega arith) c.loop-s.invariant c.push_service.ensures
+loop-s-preserved c =
+    adds_line _ _ _ _ _ c.loop-s.s (12 + 34 * c.loop-s.s) 34 _ (omega arith) c.loop-s.invariant c.push_service.ensures
 
 pub returns : goal.returns
 unfolding service_lines

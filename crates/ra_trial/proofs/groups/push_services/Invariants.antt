@@ -6,4 +6,6 @@ use Rattle.ra_trial.specs.Trials.{service_line}
 use Rattle.ra_trial.proofs.groups.push_services.Given as goal
 
 abbrev pub invariant-loop-s : goal.invariant-loop-s
-invariant-loop-s l = Adds l.fn.text l.text (lines_text ((250 ∷ []) ∷ listed l.s (service_line (trial_word l.words.number)))) (12 + 34 * l.s)
+invariant-loop-s l =
+    Adds l.fn.text l.text (lines_text ((250 ∷ []) ∷ listed l.s (service_line (trial_word l.words.number))))
+    (12 + 34 * l.s)

@@ -8,10 +8,12 @@ loop-m-init c = record { adds = adds_count _ _ _ _ _ c.push_line.ensures; line =
 
 pub loop-m-preserved : goal.loop-m-preserved
 loop-m-preserved c = record {
-  adds = adds_line _ _ _ _ _ c.loop-m.m (12 + 1211 * c.loop-m.m) 1211 _ (omega arith) c.loop-m.invariant.adds c.push_machine.ensures.adds;
+  adds = adds_line _ _ _ _ _ c.loop-m.m (12 + 1211 * c.loop-m.m) 1211 _ (omega arith) c.loop-m.invariant.adds
+      c.push_machine.ensures.adds;
   line = c.push_machine.ensures.line;
 }
 
 pub returns : goal.returns
 unfolding machine_lines
-returns c = adds_group _ _ _ _ c.loop-m.m 100 (12 + 1211 * c.loop-m.m) _ (omega arith) (omega arith) c.loop-m.invariant.adds
+returns c = adds_group _ _ _ _ c.loop-m.m 100 (12 + 1211 * c.loop-m.m) _ (omega arith) (omega arith)
+    c.loop-m.invariant.adds

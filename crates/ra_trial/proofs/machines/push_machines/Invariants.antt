@@ -7,6 +7,7 @@ use Rattle.ra_trial.proofs.machines.push_machines.Given as goal
 
 abbrev pub invariant-loop-m : goal.invariant-loop-m
 invariant-loop-m l = record {
-  adds : Adds l.fn.text l.text (lines_text ((100 ∷ []) ∷ listed l.m (machine_line (trial_word l.words.number)))) (12 + 1211 * l.m);
+  adds : Adds l.fn.text l.text (lines_text ((100 ∷ []) ∷ listed l.m (machine_line (trial_word l.words.number))))
+      (12 + 1211 * l.m);
   line : l.line.room ≡ 110;
 }

@@ -3,7 +3,11 @@ use Rattle.ra_trial.proofs.Drawing.{drawn_none, drawn_more, drawn_all}
 use Rattle.ra_trial.proofs.words.fill.Goals as goal
 
 pub loop-i-init : goal.loop-i-init
-loop-i-init g c = record { drawn = drawn_none _ _ c.requires.none; many = ap length c.requires.none; room = c.requires.room }
+loop-i-init g c = record {
+  drawn = drawn_none _ _ c.requires.none;
+  many = ap length c.requires.none;
+  room = c.requires.room;
+}
 
 pub loop-i-preserved : goal.loop-i-preserved
 loop-i-preserved g c = record {

@@ -5,8 +5,12 @@ use Rattle.ra_turn.proofs.Turns.{sees}
 use Rattle.ra_turn.proofs.steps.see.Goals as goal
 
 pub fetch_add-count-requires : goal.fetch_add-count-requires
-fetch_add-count-requires g c = let key = c.args.desk.now.key in let story = g.V.Story in
-    (search rules, omega arith, sees story.opening story.notes story.author story.touches key.passes key.turns key.guards (story.opening key.start.value) _ _ c.args.seat.now.me c.requires.table.1.2 c.requires.called.0)
+fetch_add-count-requires g c = let key = c.args.desk.now.key in let story = g.V.Story in (
+  search rules,
+  omega arith,
+  sees story.opening story.notes story.author story.touches key.passes key.turns
+      key.guards (story.opening key.start.value) _ _ c.args.seat.now.me c.requires.table.1.2 c.requires.called.0,
+)
 
 pub exchange-value-requires : goal.exchange-value-requires
 exchange-value-requires g c = let told = c.fetch_add-count.ensures.2 in let seat = c.fetch_add-count.new.seat in
@@ -15,5 +19,8 @@ exchange-value-requires g c = let told = c.fetch_add-count.ensures.2 in let seat
 
 pub returns-clause-guards : goal.returns-clause-guards
 returns-clause-guards g c = let told = c.fetch_add-count.ensures.2 in let story = g.V.Story in
-    let view : c.exchange-value.new.seat.me.0 ≡ c.fetch_add-count.new.seat.me.0 = ap (λ m. m.0) c.exchange-value.ensures.3 in
-    (subst (λ v. IsShut story.author story.touches v) (sym view) told.3, subst (λ v. IsTold story.touches v) (sym view) told.4)
+    let view : c.exchange-value.new.seat.me.0 ≡ c.fetch_add-count.new.seat.me.0 =
+    ap (λ m. m.0) c.exchange-value.ensures.3 in (
+      subst (λ v. IsShut story.author story.touches v) (sym view) told.3,
+      subst (λ v. IsTold story.touches v) (sym view) told.4,
+    )

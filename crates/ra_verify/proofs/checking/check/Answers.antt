@@ -18,7 +18,10 @@ returns-in-Ok g c =
       report = rw same at rest.report;
       wrong = rw same at rest.wrong;
       fault = λ is. rose_since (read.leaves.never_fall c.args.reader.now.name) ((rw read.called at rest.fault) is);
-      leaves = record { kept = λ other. rest.leaves.kept other ∙ read.leaves.kept other; never_fall = λ other. le_trans (read.leaves.never_fall other) (rest.leaves.never_fall other) };
+      leaves = record {
+        kept = λ other. rest.leaves.kept other ∙ read.leaves.kept other;
+        never_fall = λ other. le_trans (read.leaves.never_fall other) (rest.leaves.never_fall other);
+      };
     }
 
 pub returns-in-Err : goal.returns-in-Err
@@ -28,7 +31,8 @@ returns-in-Err g c =
     record {
       none_wrong = over_all _ (λ bytes. tt);
       report = over_all _ (λ bytes. tt);
-      wrong = long_wrong (g.F.Files.held c.args.files.now c.args.reader.now.name) j.inst.now.tables j.a0.now.items j.lots.now c.read_head.result c.in-Err.why c.in-Err.is read.long;
+      wrong = long_wrong (g.F.Files.held c.args.files.now c.args.reader.now.name) j.inst.now.tables j.a0.now.items
+          j.lots.now c.read_head.result c.in-Err.why c.in-Err.is read.long;
       fault = λ is. read.fault (c.in-Err.is ∙ is);
       leaves = read.leaves;
     }

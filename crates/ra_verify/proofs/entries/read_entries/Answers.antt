@@ -9,7 +9,9 @@ use Rattle.ra_verify.proofs.CheckerLemmas.{more_smaller}
 use Rattle.ra_verify.proofs.entries.read_entries.Goals as goal
 
 pub loop-smaller : goal.loop-smaller
-loop-smaller g c = more_smaller c.loop.checker c.read_entry.new.checker (c.in_ok-read_entry.ensures.entry.more (ap Ok c.if-branch.true)) c.in_ok-read_entry.ensures.entry.same
+loop-smaller g c =
+    more_smaller c.loop.checker c.read_entry.new.checker
+    (c.in_ok-read_entry.ensures.entry.more (ap Ok c.if-branch.true)) c.in_ok-read_entry.ensures.entry.same
 
 pub loop-init : goal.loop-init
 loop-init g c =
@@ -23,7 +25,12 @@ loop-init g c =
       room = c.requires.room;
       ready = c.requires.ready;
       same = record { instance = refl; initial = refl; lots = refl };
-      read = told_map (g.F.Files.held c.args.files.now c.args.reader.now.name) (λ bytes. AreLines bytes c.args.reader.now.place 10) (λ bytes. AreRead j.inst.now.tables j.a0.now.items j.lots.now bytes c.args.reader.now.place j.book.entries.items) (λ bytes given. read_head_only j.inst.now.tables j.a0.now.items j.lots.now bytes c.args.reader.now.place j.book.entries.items j.kept.legal c.requires.none given) c.requires.head;
+      read = told_map (g.F.Files.held c.args.files.now c.args.reader.now.name)
+          (λ bytes. AreLines bytes c.args.reader.now.place 10)
+          (λ bytes. AreRead j.inst.now.tables j.a0.now.items j.lots.now bytes c.args.reader.now.place
+          j.book.entries.items)
+          (λ bytes given. read_head_only j.inst.now.tables j.a0.now.items j.lots.now bytes c.args.reader.now.place
+          j.book.entries.items j.kept.legal c.requires.none given) c.requires.head;
     }
 
 pub loop-preserved : goal.loop-preserved
@@ -39,9 +46,23 @@ loop-preserved g c =
       name = e.called ∙ l.invariant.name;
       kept = λ other. e.leaves.kept other ∙ l.invariant.kept other;
       never_fell = λ other. le_trans (l.invariant.never_fell other) (e.leaves.never_fall other);
-      near = omega (arith, c.in_ok-read_entry.ensures.near, l.invariant.near, ap (λ (x : List Entry). length x) more.taken.entries, length_push (entries_in l.checker) more.entry);
+      near = omega (
+        arith,
+        c.in_ok-read_entry.ensures.near,
+        l.invariant.near,
+        ap (λ (x : List Entry). length x) more.taken.entries,
+        length_push (entries_in l.checker) more.entry,
+      );
       room = c.in_ok-read_entry.ensures.room ∙ l.invariant.room;
       ready = more.taken.ready;
-      same = record { instance = e.same.instance ∙ l.invariant.same.instance; initial = e.same.initial ∙ l.invariant.same.initial; lots = e.same.lots ∙ l.invariant.same.lots };
-      read = rw (run.instance, run.initial, run.lots) (told_map (g.F.Files.held c.args.files.now c.args.reader.now.name) _ (λ bytes. AreRead j.inst.now.tables j.a0.now.items j.lots.now bytes c.read_entry.new.reader.place (entries_in c.read_entry.new.checker)) (λ bytes said. said (ap Ok c.if-branch.true)) (rw told at e.read));
+      same = record {
+        instance = e.same.instance ∙ l.invariant.same.instance;
+        initial = e.same.initial ∙ l.invariant.same.initial;
+        lots = e.same.lots ∙ l.invariant.same.lots;
+      };
+      read = rw (run.instance, run.initial, run.lots)
+          (told_map (g.F.Files.held c.args.files.now c.args.reader.now.name) _
+          (λ bytes. AreRead j.inst.now.tables j.a0.now.items j.lots.now bytes c.read_entry.new.reader.place
+          (entries_in c.read_entry.new.checker)) (λ bytes said. said (ap Ok c.if-branch.true))
+          (rw told at e.read));
     }

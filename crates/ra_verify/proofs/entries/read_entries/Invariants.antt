@@ -16,7 +16,9 @@ invariant-loop g l = record {
   room : l.line.room ≡ 293;
   ready : IsOpen l.checker;
   same : IsSameRun l.fn.checker l.checker;
-  read : IfSome (g.F.Files.held l.fn.files l.fn.reader.name) (λ bytes. AreRead l.checker.journal.inst.now.tables l.checker.journal.a0.now.items l.checker.journal.lots.now bytes l.reader.place (entries_in l.checker));
+  read : IfSome (g.F.Files.held l.fn.files l.fn.reader.name)
+      (λ bytes. AreRead l.checker.journal.inst.now.tables l.checker.journal.a0.now.items l.checker.journal.lots.now
+      bytes l.reader.place (entries_in l.checker));
 }
 
 abbrev pub decreases-loop : goal.decreases-loop

@@ -5,4 +5,11 @@ use Rattle.ra_verify.proofs.entries.wrong_entry.Goals as goal
 pub overflow_add-result : goal.overflow_add-result
 overflow_add-result c =
     let j = c.args.checker.now.journal in
-    record { fits = omega (arith, c.len.ensures, few_entries j.inst.now.tables j.a0.now.items j.lots.now j.book.entries.items j.kept.legal) }
+    record {
+      fits = omega (
+        arith,
+        c.len.ensures,
+        few_entries j.inst.now.tables j.a0.now.items j.lots.now j.book.entries.items
+            j.kept.legal,
+      );
+    }

@@ -14,5 +14,6 @@ invariant-loop-n g l = record {
   early : l.n ≤ 8 → length l.head.items ≤ 65 * l.n;
   late : length l.head.items ≤ 599936 + 65 * l.n;
   room : l.head.room ≡ 600586;
-  so_far : IfSome (g.F.Files.held l.fn.files l.fn.reader.name) (λ bytes. IsHeadSoFar bytes l.reader.place l.n l.head.items);
+  so_far : IfSome (g.F.Files.held l.fn.files l.fn.reader.name)
+      (λ bytes. IsHeadSoFar bytes l.reader.place l.n l.head.items);
 }

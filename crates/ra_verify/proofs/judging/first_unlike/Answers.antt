@@ -11,9 +11,15 @@ pub replay-requires-clause-within : goal.replay-requires-clause-within
 unfolding best_of
 replay-requires-clause-within g c =
     let journal = c.args.journal.now in
-    omega (arith, c.best_at.ensures, best_within journal.inst.now.tables journal.a0.now.items journal.book.entries.items (length journal.book.entries.items))
+    omega (
+      arith,
+      c.best_at.ensures,
+      best_within journal.inst.now.tables journal.a0.now.items journal.book.entries.items
+          (length journal.book.entries.items),
+    )
 
 pub unlike_head-requires-clause-best : goal.unlike_head-requires-clause-best
 unfolding best_state
 unlike_head-requires-clause-best g c =
-    ap (λ (x : Listed Machine). x.items) c.assignment.ensures.value ∙ c.replay.ensures.assignment ∙ ap (state c.args.journal.now.a0.now.items c.args.journal.now.book.entries.items) c.best_at.ensures
+    ap (λ (x : Listed Machine). x.items) c.assignment.ensures.value ∙ c.replay.ensures.assignment
+    ∙ ap (state c.args.journal.now.a0.now.items c.args.journal.now.book.entries.items) c.best_at.ensures

@@ -5,9 +5,23 @@ use Rattle.ra_verify.proofs.judging.judge.Goals as goal
 pub overflow_add-result : goal.overflow_add-result
 overflow_add-result c =
     let j = c.args.journal.now in
-    record { fits = omega (arith, c.requires.few, c.len-entries.ensures, few_entries j.inst.now.tables j.a0.now.items j.lots.now j.book.entries.items j.kept.legal) }
+    record {
+      fits = omega (
+        arith,
+        c.requires.few,
+        c.len-entries.ensures,
+        few_entries j.inst.now.tables j.a0.now.items j.lots.now j.book.entries.items j.kept.legal,
+      );
+    }
 
 pub overflow_add-result-then-not-is_whole : goal.overflow_add-result-then-not-is_whole
 overflow_add-result-then-not-is_whole c =
     let j = c.args.journal.now in
-    record { fits = omega (arith, c.requires.few, c.len-entries.ensures, few_entries j.inst.now.tables j.a0.now.items j.lots.now j.book.entries.items j.kept.legal) }
+    record {
+      fits = omega (
+        arith,
+        c.requires.few,
+        c.len-entries.ensures,
+        few_entries j.inst.now.tables j.a0.now.items j.lots.now j.book.entries.items j.kept.legal,
+      );
+    }

@@ -17,9 +17,13 @@ returns g c =
     let e = c.in_ok-checker.ensures in
     let told = c.check.ensures in
     record {
-      none_wrong = moved held called name j inst a0 lots (λ i a l bytes. IfOk c.check.result (λ n. IsWrongLine i a l bytes None)) named e.instance e.initial e.lots told.none_wrong;
-      report = moved held called name j inst a0 lots (λ i a l bytes. IfOk c.check.result (λ n. IsReport i a l bytes n)) named e.instance e.initial e.lots told.report;
-      wrong = moved held called name j inst a0 lots (λ i a l bytes. (n : ℕ) → c.check.result ≡ Err (fault.Wrong n) → IsWrongLine i a l bytes (Some n)) named e.instance e.initial e.lots told.wrong;
+      none_wrong =
+          moved held called name j inst a0 lots (λ i a l bytes. IfOk c.check.result (λ n. IsWrongLine i a l bytes None))
+          named e.instance e.initial e.lots told.none_wrong;
+      report = moved held called name j inst a0 lots (λ i a l bytes. IfOk c.check.result (λ n. IsReport i a l bytes n))
+          named e.instance e.initial e.lots told.report;
+      wrong = moved held called name j inst a0 lots (λ i a l bytes. (n : ℕ) → c.check.result ≡ Err (fault.Wrong n) →
+          IsWrongLine i a l bytes (Some n)) named e.instance e.initial e.lots told.wrong;
       fault = rw named at told.fault;
       leaves = told.leaves;
     }

@@ -12,7 +12,8 @@ loop-start-preserved-then-services-middle c =
     record {
       ordered = omega (arith, within);
       within = c.loop-start.invariant.within;
-      below = below_middle c.args.services.now c.args.low middle c.requires (omega (arith, within, c.loop-start.invariant.within)) c.if-services-middle.true;
+      below = below_middle c.args.services.now c.args.low middle c.requires
+          (omega (arith, within, c.loop-start.invariant.within)) c.if-services-middle.true;
       above = c.loop-start.invariant.above;
     }
 

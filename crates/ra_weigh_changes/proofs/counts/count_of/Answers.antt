@@ -5,7 +5,10 @@ use Rattle.ra_weigh_changes.proofs.MovedNext.{count_made}
 use Rattle.ra_weigh_changes.proofs.counts.count_of.Goals as goal
 
 pub loop-j-init : goal.loop-j-init
-loop-j-init c = c.moved-before.ensures.count _ _ _ c.cells.ensures.stand ∙ ap (λ b. moved_of c.args.world.now.inst.now.tables c.args.world.now.start.now.items b c.args.s.0) (after_zero c.args.world.now.kept.assignment.items c.args.mv.now.steps)
+loop-j-init c = c.moved-before.ensures.count _ _ _ c.cells.ensures.stand
+    ∙ ap (λ b. moved_of c.args.world.now.inst.now.tables c.args.world.now.start.now.items b c.args.s.0)
+    (after_zero c.args.world.now.kept.assignment.items c.args.mv.now.steps)
 
 pub returns : goal.returns
-returns c = count_made _ _ _ _ c.args.s _ _ c.loop-j.j (omega arith) (c.moved-before.ensures.count _ _ _ c.cells.ensures.stand) c.loop-j.invariant
+returns c = count_made _ _ _ _ c.args.s _ _ c.loop-j.j (omega arith)
+    (c.moved-before.ensures.count _ _ _ c.cells.ensures.stand) c.loop-j.invariant

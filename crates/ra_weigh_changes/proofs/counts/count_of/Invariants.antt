@@ -5,4 +5,5 @@ use Rattle.ra_moves.specs.Replacing.{after_steps}
 use Rattle.ra_weigh_changes.proofs.counts.count_of.Given as goal
 
 abbrev pub invariant-loop-j : goal.invariant-loop-j
-invariant-loop-j l = l.after ≡ moved_of l.world.inst.now.tables l.world.start.now.items (after_steps l.world.kept.assignment.items l.mv.steps l.j) l.s.0
+invariant-loop-j l = l.after ≡ moved_of l.world.inst.now.tables l.world.start.now.items
+    (after_steps l.world.kept.assignment.items l.mv.steps l.j) l.s.0

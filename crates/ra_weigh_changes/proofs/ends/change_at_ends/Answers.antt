@@ -8,7 +8,12 @@ use Rattle.ra_weigh_changes.specs.PlaceCosts.{row_cost}
 use Rattle.ra_weigh_changes.proofs.ends.change_at_ends.Goals as goal
 
 pub loop-j-init : goal.loop-j-init
-loop-j-init c = record { added = sym (total_none _); taken = sym (total_none _); added_few = omega arith; taken_few = omega arith }
+loop-j-init c = record {
+  added = sym (total_none _);
+  taken = sym (total_none _);
+  added_few = omega arith;
+  taken_few = omega arith;
+}
 
 pub loop-j-preserved : goal.loop-j-preserved
 loop-j-preserved c =
@@ -16,8 +21,18 @@ loop-j-preserved c =
     let a = c.args.world.now.kept.assignment.items in
     let steps = c.args.mv.now.steps in
     record {
-      added = omega (arith, c.loop-j.invariant.added, c.change_at-here.ensures.added, total_more c.loop-j.j (fresh (end_in steps) (row_cost i (applied a steps))));
-      taken = omega (arith, c.loop-j.invariant.taken, c.change_at-here.ensures.taken, total_more c.loop-j.j (fresh (end_in steps) (row_cost i a)));
+      added = omega (
+        arith,
+        c.loop-j.invariant.added,
+        c.change_at-here.ensures.added,
+        total_more c.loop-j.j (fresh (end_in steps) (row_cost i (applied a steps))),
+      );
+      taken = omega (
+        arith,
+        c.loop-j.invariant.taken,
+        c.change_at-here.ensures.taken,
+        total_more c.loop-j.j (fresh (end_in steps) (row_cost i a)),
+      );
       added_few = omega (arith, c.loop-j.invariant.added_few, c.change_at-here.ensures.added_few);
       taken_few = omega (arith, c.loop-j.invariant.taken_few, c.change_at-here.ensures.taken_few);
     }

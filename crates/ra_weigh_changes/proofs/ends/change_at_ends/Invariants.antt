@@ -8,8 +8,11 @@ use Rattle.ra_weigh_changes.proofs.ends.change_at_ends.Given as goal
 
 abbrev pub invariant-loop-j : goal.invariant-loop-j
 invariant-loop-j l = record {
-  added : l.change.added ≡ total l.j (fresh (end_in l.mv.steps) (row_cost l.world.inst.now.tables (applied l.world.kept.assignment.items l.mv.steps)));
-  taken : l.change.taken ≡ total l.j (fresh (end_in l.mv.steps) (row_cost l.world.inst.now.tables l.world.kept.assignment.items));
+  added : l.change.added ≡
+      total l.j (fresh (end_in l.mv.steps)
+      (row_cost l.world.inst.now.tables (applied l.world.kept.assignment.items l.mv.steps)));
+  taken : l.change.taken ≡
+      total l.j (fresh (end_in l.mv.steps) (row_cost l.world.inst.now.tables l.world.kept.assignment.items));
   added_few : l.change.added ≤ l.j * 2 ^ 106;
   taken_few : l.change.taken ≤ l.j * 2 ^ 106;
 }

@@ -12,10 +12,13 @@ pub end_of-requires : goal.end_of-requires
 end_of-requires c = omega (arith, c.requires, c.loop-k-test.true)
 
 pub returns-then-end_of-m : goal.returns-then-end_of-m
-returns-then-end_of-m c = sym (is_named_found c.loop-k.k c.args.j (end_in c.args.mv.now.steps) c.args.m.0 c.loop-k-test.true c.loop-k.invariant (sym c.end_of.ensures ∙ c.if-end_of-m.true))
+returns-then-end_of-m c =
+    sym (is_named_found c.loop-k.k c.args.j (end_in c.args.mv.now.steps) c.args.m.0 c.loop-k-test.true
+    c.loop-k.invariant (sym c.end_of.ensures ∙ c.if-end_of-m.true))
 
 pub loop-k-preserved : goal.loop-k-preserved
-loop-k-preserved c = unnamed_more c.loop-k.k c.end_of.result.0 (end_in c.args.mv.now.steps) c.args.m.0 c.loop-k.invariant c.end_of.ensures c.if-end_of-m.false
+loop-k-preserved c = unnamed_more c.loop-k.k c.end_of.result.0 (end_in c.args.mv.now.steps) c.args.m.0
+    c.loop-k.invariant c.end_of.ensures c.if-end_of-m.false
 
 pub returns : goal.returns
 returns c =

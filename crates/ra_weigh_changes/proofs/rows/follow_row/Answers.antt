@@ -13,7 +13,8 @@ follow_step-requires-clause-able c =
     let i = c.args.world.now.inst.now in
     let within : c.loop-j.j < length c.args.mv.now.steps = omega arith in
     can_follow i.tables _ _ c.loop-j.j _ _ _ _ i.well_formed i.small c.requires.moves within c.step.ensures
-    (required_from i.tables _ _ _ _ _ _ c.requires.required within (rw c.instance.ensures at c.resources-width.ensures) c.required_row.ensures.each) c.loop-j.invariant.width c.loop-j.invariant.now
+    (required_from i.tables _ _ _ _ _ _ c.requires.required within (rw c.instance.ensures at c.resources-width.ensures)
+    c.required_row.ensures.each) c.loop-j.invariant.width c.loop-j.invariant.now
 
 pub loop-j-preserved : goal.loop-j-preserved
 loop-j-preserved c =
@@ -22,7 +23,9 @@ loop-j-preserved c =
     record {
       width = omega (arith, c.follow_step.ensures.same_length, c.loop-j.invariant.width);
       now = row_next i.tables _ _ c.loop-j.j _ _ _ _ _ c.requires.moves within c.step.ensures
-          (required_from i.tables _ _ _ _ _ _ c.requires.required within (rw c.instance.ensures at c.resources-width.ensures) c.required_row.ensures.each) c.loop-j.invariant.width c.loop-j.invariant.now c.follow_step.ensures;
+          (required_from i.tables _ _ _ _ _ _ c.requires.required within
+          (rw c.instance.ensures at c.resources-width.ensures) c.required_row.ensures.each)
+          c.loop-j.invariant.width c.loop-j.invariant.now c.follow_step.ensures;
     }
 
 pub returns-clause-after : goal.returns-clause-after

@@ -6,4 +6,7 @@ use Rattle.ra_moves.specs.Replacing.{after_steps}
 use Rattle.ra_weigh_changes.proofs.rows.follow_row.Given as goal
 
 abbrev pub invariant-loop-j : goal.invariant-loop-j
-invariant-loop-j l = record { width : length l.row ≡ resource_count l.world.inst.now.tables; now : IsUsageRow l.world.inst.now.tables (after_steps l.world.kept.assignment.items l.mv.steps l.j) l.m.0 l.row }
+invariant-loop-j l = record {
+  width : length l.row ≡ resource_count l.world.inst.now.tables;
+  now : IsUsageRow l.world.inst.now.tables (after_steps l.world.kept.assignment.items l.mv.steps l.j) l.m.0 l.row;
+}

@@ -11,5 +11,8 @@ returns-clause-value c =
     let i = c.args.inst.now.tables in
     let row = c.args.row.now in
     ap₂ (λ x y. x + y)
-    (c.row_load.ensures.value ∙ row_load_same i c.args.m.0 _ (slice_index row) (λ r within. get_or-take {A = ℕ} c.resources.result row r 0 (omega (arith, within, c.resources.ensures))))
-    (c.row_balance.ensures.value ∙ row_balance_same i c.args.m.0 _ (slice_index row) c.args.inst.now.well_formed (λ r within. get_or-take {A = ℕ} c.resources.result row r 0 (omega (arith, within, c.resources.ensures))))
+    (c.row_load.ensures.value
+    ∙ row_load_same i c.args.m.0 _ (slice_index row)
+    (λ r within. get_or-take {A = ℕ} c.resources.result row r 0 (omega (arith, within, c.resources.ensures))))
+    (c.row_balance.ensures.value ∙ row_balance_same i c.args.m.0 _ (slice_index row) c.args.inst.now.well_formed
+    (λ r within. get_or-take {A = ℕ} c.resources.result row r 0 (omega (arith, within, c.resources.ensures))))

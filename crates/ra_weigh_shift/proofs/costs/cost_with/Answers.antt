@@ -10,4 +10,6 @@ returns-clause-value c =
     let i = c.args.world.now.inst.now.tables in
     c.cost_of_row.ensures.value
     ∙ ap (λ (j : Instance). row_cost j.tables c.args.to.0 (slice_index c.fill_with.new.row)) c.instance.ensures
-    ∙ row_cost_same i c.args.to.0 (slice_index c.fill_with.new.row) (use_with i c.args.world.now.kept.assignment.items c.args.p.0 c.args.to.0) c.args.world.now.inst.now.well_formed c.fill_with.ensures
+    ∙ row_cost_same i c.args.to.0 (slice_index c.fill_with.new.row)
+    (use_with i c.args.world.now.kept.assignment.items c.args.p.0 c.args.to.0) c.args.world.now.inst.now.well_formed
+    c.fill_with.ensures

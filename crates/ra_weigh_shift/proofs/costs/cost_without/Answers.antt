@@ -10,4 +10,6 @@ returns-clause-value c =
     let i = c.args.world.now.inst.now.tables in
     c.cost_of_row.ensures.value
     ∙ ap (λ (j : Instance). row_cost j.tables c.args.from.0 (slice_index c.fill_without.new.row)) c.instance.ensures
-    ∙ row_cost_same i c.args.from.0 (slice_index c.fill_without.new.row) (use_without i c.args.world.now.kept.assignment.items c.args.p.0) c.args.world.now.inst.now.well_formed c.fill_without.ensures
+    ∙ row_cost_same i c.args.from.0 (slice_index c.fill_without.new.row)
+    (use_without i c.args.world.now.kept.assignment.items c.args.p.0) c.args.world.now.inst.now.well_formed
+    c.fill_without.ensures

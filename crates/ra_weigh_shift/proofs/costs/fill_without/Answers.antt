@@ -14,17 +14,27 @@ loop-r-preserved c =
     let end = ap (λ (j : Instance). resource_count j.tables) c.instance.ensures in
     record {
       size = length-set c.loop-r.row c.loop-r.r _ ∙ c.loop-r.invariant.size;
-      so_far = filled_more c.loop-r.row (λ k. slice_index c.usage_row-used.result.now k - slice_index c.args.required.now k) c.loop-r.r _ c.loop-r.invariant.so_far (omega (arith, few, end, c.resources-r-end.ensures, c.loop-r-test.true, c.loop-r.invariant.size)) (ap (λ x. slice_index c.usage_row-used.result.now c.loop-r.r - x) c.from.ensures);
+      so_far = filled_more c.loop-r.row
+          (λ k. slice_index c.usage_row-used.result.now k - slice_index c.args.required.now k) c.loop-r.r _
+          c.loop-r.invariant.so_far
+          (omega (arith, few, end, c.resources-r-end.ensures, c.loop-r-test.true, c.loop-r.invariant.size))
+          (ap (λ x. slice_index c.usage_row-used.result.now c.loop-r.r - x) c.from.ensures);
     }
 
 pub returns : goal.returns
 returns c = λ r within.
     let end = ap (λ (j : Instance). resource_count j.tables) c.instance.ensures in
     c.loop-r.invariant.so_far r (omega (arith, within, end, c.resources-r-end.ensures, c.loop-r-test.false))
-    ∙ used_without c.args.world.now.inst.now.tables c.rows.result.now.tables c.args.world.now.kept.assignment.items c.args.p.0 c.args.from.0 r c.usage_row-used.result.now c.args.required.now c.rows.ensures.instance (c.usage_row-used.ensures.values _ c.rows.ensures.stand) c.requires.required c.requires.from within
+    ∙ used_without c.args.world.now.inst.now.tables c.rows.result.now.tables c.args.world.now.kept.assignment.items
+    c.args.p.0 c.args.from.0 r c.usage_row-used.result.now c.args.required.now c.rows.ensures.instance
+    (c.usage_row-used.ensures.values _ c.rows.ensures.stand) c.requires.required c.requires.from within
 
 pub overflow_sub-row : goal.overflow_sub-row
 overflow_sub-row c =
     let end = ap (λ (j : Instance). resource_count j.tables) c.instance.ensures in
-    let covers = used_covers c.args.world.now.inst.now.tables c.rows.result.now.tables c.args.world.now.kept.assignment.items c.args.p.0 c.args.from.0 c.loop-r.r c.usage_row-used.result.now c.args.required.now c.rows.ensures.instance (c.usage_row-used.ensures.values _ c.rows.ensures.stand) c.requires.required c.requires.from c.requires.process (omega (arith, end, c.resources-r-end.ensures, c.loop-r-test.true)) in
+    let covers = used_covers c.args.world.now.inst.now.tables c.rows.result.now.tables
+    c.args.world.now.kept.assignment.items c.args.p.0 c.args.from.0 c.loop-r.r c.usage_row-used.result.now
+    c.args.required.now c.rows.ensures.instance (c.usage_row-used.ensures.values _ c.rows.ensures.stand)
+    c.requires.required c.requires.from c.requires.process
+    (omega (arith, end, c.resources-r-end.ensures, c.loop-r-test.true)) in
     omega (arith, covers, c.from.ensures)

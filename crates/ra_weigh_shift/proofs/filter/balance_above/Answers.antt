@@ -17,9 +17,12 @@ loop-b-preserved c = record {
   value = λ p are.
       let i = c.args.world.now.inst.now.tables in
       let a = c.args.world.now.kept.assignment.items in
-      let row = row_in i c.rows.result.now.tables a c.args.to.0 c.usage_row-used.result.now c.rows.ensures.instance (c.usage_row-used.ensures.values a c.rows.ensures.stand) in
+      let row = row_in i c.rows.result.now.tables a c.args.to.0 c.usage_row-used.result.now c.rows.ensures.instance
+      (c.usage_row-used.ensures.values a c.rows.ensures.stand) in
       let more = rw c.instance-inst.ensures at c.balance_more-sum.ensures.value in
-      more_sum c.loop-b.b c.loop-b.sum c.balance_more-sum.result (λ k. first_asked i p k - first_row i a c.args.to.0 k + (second_asked i p k - second_row i a c.args.to.0 k)) (c.loop-b.invariant.value p are) (more a p row are);
+      more_sum c.loop-b.b c.loop-b.sum c.balance_more-sum.result
+      (λ k. first_asked i p k - first_row i a c.args.to.0 k + (second_asked i p k - second_row i a c.args.to.0 k))
+      (c.loop-b.invariant.value p are) (more a p row are);
   bound = omega (arith, c.loop-b.invariant.bound, c.balance_more-sum.ensures.bound);
 }
 
@@ -29,12 +32,17 @@ returns-clause-value c = λ p are.
     let i = c.args.world.now.inst.now.tables in
     let a = c.args.world.now.kept.assignment.items in
     let end = ap (λ (j : Instance). balance_count j.tables) c.instance-inst.ensures in
-    let all : c.loop-b.b ≡ balance_count i = omega (arith, end, c.loop-b-test.false, c.loop-b.auto.b-end, c.balances-b-end.ensures) in
-    c.loop-b.invariant.value p are ∙ ap (λ n. total n (λ k. first_asked i p k - first_row i a c.args.to.0 k + (second_asked i p k - second_row i a c.args.to.0 k))) all
+    let all : c.loop-b.b ≡ balance_count i =
+    omega (arith, end, c.loop-b-test.false, c.loop-b.auto.b-end, c.balances-b-end.ensures) in
+    c.loop-b.invariant.value p are
+    ∙ ap (λ n. total n
+    (λ k. first_asked i p k - first_row i a c.args.to.0 k
+    + (second_asked i p k - second_row i a c.args.to.0 k))) all
 
 pub returns-clause-bound : goal.returns-clause-bound
 returns-clause-bound c =
     let i = c.args.world.now.inst.now.tables in
     let end = ap (λ (j : Instance). balance_count j.tables) c.instance-inst.ensures in
-    let all : c.loop-b.b ≡ balance_count i = omega (arith, end, c.loop-b-test.false, c.loop-b.auto.b-end, c.balances-b-end.ensures) in
+    let all : c.loop-b.b ≡ balance_count i =
+    omega (arith, end, c.loop-b-test.false, c.loop-b.auto.b-end, c.balances-b-end.ensures) in
     omega (arith, c.loop-b.invariant.bound, all, c.args.world.now.inst.now.well_formed.few_balances)

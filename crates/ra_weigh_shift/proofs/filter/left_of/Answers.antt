@@ -5,4 +5,11 @@ use Rattle.ra_weigh_shift.proofs.filter.left_of.Goals as goal
 
 pub returns-clause-value : goal.returns-clause-value
 unfolding available
-returns-clause-value c = λ a row. omega (arith, row.each c.args.r.0 c.requires.resource, c.capacity.ensures, c.from.ensures, c.saturating_sub.ensures)
+returns-clause-value c =
+    λ a row. omega (
+      arith,
+      row.each c.args.r.0 c.requires.resource,
+      c.capacity.ensures,
+      c.from.ensures,
+      c.saturating_sub.ensures,
+    )

@@ -6,4 +6,10 @@ use Rattle.ra_weigh_shift.specs.Sharing.{AreRequired}
 use Rattle.ra_weigh_shift.proofs.filter.load_above.Given as goal
 
 abbrev pub invariant-loop-r : goal.invariant-loop-r
-invariant-loop-r l = record { value : (p : ℕ) → AreRequired l.world.inst.now.tables p l.required → l.sum ≡ total l.r (λ k. load_asked l.world.inst.now.tables p k - load_row l.world.inst.now.tables l.world.kept.assignment.items l.to.0 k); bound : l.sum ≤ l.r * 2 ^ 64 }
+invariant-loop-r l = record {
+  value : (p : ℕ) → AreRequired l.world.inst.now.tables p l.required →
+      l.sum ≡ total l.r
+      (λ k. load_asked l.world.inst.now.tables p k - load_row l.world.inst.now.tables l.world.kept.assignment.items
+      l.to.0 k);
+  bound : l.sum ≤ l.r * 2 ^ 64;
+}

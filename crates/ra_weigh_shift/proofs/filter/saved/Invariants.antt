@@ -6,4 +6,7 @@ use Rattle.ra_weigh_shift.specs.Sharing.{AreRequired}
 use Rattle.ra_weigh_shift.proofs.filter.saved.Given as goal
 
 abbrev pub invariant-loop-b : goal.invariant-loop-b
-invariant-loop-b l = record { value : (p : ℕ) → AreRequired l.inst.tables p l.required → l.sum ≡ total l.b (first_asked l.inst.tables p); bound : l.sum ≤ l.b * 2 ^ 96 }
+invariant-loop-b l = record {
+  value : (p : ℕ) → AreRequired l.inst.tables p l.required → l.sum ≡ total l.b (first_asked l.inst.tables p);
+  bound : l.sum ≤ l.b * 2 ^ 96;
+}

@@ -5,10 +5,22 @@ use Rattle.ra_weigh_shift.proofs.FilterReads.{saved_by_is, required_first, requi
 use Rattle.ra_weigh_shift.proofs.filter.saved_by.Goals as goal
 
 pub bounds-required-objective : goal.bounds-required-objective
-bounds-required-objective c = omega (arith, first_within c.args.inst.now.tables c.args.b c.balance-objective.result c.args.inst.now.well_formed c.requires c.balance-objective.ensures, c.args.inst.now.well_formed.few_resources)
+bounds-required-objective c =
+    omega (
+      arith,
+      first_within c.args.inst.now.tables c.args.b c.balance-objective.result c.args.inst.now.well_formed
+          c.requires c.balance-objective.ensures,
+      c.args.inst.now.well_formed.few_resources,
+    )
 
 pub bounds-required-objective-2 : goal.bounds-required-objective-2
-bounds-required-objective-2 c = omega (arith, second_within c.args.inst.now.tables c.args.b c.balance-objective.result c.args.inst.now.well_formed c.requires c.balance-objective.ensures, c.args.inst.now.well_formed.few_resources)
+bounds-required-objective-2 c =
+    omega (
+      arith,
+      second_within c.args.inst.now.tables c.args.b c.balance-objective.result c.args.inst.now.well_formed
+          c.requires c.balance-objective.ensures,
+      c.args.inst.now.well_formed.few_resources,
+    )
 
 pub returns-clause-value : goal.returns-clause-value
 returns-clause-value c = λ p are.
@@ -18,6 +30,8 @@ returns-clause-value c = λ p are.
     let law = saved_by_is i p c.args.b c.from-3.result c.from.result c.from-2.result c.from-taken.result
     (c.from-3.ensures ∙ weight_read i c.args.b c.balance-objective.result is)
     (c.from.ensures ∙ target_read i c.args.b c.balance-objective.result is)
-    (c.from-2.ensures ∙ required_first i p c.args.b c.balance-objective.result c.args.required.now limits c.requires is are)
-    (c.from-taken.ensures ∙ required_second i p c.args.b c.balance-objective.result c.args.required.now limits c.requires is are) in
+    (c.from-2.ensures ∙ required_first i p c.args.b c.balance-objective.result c.args.required.now limits c.requires is
+    are)
+    (c.from-taken.ensures ∙ required_second i p c.args.b c.balance-objective.result c.args.required.now limits
+    c.requires is are) in
     ap (λ (x : ℕ). c.from-3.result * x) (c.from-4.ensures ∙ c.saturating_sub.ensures) ∙ law

@@ -12,7 +12,10 @@ service_with-requires-clause-few c =
     let i = w.inst.now.tables in
     let a0 = w.start.now.items in
     let a = w.kept.assignment.items in
-    let after = away_mine i a0 a c.args.p.0 (c.moved.result + 1 - c.is_away.result) c.args.s.0 c.requires.service (ap₂ (λ x y. x + 1 - y) (c.moved.ensures.count i a0 a c.cells.ensures.stand ∙ ap (moved_of i a0 a) c.requires.service) (c.is_away.ensures.value ∙ ap₂ away c.requires.home c.requires.from)) in
+    let after = away_mine i a0 a c.args.p.0 (c.moved.result + 1 - c.is_away.result) c.args.s.0 c.requires.service
+    (ap₂ (λ x y. x + 1 - y) (c.moved.ensures.count i a0 a c.cells.ensures.stand
+    ∙ ap (moved_of i a0 a) c.requires.service)
+    (c.is_away.ensures.value ∙ ap₂ away c.requires.home c.requires.from)) in
     omega (arith, after, moved_away_few i a0 a c.args.p.0 c.args.s.0 w.keeps.stand.fits c.requires.process)
 
 pub returns-clause-value : goal.returns-clause-value
@@ -22,5 +25,10 @@ returns-clause-value c =
     let i = w.inst.now.tables in
     let a0 = w.start.now.items in
     let a = w.kept.assignment.items in
-    let after = away_mine i a0 a c.args.p.0 (c.moved.result + 1 - c.is_away.result) c.args.s.0 c.requires.service (ap₂ (λ x y. x + 1 - y) (c.moved.ensures.count i a0 a c.cells.ensures.stand ∙ ap (moved_of i a0 a) c.requires.service) (c.is_away.ensures.value ∙ ap₂ away c.requires.home c.requires.from)) in
-    c.service_with.ensures.value (moved_away i a0 a c.args.p.0) (λ k within apart. away_other i a0 a c.args.p.0 (moved_of i a0 a k) k (λ same. apart (same ∙ sym c.requires.service)) refl) after
+    let after = away_mine i a0 a c.args.p.0 (c.moved.result + 1 - c.is_away.result) c.args.s.0 c.requires.service
+    (ap₂ (λ x y. x + 1 - y) (c.moved.ensures.count i a0 a c.cells.ensures.stand
+    ∙ ap (moved_of i a0 a) c.requires.service)
+    (c.is_away.ensures.value ∙ ap₂ away c.requires.home c.requires.from)) in
+    c.service_with.ensures.value (moved_away i a0 a c.args.p.0)
+    (λ k within apart. away_other i a0 a c.args.p.0 (moved_of i a0 a k) k
+    (λ same. apart (same ∙ sym c.requires.service)) refl) after

@@ -11,4 +11,6 @@ pub found_job-requires : goal.found_job-requires
 found_job-requires c = form_fits (texts c.args.words.now) c.args.form _ c.requires c.in_ok-taken.ensures
 
 pub returns : goal.returns
-returns c = IfOk-weaker c.found_job.result _ _ (λ job is. form_says (texts c.args.words.now) c.args.form _ (said job) c.requires c.in_ok-taken.ensures is) c.found_job.ensures
+returns c = IfOk-weaker c.found_job.result _ _
+    (λ job is. form_says (texts c.args.words.now) c.args.form _ (said job) c.requires c.in_ok-taken.ensures is)
+    c.found_job.ensures

@@ -8,7 +8,8 @@ use Rattle.ra_words.proofs.FormLaws.{no_form, is_job}
 use Rattle.ra_words.proofs.jobs.read_words.Goals as goal
 
 other_fault : (r : Result Job WordsFault) → IsErrAnd r (λ e. e ≡ NoMemory) → r ≡ Err Usage → ⊥
-other_fault r memory usage = let h : Usage ≡ NoMemory = subst (λ (r : Result Job WordsFault). IsErrAnd r (λ e. e ≡ NoMemory)) usage memory in cc
+other_fault r memory usage =
+    let h : Usage ≡ NoMemory = subst (λ (r : Result Job WordsFault). IsErrAnd r (λ e. e ≡ NoMemory)) usage memory in cc
 
 pub returns-in_err-read_job-clause-usage : goal.returns-in_err-read_job-clause-usage
 returns-in_err-read_job-clause-usage c = (

@@ -7,5 +7,6 @@ abbrev pub invariant-loop-at : goal.invariant-loop-at
 invariant-loop-at g l = record {
   place : l.replica.place ≡ l.at;
   worker : l.replica.proposals.worker ≡ l.fn.replica.proposals.worker;
-  here : IsAt l.journal.inst.now.tables l.journal.a0.now.items l.journal.lots.now l.journal.book.entries.items l.replica;
+  here : IsAt l.journal.inst.now.tables l.journal.a0.now.items l.journal.lots.now l.journal.book.entries.items
+      l.replica;
 }

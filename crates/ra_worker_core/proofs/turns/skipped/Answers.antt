@@ -11,7 +11,8 @@ pub returns-then-budget-made : goal.returns-then-budget-made
 returns-then-budget-made c =
     let h = c.args.journal.now.book.entries.items in
     let r = c.args.replica.now in
-    skipped_used c.args.journal.now.lots.now h r.proposals.worker r.place c.made_by-made.result c.budget-budget.result c.next-next.result
+    skipped_used c.args.journal.now.lots.now h r.proposals.worker r.place c.made_by-made.result c.budget-budget.result
+    c.next-next.result
     (c.made_by-made.ensures ∙ ap (entries_of h (length h)) c.worker.ensures.value)
     (c.budget-budget.ensures ∙ ap (λ (m : Lots). budget m r.proposals.worker) c.requires.at.lots)
     (c.next-next.ensures ∙ c.requires.at.number)
@@ -21,7 +22,8 @@ pub returns-else-budget-made : goal.returns-else-budget-made
 returns-else-budget-made c =
     let h = c.args.journal.now.book.entries.items in
     let r = c.args.replica.now in
-    skipped_unused c.args.journal.now.lots.now h r.proposals.worker r.place c.made_by-made.result c.budget-budget.result c.next-next.result
+    skipped_unused c.args.journal.now.lots.now h r.proposals.worker r.place c.made_by-made.result c.budget-budget.result
+    c.next-next.result
     (c.made_by-made.ensures ∙ ap (entries_of h (length h)) c.worker.ensures.value)
     (c.budget-budget.ensures ∙ ap (λ (m : Lots). budget m r.proposals.worker) c.requires.at.lots)
     (c.next-next.ensures ∙ c.requires.at.number)

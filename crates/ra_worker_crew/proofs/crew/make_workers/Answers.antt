@@ -21,8 +21,11 @@ remove-pass-requires c = omega (arith, c.passes-test.true, c.len-in-passes.ensur
 
 pub make_worker-requires-clause-exists : goal.make_worker-requires-clause-exists
 make_worker-requires-clause-exists c =
-    let steps : c.passes.passes.items ≡ c.remove-pass.result ∷ c.remove-pass.new.self.items = first_out _ _ _ (omega (arith, c.passes-test.true, c.len-in-passes.ensures)) c.remove-pass.ensures.value c.remove-pass.ensures.items in
-    let long : length c.passes.passes.items ≡ length (c.remove-pass.result ∷ c.remove-pass.new.self.items) = ap length steps in
+    let steps : c.passes.passes.items ≡ c.remove-pass.result ∷ c.remove-pass.new.self.items =
+    first_out _ _ _ (omega (arith, c.passes-test.true, c.len-in-passes.ensures)) c.remove-pass.ensures.value
+    c.remove-pass.ensures.items in
+    let long : length c.passes.passes.items ≡ length (c.remove-pass.result ∷ c.remove-pass.new.self.items) =
+    ap length steps in
     rw steps at (c.passes.invariant.exist 0 c.remove-pass.result (omega (arith, long)))
 
 pub push_reserved-requires : goal.push_reserved-requires
@@ -34,21 +37,42 @@ passes-smaller c = omega (arith, c.remove-pass.ensures.len)
 pub passes-preserved : goal.passes-preserved
 passes-preserved c =
     let at = c.passes in
-    let steps : at.passes.items ≡ c.remove-pass.result ∷ c.remove-pass.new.self.items = first_out _ _ _ (omega (arith, c.passes-test.true, c.len-in-passes.ensures)) c.remove-pass.ensures.value c.remove-pass.ensures.items in
-    let long : length at.passes.items ≡ length (c.remove-pass.result ∷ c.remove-pass.new.self.items) = ap length steps in
+    let steps : at.passes.items ≡ c.remove-pass.result ∷ c.remove-pass.new.self.items =
+    first_out _ _ _ (omega (arith, c.passes-test.true, c.len-in-passes.ensures)) c.remove-pass.ensures.value
+    c.remove-pass.ensures.items in
+    let long : length at.passes.items ≡ length (c.remove-pass.result ∷ c.remove-pass.new.self.items) =
+    ap length steps in
     record {
-      all = passed_over (λ (w : Worker). w.pass) at.workers.items _ _ _ _ c.in_ok-worker.worker c.remove-pass.result at.invariant.all steps c.in_ok-worker.ensures.pass c.push_reserved.ensures.items;
+      all = passed_over (λ (w : Worker). w.pass) at.workers.items _ _ _ _ c.in_ok-worker.worker c.remove-pass.result
+          at.invariant.all steps c.in_ok-worker.ensures.pass c.push_reserved.ensures.items;
       exist = λ k d within. rw steps at (at.invariant.exist (suc k) d (omega (arith, within, long)));
-      room = omega (arith, at.invariant.room, long, ap length c.push_reserved.ensures.items, c.push_reserved.ensures.len, c.push_reserved.ensures.capacity);
-      kept = omega (arith, at.invariant.kept, long, ap length c.push_reserved.ensures.items, c.push_reserved.ensures.len, c.remove-pass.ensures.capacity);
-      fresh = rw c.push_reserved.ensures.items (All-push (IsFresh c.args.inst.now.tables c.args.a0.now.items c.args.lots.now) at.workers.items c.in_ok-worker.worker at.invariant.fresh c.in_ok-worker.ensures.fresh);
+      room = omega (
+        arith,
+        at.invariant.room,
+        long,
+        ap length c.push_reserved.ensures.items,
+        c.push_reserved.ensures.len,
+        c.push_reserved.ensures.capacity,
+      );
+      kept = omega (
+        arith,
+        at.invariant.kept,
+        long,
+        ap length c.push_reserved.ensures.items,
+        c.push_reserved.ensures.len,
+        c.remove-pass.ensures.capacity,
+      );
+      fresh = rw c.push_reserved.ensures.items
+          (All-push (IsFresh c.args.inst.now.tables c.args.a0.now.items c.args.lots.now) at.workers.items
+          c.in_ok-worker.worker at.invariant.fresh c.in_ok-worker.ensures.fresh);
     }
 
 pub returns-clause-passes : goal.returns-clause-passes
 returns-clause-passes c =
     let at = c.passes in
     let empty : at.passes.items ≡ [] = nothing_left _ (omega (arith, c.passes-test.false, c.len-in-passes.ensures)) in
-    sym (append-nil (map (λ (w : Worker). w.pass) at.workers.items)) ∙ ap (λ x. map (λ (w : Worker). w.pass) at.workers.items ++ x) (sym empty) ∙ at.invariant.all
+    sym (append-nil (map (λ (w : Worker). w.pass) at.workers.items))
+    ∙ ap (λ x. map (λ (w : Worker). w.pass) at.workers.items ++ x) (sym empty) ∙ at.invariant.all
 
 pub returns-clause-taken : goal.returns-clause-taken
 returns-clause-taken c = nothing_left _ (omega (arith, c.passes-test.false, c.len-in-passes.ensures))

@@ -6,7 +6,8 @@ use Rattle.ra_worker_crew.proofs.crew.take_passes.Given as goal
 
 abbrev pub invariant-loop-worker : goal.invariant-loop-worker
 invariant-loop-worker l = record {
-  all : l.passes.items ++ map (λ (w : Worker). w.pass) (into_iter_items l.worker-iterator) ≡ map (λ (w : Worker). w.pass) (into_iter_items l.initial.worker-iterator);
+  all : l.passes.items ++ map (λ (w : Worker). w.pass) (into_iter_items l.worker-iterator) ≡
+      map (λ (w : Worker). w.pass) (into_iter_items l.initial.worker-iterator);
   left : into_iter_len l.worker-iterator ≡ length (into_iter_items l.worker-iterator);
   room : length l.passes.items + length (into_iter_items l.worker-iterator) ≤ vec_capacity l.passes;
 }

@@ -6,8 +6,19 @@ use Rattle.ra_worker_play.proofs.playing.are_named.Goals as goal
 
 pub returns-then-worker-len-clause-only : goal.returns-then-worker-len-clause-only
 unfolding worker_count
-returns-then-worker-len-clause-only c = λ named. absurd (omega (arith, named.each c.loop-n.n (omega (arith, c.loop-n-test.true, c.len-n-end.ensures.value)), ap worker_of c.event_of-event.ensures, c.worker.ensures, c.len.ensures.value, c.if-worker-len.true))
+returns-then-worker-len-clause-only c =
+    λ named. absurd
+    (omega (
+      arith,
+      named.each c.loop-n.n (omega (arith, c.loop-n-test.true, c.len-n-end.ensures.value)),
+      ap worker_of c.event_of-event.ensures,
+      c.worker.ensures,
+      c.len.ensures.value,
+      c.if-worker-len.true,
+    ))
 
 pub loop-n-preserved : goal.loop-n-preserved
 unfolding worker_count
-loop-n-preserved c = named_more c.args.lots.now c.args.events.now.items c.loop-n.n c.worker.result c.event_of-event.result c.loop-n.invariant c.event_of-event.ensures c.worker.ensures (omega (arith, c.len.ensures.value, c.if-worker-len.false))
+loop-n-preserved c = named_more c.args.lots.now c.args.events.now.items c.loop-n.n c.worker.result
+    c.event_of-event.result c.loop-n.invariant c.event_of-event.ensures c.worker.ensures
+    (omega (arith, c.len.ensures.value, c.if-worker-len.false))

@@ -8,8 +8,10 @@ abbrev pub invariant-loop-n : goal.invariant-loop-n
 invariant-loop-n l =
     let j = l.fn.journal in
     record {
-      core : core_in l.journal l.replicas.items ≡ core_after j.inst.now.tables j.a0.now.items j.lots.now (core_in j l.fn.replicas.items) l.events.items l.n;
-      replies : l.replies.items ≡ l.fn.replies.items ++ replies_to j.inst.now.tables j.a0.now.items j.lots.now (core_in j l.fn.replicas.items) l.events.items l.n;
+      core : core_in l.journal l.replicas.items ≡ core_after j.inst.now.tables j.a0.now.items j.lots.now
+          (core_in j l.fn.replicas.items) l.events.items l.n;
+      replies : l.replies.items ≡ l.fn.replies.items ++ replies_to j.inst.now.tables j.a0.now.items j.lots.now
+          (core_in j l.fn.replicas.items) l.events.items l.n;
       room : l.replies.room ≡ l.fn.replies.room;
       at : StandIn l.journal l.replicas.items;
       over : IsOverSame j l.journal;

@@ -5,7 +5,9 @@ use Rattle.ra_worker_play.proofs.RoundLemmas.{most_more}
 use Rattle.ra_worker_play.proofs.rounds.longest.Goals as goal
 
 pub loop-w-preserved : goal.loop-w-preserved
-loop-w-preserved c = most_more c.args.lots.now c.loop-w.w c.loop-w.longest c.lot.result.now.budget c.larger-longest.result c.loop-w.invariant (lot_budget c.args.lots.now c.loop-w.w c.lot.result.now c.lot.ensures) c.larger-longest.ensures.first c.larger-longest.ensures.second
+loop-w-preserved c = most_more c.args.lots.now c.loop-w.w c.loop-w.longest c.lot.result.now.budget
+    c.larger-longest.result c.loop-w.invariant (lot_budget c.args.lots.now c.loop-w.w c.lot.result.now c.lot.ensures)
+    c.larger-longest.ensures.first c.larger-longest.ensures.second
 
 pub returns : goal.returns
 unfolding worker_count

@@ -8,7 +8,13 @@ use Rattle.ra_worker_play.proofs.rounds.play_round.Goals as goal
 
 pub take_turn-requires-clause-exists : goal.take_turn-requires-clause-exists
 unfolding worker_count
-take_turn-requires-clause-exists c = omega (arith, c.loop-w-test.true, c.len-w-end.ensures.value, ap (λ (l : Lots). length l.lots.items) (c.lots.ensures ∙ sym c.loop-w.invariant.played.over.lots))
+take_turn-requires-clause-exists c =
+    omega (
+      arith,
+      c.loop-w-test.true,
+      c.len-w-end.ensures.value,
+      ap (λ (l : Lots). length l.lots.items) (c.lots.ensures ∙ sym c.loop-w.invariant.played.over.lots),
+    )
 
 in_loop : goal.loop-w-preserved
 unfolding worker_count
@@ -22,11 +28,21 @@ in_loop c =
     let inv = c.loop-w.invariant in
     let played = c.take_turn.ensures.played in
     let lots = sym played.over.lots in
-    let there : c.loop-w.w < worker_count l = omega (arith, c.loop-w-test.true, c.len-w-end.ensures.value, ap (λ (m : Lots). length m.lots.items) (c.lots.ensures ∙ sym inv.played.over.lots)) in
+    let there : c.loop-w.w < worker_count l =
+    omega (
+      arith,
+      c.loop-w-test.true,
+      c.len-w-end.ensures.value,
+      ap (λ (m : Lots). length m.lots.items) (c.lots.ensures ∙ sym inv.played.over.lots),
+    ) in
     record {
-      all = λ r made. subst (λ (m : Lots). HaveMade m g (worker_count m) r) lots (made_still i a0 l h g c.loop-w.w (length h) (worker_count l) r c.take_turn.ensures.journal (inv.all r made));
-      first = λ r made. subst (λ (m : Lots). HaveMade m g (c.loop-w.w + 1) (r + 1)) lots (made_more i a0 l h g (worker_count l) c.loop-w.w r c.take_turn.ensures.journal there (inv.all r made) (inv.first r made));
-      played = plays_then c.args.journal.now k c.take_turn.new.journal c.args.replicas.now.items c.loop-w.replicas.items c.take_turn.new.replicas.items inv.played played;
+      all = λ r made. subst (λ (m : Lots). HaveMade m g (worker_count m) r) lots
+          (made_still i a0 l h g c.loop-w.w (length h) (worker_count l) r c.take_turn.ensures.journal (inv.all r made));
+      first = λ r made. subst (λ (m : Lots). HaveMade m g (c.loop-w.w + 1) (r + 1)) lots
+          (made_more i a0 l h g (worker_count l) c.loop-w.w r c.take_turn.ensures.journal there (inv.all r made)
+          (inv.first r made));
+      played = plays_then c.args.journal.now k c.take_turn.new.journal c.args.replicas.now.items c.loop-w.replicas.items
+          c.take_turn.new.replicas.items inv.played played;
     }
 
 pub loop-w-preserved : goal.loop-w-preserved
@@ -45,5 +61,13 @@ pub returns-clause-made : goal.returns-clause-made
 unfolding worker_count
 returns-clause-made c =
     let l = c.loop-w.journal.lots.now in
-    let all : c.loop-w.w ≡ worker_count l = omega (arith, c.loop-w-test.false, c.loop-w.auto.w-end, c.len-w-end.ensures.value, ap (λ (m : Lots). length m.lots.items) (c.lots.ensures ∙ sym c.loop-w.invariant.played.over.lots)) in
-    λ r made. made_all l c.loop-w.journal.book.entries.items (worker_count l) c.loop-w.w (r + 1) (c.loop-w.invariant.first r made) all
+    let all : c.loop-w.w ≡ worker_count l =
+    omega (
+      arith,
+      c.loop-w-test.false,
+      c.loop-w.auto.w-end,
+      c.len-w-end.ensures.value,
+      ap (λ (m : Lots). length m.lots.items) (c.lots.ensures ∙ sym c.loop-w.invariant.played.over.lots),
+    ) in
+    λ r made. made_all l c.loop-w.journal.book.entries.items (worker_count l) c.loop-w.w (r + 1)
+    (c.loop-w.invariant.first r made) all

@@ -10,5 +10,7 @@ use Rattle.ra_world.proofs.changes.service_cost.Goals as goal
 pub returns : goal.returns
 returns c = λ (a0 a : List Machine) stand.
     let cells = c.args.cells.now in
-    service_from c.args.inst.now.tables a0 a cells.greatest.counts c.from.result c.from-2.result (cells.counts_there ∙ ap service_count stand.instance) stand.moved (c.from.ensures ∙ c.service_weight.ensures)
-    (c.from-2.ensures ∙ c.greatest-most.ensures.value ∙ ap (λ (g : MovedCounts). greatest (length g.counts) (slice_index g.counts)) c.greatest.ensures)
+    service_from c.args.inst.now.tables a0 a cells.greatest.counts c.from.result c.from-2.result
+    (cells.counts_there ∙ ap service_count stand.instance) stand.moved (c.from.ensures ∙ c.service_weight.ensures)
+    (c.from-2.ensures ∙ c.greatest-most.ensures.value
+    ∙ ap (λ (g : MovedCounts). greatest (length g.counts) (slice_index g.counts)) c.greatest.ensures)

@@ -8,5 +8,6 @@ pub loop-m-preserved : goal.loop-m-preserved
 loop-m-preserved c = record {
   grid = c.renew_column.ensures.many ∙ c.loop-m.invariant.grid;
   value = λ (a : List Machine) stand.
-      next_column c.args.inst.now.tables a c.loop-m.m c.loop-m.table.items c.renew_column.new.table.items (c.loop-m.invariant.value a stand) (c.renew_column.ensures.column a stand);
+      next_column c.args.inst.now.tables a c.loop-m.m c.loop-m.table.items c.renew_column.new.table.items
+      (c.loop-m.invariant.value a stand) (c.renew_column.ensures.column a stand);
 }

@@ -6,12 +6,17 @@ use Rattle.ra_world.proofs.FilterTableLaws.{first_from}
 use Rattle.ra_world.proofs.filters.first_number.Goals as goal
 
 pub row_left-first-requires-clause-resource : goal.row_left-first-requires-clause-resource
-row_left-first-requires-clause-resource c = first_within c.args.inst.now.tables c.args.b c.balance-objective.result c.args.inst.now.well_formed c.requires.objective c.balance-objective.ensures
+row_left-first-requires-clause-resource c = first_within c.args.inst.now.tables c.args.b c.balance-objective.result
+    c.args.inst.now.well_formed c.requires.objective c.balance-objective.ensures
 
 pub row_left-second-requires-clause-resource : goal.row_left-second-requires-clause-resource
-row_left-second-requires-clause-resource c = second_within c.args.inst.now.tables c.args.b c.balance-objective.result c.args.inst.now.well_formed c.requires.objective c.balance-objective.ensures
+row_left-second-requires-clause-resource c = second_within c.args.inst.now.tables c.args.b c.balance-objective.result
+    c.args.inst.now.well_formed c.requires.objective c.balance-objective.ensures
 
 pub returns : goal.returns
 returns c = λ (a : List Machine) usage.
     c.capped_excess.ensures ∙ ap (λ x. min x (2 ^ 30))
-    (first_from c.args.inst.now.tables a c.args.m.0 c.args.b c.args.row.now c.balance-objective.result c.row_left-first.result c.row_left-second.result c.from.result c.args.inst.now.well_formed c.requires.objective usage c.balance-objective.ensures c.row_left-first.ensures.value c.row_left-second.ensures.value c.from.ensures)
+    (first_from c.args.inst.now.tables a c.args.m.0 c.args.b c.args.row.now c.balance-objective.result
+    c.row_left-first.result c.row_left-second.result c.from.result c.args.inst.now.well_formed
+    c.requires.objective usage c.balance-objective.ensures c.row_left-first.ensures.value
+    c.row_left-second.ensures.value c.from.ensures)

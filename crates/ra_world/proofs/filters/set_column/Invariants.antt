@@ -9,5 +9,6 @@ use Rattle.ra_world.proofs.filters.set_column.Given as goal
 abbrev pub invariant-loop-j : goal.invariant-loop-j
 invariant-loop-j l = record {
   grid : length l.table.items ≡ length l.initial.table.items;
-  set : (a : List Machine) → IsUsageRow l.inst.tables a l.m.0 l.row → IsColumnSet l.inst.tables l.m.0 l.j (capped_row l.inst.tables a l.m.0) l.initial.table.items l.table.items;
+  set : (a : List Machine) → IsUsageRow l.inst.tables a l.m.0 l.row →
+      IsColumnSet l.inst.tables l.m.0 l.j (capped_row l.inst.tables a l.m.0) l.initial.table.items l.table.items;
 }

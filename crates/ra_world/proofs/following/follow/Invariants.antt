@@ -6,4 +6,8 @@ use Rattle.ra_world.specs.Keeping.{Keeps}
 use Rattle.ra_world.proofs.following.follow.Given as goal
 
 abbrev pub invariant-loop-j : goal.invariant-loop-j
-invariant-loop-j g l = record { keeps : Keeps l.kept l.inst.tables l.start.items; made : l.kept.assignment.items ≡ after_steps l.fn.kept.assignment.items l.mv.steps l.j; counted : l.steps ≡ l.fn.steps + l.j * resource_count l.inst.tables }
+invariant-loop-j g l = record {
+  keeps : Keeps l.kept l.inst.tables l.start.items;
+  made : l.kept.assignment.items ≡ after_steps l.fn.kept.assignment.items l.mv.steps l.j;
+  counted : l.steps ≡ l.fn.steps + l.j * resource_count l.inst.tables;
+}

@@ -17,17 +17,25 @@ loop-m-init c = record {
 pub loop-m-preserved : goal.loop-m-preserved
 loop-m-preserved c = record {
   room = c.push.ensures.room ∙ c.loop-m.invariant.room;
-  so_far = omega (arith, ap (length {A = ℕ}) c.push.ensures.items, length-append c.loop-m.costs.items (c.load_of.result ∷ []), c.loop-m.invariant.so_far);
+  so_far = omega (
+    arith,
+    ap (length {A = ℕ}) c.push.ensures.items,
+    length-append c.loop-m.costs.items (c.load_of.result ∷ []),
+    c.loop-m.invariant.so_far,
+  );
   value = λ (a : List Machine) stand.
-      let next = pushed c.loop-m.costs.items c.loop-m.m c.load_of.result (machine_load c.args.inst.now.tables a) (c.loop-m.invariant.value a stand) (c.load_of.ensures.value a stand) in
+      let next = pushed c.loop-m.costs.items c.loop-m.m c.load_of.result (machine_load c.args.inst.now.tables a)
+      (c.loop-m.invariant.value a stand) (c.load_of.ensures.value a stand) in
       let P : List ℕ → Type 0 = λ xs. AreCosts xs (c.loop-m.m + 1) (machine_load c.args.inst.now.tables a) in
       subst P (sym c.push.ensures.items) next;
 }
 
 pub push-requires : goal.push-requires
-push-requires c = omega (arith, c.loop-m.invariant.so_far, c.loop-m.invariant.room, c.machines-m-end.ensures, c.loop-m-test.true)
+push-requires c =
+    omega (arith, c.loop-m.invariant.so_far, c.loop-m.invariant.room, c.machines-m-end.ensures, c.loop-m-test.true)
 
 pub returns : goal.returns
 returns c =
-    let all : c.loop-m.m ≡ machine_count c.args.inst.now.tables = omega (arith, c.loop-m-test.false, c.loop-m.auto.m-end, c.machines-m-end.ensures) in
+    let all : c.loop-m.m ≡ machine_count c.args.inst.now.tables =
+    omega (arith, c.loop-m-test.false, c.loop-m.auto.m-end, c.machines-m-end.ensures) in
     λ (a : List Machine) stand. rw all at (c.loop-m.invariant.value a stand)

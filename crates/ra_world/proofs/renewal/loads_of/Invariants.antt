@@ -8,4 +8,8 @@ use Rattle.ra_world.specs.Costs.{AreCosts}
 use Rattle.ra_world.proofs.renewal.loads_of.Given as goal
 
 abbrev pub invariant-loop-m : goal.invariant-loop-m
-invariant-loop-m l = record { room : l.costs.room ≡ machine_count l.inst.tables; so_far : length l.costs.items ≡ l.m; value : (a : List Machine) → StandFor l.rows a → AreCosts l.costs.items l.m (machine_load l.inst.tables a) }
+invariant-loop-m l = record {
+  room : l.costs.room ≡ machine_count l.inst.tables;
+  so_far : length l.costs.items ≡ l.m;
+  value : (a : List Machine) → StandFor l.rows a → AreCosts l.costs.items l.m (machine_load l.inst.tables a);
+}

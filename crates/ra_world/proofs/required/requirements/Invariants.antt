@@ -5,4 +5,7 @@ use Rattle.ra_world.specs.Required.{AreRequired}
 use Rattle.ra_world.proofs.required.requirements.Given as goal
 
 abbrev pub invariant-loop-j : goal.invariant-loop-j
-invariant-loop-j g l = record { required : AreRequired l.inst.tables l.mv.steps l.j l.required; counted : l.steps ≡ l.initial.steps + l.j * resource_count l.inst.tables }
+invariant-loop-j g l = record {
+  required : AreRequired l.inst.tables l.mv.steps l.j l.required;
+  counted : l.steps ≡ l.initial.steps + l.j * resource_count l.inst.tables;
+}

@@ -7,7 +7,9 @@ returns-clause-keeps c =
     let i = c.args.inst.now.tables in
     let a0 = c.args.a0.now.items in
     let stands = c.in_ok-rows.ensures.stands in
-    keeps_on _ i a0 a0 c.in_ok-assignment.ensures c.requires.fits c.in_ok-rows.ensures.tables c.in_ok-rows.ensures.start stands c.in_ok-cells.ensures (c.in_ok-loads.ensures a0 stands) (c.in_ok-balances.ensures a0 stands) (c.in_ok-filters.ensures a0 stands) c.requires.parts
+    keeps_on _ i a0 a0 c.in_ok-assignment.ensures c.requires.fits c.in_ok-rows.ensures.tables c.in_ok-rows.ensures.start
+    stands c.in_ok-cells.ensures (c.in_ok-loads.ensures a0 stands) (c.in_ok-balances.ensures a0 stands)
+    (c.in_ok-filters.ensures a0 stands) c.requires.parts
 
 pub returns-clause-assignment : goal.returns-clause-assignment
 returns-clause-assignment c = c.in_ok-assignment.ensures

@@ -4,4 +4,7 @@ use Rattle.ra_report_lines.specs.Reading.{Reads}
 use Rattle.test_reading.proofs.lines.demand.Given as goal
 
 abbrev pub invariant-loop-want : goal.invariant-loop-want
-invariant-loop-want g l = record { reads : Reads (g.F.Files.held l.files l.reader.name) l.reader; near : l.reader.place ≤ l.want-index * 8 }
+invariant-loop-want g l = record {
+  reads : Reads (g.F.Files.held l.files l.reader.name) l.reader;
+  near : l.reader.place ≤ l.want-index * 8;
+}

@@ -9,10 +9,12 @@ pub replay-requires-clause-can : goal.replay-requires-clause-can
 replay-requires-clause-can c = can_replay _ _ _ _ _ c.args.inst.now.well_formed c.requires.start c.requires.before
 
 pub parts-cost-requires-clause-fits : goal.parts-cost-requires-clause-fits
-parts-cost-requires-clause-fits c = subst (IsAssignment c.args.inst.now.tables) (sym c.replay.ensures.items) (states_fit _ _ _ _ c.args.inst.now.well_formed c.requires.start c.args.j c.requires.before c.args.j (omega arith))
+parts-cost-requires-clause-fits c = subst (IsAssignment c.args.inst.now.tables) (sym c.replay.ensures.items)
+    (states_fit _ _ _ _ c.args.inst.now.well_formed c.requires.start c.args.j c.requires.before c.args.j (omega arith))
 
 pub judge_plainly-requires-clause-fits : goal.judge_plainly-requires-clause-fits
-judge_plainly-requires-clause-fits c = subst (IsAssignment c.args.inst.now.tables) (sym c.replay.ensures.items) (states_fit _ _ _ _ c.args.inst.now.well_formed c.requires.start c.args.j c.requires.before c.args.j (omega arith))
+judge_plainly-requires-clause-fits c = subst (IsAssignment c.args.inst.now.tables) (sym c.replay.ensures.items)
+    (states_fit _ _ _ _ c.args.inst.now.well_formed c.requires.start c.args.j c.requires.before c.args.j (omega arith))
 
 pub judge_plainly-requires-clause-before : goal.judge_plainly-requires-clause-before
 unfolding parts_of

@@ -10,15 +10,22 @@ replay-requires-clause-can c = can_replay _ _ _ _ _ c.args.inst.now.well_formed 
 
 pub copy_to-requires : goal.copy_to-requires
 copy_to-requires c =
-    let fits = subst (IsAssignment c.args.inst.now.tables) (sym c.replay.ensures.items) (states_fit _ _ _ _ c.args.inst.now.well_formed c.requires.start c.args.e.now.q c.requires.before c.args.e.now.q (omega arith)) in
-    let room : length c.replay.new.a.items ≤ c.args.self.now.other.room = omega (arith, fits.one_each, c.requires.made.other) in
+    let fits = subst (IsAssignment c.args.inst.now.tables) (sym c.replay.ensures.items)
+    (states_fit _ _ _ _ c.args.inst.now.well_formed c.requires.start c.args.e.now.q c.requires.before c.args.e.now.q
+    (omega arith)) in
+    let room : length c.replay.new.a.items ≤ c.args.self.now.other.room =
+    omega (arith, fits.one_each, c.requires.made.other) in
     room
 
 pub parts-cost-requires-clause-fits : goal.parts-cost-requires-clause-fits
-parts-cost-requires-clause-fits c = subst (IsAssignment c.args.inst.now.tables) (sym c.replay.ensures.items) (states_fit _ _ _ _ c.args.inst.now.well_formed c.requires.start c.args.e.now.q c.requires.before c.args.e.now.q (omega arith))
+parts-cost-requires-clause-fits c = subst (IsAssignment c.args.inst.now.tables) (sym c.replay.ensures.items)
+    (states_fit _ _ _ _ c.args.inst.now.well_formed c.requires.start c.args.e.now.q c.requires.before c.args.e.now.q
+    (omega arith))
 
 pub plan_plainly-planned-requires-clause-fits : goal.plan_plainly-planned-requires-clause-fits
-plan_plainly-planned-requires-clause-fits c = subst (IsAssignment c.args.inst.now.tables) (sym c.replay.ensures.items) (states_fit _ _ _ _ c.args.inst.now.well_formed c.requires.start c.args.e.now.q c.requires.before c.args.e.now.q (omega arith))
+plan_plainly-planned-requires-clause-fits c = subst (IsAssignment c.args.inst.now.tables) (sym c.replay.ensures.items)
+    (states_fit _ _ _ _ c.args.inst.now.well_formed c.requires.start c.args.e.now.q c.requires.before c.args.e.now.q
+    (omega arith))
 
 pub plan_plainly-planned-requires-clause-before : goal.plan_plainly-planned-requires-clause-before
 unfolding parts_of

@@ -12,7 +12,8 @@ invariant_of-result c = record {
   locations_sorted = c.in_ok-locations.ensures.sorted;
   neighbourhoods_sorted = c.in_ok-neighbourhoods.ensures.sorted;
   spreads_there = c.in_ok-spreads.ensures;
-  counts_there = ap (length {A = ℕ}) c.in_ok-greatest.ensures.counts ∙ length-replicate {A = ℕ} (service_count c.args.inst.now.tables) 0;
+  counts_there = ap (length {A = ℕ}) c.in_ok-greatest.ensures.counts
+      ∙ length-replicate {A = ℕ} (service_count c.args.inst.now.tables) 0;
   limit_there = c.in_ok-greatest.ensures.limit;
   start_fits = c.requires.assigned;
 }
@@ -25,5 +26,7 @@ returns c = record {
   on_machines = c.in_ok-machines.ensures.marks;
   in_locations = c.in_ok-locations.ensures.marks;
   in_neighbourhoods = c.in_ok-neighbourhoods.ensures.marks;
-  moved = λ s within. ap (λ xs. get_or xs s 0) c.in_ok-greatest.ensures.counts ∙ get_or-replicate {A = ℕ} (service_count c.args.inst.now.tables) s 0 0 within ∙ sym (moved_none c.args.inst.now.tables c.args.a0.now.items s);
+  moved = λ s within. ap (λ xs. get_or xs s 0) c.in_ok-greatest.ensures.counts
+      ∙ get_or-replicate {A = ℕ} (service_count c.args.inst.now.tables) s 0 0 within
+      ∙ sym (moved_none c.args.inst.now.tables c.args.a0.now.items s);
 }

@@ -5,14 +5,34 @@ use Rattle.ra_cells.proofs.GreatestLemmas.{count_held, tally_few, most_within, c
 use Rattle.ra_cells.proofs.greatest.Greatest.change.Goals as goal
 
 pub retally-requires-clause-some : goal.retally-requires-clause-some
-retally-requires-clause-some c = count_held c.self.inside.counts.items c.self.inside.tallies.items c.self.inside.limit c.args.s.0 c.get-before.result c.self.invariant.tallied (omega (arith, ap (λ (m : MovedCounts). length m.counts) c.self.view_is, c.requires.there)) c.get-before.ensures
+retally-requires-clause-some c = count_held c.self.inside.counts.items c.self.inside.tallies.items c.self.inside.limit
+    c.args.s.0 c.get-before.result c.self.invariant.tallied
+    (omega (arith, ap (λ (m : MovedCounts). length m.counts) c.self.view_is, c.requires.there)) c.get-before.ensures
 
 pub retally-requires-clause-few : goal.retally-requires-clause-few
-retally-requires-clause-few c = tally_few c.self.inside.counts.items c.self.inside.tallies.items c.self.inside.limit c.args.after c.self.invariant.tallied (omega (arith, ap (λ (m : MovedCounts). m.limit) c.self.view_is, c.requires.within))
+retally-requires-clause-few c = tally_few c.self.inside.counts.items c.self.inside.tallies.items c.self.inside.limit
+    c.args.after c.self.invariant.tallied
+    (omega (arith, ap (λ (m : MovedCounts). m.limit) c.self.view_is, c.requires.within))
 
 pub highest-self-inside-requires : goal.highest-self-inside-requires
-highest-self-inside-requires c = omega (arith, ap (λ (m : MovedCounts). m.limit) c.self.view_is, c.requires.within, most_within c.self.inside.counts.items c.self.inside.tallies.items c.self.inside.limit c.self.inside.most c.self.invariant, c.self.invariant.tallied.one_each, c.retally.ensures.same_length)
+highest-self-inside-requires c =
+    omega (
+      arith,
+      ap (λ (m : MovedCounts). m.limit) c.self.view_is,
+      c.requires.within,
+      most_within c.self.inside.counts.items c.self.inside.tallies.items c.self.inside.limit c.self.inside.most
+          c.self.invariant,
+      c.self.invariant.tallied.one_each,
+      c.retally.ensures.same_length,
+    )
 
 pub invariant_of-self : goal.invariant_of-self
 invariant_of-self c =
-    rw c.set.ensures.items (counted_set c.self.inside.counts.items c.self.inside.tallies.items c.retally.new.tallies.items c.self.inside.limit c.args.s.0 c.get-before.result c.args.after c.self.inside.most c.max-top.result c.highest-self-inside.result c.self.invariant (omega (arith, ap (λ (m : MovedCounts). length m.counts) c.self.view_is, c.requires.there)) c.get-before.ensures (omega (arith, ap (λ (m : MovedCounts). m.limit) c.self.view_is, c.requires.within)) c.retally.ensures c.max-top.ensures c.highest-self-inside.ensures.within c.highest-self-inside.ensures.none c.highest-self-inside.ensures.some)
+    rw c.set.ensures.items
+    (counted_set c.self.inside.counts.items c.self.inside.tallies.items c.retally.new.tallies.items
+    c.self.inside.limit c.args.s.0 c.get-before.result c.args.after c.self.inside.most c.max-top.result
+    c.highest-self-inside.result c.self.invariant
+    (omega (arith, ap (λ (m : MovedCounts). length m.counts) c.self.view_is, c.requires.there))
+    c.get-before.ensures (omega (arith, ap (λ (m : MovedCounts). m.limit) c.self.view_is, c.requires.within))
+    c.retally.ensures c.max-top.ensures c.highest-self-inside.ensures.within c.highest-self-inside.ensures.none
+    c.highest-self-inside.ensures.some)

@@ -5,4 +5,10 @@ use Rattle.ra_cells.proofs.GreatestLemmas.{most_within}
 use Rattle.ra_cells.proofs.greatest.Greatest.greatest.Goals as goal
 
 pub returns-clause-within : goal.returns-clause-within
-returns-clause-within c = omega (arith, most_within c.self.inside.counts.items c.self.inside.tallies.items c.self.inside.limit c.self.inside.most c.self.invariant, ap (λ (m : MovedCounts). m.limit) c.self.view_is)
+returns-clause-within c =
+    omega (
+      arith,
+      most_within c.self.inside.counts.items c.self.inside.tallies.items c.self.inside.limit
+          c.self.inside.most c.self.invariant,
+      ap (λ (m : MovedCounts). m.limit) c.self.view_is,
+    )

@@ -5,7 +5,10 @@ use Rattle.ra_journal.proofs.NewerLemmas.{committed_stale, committed_recorded}
 use Rattle.ra_journal.proofs.journal.Journal.commit_with.Goals as goal
 
 pub record-requires-clause-next : goal.record-requires-clause-next
-record-requires-clause-next c = record { commit = c.requires.commit; untouched = sym c.first_newer.ensures ∙ c.in-None.is }
+record-requires-clause-next c = record {
+  commit = c.requires.commit;
+  untouched = sym c.first_newer.ensures ∙ c.in-None.is;
+}
 
 pub record-requires-clause-held : goal.record-requires-clause-held
 record-requires-clause-held c = held_listed c.args.self.now c.args.plan.now (option_copied c.args.held) c.requires.held
@@ -13,7 +16,8 @@ record-requires-clause-held c = held_listed c.args.self.now c.args.plan.now (opt
 pub returns-in-Some : goal.returns-in-Some
 returns-in-Some c =
     let s = c.args.self.now in
-    let done = sym (committed_stale s.inst.now.tables s.a0.now.items s.lots.now s.book.entries.items c.args.worker c.args.plan.now c.in-Some.newer c.requires.commit (sym c.first_newer.ensures ∙ c.in-Some.is)) in
+    let done = sym (committed_stale s.inst.now.tables s.a0.now.items s.lots.now s.book.entries.items c.args.worker
+    c.args.plan.now c.in-Some.newer c.requires.commit (sym c.first_newer.ensures ∙ c.in-Some.is)) in
     record {
       journal = ap (λ (x : Committed). x.journal) done;
       reply = ap (λ (x : Committed). x.reply) done;
@@ -28,7 +32,8 @@ pub returns-in-None : goal.returns-in-None
 returns-in-None c =
     let s = c.args.self.now in
     let none = sym c.first_newer.ensures ∙ c.in-None.is in
-    let done = sym (committed_recorded s.inst.now.tables s.a0.now.items s.lots.now s.book.entries.items c.args.worker c.args.plan.now c.requires.commit none) in
+    let done = sym (committed_recorded s.inst.now.tables s.a0.now.items s.lots.now s.book.entries.items c.args.worker
+    c.args.plan.now c.requires.commit none) in
     record {
       journal = c.record.ensures.journal ∙ ap (λ (x : Committed). x.journal) done;
       reply = c.record.ensures.reply ∙ ap (λ (x : Committed). x.reply) done;

@@ -6,21 +6,25 @@ use Rattle.ra_journal.proofs.journal.Journal.first_newer.Goals as goal
 pub first_newer_read-requires-clause-within : goal.first_newer_read-requires-clause-within
 first_newer_read-requires-clause-within c =
     let s = c.args.self.now in
-    planned_within s.inst.now.tables s.a0.now.items s.lots.now s.book.entries.items c.args.worker c.args.plan.now s.start s.kept.legal c.requires.commit
+    planned_within s.inst.now.tables s.a0.now.items s.lots.now s.book.entries.items c.args.worker c.args.plan.now
+    s.start s.kept.legal c.requires.commit
 
 pub first_newer-requires-clause-within : goal.first_newer-requires-clause-within
 first_newer-requires-clause-within c =
     let s = c.args.self.now in
-    planned_within s.inst.now.tables s.a0.now.items s.lots.now s.book.entries.items c.args.worker c.args.plan.now s.start s.kept.legal c.requires.commit
+    planned_within s.inst.now.tables s.a0.now.items s.lots.now s.book.entries.items c.args.worker c.args.plan.now
+    s.start s.kept.legal c.requires.commit
 
 pub returns-in-Some : goal.returns-in-Some
 returns-in-Some c =
     let s = c.args.self.now in
     let plan = c.args.plan.now in
-    c.first_newer_read.ensures ∙ newer_read_same s.inst.now.tables s.book.entries.items plan.q plan.mv.steps s.book.versions s.kept.versions (rw c.in-Some.is at c.requires.held).known
+    c.first_newer_read.ensures ∙ newer_read_same s.inst.now.tables s.book.entries.items plan.q plan.mv.steps
+    s.book.versions s.kept.versions (rw c.in-Some.is at c.requires.held).known
 
 pub returns-in-None : goal.returns-in-None
 returns-in-None c =
     let s = c.args.self.now in
     let plan = c.args.plan.now in
-    c.first_newer.ensures ∙ newer_same s.inst.now.tables s.book.entries.items plan.q plan.mv.steps s.book.versions s.kept.versions
+    c.first_newer.ensures ∙ newer_same s.inst.now.tables s.book.entries.items plan.q plan.mv.steps s.book.versions
+    s.kept.versions

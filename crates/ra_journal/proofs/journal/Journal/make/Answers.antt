@@ -12,12 +12,21 @@ invariant_of-result c =
     let i = c.args.inst.now.tables in
     let v = c.in_ok-versions.versions in
     let cost = ap (λ (p : Parts). p.total) c.requires.parts in
-    let zero_versions = subst (λ n. AreZero n (service_count i) v) c.machines.ensures (subst (λ n. AreZero c.machines.result n v) c.services.ensures c.in_ok-versions.ensures) in
+    let zero_versions = subst (λ n. AreZero n (service_count i) v) c.machines.ensures
+    (subst (λ n. AreZero c.machines.result n v) c.services.ensures c.in_ok-versions.ensures) in
     record {
       topology = c.requires.topology;
       start = record { limits = c.args.inst.now.well_formed; fits = c.requires.fits; unbroken = c.requires.unbroken };
-      kept = kept_start i c.args.a0.now.items c.args.lots.now _ c.in_ok-entries.ensures.items (c.in_ok-entries.ensures.room ∙ c.proposals.ensures.value) zero_versions c.in_ok-greatest.ensures.counts c.in_ok-greatest.ensures.limit refl cost refl cost;
+      kept = kept_start i c.args.a0.now.items c.args.lots.now _ c.in_ok-entries.ensures.items
+          (c.in_ok-entries.ensures.room ∙ c.proposals.ensures.value) zero_versions c.in_ok-greatest.ensures.counts
+          c.in_ok-greatest.ensures.limit refl cost refl cost;
     }
 
 pub returns : goal.returns
-returns c = record { instance = refl; topology = refl; initial = refl; lots = refl; entries = c.in_ok-entries.ensures.items }
+returns c = record {
+  instance = refl;
+  topology = refl;
+  initial = refl;
+  lots = refl;
+  entries = c.in_ok-entries.ensures.items;
+}

@@ -10,4 +10,5 @@ given_back : (f : Form) (v : MoveSteps) → value_of_form f ≡ v → f ≡ form
 given_back f v is = sym (form_back f) ∙ ap form_of_value is
 
 pub returns : goal.returns
-returns c = c.eq.ensures ∙ ap₂ (λ (a : Form) (b : Form). ghosts.eq a b) (given_back _ _ c.t1-1.view_is) (given_back _ _ c.t2-1.view_is)
+returns c = c.eq.ensures ∙ ap₂ (λ (a : Form) (b : Form). ghosts.eq a b) (given_back _ _ c.t1-1.view_is)
+    (given_back _ _ c.t2-1.view_is)

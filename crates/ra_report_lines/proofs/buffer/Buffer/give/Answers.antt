@@ -1,4 +1,5 @@
-use Rattle.std.proofs.Common.{◌≡◌, ◌+◌, ◌-◌, ◌≤◌, arith, ap, sym, ◌∙◌, length, take, drop, length-append, length-take, length-drop}
+use Rattle.std.proofs.Common.{◌≡◌, ◌+◌, ◌-◌, ◌≤◌, arith, ap, sym, ◌∙◌, length, take, drop, length-append, length-take}
+use Rattle.std.proofs.Common.{length-drop}
 use Rattle.std.proofs.lemmas.Grind.{common_steps}
 use Rattle.ra_report_lines.specs.Buffers.{ready_of}
 use Rattle.ra_report_lines.proofs.ReadingLaws.{left_behind}
@@ -8,8 +9,24 @@ pub returns : goal.returns
 returns c =
     let w = c.args.self.now in
     let n = c.line_front-number.result.0 in
-    let within : n ≤ w.filled - w.at = omega (arith, c.line_front-number.ensures.within, length-take (w.filled - w.at) (drop w.at c.deref.result.now)) in
-    let number : length c.extend_from_slice.new.self.items - length c.args.line.now.items ≡ n = omega (arith, ap length c.extend_from_slice.ensures.items, length-append c.args.line.now.items (take (w.at + n - w.at) (drop w.at c.deref-2.result.now)), length-take (w.at + n - w.at) (drop w.at c.deref-2.result.now), length-drop w.at c.deref-2.result.now, ap length c.deref-2.ensures.value, w.whole, w.within, w.behind) in
+    let within : n ≤ w.filled - w.at =
+    omega (
+      arith,
+      c.line_front-number.ensures.within,
+      length-take (w.filled - w.at) (drop w.at c.deref.result.now),
+    ) in
+    let number : length c.extend_from_slice.new.self.items - length c.args.line.now.items ≡ n =
+    omega (
+      arith,
+      ap length c.extend_from_slice.ensures.items,
+      length-append c.args.line.now.items (take (w.at + n - w.at) (drop w.at c.deref-2.result.now)),
+      length-take (w.at + n - w.at) (drop w.at c.deref-2.result.now),
+      length-drop w.at c.deref-2.result.now,
+      ap length c.deref-2.ensures.value,
+      w.whole,
+      w.within,
+      w.behind,
+    ) in
     record {
       given = grind (arith, common_steps);
       left = left_behind w.bytes.items w.at w.filled n within ∙ ap (λ k. drop k (ready_of w)) (sym number);

@@ -8,8 +8,10 @@ invariant-loop-given g l =
     (length l.line.items ≡ length l.initial.line.items + l.given)
     × (l.line.room ≡ l.initial.line.room)
     × (l.given ≤ l.room + 1)
-    × IfSome (g.F.Files.held l.initial.files l.name) (λ bytes. GaveNoEnd bytes l.place l.given l.initial.line.items l.line.items (ready_of l.self))
-    × KeepsFiles (g.F.Files.held l.initial.files) (g.F.Files.held l.files) (g.F.Files.faults l.initial.files) (g.F.Files.faults l.files)
+    × IfSome (g.F.Files.held l.initial.files l.name)
+    (λ bytes. GaveNoEnd bytes l.place l.given l.initial.line.items l.line.items (ready_of l.self))
+    × KeepsFiles (g.F.Files.held l.initial.files) (g.F.Files.held l.files) (g.F.Files.faults l.initial.files)
+    (g.F.Files.faults l.files)
 
 abbrev pub decreases-loop-given : goal.decreases-loop-given
 decreases-loop-given g l = l.room + 1 - l.given

@@ -8,8 +8,11 @@ pub returns-in-None : goal.returns-in-None
 returns-in-None c = λ expected text given.
     let s = c.args.self.now in
     let to = given_to s.expected.now expected s.agreed s.faults s.other text given in (
-      λ yes. agrees_same s.expected.now text s.agreed s.faults s.other s.sound to.was_put (search rules) (eqb-true s.agreed (length s.expected.now) yes) ∙ to.same,
-      λ same. eq-eqb s.agreed (length s.expected.now) (same_agrees s.expected.now text s.agreed s.faults s.other s.within s.differs s.sound to.was_put (same ∙ sym to.same)).1,
+      λ yes. agrees_same s.expected.now text s.agreed s.faults s.other s.sound to.was_put (search rules)
+          (eqb-true s.agreed (length s.expected.now) yes) ∙ to.same,
+      λ same. eq-eqb s.agreed (length s.expected.now)
+          (same_agrees s.expected.now text s.agreed s.faults s.other s.within s.differs s.sound to.was_put
+          (same ∙ sym to.same)).1,
     )
 
 pub returns-in-Some : goal.returns-in-Some
@@ -17,5 +20,8 @@ returns-in-Some c = λ expected text given.
     let s = c.args.self.now in
     let to = given_to s.expected.now expected s.agreed s.faults s.other text given in (
       λ yes. absurd (false≢true yes),
-      λ same. absurd (none-some _ (sym (same_agrees s.expected.now text s.agreed s.faults s.other s.within s.differs s.sound to.was_put (same ∙ sym to.same)).0 ∙ c.in-Some.is)),
+      λ same. absurd
+          (none-some _
+          (sym (same_agrees s.expected.now text s.agreed s.faults s.other s.within s.differs s.sound to.was_put
+          (same ∙ sym to.same)).0 ∙ c.in-Some.is)),
     )

@@ -8,33 +8,47 @@ use Rattle.ra_rows.proofs.rows.Rows.shift.Goals as goal
 
 pub shift_rows-requires-clause-used_enough : goal.shift_rows-requires-clause-used_enough
 shift_rows-requires-clause-used_enough g c =
-    let rows = rows_of c.self.inside.inst.now.tables c.self.inside.a0.now.items c.self.inside.used.items c.self.inside.between.items in
+    let rows = rows_of c.self.inside.inst.now.tables c.self.inside.a0.now.items c.self.inside.used.items
+    c.self.inside.between.items in
     let seen : rows ≡ c.args.self.now = c.self.view_is in
-    used_enough rows c.args.p.0 c.args.from.0 (subst (λ v. c.args.p.0 < process_count v.tables) (sym seen) c.requires.process) (subst (λ v. HasAt v c.args.p.0 c.args.from.0) (sym seen) c.requires.stands)
+    used_enough rows c.args.p.0 c.args.from.0
+    (subst (λ v. c.args.p.0 < process_count v.tables) (sym seen) c.requires.process)
+    (subst (λ v. HasAt v c.args.p.0 c.args.from.0) (sym seen) c.requires.stands)
 
 pub shift_rows-requires-clause-between_enough : goal.shift_rows-requires-clause-between_enough
 shift_rows-requires-clause-between_enough g c =
-    let rows = rows_of c.self.inside.inst.now.tables c.self.inside.a0.now.items c.self.inside.used.items c.self.inside.between.items in
+    let rows = rows_of c.self.inside.inst.now.tables c.self.inside.a0.now.items c.self.inside.used.items
+    c.self.inside.between.items in
     let seen : rows ≡ c.args.self.now = c.self.view_is in
-    transient_enough rows c.args.p.0 c.args.from.0 (subst (λ v. c.args.p.0 < process_count v.tables) (sym seen) c.requires.process) (subst (λ v. HasAt v c.args.p.0 c.args.from.0) (sym seen) c.requires.stands)
+    transient_enough rows c.args.p.0 c.args.from.0
+    (subst (λ v. c.args.p.0 < process_count v.tables) (sym seen) c.requires.process)
+    (subst (λ v. HasAt v c.args.p.0 c.args.from.0) (sym seen) c.requires.stands)
 
 pub invariant_of-self : goal.invariant_of-self
 invariant_of-self g c =
-    let rows = rows_of c.self.inside.inst.now.tables c.self.inside.a0.now.items c.self.inside.used.items c.self.inside.between.items in
+    let rows = rows_of c.self.inside.inst.now.tables c.self.inside.a0.now.items c.self.inside.used.items
+    c.self.inside.between.items in
     let seen : rows ≡ c.args.self.now = c.self.view_is in
     let there = subst (λ v. c.args.p.0 < process_count v.tables) (sym seen) c.requires.process in
     let within = subst (λ v. c.args.to.0 < machine_count v.tables) (sym seen) c.requires.to in
     let has = subst (λ v. HasAt v c.args.p.0 c.args.from.0) (sym seen) c.requires.stands in
-    are_rows rows.tables rows.start (set has.assignment c.args.p.0 c.args.to) c.shift_rows.new.used.items c.shift_rows.new.between.items
+    are_rows rows.tables rows.start (set has.assignment c.args.p.0 c.args.to) c.shift_rows.new.used.items
+    c.shift_rows.new.between.items
     c.self.inside.inst.now.well_formed c.self.inside.inst.now.small c.self.invariant.start
     (c.shift_rows.ensures.used.same_length ∙ c.self.invariant.used_grid)
-    ((c.shift_rows.ensures.between rows.start (sym c.machine_of-home.ensures)).same_length ∙ c.self.invariant.between_grid)
-    (stand_after rows.tables rows.start has.assignment c.args.p.0 c.args.from.0 c.args.to rows.used rows.between _ _ there within c.shift_rows.ensures.used (c.shift_rows.ensures.between rows.start (sym c.machine_of-home.ensures)) has.stands has.at)
+    ((c.shift_rows.ensures.between rows.start (sym c.machine_of-home.ensures)).same_length
+    ∙ c.self.invariant.between_grid)
+    (stand_after rows.tables rows.start has.assignment c.args.p.0 c.args.from.0 c.args.to rows.used rows.between _ _
+    there within c.shift_rows.ensures.used
+    (c.shift_rows.ensures.between rows.start (sym c.machine_of-home.ensures)) has.stands has.at)
 
 pub returns-clause-stands : goal.returns-clause-stands
 returns-clause-stands g c = λ (a : List Machine) stands is.
-    let rows = rows_of c.self.inside.inst.now.tables c.self.inside.a0.now.items c.self.inside.used.items c.self.inside.between.items in
+    let rows = rows_of c.self.inside.inst.now.tables c.self.inside.a0.now.items c.self.inside.used.items
+    c.self.inside.between.items in
     let seen : rows ≡ c.args.self.now = c.self.view_is in
     let there = subst (λ v. c.args.p.0 < process_count v.tables) (sym seen) c.requires.process in
     let within = subst (λ v. c.args.to.0 < machine_count v.tables) (sym seen) c.requires.to in
-    stand_after rows.tables rows.start a c.args.p.0 c.args.from.0 c.args.to rows.used rows.between _ _ there within c.shift_rows.ensures.used (c.shift_rows.ensures.between rows.start (sym c.machine_of-home.ensures)) (subst (λ v. StandFor v a) (sym seen) stands) is
+    stand_after rows.tables rows.start a c.args.p.0 c.args.from.0 c.args.to rows.used rows.between _ _ there within
+    c.shift_rows.ensures.used (c.shift_rows.ensures.between rows.start (sym c.machine_of-home.ensures))
+    (subst (λ v. StandFor v a) (sym seen) stands) is

@@ -10,7 +10,8 @@ use Rattle.ra_shared.specs.Books.{opening_of_journal}
 use Rattle.ra_shared.specs.Numbers.{number_of}
 use Rattle.ra_shared.specs.Shares.{start_of}
 use Rattle.ra_shared.proofs.Known.{by_guards, of_given}
-use Rattle.ra_shared.proofs.Turned.{IsTurned, turned_by, turned_commit, turned_held, turned_gives, turned_refused, turned_stale, turned_committed, legal_now}
+use Rattle.ra_shared.proofs.Turned.{IsTurned, turned_by, turned_commit, turned_held, turned_gives, turned_refused}
+use Rattle.ra_shared.proofs.Turned.{turned_stale, turned_committed, legal_now}
 use Rattle.ra_shared.proofs.shared.Shared.commit_once.Goals as goal
 
 pub commit_with-reply-requires-clause-commit : goal.commit_with-reply-requires-clause-commit
@@ -20,12 +21,17 @@ commit_with-reply-requires-clause-commit g c =
     let p = c.args.pass.now in
     let q = c.take-held.new.pass in
     let took = c.take-held.ensures in
-    let opened : opening_of_journal j ≡ o = ap (λ (x : Journal). opening_of_journal x) c.deref_mut.ensures.value ∙ took.opening in
-    let seen : q.seat.me.0.own.seen ≡ j.book.entries.items = took.seen.0 ∙ ap (λ (x : Journal). x.book.entries.items) (sym c.deref_mut.ensures.value) in
+    let opened : opening_of_journal j ≡ o = ap (λ (x : Journal). opening_of_journal x) c.deref_mut.ensures.value
+    ∙ took.opening in
+    let seen : q.seat.me.0.own.seen ≡ j.book.entries.items = took.seen.0
+    ∙ ap (λ (x : Journal). x.book.entries.items) (sym c.deref_mut.ensures.value) in
     let may = c.requires.may in
     let turned : IsTurned p.number p.seat.me.0.own.seen p.seat.me.0.own.mine j.book.entries.items =
-    turned_by p.seat.me.0.own.number p.number q.number p.seat.me.0.own.seen p.seat.me.0.own.mine j.book.entries.items q.seat.me.0.own.seen q.seat.me.0.own.mine took.seen.1 seen p.owned p.numbered took.pass.1.2 took.made.1 took.made.0 in
-    turned_commit o (opening_of_journal j) p.number c.number-worker.result p.seat.me.0.own.seen p.seat.me.0.own.mine j.book.entries.items c.args.plan.now opened c.number-worker.ensures turned may.commit
+    turned_by p.seat.me.0.own.number p.number q.number p.seat.me.0.own.seen p.seat.me.0.own.mine j.book.entries.items
+    q.seat.me.0.own.seen q.seat.me.0.own.mine took.seen.1 seen p.owned p.numbered took.pass.1.2 took.made.1
+    took.made.0 in
+    turned_commit o (opening_of_journal j) p.number c.number-worker.result p.seat.me.0.own.seen p.seat.me.0.own.mine
+    j.book.entries.items c.args.plan.now opened c.number-worker.ensures turned may.commit
 
 pub commit_with-reply-requires-clause-held : goal.commit_with-reply-requires-clause-held
 commit_with-reply-requires-clause-held g c =
@@ -34,15 +40,23 @@ commit_with-reply-requires-clause-held g c =
     let p = c.args.pass.now in
     let q = c.take-held.new.pass in
     let took = c.take-held.ensures in
-    let opened : opening_of_journal j ≡ o = ap (λ (x : Journal). opening_of_journal x) c.deref_mut.ensures.value ∙ took.opening in
-    let seen : q.seat.me.0.own.seen ≡ j.book.entries.items = took.seen.0 ∙ ap (λ (x : Journal). x.book.entries.items) (sym c.deref_mut.ensures.value) in
+    let opened : opening_of_journal j ≡ o = ap (λ (x : Journal). opening_of_journal x) c.deref_mut.ensures.value
+    ∙ took.opening in
+    let seen : q.seat.me.0.own.seen ≡ j.book.entries.items = took.seen.0
+    ∙ ap (λ (x : Journal). x.book.entries.items) (sym c.deref_mut.ensures.value) in
     let may = c.requires.may in
     let turned : IsTurned p.number p.seat.me.0.own.seen p.seat.me.0.own.mine j.book.entries.items =
-    turned_by p.seat.me.0.own.number p.number q.number p.seat.me.0.own.seen p.seat.me.0.own.mine j.book.entries.items q.seat.me.0.own.seen q.seat.me.0.own.mine took.seen.1 seen p.owned p.numbered took.pass.1.2 took.made.1 took.made.0 in
-    let commit = turned_commit o o p.number p.number p.seat.me.0.own.seen p.seat.me.0.own.mine j.book.entries.items c.args.plan.now refl refl turned may.commit in
-    of_given {P = HasHeld j c.args.plan.now} o.inst.tables c.args.plan.now p (option_copied c.args.guards) c.requires.guards (λ given listed holds. record {
+    turned_by p.seat.me.0.own.number p.number q.number p.seat.me.0.own.seen p.seat.me.0.own.mine j.book.entries.items
+    q.seat.me.0.own.seen q.seat.me.0.own.mine took.seen.1 seen p.owned p.numbered took.pass.1.2 took.made.1
+    took.made.0 in
+    let commit = turned_commit o o p.number p.number p.seat.me.0.own.seen p.seat.me.0.own.mine j.book.entries.items
+    c.args.plan.now refl refl turned may.commit in
+    of_given {P = HasHeld j c.args.plan.now} o.inst.tables c.args.plan.now p (option_copied c.args.guards)
+    c.requires.guards (λ given listed holds. record {
       listed = subst (λ (x : Opening). AreWrites x.inst.tables c.args.plan.now.mv.steps given) (sym opened) listed;
-      known = turned_held o (opening_of_journal j) p.number q.number j.book.entries.items q.seat.me.0.own.seen c.args.plan.now p.seat.me.0.grips q.seat.me.0.grips opened took.pass.1.2 seen took.guards.0.0 j.start j.kept.legal commit holds took.guards.1;
+      known = turned_held o (opening_of_journal j) p.number q.number j.book.entries.items q.seat.me.0.own.seen
+          c.args.plan.now p.seat.me.0.grips q.seat.me.0.grips opened took.pass.1.2 seen took.guards.0.0 j.start
+          j.kept.legal commit holds took.guards.1;
     })
 
 pub give-requires-clause-notes : goal.give-requires-clause-notes
@@ -52,18 +66,35 @@ give-requires-clause-notes g c =
     let p = c.args.pass.now in
     let q = c.take-held.new.pass in
     let took = c.take-held.ensures in
-    let opened : opening_of_journal j ≡ o = ap (λ (x : Journal). opening_of_journal x) c.deref_mut.ensures.value ∙ took.opening in
-    let seen : q.seat.me.0.own.seen ≡ j.book.entries.items = took.seen.0 ∙ ap (λ (x : Journal). x.book.entries.items) (sym c.deref_mut.ensures.value) in
+    let opened : opening_of_journal j ≡ o = ap (λ (x : Journal). opening_of_journal x) c.deref_mut.ensures.value
+    ∙ took.opening in
+    let seen : q.seat.me.0.own.seen ≡ j.book.entries.items = took.seen.0
+    ∙ ap (λ (x : Journal). x.book.entries.items) (sym c.deref_mut.ensures.value) in
     let may = c.requires.may in
     let turned : IsTurned p.number p.seat.me.0.own.seen p.seat.me.0.own.mine j.book.entries.items =
-    turned_by p.seat.me.0.own.number p.number q.number p.seat.me.0.own.seen p.seat.me.0.own.mine j.book.entries.items q.seat.me.0.own.seen q.seat.me.0.own.mine took.seen.1 seen p.owned p.numbered took.pass.1.2 took.made.1 took.made.0 in
-    let commit = turned_commit o o p.number p.number p.seat.me.0.own.seen p.seat.me.0.own.mine j.book.entries.items c.args.plan.now refl refl turned may.commit in
+    turned_by p.seat.me.0.own.number p.number q.number p.seat.me.0.own.seen p.seat.me.0.own.mine j.book.entries.items
+    q.seat.me.0.own.seen q.seat.me.0.own.mine took.seen.1 seen p.owned p.numbered took.pass.1.2 took.made.1
+    took.made.0 in
+    let commit = turned_commit o o p.number p.number p.seat.me.0.own.seen p.seat.me.0.own.mine j.book.entries.items
+    c.args.plan.now refl refl turned may.commit in
     by_guards o.inst.tables c.args.plan.now p (option_copied c.args.guards) c.requires.guards
-    (λ holds. turned_gives o (opening_of_journal j) p.number q.number c.number-worker.result j.book.entries.items q.seat.me.0.own.seen c.commit_with-reply.new.self.book.entries.items c.args.plan.now p.seat.me.0.grips q.seat.me.0.grips opened took.pass.1.2 c.number-worker.ensures seen took.guards.0.0 commit holds c.commit_with-reply.ensures.journal)
+    (λ holds. turned_gives o (opening_of_journal j) p.number q.number c.number-worker.result j.book.entries.items
+    q.seat.me.0.own.seen c.commit_with-reply.new.self.book.entries.items c.args.plan.now p.seat.me.0.grips
+    q.seat.me.0.grips opened took.pass.1.2 c.number-worker.ensures seen took.guards.0.0 commit holds
+    c.commit_with-reply.ensures.journal)
     (λ free. ⊎_elim
-    (λ broken. turned_refused o (opening_of_journal j) p.number q.number c.number-worker.result j.book.entries.items q.seat.me.0.own.seen c.commit_with-reply.new.self.book.entries.items c.args.plan.now q.seat.me.0.grips broken.0 opened took.pass.1.2 c.number-worker.ensures seen j.start j.kept.legal commit broken.1 c.commit_with-reply.ensures.journal)
-    (λ newer. let told : Contains q.seat.me.0.news (grip (number_of o.inst.tables newer.guard) newer.version) = subst (λ (ks : List Grip). Contains ks (grip (number_of o.inst.tables newer.guard) newer.version)) (sym took.guards.0.1) newer.told in
-    inl (turned_stale o (opening_of_journal j) p.number c.number-worker.result j.book.entries.items q.seat.me.0.own.seen c.commit_with-reply.new.self.book.entries.items c.args.plan.now newer.guard newer.version opened c.number-worker.ensures seen j.start j.kept.legal commit newer.written newer.above (took.guards.2 (number_of o.inst.tables newer.guard) newer.version told) c.commit_with-reply.ensures.journal))
+    (λ broken. turned_refused o (opening_of_journal j) p.number q.number c.number-worker.result j.book.entries.items
+    q.seat.me.0.own.seen c.commit_with-reply.new.self.book.entries.items c.args.plan.now q.seat.me.0.grips
+    broken.0 opened took.pass.1.2 c.number-worker.ensures seen j.start j.kept.legal commit broken.1
+    c.commit_with-reply.ensures.journal)
+    (λ newer. let told : Contains q.seat.me.0.news (grip (number_of o.inst.tables newer.guard) newer.version) =
+    subst (λ (ks : List Grip). Contains ks (grip (number_of o.inst.tables newer.guard) newer.version))
+    (sym took.guards.0.1) newer.told in
+    inl (turned_stale o (opening_of_journal j) p.number c.number-worker.result j.book.entries.items q.seat.me.0.own.seen
+    c.commit_with-reply.new.self.book.entries.items c.args.plan.now newer.guard newer.version opened
+    c.number-worker.ensures seen j.start j.kept.legal commit newer.written newer.above
+    (took.guards.2 (number_of o.inst.tables newer.guard) newer.version told)
+    c.commit_with-reply.ensures.journal))
     free)
 
 pub returns-clause-done : goal.returns-clause-done
@@ -73,19 +104,32 @@ returns-clause-done g c =
     let p = c.args.pass.now in
     let q = c.take-held.new.pass in
     let took = c.take-held.ensures in
-    let opened : opening_of_journal j ≡ o = ap (λ (x : Journal). opening_of_journal x) c.deref_mut.ensures.value ∙ took.opening in
-    let seen : q.seat.me.0.own.seen ≡ j.book.entries.items = took.seen.0 ∙ ap (λ (x : Journal). x.book.entries.items) (sym c.deref_mut.ensures.value) in
+    let opened : opening_of_journal j ≡ o = ap (λ (x : Journal). opening_of_journal x) c.deref_mut.ensures.value
+    ∙ took.opening in
+    let seen : q.seat.me.0.own.seen ≡ j.book.entries.items = took.seen.0
+    ∙ ap (λ (x : Journal). x.book.entries.items) (sym c.deref_mut.ensures.value) in
     let may = c.requires.may in
     let turned : IsTurned p.number p.seat.me.0.own.seen p.seat.me.0.own.mine j.book.entries.items =
-    turned_by p.seat.me.0.own.number p.number q.number p.seat.me.0.own.seen p.seat.me.0.own.mine j.book.entries.items q.seat.me.0.own.seen q.seat.me.0.own.mine took.seen.1 seen p.owned p.numbered took.pass.1.2 took.made.1 took.made.0 in
+    turned_by p.seat.me.0.own.number p.number q.number p.seat.me.0.own.seen p.seat.me.0.own.mine j.book.entries.items
+    q.seat.me.0.own.seen q.seat.me.0.own.mine took.seen.1 seen p.owned p.numbered took.pass.1.2 took.made.1
+    took.made.0 in
     let gave = c.give.ensures in
     let new = c.commit_with-reply.new.self in
     record {
-      ready = ((gave.pass.1.0 ∙ (took.pass.1.0 ∙ may.ready.0.0), gave.pass.1.3 ∙ (took.pass.1.3 ∙ may.ready.0.1)), gave.pass.0);
+      ready = (
+        (gave.pass.1.0 ∙ (took.pass.1.0 ∙ may.ready.0.0), gave.pass.1.3 ∙ (took.pass.1.3 ∙ may.ready.0.1)),
+        gave.pass.0,
+      );
       number = gave.pass.1.2 ∙ took.pass.1.2;
       left = (let a = gave.pass.2 in let b = took.pass.2 in omega arith);
       grips = gave.guards.0.0 ∙ took.guards.0.0;
-      legal = legal_now o (opening_of_journal j) (opening_of_journal new) new.book.entries.items c.give.new.pass.seat.me.0.own.seen opened c.commit_with-reply.ensures.instance c.commit_with-reply.ensures.initial c.commit_with-reply.ensures.lots gave.seen new.kept.legal;
-      committed = turned_committed o (opening_of_journal j) p.number c.number-worker.result c.args.plan.now.q p.seat.me.0.own.seen p.seat.me.0.own.mine j.book.entries.items q.seat.me.0.own.seen q.seat.me.0.own.mine new.book.entries.items
-          c.give.new.pass.seat.me.0.own.seen c.give.new.pass.seat.me.0.own.mine c.commit_with-reply.result opened c.number-worker.ensures turned j.kept.legal seen took.made.0 gave.seen gave.made c.commit_with-reply.ensures.journal c.commit_with-reply.ensures.reply;
+      legal = legal_now o (opening_of_journal j) (opening_of_journal new) new.book.entries.items
+          c.give.new.pass.seat.me.0.own.seen opened c.commit_with-reply.ensures.instance
+          c.commit_with-reply.ensures.initial c.commit_with-reply.ensures.lots gave.seen new.kept.legal;
+      committed = turned_committed o (opening_of_journal j) p.number c.number-worker.result c.args.plan.now.q
+          p.seat.me.0.own.seen p.seat.me.0.own.mine j.book.entries.items q.seat.me.0.own.seen q.seat.me.0.own.mine
+          new.book.entries.items
+          c.give.new.pass.seat.me.0.own.seen c.give.new.pass.seat.me.0.own.mine c.commit_with-reply.result opened
+          c.number-worker.ensures turned j.kept.legal seen took.made.0 gave.seen gave.made
+          c.commit_with-reply.ensures.journal c.commit_with-reply.ensures.reply;
     }

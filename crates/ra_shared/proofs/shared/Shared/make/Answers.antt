@@ -14,7 +14,8 @@ unfolding guard_count place_count first_number worker_count
 invariant_of-result c =
     let opened : opening_of opened_by c.in_ok-turn.turn ≡ opening_of_journal c.args.journal =
     c.in_ok-turn.ensures.turn.0 ∙ ap (λ (j : Journal). opening_of_journal j) c.in_ok-journal.ensures.ok in
-    let lots = ap (λ (l : Lots). worker_count l) c.lots.ensures ∙ ap (λ (o : Opening). worker_count o.lots) (sym opened) in
+    let lots = ap (λ (l : Lots). worker_count l) c.lots.ensures
+    ∙ ap (λ (o : Opening). worker_count o.lots) (sym opened) in
     record {
       instance = c.instance-inst.ensures ∙ ap (λ (o : Opening). o.inst) (sym opened);
       started = subst IsStartOf (sym opened) c.args.journal.start;

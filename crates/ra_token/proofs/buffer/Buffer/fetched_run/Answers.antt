@@ -41,7 +41,9 @@ run_from-requires g c =
     record {
       place = rw c.in-Some.is at by.low;
       shows = by.shows;
-      begins = told_first (g.F.Files.held c.args.files.now c.args.name.now) (g.F.Files.held c.first_digit.new.files c.args.name.now) c.args.place c.in-Some.first (by.kept c.args.name.now) (rw c.in-Some.is at by.begins);
+      begins = told_first (g.F.Files.held c.args.files.now c.args.name.now)
+          (g.F.Files.held c.first_digit.new.files c.args.name.now) c.args.place c.in-Some.first
+          (by.kept c.args.name.now) (rw c.in-Some.is at by.begins);
     }
 
 pub returns-in_err-run : goal.returns-in_err-run
@@ -49,12 +51,17 @@ returns-in_err-run g c =
     let why = err_from_is_err_and c.from_residual-in_err-run.result c.from_residual-in_err-run.ensures.1 in
     let first = c.in_ok-first.ensures in
     let by = c.in_err-run.ensures in
-    let keeps = keeps_on (g.F.Files.held c.args.files.now) (g.F.Files.held c.first_digit.new.files) (g.F.Files.held c.run_from.new.files) (g.F.Files.faults c.args.files.now) (g.F.Files.faults c.first_digit.new.files) (g.F.Files.faults c.run_from.new.files) (record { kept = first.kept; never_fell = first.never_fall }) by.kept by.never_fall in
+    let keeps = keeps_on (g.F.Files.held c.args.files.now) (g.F.Files.held c.first_digit.new.files)
+    (g.F.Files.held c.run_from.new.files) (g.F.Files.faults c.args.files.now)
+    (g.F.Files.faults c.first_digit.new.files) (g.F.Files.faults c.run_from.new.files)
+    (record { kept = first.kept; never_fell = first.never_fall }) by.kept by.never_fall in
     rw (why.1, why.2) (record {
       shows = by.shows;
       next = first.refused;
       ended = first.refused;
-      refused = told_refused (g.F.Files.held c.args.files.now c.args.name.now) (g.F.Files.held c.first_digit.new.files c.args.name.now) c.args.place c.in-Some.first c.in_err-run.field-0.0 (first.kept c.args.name.now) (rw c.in-Some.is at first.begins) by.refused;
+      refused = told_refused (g.F.Files.held c.args.files.now c.args.name.now)
+          (g.F.Files.held c.first_digit.new.files c.args.name.now) c.args.place c.in-Some.first c.in_err-run.field-0.0
+          (first.kept c.args.name.now) (rw c.in-Some.is at first.begins) by.refused;
       place = tt;
       small = tt;
       memory = λ e. by.memory (same_err _ _ e);
@@ -67,10 +74,15 @@ pub returns : goal.returns
 returns g c =
     let first = c.in_ok-first.ensures in
     let by = c.in_ok-run.ensures in
-    let keeps = keeps_on (g.F.Files.held c.args.files.now) (g.F.Files.held c.first_digit.new.files) (g.F.Files.held c.run_from.new.files) (g.F.Files.faults c.args.files.now) (g.F.Files.faults c.first_digit.new.files) (g.F.Files.faults c.run_from.new.files) (record { kept = first.kept; never_fell = first.never_fall }) by.kept by.never_fall in
+    let keeps = keeps_on (g.F.Files.held c.args.files.now) (g.F.Files.held c.first_digit.new.files)
+    (g.F.Files.held c.run_from.new.files) (g.F.Files.faults c.args.files.now)
+    (g.F.Files.faults c.first_digit.new.files) (g.F.Files.faults c.run_from.new.files)
+    (record { kept = first.kept; never_fell = first.never_fall }) by.kept by.never_fall in
     record {
       shows = by.shows;
-      next = told_next (g.F.Files.held c.args.files.now c.args.name.now) (g.F.Files.held c.first_digit.new.files c.args.name.now) c.args.place c.in-Some.first _ _ (first.kept c.args.name.now) (rw c.in-Some.is at first.begins) by.taken;
+      next = told_next (g.F.Files.held c.args.files.now c.args.name.now)
+          (g.F.Files.held c.first_digit.new.files c.args.name.now) c.args.place c.in-Some.first _ _
+          (first.kept c.args.name.now) (rw c.in-Some.is at first.begins) by.taken;
       ended = first.refused;
       refused = first.refused;
       place = by.place;

@@ -7,9 +7,12 @@ pub returns-then-number-eq0 : goal.returns-then-number-eq0
 returns-then-number-eq0 g c =
     let whole = c.fetch.auto.into ∙ c.as_mut_slice.ensures.len in
     record {
-      shows = told_piece (g.F.Files.held c.args.files.now c.args.name.now) (g.F.Files.held c.fetch.new.self c.args.name.now) c.fetch.new.into _ c.args.at c.in-Ok.number _
-          (c.in-Ok.ensures.kept c.args.name.now) (with_items_is c.args.self.now.bytes c.fetch.new.into whole) c.in-Ok.ensures.bytes (omega arith) c.in-Ok.ensures.bound;
-      byte = told_past (g.F.Files.held c.args.files.now c.args.name.now) _ c.args.at c.in-Ok.number c.in-Ok.ensures.end (omega arith) c.if-number-eq0.true;
+      shows = told_piece (g.F.Files.held c.args.files.now c.args.name.now)
+          (g.F.Files.held c.fetch.new.self c.args.name.now) c.fetch.new.into _ c.args.at c.in-Ok.number _
+          (c.in-Ok.ensures.kept c.args.name.now) (with_items_is c.args.self.now.bytes c.fetch.new.into whole)
+          c.in-Ok.ensures.bytes (omega arith) c.in-Ok.ensures.bound;
+      byte = told_past (g.F.Files.held c.args.files.now c.args.name.now) _ c.args.at c.in-Ok.number c.in-Ok.ensures.end
+          (omega arith) c.if-number-eq0.true;
       covers = tt;
       ready = tt;
       cause = tt;
@@ -23,9 +26,11 @@ returns g c =
     let whole = c.fetch.auto.into ∙ c.as_mut_slice.ensures.len in
     let is = with_items_is c.args.self.now.bytes c.fetch.new.into whole in
     record {
-      shows = told_piece (g.F.Files.held c.args.files.now c.args.name.now) (g.F.Files.held c.fetch.new.self c.args.name.now) c.fetch.new.into _ c.args.at c.in-Ok.number _
+      shows = told_piece (g.F.Files.held c.args.files.now c.args.name.now)
+          (g.F.Files.held c.fetch.new.self c.args.name.now) c.fetch.new.into _ c.args.at c.in-Ok.number _
           (c.in-Ok.ensures.kept c.args.name.now) is c.in-Ok.ensures.bytes (omega arith) c.in-Ok.ensures.bound;
-      byte = told_front (g.F.Files.held c.args.files.now c.args.name.now) c.fetch.new.into _ c.args.at c.in-Ok.number c.index.result.now
+      byte = told_front (g.F.Files.held c.args.files.now c.args.name.now) c.fetch.new.into _ c.args.at c.in-Ok.number
+          c.index.result.now
           is c.in-Ok.ensures.bytes (omega arith) c.in-Ok.ensures.bound c.index.ensures;
       covers = search rules;
       ready = λ low. first_ready _ c.fetch.new.into c.args.at c.index.result.now is (omega arith) c.index.ensures;

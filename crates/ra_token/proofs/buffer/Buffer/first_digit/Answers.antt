@@ -1,6 +1,8 @@
 use Rattle.std.proofs.Common.{◌∙◌, rules, arith}
 use Rattle.std.proofs.lemmas.Result.{err_from_is_err_and}
-use Rattle.ra_token.proofs.Exits.{ok_not_err, read_not_memory, long_not_memory, long_not_read, bad_not_memory, bad_not_read, rose_later, keeps_on, keeps_still, told_nothing, told_unread, told_stands, told_passes}
+use Rattle.ra_token.proofs.Exits.{ok_not_err, read_not_memory, long_not_memory, long_not_read, bad_not_memory}
+use Rattle.ra_token.proofs.Exits.{bad_not_read, rose_later, keeps_on, keeps_still, told_nothing, told_unread}
+use Rattle.ra_token.proofs.Exits.{told_stands, told_passes}
 use Rattle.ra_token.proofs.ToldByte.{byte_told, end_told, told_limit, told_begins, told_bad, told_end}
 use Rattle.ra_token.proofs.buffer.Buffer.first_digit.Goals as goal
 
@@ -20,7 +22,9 @@ returns-in_err-byte g c =
     let why = err_from_is_err_and c.from_residual.result c.from_residual.ensures.1 in
     let by = c.in_err-byte.ensures in
     let before = c.loop-byte.invariant.1 in
-    let keeps = keeps_on (g.F.Files.held c.args.files.now) (g.F.Files.held c.loop-byte.files) (g.F.Files.held c.byte.new.files) (g.F.Files.faults c.args.files.now) (g.F.Files.faults c.loop-byte.files) (g.F.Files.faults c.byte.new.files) before by.kept by.never_fall in
+    let keeps = keeps_on (g.F.Files.held c.args.files.now) (g.F.Files.held c.loop-byte.files)
+    (g.F.Files.held c.byte.new.files) (g.F.Files.faults c.args.files.now) (g.F.Files.faults c.loop-byte.files)
+    (g.F.Files.faults c.byte.new.files) before by.kept by.never_fall in
     rw (why.1, why.2) (record {
       shows = by.shows;
       begins = told_nothing told;
@@ -38,13 +42,16 @@ returns-then-at-eq-PLACE_LIMIT g c =
     let told = g.F.Files.held c.args.files.now c.args.name.now in
     let by = c.in_ok-byte.ensures in
     let before = c.loop-byte.invariant.1 in
-    let keeps = keeps_on (g.F.Files.held c.args.files.now) (g.F.Files.held c.loop-byte.files) (g.F.Files.held c.byte.new.files) (g.F.Files.faults c.args.files.now) (g.F.Files.faults c.loop-byte.files) (g.F.Files.faults c.byte.new.files) before by.kept by.never_fall in
+    let keeps = keeps_on (g.F.Files.held c.args.files.now) (g.F.Files.held c.loop-byte.files)
+    (g.F.Files.held c.byte.new.files) (g.F.Files.faults c.args.files.now) (g.F.Files.faults c.loop-byte.files)
+    (g.F.Files.faults c.byte.new.files) before by.kept by.never_fall in
     record {
       shows = by.shows;
       begins = told_nothing told;
       ended = told_nothing told;
       refused = told_limit told c.args.place c.loop-byte.at c.in-Some.byte c.if-at-eq-PLACE_LIMIT.true
-          (byte_told told (g.F.Files.held c.loop-byte.files c.args.name.now) c.in_ok-byte.field-0 c.loop-byte.at c.in-Some.byte (before.kept c.args.name.now) c.in-Some.is by.byte)
+          (byte_told told (g.F.Files.held c.loop-byte.files c.args.name.now) c.in_ok-byte.field-0 c.loop-byte.at
+          c.in-Some.byte (before.kept c.args.name.now) c.in-Some.is by.byte)
           c.loop-byte.invariant.0.reached;
       low = tt;
       memory = λ e. long_not_memory e;
@@ -58,11 +65,14 @@ returns-then-is_ascii_digit g c =
     let told = g.F.Files.held c.args.files.now c.args.name.now in
     let by = c.in_ok-byte.ensures in
     let before = c.loop-byte.invariant.1 in
-    let keeps = keeps_on (g.F.Files.held c.args.files.now) (g.F.Files.held c.loop-byte.files) (g.F.Files.held c.byte.new.files) (g.F.Files.faults c.args.files.now) (g.F.Files.faults c.loop-byte.files) (g.F.Files.faults c.byte.new.files) before by.kept by.never_fall in
+    let keeps = keeps_on (g.F.Files.held c.args.files.now) (g.F.Files.held c.loop-byte.files)
+    (g.F.Files.held c.byte.new.files) (g.F.Files.faults c.args.files.now) (g.F.Files.faults c.loop-byte.files)
+    (g.F.Files.faults c.byte.new.files) before by.kept by.never_fall in
     record {
       shows = by.shows;
       begins = told_begins told c.args.place c.loop-byte.at c.in-Some.byte (search rules)
-          (byte_told told (g.F.Files.held c.loop-byte.files c.args.name.now) c.in_ok-byte.field-0 c.loop-byte.at c.in-Some.byte (before.kept c.args.name.now) c.in-Some.is by.byte)
+          (byte_told told (g.F.Files.held c.loop-byte.files c.args.name.now) c.in_ok-byte.field-0 c.loop-byte.at
+          c.in-Some.byte (before.kept c.args.name.now) c.in-Some.is by.byte)
           c.loop-byte.invariant.0.reached;
       ended = told_nothing told;
       refused = told_nothing told;
@@ -78,13 +88,16 @@ returns-then-not-is_blank g c =
     let told = g.F.Files.held c.args.files.now c.args.name.now in
     let by = c.in_ok-byte.ensures in
     let before = c.loop-byte.invariant.1 in
-    let keeps = keeps_on (g.F.Files.held c.args.files.now) (g.F.Files.held c.loop-byte.files) (g.F.Files.held c.byte.new.files) (g.F.Files.faults c.args.files.now) (g.F.Files.faults c.loop-byte.files) (g.F.Files.faults c.byte.new.files) before by.kept by.never_fall in
+    let keeps = keeps_on (g.F.Files.held c.args.files.now) (g.F.Files.held c.loop-byte.files)
+    (g.F.Files.held c.byte.new.files) (g.F.Files.faults c.args.files.now) (g.F.Files.faults c.loop-byte.files)
+    (g.F.Files.faults c.byte.new.files) before by.kept by.never_fall in
     record {
       shows = by.shows;
       begins = told_nothing told;
       ended = told_nothing told;
       refused = told_bad told c.args.place c.loop-byte.at c.in-Some.byte (omega arith) (search rules) (search rules)
-          (byte_told told (g.F.Files.held c.loop-byte.files c.args.name.now) c.in_ok-byte.field-0 c.loop-byte.at c.in-Some.byte (before.kept c.args.name.now) c.in-Some.is by.byte)
+          (byte_told told (g.F.Files.held c.loop-byte.files c.args.name.now) c.in_ok-byte.field-0 c.loop-byte.at
+          c.in-Some.byte (before.kept c.args.name.now) c.in-Some.is by.byte)
           c.loop-byte.invariant.0.reached;
       low = tt;
       memory = λ e. bad_not_memory _ _ e;
@@ -100,11 +113,14 @@ loop-byte-preserved g c =
       record {
         low = omega (arith, c.byte.new.self.below, c.past_blanks-at.ensures.high);
         shows = by.shows;
-        reached = told_passes (g.F.Files.held c.args.files.now c.args.name.now) (g.F.Files.held c.byte.new.files c.args.name.now) c.args.place c.loop-byte.at _
+        reached = told_passes (g.F.Files.held c.args.files.now c.args.name.now)
+            (g.F.Files.held c.byte.new.files c.args.name.now) c.args.place c.loop-byte.at _
             (by.kept c.args.name.now ∙ before.kept c.args.name.now) c.loop-byte.invariant.0.reached
             (c.past_blanks-at.ensures.reached (g.F.Files.held c.byte.new.files c.args.name.now) by.shows);
       },
-      keeps_on (g.F.Files.held c.args.files.now) (g.F.Files.held c.loop-byte.files) (g.F.Files.held c.byte.new.files) (g.F.Files.faults c.args.files.now) (g.F.Files.faults c.loop-byte.files) (g.F.Files.faults c.byte.new.files) before by.kept by.never_fall,
+      keeps_on (g.F.Files.held c.args.files.now) (g.F.Files.held c.loop-byte.files) (g.F.Files.held c.byte.new.files)
+          (g.F.Files.faults c.args.files.now) (g.F.Files.faults c.loop-byte.files) (g.F.Files.faults c.byte.new.files)
+          before by.kept by.never_fall,
     )
 
 pub returns : goal.returns
@@ -112,12 +128,15 @@ returns g c =
     let told = g.F.Files.held c.args.files.now c.args.name.now in
     let by = c.in_ok-byte.ensures in
     let before = c.loop-byte.invariant.1 in
-    let keeps = keeps_on (g.F.Files.held c.args.files.now) (g.F.Files.held c.loop-byte.files) (g.F.Files.held c.byte.new.files) (g.F.Files.faults c.args.files.now) (g.F.Files.faults c.loop-byte.files) (g.F.Files.faults c.byte.new.files) before by.kept by.never_fall in
+    let keeps = keeps_on (g.F.Files.held c.args.files.now) (g.F.Files.held c.loop-byte.files)
+    (g.F.Files.held c.byte.new.files) (g.F.Files.faults c.args.files.now) (g.F.Files.faults c.loop-byte.files)
+    (g.F.Files.faults c.byte.new.files) before by.kept by.never_fall in
     record {
       shows = by.shows;
       begins = told_nothing told;
       ended = told_end told c.args.place c.loop-byte.at
-          (end_told told (g.F.Files.held c.loop-byte.files c.args.name.now) c.in_ok-byte.field-0 c.loop-byte.at (before.kept c.args.name.now) c.in_default.is by.byte)
+          (end_told told (g.F.Files.held c.loop-byte.files c.args.name.now) c.in_ok-byte.field-0 c.loop-byte.at
+          (before.kept c.args.name.now) c.in_default.is by.byte)
           c.loop-byte.invariant.0.reached;
       refused = told_nothing told;
       low = tt;

@@ -9,7 +9,8 @@ returns-in-Some g c =
     let keeps = keeps_still (g.F.Files.held c.args.files.now) (g.F.Files.faults c.args.files.now) in
     record {
       shows = c.requires.shows;
-      next = told_given (λ bytes. IsBetween bytes c.args.place) (λ bytes. IsNext bytes c.args.place c.in-Some.found.0 c.in-Some.found.1.end c.in-Some.found.1.value)
+      next = told_given (λ bytes. IsBetween bytes c.args.place)
+          (λ bytes. IsNext bytes c.args.place c.in-Some.found.0 c.in-Some.found.1.end c.in-Some.found.1.value)
           told (c.in-Some.ensures.next told c.requires.shows) c.requires.between;
       ended = told_nothing told;
       refused = told_nothing told;

@@ -1,6 +1,8 @@
 use Rattle.std.proofs.Common.{◌∙◌, rules, arith}
 use Rattle.std.proofs.lemmas.Result.{err_from_is_err_and}
-use Rattle.ra_token.proofs.Exits.{ok_not_err, read_not_memory, long_not_memory, long_not_read, large_not_memory, large_not_read, rose_later, keeps_on, keeps_still, told_nothing, told_unread, told_run_on, told_run_large}
+use Rattle.ra_token.proofs.Exits.{ok_not_err, read_not_memory, long_not_memory, long_not_read, large_not_memory}
+use Rattle.ra_token.proofs.Exits.{large_not_read, rose_later, keeps_on, keeps_still, told_nothing, told_unread}
+use Rattle.ra_token.proofs.Exits.{told_run_on, told_run_large}
 use Rattle.ra_token.proofs.ToldByte.{byte_told, end_told, told_run_begins, told_long, told_taken, told_taken_end}
 use Rattle.ra_token.proofs.buffer.Buffer.run_from.Goals as goal
 
@@ -22,7 +24,9 @@ returns-in_err-byte g c =
     let told = g.F.Files.held c.args.files.now c.args.name.now in
     let by = c.in_err-byte.ensures in
     let before = c.loop-byte.invariant.1 in
-    let keeps = keeps_on (g.F.Files.held c.args.files.now) (g.F.Files.held c.loop-byte.files) (g.F.Files.held c.byte.new.files) (g.F.Files.faults c.args.files.now) (g.F.Files.faults c.loop-byte.files) (g.F.Files.faults c.byte.new.files) before by.kept by.never_fall in
+    let keeps = keeps_on (g.F.Files.held c.args.files.now) (g.F.Files.held c.loop-byte.files)
+    (g.F.Files.held c.byte.new.files) (g.F.Files.faults c.args.files.now) (g.F.Files.faults c.loop-byte.files)
+    (g.F.Files.faults c.byte.new.files) before by.kept by.never_fall in
     rw (why.1, why.2) (record {
       shows = by.shows;
       taken = told_nothing told;
@@ -40,12 +44,16 @@ returns-then-end-eq-PLACE_LIMIT g c =
     let told = g.F.Files.held c.args.files.now c.args.name.now in
     let by = c.in_ok-byte.ensures in
     let before = c.loop-byte.invariant.1 in
-    let keeps = keeps_on (g.F.Files.held c.args.files.now) (g.F.Files.held c.loop-byte.files) (g.F.Files.held c.byte.new.files) (g.F.Files.faults c.args.files.now) (g.F.Files.faults c.loop-byte.files) (g.F.Files.faults c.byte.new.files) before by.kept by.never_fall in
+    let keeps = keeps_on (g.F.Files.held c.args.files.now) (g.F.Files.held c.loop-byte.files)
+    (g.F.Files.held c.byte.new.files) (g.F.Files.faults c.args.files.now) (g.F.Files.faults c.loop-byte.files)
+    (g.F.Files.faults c.byte.new.files) before by.kept by.never_fall in
     record {
       shows = by.shows;
       taken = told_nothing told;
-      refused = told_long told c.args.first c.loop-byte.end c.loop-byte.value c.in-Some.byte c.if-end-eq-PLACE_LIMIT.true (search rules)
-          (byte_told told (g.F.Files.held c.loop-byte.files c.args.name.now) c.in_ok-byte.field-0 c.loop-byte.end c.in-Some.byte (before.kept c.args.name.now) c.in-Some.is by.byte)
+      refused = told_long told c.args.first c.loop-byte.end c.loop-byte.value c.in-Some.byte
+          c.if-end-eq-PLACE_LIMIT.true (search rules)
+          (byte_told told (g.F.Files.held c.loop-byte.files c.args.name.now) c.in_ok-byte.field-0 c.loop-byte.end
+          c.in-Some.byte (before.kept c.args.name.now) c.in-Some.is by.byte)
           c.loop-byte.invariant.0.run;
       place = tt;
       small = tt;
@@ -60,13 +68,17 @@ returns-then-run-gt-LARGEST g c =
     let told = g.F.Files.held c.args.files.now c.args.name.now in
     let by = c.in_ok-byte.ensures in
     let before = c.loop-byte.invariant.1 in
-    let keeps = keeps_on (g.F.Files.held c.args.files.now) (g.F.Files.held c.loop-byte.files) (g.F.Files.held c.byte.new.files) (g.F.Files.faults c.args.files.now) (g.F.Files.faults c.loop-byte.files) (g.F.Files.faults c.byte.new.files) before by.kept by.never_fall in
+    let keeps = keeps_on (g.F.Files.held c.args.files.now) (g.F.Files.held c.loop-byte.files)
+    (g.F.Files.held c.byte.new.files) (g.F.Files.faults c.args.files.now) (g.F.Files.faults c.loop-byte.files)
+    (g.F.Files.faults c.byte.new.files) before by.kept by.never_fall in
     record {
       shows = by.shows;
       taken = told_nothing told;
-      refused = told_run_large told (g.F.Files.held c.byte.new.files c.args.name.now) c.args.first c.loop-byte.end c.loop-byte.value c.more_digits-run.result.value
+      refused = told_run_large told (g.F.Files.held c.byte.new.files c.args.name.now) c.args.first c.loop-byte.end
+          c.loop-byte.value c.more_digits-run.result.value
           (by.kept c.args.name.now ∙ before.kept c.args.name.now) c.loop-byte.invariant.0.run
-          (c.more_digits-run.ensures.too_large (g.F.Files.held c.byte.new.files c.args.name.now) by.shows) c.if-run-gt-LARGEST.true;
+          (c.more_digits-run.ensures.too_large (g.F.Files.held c.byte.new.files c.args.name.now) by.shows)
+          c.if-run-gt-LARGEST.true;
       place = tt;
       small = tt;
       memory = λ e. large_not_memory _ e;
@@ -84,11 +96,16 @@ loop-byte-preserved g c =
         after = omega (arith, c.loop-byte.invariant.0.after, c.more_digits-run.ensures.low);
         small = c.if-run-gt-LARGEST.false;
         shows = by.shows;
-        run = told_run_on (g.F.Files.held c.args.files.now c.args.name.now) (g.F.Files.held c.byte.new.files c.args.name.now) c.args.first c.loop-byte.end c.loop-byte.value c.more_digits-run.result.end c.more_digits-run.result.value
+        run = told_run_on (g.F.Files.held c.args.files.now c.args.name.now)
+            (g.F.Files.held c.byte.new.files c.args.name.now) c.args.first c.loop-byte.end c.loop-byte.value
+            c.more_digits-run.result.end c.more_digits-run.result.value
             (by.kept c.args.name.now ∙ before.kept c.args.name.now) c.loop-byte.invariant.0.run
-            (c.more_digits-run.ensures.goes_on (g.F.Files.held c.byte.new.files c.args.name.now) by.shows) c.if-run-gt-LARGEST.false;
+            (c.more_digits-run.ensures.goes_on (g.F.Files.held c.byte.new.files c.args.name.now) by.shows)
+            c.if-run-gt-LARGEST.false;
       },
-      keeps_on (g.F.Files.held c.args.files.now) (g.F.Files.held c.loop-byte.files) (g.F.Files.held c.byte.new.files) (g.F.Files.faults c.args.files.now) (g.F.Files.faults c.loop-byte.files) (g.F.Files.faults c.byte.new.files) before by.kept by.never_fall,
+      keeps_on (g.F.Files.held c.args.files.now) (g.F.Files.held c.loop-byte.files) (g.F.Files.held c.byte.new.files)
+          (g.F.Files.faults c.args.files.now) (g.F.Files.faults c.loop-byte.files) (g.F.Files.faults c.byte.new.files)
+          before by.kept by.never_fall,
     )
 
 pub returns-then-not-is_ascii_digit : goal.returns-then-not-is_ascii_digit
@@ -96,11 +113,15 @@ returns-then-not-is_ascii_digit g c =
     let told = g.F.Files.held c.args.files.now c.args.name.now in
     let by = c.in_ok-byte.ensures in
     let before = c.loop-byte.invariant.1 in
-    let keeps = keeps_on (g.F.Files.held c.args.files.now) (g.F.Files.held c.loop-byte.files) (g.F.Files.held c.byte.new.files) (g.F.Files.faults c.args.files.now) (g.F.Files.faults c.loop-byte.files) (g.F.Files.faults c.byte.new.files) before by.kept by.never_fall in
+    let keeps = keeps_on (g.F.Files.held c.args.files.now) (g.F.Files.held c.loop-byte.files)
+    (g.F.Files.held c.byte.new.files) (g.F.Files.faults c.args.files.now) (g.F.Files.faults c.loop-byte.files)
+    (g.F.Files.faults c.byte.new.files) before by.kept by.never_fall in
     record {
       shows = by.shows;
-      taken = told_taken told c.args.first c.loop-byte.end c.loop-byte.value c.in-Some.byte c.loop-byte.invariant.0.after (search rules) c.requires.begins
-          (byte_told told (g.F.Files.held c.loop-byte.files c.args.name.now) c.in_ok-byte.field-0 c.loop-byte.end c.in-Some.byte (before.kept c.args.name.now) c.in-Some.is by.byte)
+      taken = told_taken told c.args.first c.loop-byte.end c.loop-byte.value c.in-Some.byte
+          c.loop-byte.invariant.0.after (search rules) c.requires.begins
+          (byte_told told (g.F.Files.held c.loop-byte.files c.args.name.now) c.in_ok-byte.field-0 c.loop-byte.end
+          c.in-Some.byte (before.kept c.args.name.now) c.in-Some.is by.byte)
           c.loop-byte.invariant.0.run;
       refused = told_nothing told;
       place = c.loop-byte.invariant.0.low;
@@ -116,11 +137,15 @@ returns-in_default g c =
     let told = g.F.Files.held c.args.files.now c.args.name.now in
     let by = c.in_ok-byte.ensures in
     let before = c.loop-byte.invariant.1 in
-    let keeps = keeps_on (g.F.Files.held c.args.files.now) (g.F.Files.held c.loop-byte.files) (g.F.Files.held c.byte.new.files) (g.F.Files.faults c.args.files.now) (g.F.Files.faults c.loop-byte.files) (g.F.Files.faults c.byte.new.files) before by.kept by.never_fall in
+    let keeps = keeps_on (g.F.Files.held c.args.files.now) (g.F.Files.held c.loop-byte.files)
+    (g.F.Files.held c.byte.new.files) (g.F.Files.faults c.args.files.now) (g.F.Files.faults c.loop-byte.files)
+    (g.F.Files.faults c.byte.new.files) before by.kept by.never_fall in
     record {
       shows = by.shows;
-      taken = told_taken_end told c.args.first c.loop-byte.end c.loop-byte.value c.loop-byte.invariant.0.after c.requires.begins
-          (end_told told (g.F.Files.held c.loop-byte.files c.args.name.now) c.in_ok-byte.field-0 c.loop-byte.end (before.kept c.args.name.now) c.in_default.is by.byte)
+      taken = told_taken_end told c.args.first c.loop-byte.end c.loop-byte.value c.loop-byte.invariant.0.after
+          c.requires.begins
+          (end_told told (g.F.Files.held c.loop-byte.files c.args.name.now) c.in_ok-byte.field-0 c.loop-byte.end
+          (before.kept c.args.name.now) c.in_default.is by.byte)
           c.loop-byte.invariant.0.run;
       refused = told_nothing told;
       place = c.loop-byte.invariant.0.low;

@@ -11,8 +11,10 @@ invariant-loop-taken g l =
     × (length l.values.items ≡ length l.initial.values.items + l.taken)
     × (l.taken ≤ l.count)
     × (l.values.room ≡ l.initial.values.room)
-    × IfSome (g.F.Files.held l.initial.files l.initial.self.name) (λ bytes. AddsValues bytes l.initial.self.place l.self.place l.taken l.initial.values.items l.values.items)
-    × KeepsFiles (g.F.Files.held l.initial.files) (g.F.Files.held l.files) (g.F.Files.faults l.initial.files) (g.F.Files.faults l.files)
+    × IfSome (g.F.Files.held l.initial.files l.initial.self.name)
+    (λ bytes. AddsValues bytes l.initial.self.place l.self.place l.taken l.initial.values.items l.values.items)
+    × KeepsFiles (g.F.Files.held l.initial.files) (g.F.Files.held l.files) (g.F.Files.faults l.initial.files)
+    (g.F.Files.faults l.files)
 
 abbrev pub decreases-loop-taken : goal.decreases-loop-taken
 decreases-loop-taken g l = l.count - l.taken

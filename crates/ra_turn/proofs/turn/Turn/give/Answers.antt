@@ -17,9 +17,11 @@ hand_on-requires-clause-one_more g c = let v = c.args.pass.now.seat.me.0 in
     c.requires.notes
 
 pub returns-else-count-pass-clause-made : goal.returns-else-count-pass-clause-made
-returns-else-count-pass-clause-made g c = let v = c.args.pass.now.seat.me.0 in let notes = g.V.Story.notes c.args.held.value in
+returns-else-count-pass-clause-made g c =
+    let v = c.args.pass.now.seat.me.0 in let notes = g.V.Story.notes c.args.held.value in
     ap (λ m. m.0.own.mine) c.hand_on.ensures.view
     ∙ ⊎_elim
     (λ same. absurd (c.if-count-pass.false (c.note_count-count.ensures ∙ (ap length same ∙ c.args.pass.now.seens))))
-    (λ more. by_one_more g.V.Story.author v.own.number v.own.seen v.own.mine notes more.0 more.1 (more.2 ∙ sym c.args.pass.now.numbered) c.hand_on.ensures.made.0)
+    (λ more. by_one_more g.V.Story.author v.own.number v.own.seen v.own.mine notes more.0 more.1
+    (more.2 ∙ sym c.args.pass.now.numbered) c.hand_on.ensures.made.0)
     c.requires.notes

@@ -9,18 +9,23 @@ use Rattle.ra_turn.proofs.turn.Turn.release.Goals as goal
 -- the guards that are still held are words of the table
 pub invariant_of-pass-clause-within : goal.invariant_of-pass-clause-within
 invariant_of-pass-clause-within g c = let old = c.args.pass.now.seat in let new = c.release_guard.new.seat in
-    let grips : new.me.0.grips ≡ without c.args.guard old.me.0.grips = ap (λ m. m.0.grips) c.release_guard.ensures.view.0 in
+    let grips : new.me.0.grips ≡ without c.args.guard old.me.0.grips =
+    ap (λ m. m.0.grips) c.release_guard.ensures.view.0 in
     let table : new.table_id ≡ old.table_id = c.release_guard.ensures.same.0 in
     subst (λ ks. All (λ (k : Grip). 3 + k.guard < new.table_id.words) ks) (sym grips)
-    (subst (λ (z : TableId). All (λ (k : Grip). 3 + k.guard < z.words) (without c.args.guard old.me.0.grips)) (sym table)
-    (All-filter (λ (k : Grip). not (k.guard == c.args.guard)) (λ (k : Grip). 3 + k.guard < old.table_id.words) old.me.0.grips c.args.pass.now.within))
+    (subst (λ (z : TableId). All (λ (k : Grip). 3 + k.guard < z.words) (without c.args.guard old.me.0.grips))
+    (sym table)
+    (All-filter (λ (k : Grip). not (k.guard == c.args.guard)) (λ (k : Grip). 3 + k.guard < old.table_id.words)
+    old.me.0.grips c.args.pass.now.within))
 
 pub returns-clause-shut : goal.returns-clause-shut
-returns-clause-shut g c = let story = g.V.Story in let v = c.release_guard.new.seat.me.0 in let pass = c.args.pass.now in let gave = c.release_guard.ensures.view in
+returns-clause-shut g c = let story = g.V.Story in let v = c.release_guard.new.seat.me.0 in
+    let pass = c.args.pass.now in let gave = c.release_guard.ensures.view in
     let opened = ap (λ m. m.0.opened) gave.0 ∙ c.requires.pass.0.1 in
     let number = ap (λ m. m.0.own.number) gave.0 ∙ pass.numbered in
     shut_at story.author story.touches v _ pass.number opened number gave.1
 
 pub invariant_of-pass-clause-owned : goal.invariant_of-pass-clause-owned
 invariant_of-pass-clause-owned g c = let author = g.V.Story.author in
-    subst (λ m. by author m.0.own.number m.0.own.seen ≡ m.0.own.mine) (sym c.release_guard.ensures.view.0) c.args.pass.now.owned
+    subst (λ m. by author m.0.own.number m.0.own.seen ≡ m.0.own.mine) (sym c.release_guard.ensures.view.0)
+    c.args.pass.now.owned

@@ -4,12 +4,24 @@ use Rattle.ra_verify.proofs.CheckerLemmas.{may_stand, taken}
 use Rattle.ra_verify.proofs.checker.Checker.take.Goals as goal
 
 pub returns-then-not-may_stand-clause-wrong : goal.returns-then-not-may_stand-clause-wrong
-returns-then-not-may_stand-clause-wrong c = λ no e legal own at. let yes = c.may_stand.ensures.1 (may_stand c.args.self.now e c.args.worker c.args.q c.requires.ready legal own at) in let not_so = c.if-not-may_stand.true in (cc)
+returns-then-not-may_stand-clause-wrong c = λ no e legal own at.
+    let yes = c.may_stand.ensures.1
+    (may_stand c.args.self.now e c.args.worker c.args.q c.requires.ready legal own at) in let not_so =
+    c.if-not-may_stand.true in (cc)
 
 pub returns-clause-right : goal.returns-clause-right
-returns-clause-right c = λ yes. taken c.args.self.now _ c.args.worker c.args.q c.take_turn_at-reply.result c.requires.ready (c.may_stand.ensures.0 (let so = c.if-not-may_stand.false in (cc))) (record { instance = c.take_turn_at-reply.ensures.turn.over.instance; initial = c.take_turn_at-reply.ensures.turn.over.initial; lots = c.take_turn_at-reply.ensures.turn.over.lots }) c.take_turn_at-reply.ensures.turn.journal c.take_turn_at-reply.ensures.turn.reply (sym c.is_recorded.ensures ∙ yes) c.take_turn_at-reply.ensures.places
+returns-clause-right c = λ yes. taken c.args.self.now _ c.args.worker c.args.q c.take_turn_at-reply.result
+    c.requires.ready (c.may_stand.ensures.0 (let so = c.if-not-may_stand.false in (cc))) (record {
+      instance = c.take_turn_at-reply.ensures.turn.over.instance;
+      initial = c.take_turn_at-reply.ensures.turn.over.initial;
+      lots = c.take_turn_at-reply.ensures.turn.over.lots;
+    }) c.take_turn_at-reply.ensures.turn.journal c.take_turn_at-reply.ensures.turn.reply
+    (sym c.is_recorded.ensures ∙ yes)
+    c.take_turn_at-reply.ensures.places
 
 pub returns-clause-wrong : goal.returns-clause-wrong
 returns-clause-wrong c =
     let j = c.args.self.now.journal in
-    λ no e legal own at. none_may_follow j.inst.now.tables j.a0.now.items j.lots.now j.book.entries.items c.args.worker c.args.q c.take_turn_at-reply.result j.start c.take_turn_at-reply.ensures.turn.reply (sym c.is_recorded.ensures ∙ no) e legal own at
+    λ no e legal own at. none_may_follow j.inst.now.tables j.a0.now.items j.lots.now j.book.entries.items c.args.worker
+    c.args.q c.take_turn_at-reply.result j.start c.take_turn_at-reply.ensures.turn.reply
+    (sym c.is_recorded.ensures ∙ no) e legal own at

@@ -7,7 +7,8 @@ use Rattle.ra_weigh_causes.specs.Trials.{tables_of, after_of}
 use Rattle.ra_weigh_causes.proofs.trial.Trial.broken_conflict.Given as goal
 
 abbrev pub invariant-loop-low : goal.invariant-loop-low
-invariant-loop-low l = Sought (service_count (tables_of l.self)) (service_conflict (tables_of l.self) (after_of l.self)) l.low
+invariant-loop-low l =
+    Sought (service_count (tables_of l.self)) (service_conflict (tables_of l.self) (after_of l.self)) l.low
 
 abbrev pub decreases-loop-low : goal.decreases-loop-low
 decreases-loop-low l = service_count (tables_of l.self) - l.low

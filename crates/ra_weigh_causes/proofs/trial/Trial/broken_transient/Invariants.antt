@@ -7,7 +7,9 @@ use Rattle.ra_weigh_causes.specs.Trials.{tables_of, initial_of, after_of}
 use Rattle.ra_weigh_causes.proofs.trial.Trial.broken_transient.Given as goal
 
 abbrev pub invariant-loop-low : goal.invariant-loop-low
-invariant-loop-low l = Sought (machine_count (tables_of l.self)) (row_transient (tables_of l.self) (initial_of l.self) (after_of l.self)) l.low
+invariant-loop-low l =
+    Sought (machine_count (tables_of l.self)) (row_transient (tables_of l.self) (initial_of l.self) (after_of l.self))
+    l.low
 
 abbrev pub decreases-loop-low : goal.decreases-loop-low
 decreases-loop-low l = machine_count (tables_of l.self) - l.low

@@ -4,7 +4,9 @@ use Rattle.ra_weigh_causes.proofs.TestLemmas.{conflict_some, conflict_none}
 use Rattle.ra_weigh_causes.proofs.trial.Trial.conflict_test.Goals as goal
 
 pub returns-then-count_after-gt1 : goal.returns-then-count_after-gt1
-returns-then-count_after-gt1 c = conflict_some (tables_of c.args.self.now) (after_of c.args.self.now) c.args.s.0 c.args.m.0 c.count_after.result c.count_after.ensures c.if-count_after-gt1.true
+returns-then-count_after-gt1 c = conflict_some (tables_of c.args.self.now) (after_of c.args.self.now) c.args.s.0
+    c.args.m.0 c.count_after.result c.count_after.ensures c.if-count_after-gt1.true
 
 pub returns-else-count_after-gt1 : goal.returns-else-count_after-gt1
-returns-else-count_after-gt1 c = conflict_none (tables_of c.args.self.now) (after_of c.args.self.now) c.args.s.0 c.args.m.0 c.count_after.result c.count_after.ensures c.if-count_after-gt1.false
+returns-else-count_after-gt1 c = conflict_none (tables_of c.args.self.now) (after_of c.args.self.now) c.args.s.0
+    c.args.m.0 c.count_after.result c.count_after.ensures c.if-count_after-gt1.false

@@ -6,4 +6,5 @@ use Rattle.ra_weigh_causes.proofs.FlowLemmas.{Flows}
 use Rattle.ra_weigh_causes.proofs.trial.Trial.count_from.Given as goal
 
 abbrev pub invariant-loop-j : goal.invariant-loop-j
-invariant-loop-j l = Flows (of_service (tables_of l.self) l.s.0 (has_mark (tables_of l.self) l.mark l.x)) (steps_of l.self) l.j 1 l.came l.went
+invariant-loop-j l = Flows (of_service (tables_of l.self) l.s.0 (has_mark (tables_of l.self) l.mark l.x))
+    (steps_of l.self) l.j 1 l.came l.went

@@ -8,28 +8,51 @@ use Rattle.ra_weigh_causes.proofs.trial.Trial.first_broken.Goals as goal
 
 pub returns-then-not-keeps_rows : goal.returns-then-not-keeps_rows
 unfolding first_broken
-returns-then-not-keeps_rows c = found_either _ _ _ _ (λ (use_none : broken_capacity (tables_of c.args.self.now) (after_of c.args.self.now) ≡ None) (transient_none : broken_transient (tables_of c.args.self.now) (initial_of c.args.self.now) (after_of c.args.self.now) ≡ None). both_ways c.keeps_rows.result c.if-not-keeps_rows.true (c.keeps_rows.ensures.1 (record { capacity = use_none; transient = transient_none }))) c.broken_row.ensures
+returns-then-not-keeps_rows c =
+    found_either _ _ _ _ (λ (use_none : broken_capacity (tables_of c.args.self.now) (after_of c.args.self.now) ≡ None)
+    (transient_none : broken_transient (tables_of c.args.self.now) (initial_of c.args.self.now)
+    (after_of c.args.self.now) ≡ None). both_ways c.keeps_rows.result c.if-not-keeps_rows.true
+    (c.keeps_rows.ensures.1 (record { capacity = use_none; transient = transient_none }))) c.broken_row.ensures
 
 pub returns-then-not-keeps_apart : goal.returns-then-not-keeps_apart
 unfolding first_broken
 returns-then-not-keeps_apart c =
     let rows = c.keeps_rows.ensures.0 c.if-not-keeps_rows.false in
-    found_later _ _ _ (sym rows.capacity) (found_later _ _ _ (sym rows.transient) (found_at_once _ _ _ (λ (none : broken_conflict (tables_of c.args.self.now) (after_of c.args.self.now) ≡ None). both_ways c.keeps_apart.result c.if-not-keeps_apart.true (c.keeps_apart.ensures.1 none)) c.broken_conflict.ensures))
+    found_later _ _ _ (sym rows.capacity)
+    (found_later _ _ _ (sym rows.transient)
+    (found_at_once _ _ _
+    (λ (none : broken_conflict (tables_of c.args.self.now) (after_of c.args.self.now) ≡ None).
+    both_ways c.keeps_apart.result c.if-not-keeps_apart.true (c.keeps_apart.ensures.1 none))
+    c.broken_conflict.ensures))
 
 pub returns-in-Some : goal.returns-in-Some
 unfolding first_broken
 returns-in-Some c =
     let rows = c.keeps_rows.ensures.0 c.if-not-keeps_rows.false in
-    found_later _ _ _ (sym rows.capacity) (found_later _ _ _ (sym rows.transient) (found_later _ _ _ (sym (c.keeps_apart.ensures.0 c.if-not-keeps_apart.false)) (found_first _ _ _ c.in-Some.ensures)))
+    found_later _ _ _ (sym rows.capacity)
+    (found_later _ _ _ (sym rows.transient)
+    (found_later _ _ _ (sym (c.keeps_apart.ensures.0 c.if-not-keeps_apart.false))
+    (found_first _ _ _ c.in-Some.ensures)))
 
 pub returns-then-not-keeps_near : goal.returns-then-not-keeps_near
 unfolding first_broken
 returns-then-not-keeps_near c =
     let rows = c.keeps_rows.ensures.0 c.if-not-keeps_rows.false in
-    found_later _ _ _ (sym rows.capacity) (found_later _ _ _ (sym rows.transient) (found_later _ _ _ (sym (c.keeps_apart.ensures.0 c.if-not-keeps_apart.false)) (found_later _ _ _ c.in_default.ensures (found_at_once _ _ _ (λ (none : broken_dependency (tables_of c.args.self.now) (after_of c.args.self.now) ≡ None). both_ways c.keeps_near.result c.if-not-keeps_near.true (c.keeps_near.ensures.1 none)) c.broken_dependency.ensures))))
+    found_later _ _ _ (sym rows.capacity)
+    (found_later _ _ _ (sym rows.transient)
+    (found_later _ _ _ (sym (c.keeps_apart.ensures.0 c.if-not-keeps_apart.false))
+    (found_later _ _ _ c.in_default.ensures
+    (found_at_once _ _ _
+    (λ (none : broken_dependency (tables_of c.args.self.now) (after_of c.args.self.now) ≡ None).
+    both_ways c.keeps_near.result c.if-not-keeps_near.true (c.keeps_near.ensures.1 none))
+    c.broken_dependency.ensures))))
 
 pub returns : goal.returns
 unfolding first_broken
 returns c =
     let rows = c.keeps_rows.ensures.0 c.if-not-keeps_rows.false in
-    found_later _ _ _ (sym rows.capacity) (found_later _ _ _ (sym rows.transient) (found_later _ _ _ (sym (c.keeps_apart.ensures.0 c.if-not-keeps_apart.false)) (found_later _ _ _ c.in_default.ensures (found_later _ _ _ (sym (c.keeps_near.ensures.0 c.if-not-keeps_near.false)) c.broken_closed.ensures))))
+    found_later _ _ _ (sym rows.capacity)
+    (found_later _ _ _ (sym rows.transient)
+    (found_later _ _ _ (sym (c.keeps_apart.ensures.0 c.if-not-keeps_apart.false))
+    (found_later _ _ _ c.in_default.ensures
+    (found_later _ _ _ (sym (c.keeps_near.ensures.0 c.if-not-keeps_near.false)) c.broken_closed.ensures))))

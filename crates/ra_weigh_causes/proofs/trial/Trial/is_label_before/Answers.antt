@@ -13,10 +13,14 @@ pub end_label-requires : goal.end_label-requires
 end_label-requires c = omega (arith, c.requires, c.loop-j-test.true)
 
 pub returns-then-end_label-label : goal.returns-then-end_label-label
-returns-then-end_label-label c = sym (is_named_found c.loop-j.j c.args.end (end_location (tables_of c.args.self.now) (steps_of c.args.self.now)) c.args.label c.loop-j-test.true c.loop-j.invariant (sym c.end_label.ensures ∙ c.if-end_label-label.true))
+returns-then-end_label-label c =
+    sym (is_named_found c.loop-j.j c.args.end (end_location (tables_of c.args.self.now) (steps_of c.args.self.now))
+    c.args.label c.loop-j-test.true c.loop-j.invariant (sym c.end_label.ensures ∙ c.if-end_label-label.true))
 
 pub loop-j-preserved : goal.loop-j-preserved
-loop-j-preserved c = unnamed_more c.loop-j.j c.end_label.result (end_location (tables_of c.args.self.now) (steps_of c.args.self.now)) c.args.label c.loop-j.invariant (sym c.end_label.ensures) c.if-end_label-label.false
+loop-j-preserved c =
+    unnamed_more c.loop-j.j c.end_label.result (end_location (tables_of c.args.self.now) (steps_of c.args.self.now))
+    c.args.label c.loop-j.invariant (sym c.end_label.ensures) c.if-end_label-label.false
 
 pub returns : goal.returns
 returns c =

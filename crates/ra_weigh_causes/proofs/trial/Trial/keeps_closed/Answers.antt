@@ -9,17 +9,31 @@ use Rattle.ra_weigh_causes.proofs.HoldLemmas.{none_start, none_more, none_all, t
 use Rattle.ra_weigh_causes.proofs.trial.Trial.keeps_closed.Goals as goal
 
 pub loop-j-init : goal.loop-j-init
-loop-j-init c = none_start (closed_test (tables_of c.args.self.now) (initial_of c.args.self.now) (after_of c.args.self.now)) (process_in (steps_of c.args.self.now))
+loop-j-init c =
+    none_start (closed_test (tables_of c.args.self.now) (initial_of c.args.self.now) (after_of c.args.self.now))
+    (process_in (steps_of c.args.self.now))
 
 pub returns-in-Some : goal.returns-in-Some
 unfolding broken_closed
-returns-in-Some c = told_false (found_there (process_count (tables_of c.args.self.now)) c.step.result.process.0 (closed_test (tables_of c.args.self.now) (initial_of c.args.self.now) (after_of c.args.self.now)) c.in-Some._cause (step_process (tables_of c.args.self.now) (before_of c.args.self.now) (steps_of c.args.self.now) c.loop-j.j c.step.result c.args.self.now.moves c.step.ensures (omega (arith, c.loop-j-test.true, c.steps-j-end.ensures.value))) c.in-Some.ensures)
+returns-in-Some c =
+    told_false (found_there (process_count (tables_of c.args.self.now)) c.step.result.process.0
+    (closed_test (tables_of c.args.self.now) (initial_of c.args.self.now) (after_of c.args.self.now))
+    c.in-Some._cause
+    (step_process (tables_of c.args.self.now) (before_of c.args.self.now) (steps_of c.args.self.now) c.loop-j.j
+    c.step.result c.args.self.now.moves c.step.ensures
+    (omega (arith, c.loop-j-test.true, c.steps-j-end.ensures.value))) c.in-Some.ensures)
 
 pub loop-j-preserved : goal.loop-j-preserved
-loop-j-preserved c = none_more (closed_test (tables_of c.args.self.now) (initial_of c.args.self.now) (after_of c.args.self.now)) (process_in (steps_of c.args.self.now)) c.loop-j.j c.step.result.process.0 c.loop-j.invariant (process_read (steps_of c.args.self.now) c.loop-j.j c.step.result c.step.ensures) (sym c.in_default.ensures)
+loop-j-preserved c =
+    none_more (closed_test (tables_of c.args.self.now) (initial_of c.args.self.now) (after_of c.args.self.now))
+    (process_in (steps_of c.args.self.now)) c.loop-j.j c.step.result.process.0 c.loop-j.invariant
+    (process_read (steps_of c.args.self.now) c.loop-j.j c.step.result c.step.ensures) (sym c.in_default.ensures)
 
 pub returns : goal.returns
 unfolding broken_closed
 returns c =
-    let all : c.loop-j.j ≡ length (steps_of c.args.self.now) = omega (arith, c.loop-j-test.false, c.steps-j-end.ensures.value) in
-    told_true (none_all (process_count (tables_of c.args.self.now)) (length (steps_of c.args.self.now)) c.loop-j.j (closed_test (tables_of c.args.self.now) (initial_of c.args.self.now) (after_of c.args.self.now)) (process_in (steps_of c.args.self.now)) c.args.self.now.local.closed all c.loop-j.invariant)
+    let all : c.loop-j.j ≡ length (steps_of c.args.self.now) =
+    omega (arith, c.loop-j-test.false, c.steps-j-end.ensures.value) in
+    told_true (none_all (process_count (tables_of c.args.self.now)) (length (steps_of c.args.self.now)) c.loop-j.j
+    (closed_test (tables_of c.args.self.now) (initial_of c.args.self.now) (after_of c.args.self.now))
+    (process_in (steps_of c.args.self.now)) c.args.self.now.local.closed all c.loop-j.invariant)

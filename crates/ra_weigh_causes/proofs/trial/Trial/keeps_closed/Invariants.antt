@@ -6,4 +6,5 @@ use Rattle.ra_weigh_causes.proofs.HoldLemmas.{NoneAt}
 use Rattle.ra_weigh_causes.proofs.trial.Trial.keeps_closed.Given as goal
 
 abbrev pub invariant-loop-j : goal.invariant-loop-j
-invariant-loop-j l = NoneAt (closed_test (tables_of l.self) (initial_of l.self) (after_of l.self)) (process_in (steps_of l.self)) l.j
+invariant-loop-j l =
+    NoneAt (closed_test (tables_of l.self) (initial_of l.self) (after_of l.self)) (process_in (steps_of l.self)) l.j

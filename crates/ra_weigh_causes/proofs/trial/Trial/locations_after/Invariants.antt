@@ -5,4 +5,6 @@ use Rattle.ra_weigh_causes.proofs.LocationLemmas.{Held}
 use Rattle.ra_weigh_causes.proofs.trial.Trial.locations_after.Given as goal
 
 abbrev pub invariant-loop-j : goal.invariant-loop-j
-invariant-loop-j l = Held (end_location (tables_of l.self) (steps_of l.self)) (held_in (tables_of l.self) (before_of l.self) l.s.0) (held_in (tables_of l.self) (after_of l.self) l.s.0) l.j l.came l.went
+invariant-loop-j l = Held (end_location (tables_of l.self) (steps_of l.self))
+    (held_in (tables_of l.self) (before_of l.self) l.s.0) (held_in (tables_of l.self) (after_of l.self) l.s.0) l.j
+    l.came l.went

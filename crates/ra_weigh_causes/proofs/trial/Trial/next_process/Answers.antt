@@ -19,5 +19,7 @@ loop-j-preserved c =
     record {
       from = c.nearer-next.ensures.from;
       within = omega (arith, c.nearer-next.ensures.near, c.loop-j.invariant.within);
-      moved = clear_more c.loop-j.j (process_in steps) c.args.low c.loop-j.next c.nearer-next.result c.step.result.process.0 c.loop-j.invariant.moved c.nearer-next.ensures.near c.nearer-next.ensures.clear (process_read steps c.loop-j.j c.step.result c.step.ensures);
+      moved = clear_more c.loop-j.j (process_in steps) c.args.low c.loop-j.next c.nearer-next.result
+          c.step.result.process.0 c.loop-j.invariant.moved c.nearer-next.ensures.near c.nearer-next.ensures.clear
+          (process_read steps c.loop-j.j c.step.result c.step.ensures);
     }

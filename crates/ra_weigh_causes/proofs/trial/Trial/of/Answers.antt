@@ -7,8 +7,10 @@ pub invariant_of-result : goal.invariant_of-result
 invariant_of-result c = record {
   moves = rw (c.instance.ensures, c.assignment.ensures.value) c.requires.moves;
   begins = rw (c.instance.ensures, c.initial.ensures) c.args.world.now.fits;
-  fine = rw (c.instance.ensures, c.initial.ensures, c.assignment.ensures.value) (fine_from_unbroken _ _ _ c.args.world.now.unbroken);
-  local = rw (c.instance.ensures, c.initial.ensures, c.assignment.ensures.value) (failures_are_local _ _ _ _ c.args.world.now.inst.now.well_formed c.requires.moves c.args.world.now.unbroken);
+  fine = rw (c.instance.ensures, c.initial.ensures, c.assignment.ensures.value)
+      (fine_from_unbroken _ _ _ c.args.world.now.unbroken);
+  local = rw (c.instance.ensures, c.initial.ensures, c.assignment.ensures.value)
+      (failures_are_local _ _ _ _ c.args.world.now.inst.now.well_formed c.requires.moves c.args.world.now.unbroken);
   topology = rw (c.instance.ensures, c.topology.ensures) c.args.world.now.topology;
   rows_tables = rw c.instance.ensures c.rows.ensures.instance;
   rows_start = rw c.initial.ensures c.rows.ensures.initial;

@@ -11,20 +11,27 @@ loop-k-init c = first_none _
 
 pub pair_dependency-requires : goal.pair_dependency-requires
 pair_dependency-requires c =
-    let within : c.loop-k.k < dependency_count (tables_of c.args.self.now) c.args.s.0 = omega (arith, c.loop-k-test.true, c.depends-needs.ensures.count) in
+    let within : c.loop-k.k < dependency_count (tables_of c.args.self.now) c.args.s.0 =
+    omega (arith, c.loop-k-test.true, c.depends-needs.ensures.count) in
     record { service = c.requires; dependency = within; need = c.depends-needs.ensures.each c.loop-k.k within }
 
 pub returns-in-Some : goal.returns-in-Some
 unfolding service_dependency
-returns-in-Some c = sym (first_found c.loop-k.k (dependency_count (tables_of c.args.self.now) c.args.s.0) (pair_dependency (tables_of c.args.self.now) (after_of c.args.self.now) c.args.s.0) c.in-Some.cause (omega (arith, c.loop-k-test.true, c.depends-needs.ensures.count)) c.loop-k.invariant (sym c.in-Some.ensures))
+returns-in-Some c =
+    sym (first_found c.loop-k.k (dependency_count (tables_of c.args.self.now) c.args.s.0)
+    (pair_dependency (tables_of c.args.self.now) (after_of c.args.self.now) c.args.s.0) c.in-Some.cause
+    (omega (arith, c.loop-k-test.true, c.depends-needs.ensures.count)) c.loop-k.invariant (sym c.in-Some.ensures))
 
 pub loop-k-preserved : goal.loop-k-preserved
-loop-k-preserved c = first_more_none c.loop-k.k (pair_dependency (tables_of c.args.self.now) (after_of c.args.self.now) c.args.s.0) c.loop-k.invariant (sym c.in_default.ensures)
+loop-k-preserved c =
+    first_more_none c.loop-k.k (pair_dependency (tables_of c.args.self.now) (after_of c.args.self.now) c.args.s.0)
+    c.loop-k.invariant (sym c.in_default.ensures)
 
 pub returns : goal.returns
 unfolding service_dependency
 returns c =
-    let all : c.loop-k.k ≡ dependency_count (tables_of c.args.self.now) c.args.s.0 = omega (arith, c.loop-k-test.false, c.loop-k.auto.k-end, c.depends-needs.ensures.count) in
+    let all : c.loop-k.k ≡ dependency_count (tables_of c.args.self.now) c.args.s.0 =
+    omega (arith, c.loop-k-test.false, c.loop-k.auto.k-end, c.depends-needs.ensures.count) in
     sym (rw all at c.loop-k.invariant)
 
 pub returns-then-keeps_needs : goal.returns-then-keeps_needs

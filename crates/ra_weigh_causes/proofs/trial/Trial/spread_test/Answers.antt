@@ -7,4 +7,16 @@ use Rattle.ra_weigh_causes.proofs.TestLemmas.{spread_enough}
 use Rattle.ra_weigh_causes.proofs.trial.Trial.spread_test.Goals as goal
 
 pub returns-then-wants-saturating_sub : goal.returns-then-wants-saturating_sub
-returns-then-wants-saturating_sub c = spread_enough (tables_of c.args.self.now) (after_of c.args.self.now) c.args.s.0 (locations_of (tables_of c.args.self.now) (after_of c.args.self.now) c.args.s.0) c.spread_min-wants.result refl c.spread_min-wants.ensures (omega (arith, c.if-wants-saturating_sub.true, c.saturating_sub.ensures, c.steps.ensures.value, left_few (tables_of c.args.self.now) (before_of c.args.self.now) (steps_of c.args.self.now) c.args.s.0 c.args.self.now.inst.now.small c.args.self.now.moves, c.locations-before.ensures.count (tables_of c.args.self.now) (initial_of c.args.self.now) (before_of c.args.self.now) c.args.self.now.cells_stand))
+returns-then-wants-saturating_sub c = spread_enough (tables_of c.args.self.now) (after_of c.args.self.now) c.args.s.0
+    (locations_of (tables_of c.args.self.now) (after_of c.args.self.now) c.args.s.0) c.spread_min-wants.result refl
+    c.spread_min-wants.ensures
+    (omega (
+      arith,
+      c.if-wants-saturating_sub.true,
+      c.saturating_sub.ensures,
+      c.steps.ensures.value,
+      left_few (tables_of c.args.self.now) (before_of c.args.self.now) (steps_of c.args.self.now) c.args.s.0
+          c.args.self.now.inst.now.small c.args.self.now.moves,
+      c.locations-before.ensures.count (tables_of c.args.self.now) (initial_of c.args.self.now)
+          (before_of c.args.self.now) c.args.self.now.cells_stand,
+    ))

@@ -19,27 +19,44 @@ unfolding service_at
 leaves_one-requires-clause-need c = c.requires.needs c.loop-k.k c.loop-k-test.true
 
 pub loop-k-init : goal.loop-k-init
-loop-k-init c = keeps_none (tables_of c.args.self.now) (after_of c.args.self.now) c.args.s.0 c.args.needs.now c.args.own.0 (neighbourhood_of (tables_of c.args.self.now) c.args.step.to.0) (neighbourhood_of (tables_of c.args.self.now) c.args.step.from.0)
+loop-k-init c = keeps_none (tables_of c.args.self.now) (after_of c.args.self.now) c.args.s.0 c.args.needs.now
+    c.args.own.0 (neighbourhood_of (tables_of c.args.self.now) c.args.step.to.0)
+    (neighbourhood_of (tables_of c.args.self.now) c.args.step.from.0)
 
 pub loop-k-preserved : goal.loop-k-preserved
 unfolding service_at
 loop-k-preserved c =
     let need : Service = (get_or c.args.needs.now c.loop-k.k (record { 0 = 0 })) in
-    keeps_next (tables_of c.args.self.now) (after_of c.args.self.now) c.args.s.0 c.args.needs.now c.args.own.0 (neighbourhood_of (tables_of c.args.self.now) c.args.step.to.0) (neighbourhood_of (tables_of c.args.self.now) c.args.step.from.0) c.loop-k.k need.0 c.loop-k.invariant refl (c.finds_one.ensures.0 c.if-not-finds_one.false) (c.leaves_one.ensures.0 c.if-not-leaves_one.false)
+    keeps_next (tables_of c.args.self.now) (after_of c.args.self.now) c.args.s.0 c.args.needs.now c.args.own.0
+    (neighbourhood_of (tables_of c.args.self.now) c.args.step.to.0)
+    (neighbourhood_of (tables_of c.args.self.now) c.args.step.from.0) c.loop-k.k need.0 c.loop-k.invariant refl
+    (c.finds_one.ensures.0 c.if-not-finds_one.false) (c.leaves_one.ensures.0 c.if-not-leaves_one.false)
 
 pub returns-then-not-finds_one : goal.returns-then-not-finds_one
 unfolding service_at
 returns-then-not-finds_one c =
     let need : Service = (get_or c.args.needs.now c.loop-k.k (record { 0 = 0 })) in
-    told_false (λ (keeps : KeepsEach (tables_of c.args.self.now) (after_of c.args.self.now) c.args.s.0 c.args.needs.now c.args.own.0 (neighbourhood_of (tables_of c.args.self.now) c.args.step.to.0) (neighbourhood_of (tables_of c.args.self.now) c.args.step.from.0) (length c.args.needs.now)). both_ways c.finds_one.result c.if-not-finds_one.true (c.finds_one.ensures.1
-    (keeps_finds (tables_of c.args.self.now) (after_of c.args.self.now) c.args.s.0 c.args.needs.now c.args.own.0 (neighbourhood_of (tables_of c.args.self.now) c.args.step.to.0) (neighbourhood_of (tables_of c.args.self.now) c.args.step.from.0) (length c.args.needs.now) c.loop-k.k need.0 keeps c.loop-k-test.true refl)))
+    told_false (λ (keeps : KeepsEach (tables_of c.args.self.now) (after_of c.args.self.now) c.args.s.0 c.args.needs.now
+    c.args.own.0 (neighbourhood_of (tables_of c.args.self.now) c.args.step.to.0)
+    (neighbourhood_of (tables_of c.args.self.now) c.args.step.from.0) (length c.args.needs.now)).
+    both_ways c.finds_one.result c.if-not-finds_one.true (c.finds_one.ensures.1
+    (keeps_finds (tables_of c.args.self.now) (after_of c.args.self.now) c.args.s.0 c.args.needs.now c.args.own.0
+    (neighbourhood_of (tables_of c.args.self.now) c.args.step.to.0)
+    (neighbourhood_of (tables_of c.args.self.now) c.args.step.from.0) (length c.args.needs.now) c.loop-k.k
+    need.0 keeps c.loop-k-test.true refl)))
 
 pub returns-then-not-leaves_one : goal.returns-then-not-leaves_one
 unfolding service_at
 returns-then-not-leaves_one c =
     let need : Service = (get_or c.args.needs.now c.loop-k.k (record { 0 = 0 })) in
-    told_false (λ (keeps : KeepsEach (tables_of c.args.self.now) (after_of c.args.self.now) c.args.s.0 c.args.needs.now c.args.own.0 (neighbourhood_of (tables_of c.args.self.now) c.args.step.to.0) (neighbourhood_of (tables_of c.args.self.now) c.args.step.from.0) (length c.args.needs.now)). both_ways c.leaves_one.result c.if-not-leaves_one.true (c.leaves_one.ensures.1
-    (keeps_leaves (tables_of c.args.self.now) (after_of c.args.self.now) c.args.s.0 c.args.needs.now c.args.own.0 (neighbourhood_of (tables_of c.args.self.now) c.args.step.to.0) (neighbourhood_of (tables_of c.args.self.now) c.args.step.from.0) (length c.args.needs.now) c.loop-k.k need.0 keeps c.loop-k-test.true refl)))
+    told_false (λ (keeps : KeepsEach (tables_of c.args.self.now) (after_of c.args.self.now) c.args.s.0 c.args.needs.now
+    c.args.own.0 (neighbourhood_of (tables_of c.args.self.now) c.args.step.to.0)
+    (neighbourhood_of (tables_of c.args.self.now) c.args.step.from.0) (length c.args.needs.now)).
+    both_ways c.leaves_one.result c.if-not-leaves_one.true (c.leaves_one.ensures.1
+    (keeps_leaves (tables_of c.args.self.now) (after_of c.args.self.now) c.args.s.0 c.args.needs.now c.args.own.0
+    (neighbourhood_of (tables_of c.args.self.now) c.args.step.to.0)
+    (neighbourhood_of (tables_of c.args.self.now) c.args.step.from.0) (length c.args.needs.now) c.loop-k.k
+    need.0 keeps c.loop-k-test.true refl)))
 
 pub returns : goal.returns
 returns c =

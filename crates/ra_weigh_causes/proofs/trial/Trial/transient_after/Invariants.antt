@@ -6,4 +6,5 @@ use Rattle.ra_weigh_causes.proofs.FlowLemmas.{Flows}
 use Rattle.ra_weigh_causes.proofs.trial.Trial.transient_after.Given as goal
 
 abbrev pub invariant-loop-j : goal.invariant-loop-j
-invariant-loop-j l = Flows (transient_share (tables_of l.self) (initial_of l.self) l.m.0 l.r.0) (steps_of l.self) l.j (2 ^ 32) l.came l.went
+invariant-loop-j l = Flows (transient_share (tables_of l.self) (initial_of l.self) l.m.0 l.r.0) (steps_of l.self) l.j
+    (2 ^ 32) l.came l.went

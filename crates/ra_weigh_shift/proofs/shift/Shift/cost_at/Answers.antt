@@ -12,7 +12,12 @@ use Rattle.ra_weigh_shift.proofs.shift.Shift.cost_at.Goals as goal
 pub overflow_add-here : goal.overflow_add-here
 overflow_add-here c =
     let w = c.args.self.now.world.now in
-    omega (arith, c.machine_load.ensures, c.machine_balance.ensures, cost_small w.inst.now.tables w.kept.assignment.items c.args.to.0 w.inst.now.well_formed w.inst.now.small)
+    omega (
+      arith,
+      c.machine_load.ensures,
+      c.machine_balance.ensures,
+      cost_small w.inst.now.tables w.kept.assignment.items c.args.to.0 w.inst.now.well_formed w.inst.now.small,
+    )
 
 pub service_with-service-requires-clause-service : goal.service_with-service-requires-clause-service
 service_with-service-requires-clause-service c =
@@ -23,12 +28,26 @@ service_with-service-requires-clause-service c =
 pub overflow_add-result-5 : goal.overflow_add-result-5
 overflow_add-result-5 c =
     let w = c.args.self.now.world.now in
-    omega (arith, c.args.self.now.before_small, c.machine_load.ensures, c.machine_balance.ensures, cost_small w.inst.now.tables w.kept.assignment.items c.args.to.0 w.inst.now.well_formed w.inst.now.small)
+    omega (
+      arith,
+      c.args.self.now.before_small,
+      c.machine_load.ensures,
+      c.machine_balance.ensures,
+      cost_small w.inst.now.tables w.kept.assignment.items c.args.to.0 w.inst.now.well_formed w.inst.now.small,
+    )
 
 pub overflow_add-result-6 : goal.overflow_add-result-6
 overflow_add-result-6 c =
     let w = c.args.self.now.world.now in
-    omega (arith, c.args.self.now.before_small, c.args.self.now.service_cost_small, c.machine_load.ensures, c.machine_balance.ensures, cost_small w.inst.now.tables w.kept.assignment.items c.args.to.0 w.inst.now.well_formed w.inst.now.small)
+    omega (
+      arith,
+      c.args.self.now.before_small,
+      c.args.self.now.service_cost_small,
+      c.machine_load.ensures,
+      c.machine_balance.ensures,
+      cost_small w.inst.now.tables w.kept.assignment.items c.args.to.0
+          w.inst.now.well_formed w.inst.now.small,
+    )
 
 pub overflow_sub-result : goal.overflow_sub-result
 unfolding cost_of service_cost
@@ -40,9 +59,16 @@ overflow_sub-result c =
     let a = w.kept.assignment.items in
     let p = shift.process.0 in
     let b = shifted a p c.args.to.0 in
-    let others = λ (k : ℕ) (within : k < service_count i) (apart : k ≢ shift.service.0). count_stays i a0 a p c.args.to.0 k w.keeps.stand.fits shift.process_known (λ same. apart (same ∙ sym shift.service_is)) in
-    let service = c.service_with-service.ensures.value (moved_of i a0 b) others (c.moved.ensures.value ∙ ap (moved_of i a0 b) (sym shift.service_is)) in
-    let law = home_at w p c.args.to.0 shift.kept shift.without shift.before shift.service_cost c.cost_with-with.result c.way_cost-way.result (c.machine_load.result + c.machine_balance.result) c.service_with-service.result shift.process_known c.requires.machine c.requires.unbroken shift.kept_is shift.without_is shift.before_is shift.service_cost_is c.cost_with-with.ensures.value c.way_cost-way.ensures.value (ap₂ (λ x y. x + y) c.machine_load.ensures c.machine_balance.ensures) service in
+    let others = λ (k : ℕ) (within : k < service_count i) (apart : k ≢ shift.service.0).
+    count_stays i a0 a p c.args.to.0 k w.keeps.stand.fits shift.process_known
+    (λ same. apart (same ∙ sym shift.service_is)) in
+    let service = c.service_with-service.ensures.value (moved_of i a0 b) others
+    (c.moved.ensures.value ∙ ap (moved_of i a0 b) (sym shift.service_is)) in
+    let law = home_at w p c.args.to.0 shift.kept shift.without shift.before shift.service_cost c.cost_with-with.result
+    c.way_cost-way.result (c.machine_load.result + c.machine_balance.result) c.service_with-service.result
+    shift.process_known c.requires.machine c.requires.unbroken shift.kept_is shift.without_is shift.before_is
+    shift.service_cost_is c.cost_with-with.ensures.value c.way_cost-way.ensures.value
+    (ap₂ (λ x y. x + y) c.machine_load.ensures c.machine_balance.ensures) service in
     omega (arith, law)
 
 pub returns : goal.returns
@@ -55,7 +81,14 @@ returns c =
     let a = w.kept.assignment.items in
     let p = shift.process.0 in
     let b = shifted a p c.args.to.0 in
-    let others = λ (k : ℕ) (within : k < service_count i) (apart : k ≢ shift.service.0). count_stays i a0 a p c.args.to.0 k w.keeps.stand.fits shift.process_known (λ same. apart (same ∙ sym shift.service_is)) in
-    let service = c.service_with-service.ensures.value (moved_of i a0 b) others (c.moved.ensures.value ∙ ap (moved_of i a0 b) (sym shift.service_is)) in
-    let law = home_at w p c.args.to.0 shift.kept shift.without shift.before shift.service_cost c.cost_with-with.result c.way_cost-way.result (c.machine_load.result + c.machine_balance.result) c.service_with-service.result shift.process_known c.requires.machine c.requires.unbroken shift.kept_is shift.without_is shift.before_is shift.service_cost_is c.cost_with-with.ensures.value c.way_cost-way.ensures.value (ap₂ (λ x y. x + y) c.machine_load.ensures c.machine_balance.ensures) service in
+    let others = λ (k : ℕ) (within : k < service_count i) (apart : k ≢ shift.service.0).
+    count_stays i a0 a p c.args.to.0 k w.keeps.stand.fits shift.process_known
+    (λ same. apart (same ∙ sym shift.service_is)) in
+    let service = c.service_with-service.ensures.value (moved_of i a0 b) others
+    (c.moved.ensures.value ∙ ap (moved_of i a0 b) (sym shift.service_is)) in
+    let law = home_at w p c.args.to.0 shift.kept shift.without shift.before shift.service_cost c.cost_with-with.result
+    c.way_cost-way.result (c.machine_load.result + c.machine_balance.result) c.service_with-service.result
+    shift.process_known c.requires.machine c.requires.unbroken shift.kept_is shift.without_is shift.before_is
+    shift.service_cost_is c.cost_with-with.ensures.value c.way_cost-way.ensures.value
+    (ap₂ (λ x y. x + y) c.machine_load.ensures c.machine_balance.ensures) service in
     omega (arith, law)

@@ -11,7 +11,9 @@ returns-then-sum-room c =
     let p = shift.process.0 in
     let to = c.args.to.0 in
     let room = c.room_below-room.result in
-    dear_cost w p to c.args.bound (cost_taken w p) (cost_added w p) room None None shift.process_known c.requires.machine c.requires.apart refl refl c.room_below-room.ensures (sum_none w p to room c.args.sum c.if-sum-room.true (omega (arith, c.requires.sum))) refl refl
+    dear_cost w p to c.args.bound (cost_taken w p) (cost_added w p) room None None shift.process_known
+    c.requires.machine c.requires.apart refl refl c.room_below-room.ensures
+    (sum_none w p to room c.args.sum c.if-sum-room.true (omega (arith, c.requires.sum))) refl refl
 
 pub overflow_sub-result : goal.overflow_sub-result
 overflow_sub-result c =
@@ -20,8 +22,12 @@ overflow_sub-result c =
     let p = shift.process.0 in
     let to = c.args.to.0 in
     let room = c.room_below-room.result in
-    let room_is : room ≡ c.args.bound + shift.taken - shift.added = omega (arith, c.room_below-room.ensures, shift.taken_is, shift.added_is) in
-    (summed_cost w p to c.args.bound shift.taken shift.added room c.args.sum (Some c.args.sum) shift.process_known c.requires.machine c.requires.apart shift.taken_is shift.added_is room_is (sum_some w p to room c.args.sum c.if-sum-room.false c.requires.sum) refl (c.fits.ensures.0 c.if-not-fits.false)).0
+    let room_is : room ≡ c.args.bound + shift.taken - shift.added =
+    omega (arith, c.room_below-room.ensures, shift.taken_is, shift.added_is) in
+    (summed_cost w p to c.args.bound shift.taken shift.added room c.args.sum (Some c.args.sum) shift.process_known
+    c.requires.machine c.requires.apart shift.taken_is shift.added_is room_is
+    (sum_some w p to room c.args.sum c.if-sum-room.false c.requires.sum) refl
+    (c.fits.ensures.0 c.if-not-fits.false)).0
 
 pub returns : goal.returns
 returns c =
@@ -30,5 +36,9 @@ returns c =
     let p = shift.process.0 in
     let to = c.args.to.0 in
     let room = c.room_below-room.result in
-    let room_is : room ≡ c.args.bound + shift.taken - shift.added = omega (arith, c.room_below-room.ensures, shift.taken_is, shift.added_is) in
-    (summed_cost w p to c.args.bound shift.taken shift.added room c.args.sum (Some c.args.sum) shift.process_known c.requires.machine c.requires.apart shift.taken_is shift.added_is room_is (sum_some w p to room c.args.sum c.if-sum-room.false c.requires.sum) refl (c.fits.ensures.0 c.if-not-fits.false)).1
+    let room_is : room ≡ c.args.bound + shift.taken - shift.added =
+    omega (arith, c.room_below-room.ensures, shift.taken_is, shift.added_is) in
+    (summed_cost w p to c.args.bound shift.taken shift.added room c.args.sum (Some c.args.sum) shift.process_known
+    c.requires.machine c.requires.apart shift.taken_is shift.added_is room_is
+    (sum_some w p to room c.args.sum c.if-sum-room.false c.requires.sum) refl
+    (c.fits.ensures.0 c.if-not-fits.false)).1

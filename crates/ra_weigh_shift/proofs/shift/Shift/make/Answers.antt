@@ -16,14 +16,28 @@ unfolding parts_of
 overflow_add-result-2 g c =
     let w = c.args.world.now in
     let kept : c.parts-parts.result.total ≡ cost_now w = ap (λ (x : Parts). x.total) c.parts-parts.ensures in
-    omega (arith, kept, objective_under w.inst.now.tables w.start.now.items w.kept.assignment.items w.inst.now.well_formed w.inst.now.small, c.cost_without-without.ensures.bound, c.added_away-away.ensures.bound)
+    omega (
+      arith,
+      kept,
+      objective_under w.inst.now.tables w.start.now.items w.kept.assignment.items
+          w.inst.now.well_formed w.inst.now.small,
+      c.cost_without-without.ensures.bound,
+      c.added_away-away.ensures.bound,
+    )
 
 pub overflow_add-result-4 : goal.overflow_add-result-4
 unfolding parts_of
 overflow_add-result-4 g c =
     let w = c.args.world.now in
     let service : c.parts-parts.result.service ≡ service_now w = ap (λ (x : Parts). x.service) c.parts-parts.ensures in
-    omega (arith, service, service_under w.inst.now.tables w.start.now.items w.kept.assignment.items w.inst.now.well_formed w.inst.now.small, c.cost_before-before.ensures.bound, c.saved.ensures.bound)
+    omega (
+      arith,
+      service,
+      service_under w.inst.now.tables w.start.now.items w.kept.assignment.items
+          w.inst.now.well_formed w.inst.now.small,
+      c.cost_before-before.ensures.bound,
+      c.saved.ensures.bound,
+    )
 
 pub invariant_of-result : goal.invariant_of-result
 unfolding parts_of base_added base_taken
@@ -31,15 +45,20 @@ invariant_of-result g c =
     let w = c.args.world.now in
     let p = c.args.process.0 in
     let a = w.kept.assignment.items in
-    let from : c.machine_of-from.result.0 ≡ machine_at a p = rw c.assignment.ensures.value at c.machine_of-from.ensures in
-    let home : c.machine_of-home.result.0 ≡ machine_at w.start.now.items p = rw c.initial.ensures at c.machine_of-home.ensures in
-    let service : c.service_of-service.result.0 ≡ service_of w.inst.now.tables p = c.service_of-service.ensures ∙ ap (λ (j : Instance). service_of j.tables p) c.instance-inst.ensures in
+    let from : c.machine_of-from.result.0 ≡ machine_at a p =
+    rw c.assignment.ensures.value at c.machine_of-from.ensures in
+    let home : c.machine_of-home.result.0 ≡ machine_at w.start.now.items p =
+    rw c.initial.ensures at c.machine_of-home.ensures in
+    let service : c.service_of-service.result.0 ≡ service_of w.inst.now.tables p = c.service_of-service.ensures
+    ∙ ap (λ (j : Instance). service_of j.tables p) c.instance-inst.ensures in
     let limits = w.inst.now.well_formed in
     let small = w.inst.now.small in
-    let are = subst (λ (j : Instance). AreRequired j.tables p c.required_of-required.result) c.instance-inst.ensures c.required_of-required.ensures.value in
+    let are = subst (λ (j : Instance). AreRequired j.tables p c.required_of-required.result) c.instance-inst.ensures
+    c.required_of-required.ensures.value in
     let kept : c.parts-parts.result.total ≡ cost_now w = ap (λ (x : Parts). x.total) c.parts-parts.ensures in
     let now : c.parts-parts.result.service ≡ service_now w = ap (λ (x : Parts). x.service) c.parts-parts.ensures in
-    let without = c.cost_without-without.ensures.value ∙ ap (λ m. row_cost w.inst.now.tables m (use_without w.inst.now.tables a p)) from in
+    let without = c.cost_without-without.ensures.value
+    ∙ ap (λ m. row_cost w.inst.now.tables m (use_without w.inst.now.tables a p)) from in
     let saves = rw c.instance-inst.ensures at c.saved.ensures.value in
     let kept_under = objective_under w.inst.now.tables w.start.now.items a limits small in
     let now_under = service_under w.inst.now.tables w.start.now.items a limits small in
@@ -48,15 +67,21 @@ invariant_of-result g c =
       from_is = from;
       home_is = home;
       service_is = service;
-      required_are = subst (λ (j : Instance). AreRequired j.tables p c.required_of-required.result) c.instance-inst.ensures c.required_of-required.ensures.value;
-      location_is = c.location-location.ensures ∙ ap (λ (j : Instance). location_of j.tables c.machine_of-from.result.0) c.instance-inst.ensures ∙ ap (location_of w.inst.now.tables) from;
-      neighbourhood_is = c.neighbourhood-neighbourhood.ensures ∙ ap (λ (j : Instance). neighbourhood_of j.tables c.machine_of-from.result.0) c.instance-inst.ensures ∙ ap (neighbourhood_of w.inst.now.tables) from;
+      required_are = subst (λ (j : Instance). AreRequired j.tables p c.required_of-required.result)
+          c.instance-inst.ensures c.required_of-required.ensures.value;
+      location_is = c.location-location.ensures ∙ ap (λ (j : Instance). location_of j.tables c.machine_of-from.result.0)
+          c.instance-inst.ensures ∙ ap (location_of w.inst.now.tables) from;
+      neighbourhood_is = c.neighbourhood-neighbourhood.ensures
+          ∙ ap (λ (j : Instance). neighbourhood_of j.tables c.machine_of-from.result.0) c.instance-inst.ensures
+          ∙ ap (neighbourhood_of w.inst.now.tables) from;
       spread_is = c.spread_without-spread_without.ensures.value;
       spread_few = c.spread_without-spread_without.ensures.few;
-      wants_is = c.spread_min.ensures ∙ ap (λ (j : Instance). spread_of j.tables c.service_of-service.result.0) c.instance-inst.ensures ∙ ap (spread_of w.inst.now.tables) service;
+      wants_is = c.spread_min.ensures ∙ ap (λ (j : Instance). spread_of j.tables c.service_of-service.result.0)
+          c.instance-inst.ensures ∙ ap (spread_of w.inst.now.tables) service;
       may = c.may_leave-may_leave.ensures.may;
       may_not = c.may_leave-may_leave.ensures.may_not;
-      without_is = c.cost_without-without.ensures.value ∙ ap (λ m. row_cost w.inst.now.tables m (use_without w.inst.now.tables a p)) from;
+      without_is = c.cost_without-without.ensures.value
+          ∙ ap (λ m. row_cost w.inst.now.tables m (use_without w.inst.now.tables a p)) from;
       without_small = c.cost_without-without.ensures.bound;
       before_is = c.cost_before-before.ensures.value;
       before_small = c.cost_before-before.ensures.bound;
@@ -65,7 +90,8 @@ invariant_of-result g c =
       service_cost_is = now;
       service_cost_small = omega (arith, now, now_under);
       added_is = omega (arith, kept, without, c.added_away-away.ensures.value);
-      added_small = omega (arith, kept, kept_under, c.cost_without-without.ensures.bound, c.added_away-away.ensures.bound);
+      added_small =
+          omega (arith, kept, kept_under, c.cost_without-without.ensures.bound, c.added_away-away.ensures.bound);
       taken_is = omega (arith, c.cost_before-before.ensures.value, saves p are, now);
       taken_small = omega (arith, c.cost_before-before.ensures.bound, c.saved.ensures.bound, now, now_under);
     }

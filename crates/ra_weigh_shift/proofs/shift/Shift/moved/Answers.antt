@@ -11,18 +11,36 @@ pub overflow_sub-result : goal.overflow_sub-result
 overflow_sub-result c =
     let shift = c.args.self.now in
     let w = shift.world.now in
-    (moved_after w.inst.now.tables w.start.now.items w.kept.assignment.items shift.process.0 c.args.to.0 shift.service.0 c.moved-before.result c.is_away-gone.result c.is_away-come.result w.keeps.stand.fits shift.process_known shift.service_is (c.moved-before.ensures.count _ _ _ c.cells.ensures.stand) (c.is_away-gone.ensures.value ∙ ap₂ away shift.home_is shift.from_is) (c.is_away-come.ensures.value ∙ ap (λ h. away h c.args.to.0) shift.home_is)).0
+    (moved_after w.inst.now.tables w.start.now.items w.kept.assignment.items shift.process.0 c.args.to.0 shift.service.0
+    c.moved-before.result c.is_away-gone.result c.is_away-come.result w.keeps.stand.fits shift.process_known
+    shift.service_is (c.moved-before.ensures.count _ _ _ c.cells.ensures.stand) (c.is_away-gone.ensures.value
+    ∙ ap₂ away shift.home_is shift.from_is) (c.is_away-come.ensures.value
+    ∙ ap (λ h. away h c.args.to.0) shift.home_is)).0
 
 pub returns-clause-value : goal.returns-clause-value
 returns-clause-value c =
     let shift = c.args.self.now in
     let w = shift.world.now in
-    let after = moved_after w.inst.now.tables w.start.now.items w.kept.assignment.items shift.process.0 c.args.to.0 shift.service.0 c.moved-before.result c.is_away-gone.result c.is_away-come.result w.keeps.stand.fits shift.process_known shift.service_is (c.moved-before.ensures.count _ _ _ c.cells.ensures.stand) (c.is_away-gone.ensures.value ∙ ap₂ away shift.home_is shift.from_is) (c.is_away-come.ensures.value ∙ ap (λ h. away h c.args.to.0) shift.home_is) in
-    after.1 ∙ ap (moved_of w.inst.now.tables w.start.now.items (shifted w.kept.assignment.items shift.process.0 c.args.to.0)) shift.service_is
+    let after = moved_after w.inst.now.tables w.start.now.items w.kept.assignment.items shift.process.0 c.args.to.0
+    shift.service.0 c.moved-before.result c.is_away-gone.result c.is_away-come.result w.keeps.stand.fits
+    shift.process_known shift.service_is (c.moved-before.ensures.count _ _ _ c.cells.ensures.stand)
+    (c.is_away-gone.ensures.value ∙ ap₂ away shift.home_is shift.from_is) (c.is_away-come.ensures.value
+    ∙ ap (λ h. away h c.args.to.0) shift.home_is) in
+    after.1 ∙ ap (moved_of w.inst.now.tables w.start.now.items
+    (shifted w.kept.assignment.items shift.process.0 c.args.to.0)) shift.service_is
 
 pub returns-clause-few : goal.returns-clause-few
 returns-clause-few c =
     let shift = c.args.self.now in
     let w = shift.world.now in
-    let after = moved_after w.inst.now.tables w.start.now.items w.kept.assignment.items shift.process.0 c.args.to.0 shift.service.0 c.moved-before.result c.is_away-gone.result c.is_away-come.result w.keeps.stand.fits shift.process_known shift.service_is (c.moved-before.ensures.count _ _ _ c.cells.ensures.stand) (c.is_away-gone.ensures.value ∙ ap₂ away shift.home_is shift.from_is) (c.is_away-come.ensures.value ∙ ap (λ h. away h c.args.to.0) shift.home_is) in
-    omega (arith, after.1, moved_within w.inst.now.tables w.start.now.items (shifted w.kept.assignment.items shift.process.0 c.args.to.0) shift.service.0)
+    let after = moved_after w.inst.now.tables w.start.now.items w.kept.assignment.items shift.process.0 c.args.to.0
+    shift.service.0 c.moved-before.result c.is_away-gone.result c.is_away-come.result w.keeps.stand.fits
+    shift.process_known shift.service_is (c.moved-before.ensures.count _ _ _ c.cells.ensures.stand)
+    (c.is_away-gone.ensures.value ∙ ap₂ away shift.home_is shift.from_is) (c.is_away-come.ensures.value
+    ∙ ap (λ h. away h c.args.to.0) shift.home_is) in
+    omega (
+      arith,
+      after.1,
+      moved_within w.inst.now.tables w.start.now.items
+          (shifted w.kept.assignment.items shift.process.0 c.args.to.0) shift.service.0,
+    )

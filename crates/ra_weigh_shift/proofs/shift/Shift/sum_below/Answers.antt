@@ -11,10 +11,15 @@ returns-then-load-bound c =
     let w = shift.world.now in
     let p = shift.process.0 in
     let to = c.args.to.0 in
-    let weight = c.from.ensures ∙ c.machine_weight.ensures ∙ ap (λ (j : Instance). machine_weight_of j.tables) c.instance-inst.ensures in
-    let cost = c.from-2.ensures ∙ c.move_cost.ensures ∙ ap (λ (j : Instance). way_cost_of j.tables shift.home.0 to) c.instance-inst.ensures ∙ ap (λ m. way_cost_of w.inst.now.tables m to) shift.home_is in
+    let weight = c.from.ensures ∙ c.machine_weight.ensures
+    ∙ ap (λ (j : Instance). machine_weight_of j.tables) c.instance-inst.ensures in
+    let cost = c.from-2.ensures ∙ c.move_cost.ensures
+    ∙ ap (λ (j : Instance). way_cost_of j.tables shift.home.0 to) c.instance-inst.ensures
+    ∙ ap (λ m. way_cost_of w.inst.now.tables m to) shift.home_is in
     let load = c.load_above.ensures.value p shift.required_are in
-    sum_none w p to c.args.bound (c.from-3.result + c.load_above.result) c.if-load-bound.true (sum_part w p to c.from.result c.from-2.result c.from-3.result c.load_above.result weight cost c.from-3.ensures load)
+    sum_none w p to c.args.bound (c.from-3.result + c.load_above.result) c.if-load-bound.true
+    (sum_part w p to c.from.result c.from-2.result c.from-3.result c.load_above.result weight cost c.from-3.ensures
+    load)
 
 pub returns-then-sum-bound : goal.returns-then-sum-bound
 returns-then-sum-bound c =
@@ -22,11 +27,19 @@ returns-then-sum-bound c =
     let w = shift.world.now in
     let p = shift.process.0 in
     let to = c.args.to.0 in
-    let weight = c.from.ensures ∙ c.machine_weight.ensures ∙ ap (λ (j : Instance). machine_weight_of j.tables) c.instance-inst.ensures in
-    let cost = c.from-2.ensures ∙ c.move_cost.ensures ∙ ap (λ (j : Instance). way_cost_of j.tables shift.home.0 to) c.instance-inst.ensures ∙ ap (λ m. way_cost_of w.inst.now.tables m to) shift.home_is in
+    let weight = c.from.ensures ∙ c.machine_weight.ensures
+    ∙ ap (λ (j : Instance). machine_weight_of j.tables) c.instance-inst.ensures in
+    let cost = c.from-2.ensures ∙ c.move_cost.ensures
+    ∙ ap (λ (j : Instance). way_cost_of j.tables shift.home.0 to) c.instance-inst.ensures
+    ∙ ap (λ m. way_cost_of w.inst.now.tables m to) shift.home_is in
     let load = c.load_above.ensures.value p shift.required_are in
     let balance = c.balance_above.ensures.value p shift.required_are in
-    sum_none w p to c.args.bound (c.from-3.result + c.load_above.result + c.balance_above.result) c.if-sum-bound.true (omega (arith, sum_parts w p to c.from.result c.from-2.result c.from-3.result c.load_above.result c.balance_above.result weight cost c.from-3.ensures load balance))
+    sum_none w p to c.args.bound (c.from-3.result + c.load_above.result + c.balance_above.result) c.if-sum-bound.true
+    (omega (
+      arith,
+      sum_parts w p to c.from.result c.from-2.result c.from-3.result c.load_above.result
+          c.balance_above.result weight cost c.from-3.ensures load balance,
+    ))
 
 pub returns : goal.returns
 returns c =
@@ -34,8 +47,13 @@ returns c =
     let w = shift.world.now in
     let p = shift.process.0 in
     let to = c.args.to.0 in
-    let weight = c.from.ensures ∙ c.machine_weight.ensures ∙ ap (λ (j : Instance). machine_weight_of j.tables) c.instance-inst.ensures in
-    let cost = c.from-2.ensures ∙ c.move_cost.ensures ∙ ap (λ (j : Instance). way_cost_of j.tables shift.home.0 to) c.instance-inst.ensures ∙ ap (λ m. way_cost_of w.inst.now.tables m to) shift.home_is in
+    let weight = c.from.ensures ∙ c.machine_weight.ensures
+    ∙ ap (λ (j : Instance). machine_weight_of j.tables) c.instance-inst.ensures in
+    let cost = c.from-2.ensures ∙ c.move_cost.ensures
+    ∙ ap (λ (j : Instance). way_cost_of j.tables shift.home.0 to) c.instance-inst.ensures
+    ∙ ap (λ m. way_cost_of w.inst.now.tables m to) shift.home_is in
     let load = c.load_above.ensures.value p shift.required_are in
     let balance = c.balance_above.ensures.value p shift.required_are in
-    sum_some w p to c.args.bound (c.from-3.result + c.load_above.result + c.balance_above.result) c.if-sum-bound.false (sum_parts w p to c.from.result c.from-2.result c.from-3.result c.load_above.result c.balance_above.result weight cost c.from-3.ensures load balance)
+    sum_some w p to c.args.bound (c.from-3.result + c.load_above.result + c.balance_above.result) c.if-sum-bound.false
+    (sum_parts w p to c.from.result c.from-2.result c.from-3.result c.load_above.result c.balance_above.result
+    weight cost c.from-3.ensures load balance)

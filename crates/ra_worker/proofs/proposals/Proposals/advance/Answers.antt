@@ -8,4 +8,9 @@ unfolding worker_count
 lot-lot-requires c = c.args.self.now.drawn.worker
 
 pub invariant_of-self : goal.invariant_of-self
-invariant_of-self c = record { drawn = drawn_next c.args.self.now.lots.now c.args.self.now.worker _ c.lot-lot.result.now c.args.self.now.draws c.draw-words.new.draws c.draw-words.result c.args.self.now.drawn.worker (omega (arith, c.requires)) c.lot-lot.ensures (c.args.self.now.drawn.lot ∙ sym c.lot-lot.ensures) c.draw-words.ensures.lot c.draw-words.ensures.drawn c.draw-words.ensures.words }
+invariant_of-self c = record {
+  drawn = drawn_next c.args.self.now.lots.now c.args.self.now.worker _ c.lot-lot.result.now c.args.self.now.draws
+      c.draw-words.new.draws c.draw-words.result c.args.self.now.drawn.worker (omega (arith, c.requires))
+      c.lot-lot.ensures (c.args.self.now.drawn.lot ∙ sym c.lot-lot.ensures) c.draw-words.ensures.lot
+      c.draw-words.ensures.drawn c.draw-words.ensures.words;
+}

@@ -12,7 +12,17 @@ pub returns-clause-value : goal.returns-clause-value
 returns-clause-value c = lot_budget c.args.self.now.lots.now c.args.self.now.worker c.lot.result.now c.lot.ensures
 
 pub returns-clause-few : goal.returns-clause-few
-returns-clause-few c = omega (arith, lot_budget c.args.self.now.lots.now c.args.self.now.worker c.lot.result.now c.lot.ensures, budgets_few c.args.self.now.lots.now c.args.self.now.worker c.args.self.now.drawn.worker)
+returns-clause-few c =
+    omega (
+      arith,
+      lot_budget c.args.self.now.lots.now c.args.self.now.worker c.lot.result.now c.lot.ensures,
+      budgets_few c.args.self.now.lots.now c.args.self.now.worker c.args.self.now.drawn.worker,
+    )
 
 pub returns-clause-within : goal.returns-clause-within
-returns-clause-within c = omega (arith, lot_budget c.args.self.now.lots.now c.args.self.now.worker c.lot.result.now c.lot.ensures, c.args.self.now.drawn.within)
+returns-clause-within c =
+    omega (
+      arith,
+      lot_budget c.args.self.now.lots.now c.args.self.now.worker c.lot.result.now c.lot.ensures,
+      c.args.self.now.drawn.within,
+    )

@@ -6,4 +6,6 @@ use Rattle.ra_worker.proofs.ReplicaLemmas.{at_start}
 use Rattle.ra_worker.proofs.replica.Replica.make.Goals as goal
 
 pub returns-clause-at : goal.returns-clause-at
-returns-clause-at c = λ h. at_start _ _ _ h _ refl (ap (λ (x : Instance). x.tables) c.in_ok-world.ensures.instance) (ap (λ (x : Listed Machine). x.items) c.in_ok-world.ensures.initial) c.make-proposals.ensures.lots c.in_ok-world.ensures.assignment c.make-proposals.ensures.number
+returns-clause-at c = λ h. at_start _ _ _ h _ refl (ap (λ (x : Instance). x.tables) c.in_ok-world.ensures.instance)
+    (ap (λ (x : Listed Machine). x.items) c.in_ok-world.ensures.initial) c.make-proposals.ensures.lots
+    c.in_ok-world.ensures.assignment c.make-proposals.ensures.number

@@ -6,13 +6,23 @@ pub loop-j-init : goal.loop-j-init
 loop-j-init g c = taken_none c.args.self.now c.args.batch.now
 
 pub take_entry-requires-clause-judged : goal.take_entry-requires-clause-judged
-take_entry-requires-clause-judged g c = next_judged c.args.self.now c.loop-j.self c.args.batch.now c.requires.told.journal c.loop-j.j c.entry-entry.result c.loop-j.self.world.inst.now.well_formed c.loop-j.self.world.fits c.requires.told.next c.loop-j.invariant (omega (arith, c.loop-j-test.true, c.len-j-end.ensures.value)) c.entry-entry.ensures
+take_entry-requires-clause-judged g c =
+    next_judged c.args.self.now c.loop-j.self c.args.batch.now c.requires.told.journal c.loop-j.j c.entry-entry.result
+    c.loop-j.self.world.inst.now.well_formed c.loop-j.self.world.fits c.requires.told.next c.loop-j.invariant
+    (omega (arith, c.loop-j-test.true, c.len-j-end.ensures.value)) c.entry-entry.ensures
 
 pub take_entry-requires-clause-left : goal.take_entry-requires-clause-left
-take_entry-requires-clause-left g c = λ own. next_left c.args.self.now c.loop-j.self c.args.batch.now c.requires.told.journal c.loop-j.j c.entry-entry.result c.requires.told.next c.loop-j.invariant (omega (arith, c.loop-j-test.true, c.len-j-end.ensures.value)) c.entry-entry.ensures own
+take_entry-requires-clause-left g c =
+    λ own. next_left c.args.self.now c.loop-j.self c.args.batch.now c.requires.told.journal c.loop-j.j
+    c.entry-entry.result c.requires.told.next c.loop-j.invariant
+    (omega (arith, c.loop-j-test.true, c.len-j-end.ensures.value)) c.entry-entry.ensures own
 
 pub take_entry-requires-clause-few : goal.take_entry-requires-clause-few
-take_entry-requires-clause-few g c = place_few c.args.self.now c.loop-j.self c.args.batch.now c.requires.told.journal c.loop-j.j c.requires.told.next c.loop-j.invariant (omega (arith, c.loop-j-test.true, c.len-j-end.ensures.value))
+take_entry-requires-clause-few g c = place_few c.args.self.now c.loop-j.self c.args.batch.now c.requires.told.journal
+    c.loop-j.j c.requires.told.next c.loop-j.invariant (omega (arith, c.loop-j-test.true, c.len-j-end.ensures.value))
 
 pub loop-j-preserved : goal.loop-j-preserved
-loop-j-preserved g c = taken_more c.args.self.now c.loop-j.self c.take_entry.new.self c.args.batch.now c.loop-j.j c.entry-entry.result c.loop-j.invariant (omega (arith, c.loop-j-test.true, c.len-j-end.ensures.value)) c.entry-entry.ensures c.take_entry.ensures.assignment c.take_entry.ensures.instance c.take_entry.ensures.initial c.take_entry.ensures.lots c.take_entry.ensures.worker c.take_entry.ensures.number c.take_entry.ensures.place
+loop-j-preserved g c = taken_more c.args.self.now c.loop-j.self c.take_entry.new.self c.args.batch.now c.loop-j.j
+    c.entry-entry.result c.loop-j.invariant (omega (arith, c.loop-j-test.true, c.len-j-end.ensures.value))
+    c.entry-entry.ensures c.take_entry.ensures.assignment c.take_entry.ensures.instance c.take_entry.ensures.initial
+    c.take_entry.ensures.lots c.take_entry.ensures.worker c.take_entry.ensures.number c.take_entry.ensures.place

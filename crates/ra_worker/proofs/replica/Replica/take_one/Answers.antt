@@ -8,13 +8,15 @@ pub take_entry-requires-clause-judged : goal.take_entry-requires-clause-judged
 unfolding entry_at
 take_entry-requires-clause-judged g c =
     let r = c.args.self.now in let e : Entry = c.args.entry.now in
-    next_judged r r (e ∷ []) c.requires.told.journal 0 e r.world.inst.now.well_formed r.world.fits c.requires.told.next (taken_none r (e ∷ [])) (omega arith) refl
+    next_judged r r (e ∷ []) c.requires.told.journal 0 e r.world.inst.now.well_formed r.world.fits c.requires.told.next
+    (taken_none r (e ∷ [])) (omega arith) refl
 
 pub take_entry-requires-clause-left : goal.take_entry-requires-clause-left
 unfolding entry_at
 take_entry-requires-clause-left g c = λ own.
     (let r = c.args.self.now in let e : Entry = c.args.entry.now in
-    next_left r r (e ∷ []) c.requires.told.journal 0 e c.requires.told.next (taken_none r (e ∷ [])) (omega arith) refl own)
+    next_left r r (e ∷ []) c.requires.told.journal 0 e c.requires.told.next (taken_none r (e ∷ [])) (omega arith) refl
+    own)
 
 pub take_entry-requires-clause-few : goal.take_entry-requires-clause-few
 take_entry-requires-clause-few g c =
@@ -25,4 +27,6 @@ pub returns : goal.returns
 unfolding entry_at
 returns g c =
     let r = c.args.self.now in let e : Entry = c.args.entry.now in let s = c.take_entry.new.self in
-    taken_more r r s (e ∷ []) 0 e (taken_none r (e ∷ [])) (omega arith) refl c.take_entry.ensures.assignment c.take_entry.ensures.instance c.take_entry.ensures.initial c.take_entry.ensures.lots c.take_entry.ensures.worker c.take_entry.ensures.number c.take_entry.ensures.place
+    taken_more r r s (e ∷ []) 0 e (taken_none r (e ∷ [])) (omega arith) refl c.take_entry.ensures.assignment
+    c.take_entry.ensures.instance c.take_entry.ensures.initial c.take_entry.ensures.lots c.take_entry.ensures.worker
+    c.take_entry.ensures.number c.take_entry.ensures.place

@@ -7,7 +7,14 @@ use Rattle.ra_worker_crew.proofs.Runs.{all_ready}
 use Rattle.ra_worker_crew.proofs.crew.Crew.make.Goals as goal
 
 pub make_workers-requires-clause-exist : goal.make_workers-requires-clause-exist
-make_workers-requires-clause-exist c = λ k d within. omega (arith, (c.in_ok-shared.ensures.passes k d within).number, within, c.in_ok-shared.ensures.count, ap worker_count c.in_ok-journal.ensures.lots)
+make_workers-requires-clause-exist c =
+    λ k d within. omega (
+      arith,
+      (c.in_ok-shared.ensures.passes k d within).number,
+      within,
+      c.in_ok-shared.ensures.count,
+      ap worker_count c.in_ok-journal.ensures.lots,
+    )
 
 pub invariant_of-result : goal.invariant_of-result
 invariant_of-result c =
@@ -18,7 +25,8 @@ invariant_of-result c =
           (ap (λ (o : Opening). o.inst) opened ∙ c.in_ok-journal.ensures.instance)
           (ap (λ (o : Opening). o.a0) opened ∙ c.in_ok-journal.ensures.initial)
           (ap (λ (o : Opening). o.lots) opened ∙ c.in_ok-journal.ensures.lots)
-          (sym (length-map ws (λ (w : Worker). w.pass)) ∙ ap length c.in_ok-workers.ensures.passes ∙ c.in_ok-shared.ensures.count ∙ ap worker_count c.in_ok-journal.ensures.lots)
+          (sym (length-map ws (λ (w : Worker). w.pass)) ∙ ap length c.in_ok-workers.ensures.passes
+          ∙ c.in_ok-shared.ensures.count ∙ ap worker_count c.in_ok-journal.ensures.lots)
           (rw c.in_ok-workers.ensures.passes c.in_ok-shared.ensures.passes)
           c.in_ok-workers.ensures.fresh;
       room = (c.in_ok-workers.ensures.taken, c.in_ok-workers.ensures.room);

@@ -10,10 +10,13 @@ pub run_all-requires-clause-may : goal.run_all-requires-clause-may
 run_all-requires-clause-may g c = λ n outlives k d within. (c.args.self.ready.each k d within).may
 
 pub close-requires-clause-count : goal.close-requires-clause-count
-close-requires-clause-count g c = ap length c.take_passes-passes.ensures ∙ length-map c.run_all.new.workers.items (λ (w : Worker). w.pass) ∙ c.run_all.ensures.one_each
+close-requires-clause-count g c = ap length c.take_passes-passes.ensures
+    ∙ length-map c.run_all.new.workers.items (λ (w : Worker). w.pass) ∙ c.run_all.ensures.one_each
 
 pub close-requires-clause-passes : goal.close-requires-clause-passes
-close-requires-clause-passes g c = rw c.take_passes-passes.ensures (all_last c.args.self.shared c.run_all.new.workers.items c.run_all.ensures)
+close-requires-clause-passes g c =
+    rw c.take_passes-passes.ensures (all_last c.args.self.shared c.run_all.new.workers.items c.run_all.ensures)
 
 pub returns-clause-whole : goal.returns-clause-whole
-returns-clause-whole g c = all_whole c.args.self.shared c.run_all.new.workers.items c.close.result c.run_all.ensures c.close.ensures.opened (rw c.take_passes-passes.ensures at c.close.ensures.passes)
+returns-clause-whole g c = all_whole c.args.self.shared c.run_all.new.workers.items c.close.result c.run_all.ensures
+    c.close.ensures.opened (rw c.take_passes-passes.ensures at c.close.ensures.passes)

@@ -13,7 +13,9 @@ pub hand_in-requires-clause-left : goal.hand_in-requires-clause-left
 hand_in-requires-clause-left g c = c.has_left.ensures.left c.proposals-test.true
 
 pub hand_in-requires-clause-turns : goal.hand_in-requires-clause-turns
-hand_in-requires-clause-turns g c = room_left c.args.with.now.shared.now c.args.self.now c.proposals.self c.requires.turns c.proposals.invariant.work c.proposals.invariant.own c.proposals.invariant.turns (c.has_left.ensures.left c.proposals-test.true)
+hand_in-requires-clause-turns g c = room_left c.args.with.now.shared.now c.args.self.now c.proposals.self
+    c.requires.turns c.proposals.invariant.work c.proposals.invariant.own c.proposals.invariant.turns
+    (c.has_left.ensures.left c.proposals-test.true)
 
 pub proposals-preserved : goal.proposals-preserved
 proposals-preserved g c = record {
@@ -27,4 +29,6 @@ pub proposals-smaller : goal.proposals-smaller
 proposals-smaller g c = omega (arith, c.hand_in.ensures.moved.fewer)
 
 pub returns : goal.returns
-returns g c = has_run c.args.with.now.shared.now c.args.self.now c.proposals.self c.proposals.invariant.work c.proposals.invariant.own c.proposals.invariant.number c.proposals.invariant.turns (c.has_left.ensures.used c.proposals-test.false)
+returns g c = has_run c.args.with.now.shared.now c.args.self.now c.proposals.self c.proposals.invariant.work
+    c.proposals.invariant.own c.proposals.invariant.number c.proposals.invariant.turns
+    (c.has_left.ensures.used c.proposals-test.false)

@@ -13,14 +13,17 @@ pub take_in-requires-clause-told : goal.take_in-requires-clause-told
 take_in-requires-clause-told g c =
     let shown : Worker = record c.args.self.now { pass = c.catch_up.new.pass; batch = c.catch_up.new.batch } in
     told_next c.args.shared.now shown c.catch_up.new.batch
-    (work_handed c.args.shared.now c.args.self.now shown c.requires.work refl c.catch_up.ensures.rest c.catch_up.ensures.turn.0 c.catch_up.ensures.seen)
+    (work_handed c.args.shared.now c.args.self.now shown c.requires.work refl c.catch_up.ensures.rest
+    c.catch_up.ensures.turn.0 c.catch_up.ensures.seen)
     (c.catch_up.ensures.batch ∙ ap (batch_from (seen_by c.catch_up.new.pass)) c.place-place.ensures)
 
 pub returns-clause-work : goal.returns-clause-work
 returns-clause-work g c =
     let shown : Worker = record c.args.self.now { pass = c.catch_up.new.pass; batch = c.catch_up.new.batch } in
-    work_told c.args.shared.now shown (record shown { replica = c.take_in.new.replica }) c.catch_up.new.batch (length c.catch_up.new.batch)
-    (work_handed c.args.shared.now c.args.self.now shown c.requires.work refl c.catch_up.ensures.rest c.catch_up.ensures.turn.0 c.catch_up.ensures.seen)
+    work_told c.args.shared.now shown (record shown { replica = c.take_in.new.replica }) c.catch_up.new.batch
+    (length c.catch_up.new.batch)
+    (work_handed c.args.shared.now c.args.self.now shown c.requires.work refl c.catch_up.ensures.rest
+    c.catch_up.ensures.turn.0 c.catch_up.ensures.seen)
     (c.catch_up.ensures.batch ∙ ap (batch_from (seen_by c.catch_up.new.pass)) c.place-place.ensures)
     c.take_in.ensures
     refl
@@ -31,4 +34,9 @@ returns-clause-place g c =
     place_told shown (record shown { replica = c.take_in.new.replica }) c.catch_up.new.batch
     (c.catch_up.ensures.batch ∙ ap (batch_from (seen_by c.catch_up.new.pass)) c.place-place.ensures)
     c.take_in.ensures
-    (omega (arith, c.requires.more, prefix_long (seen_by c.args.self.now.pass) (seen_by c.catch_up.new.pass) c.catch_up.ensures.seen))
+    (omega (
+      arith,
+      c.requires.more,
+      prefix_long (seen_by c.args.self.now.pass) (seen_by c.catch_up.new.pass)
+          c.catch_up.ensures.seen,
+    ))

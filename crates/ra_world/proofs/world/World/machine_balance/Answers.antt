@@ -11,4 +11,6 @@ get-requires c = omega (arith, c.requires, c.args.self.now.keeps.balances.one_ea
 pub returns : goal.returns
 returns c =
     let w = c.args.self.now in
-    kept_cost w.kept.balances.items (machine_count w.inst.now.tables) (machine_balance w.inst.now.tables w.kept.assignment.items) c.args.m.0 c.get.result w.keeps.balances c.requires c.get.ensures
+    kept_cost w.kept.balances.items (machine_count w.inst.now.tables)
+    (machine_balance w.inst.now.tables w.kept.assignment.items) c.args.m.0 c.get.result w.keeps.balances c.requires
+    c.get.ensures

@@ -11,4 +11,6 @@ get-requires c = omega (arith, c.requires, c.args.self.now.keeps.loads.one_each)
 pub returns : goal.returns
 returns c =
     let w = c.args.self.now in
-    kept_cost w.kept.loads.items (machine_count w.inst.now.tables) (machine_load w.inst.now.tables w.kept.assignment.items) c.args.m.0 c.get.result w.keeps.loads c.requires c.get.ensures
+    kept_cost w.kept.loads.items (machine_count w.inst.now.tables)
+    (machine_load w.inst.now.tables w.kept.assignment.items) c.args.m.0 c.get.result w.keeps.loads c.requires
+    c.get.ensures

@@ -8,5 +8,6 @@ invariant_of-result c = record {
   fits = c.requires.fits;
   topology = c.requires.topology;
   keeps = c.in_ok-kept.ensures.keeps;
-  unbroken = ap (first_broken c.args.inst.now.tables c.args.a0.now.items) c.in_ok-kept.ensures.assignment ∙ c.requires.unbroken;
+  unbroken = ap (first_broken c.args.inst.now.tables c.args.a0.now.items) c.in_ok-kept.ensures.assignment
+      ∙ c.requires.unbroken;
 }

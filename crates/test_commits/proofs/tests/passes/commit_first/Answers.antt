@@ -19,7 +19,8 @@ commit-requires-clause-commit g c =
     let o = start_of c.args.shared.now in
     let own = ap (λ (x : Lot). x.budget) c.lot.ensures in
     let some : 0 < budget c.args.lots.now w = omega (arith, own) in
-    new_commit o (seen_by c.args.pass.now) c.args.pass.now.number w c.args.plan.now c.requires.new.seen c.requires.new.number
+    new_commit o (seen_by c.args.pass.now) c.args.pass.now.number w c.args.plan.now c.requires.new.seen
+    c.requires.new.number
     (subst (λ (l : Lots). w < worker_count l) c.requires.lots c.requires.exists)
     (subst (λ (l : Lots). 0 < budget l w) c.requires.lots some)
     c.requires.plan

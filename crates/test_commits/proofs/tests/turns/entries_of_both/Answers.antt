@@ -4,4 +4,7 @@ use Rattle.test_commits.proofs.tests.turns.entries_of_both.Goals as goal
 pub round_robin-requires : goal.round_robin-requires
 round_robin-requires g c =
     let made = rw c.expect-journal.ensures at c.make-2.ensures in
-    record { at = are_at_journal _ _ _ c.expect-journal.result c.expect-replicas.result.items made.instance made.initial made.lots (rw c.expect-replicas.ensures at c.make_replicas.ensures) }
+    record {
+      at = are_at_journal _ _ _ c.expect-journal.result c.expect-replicas.result.items made.instance made.initial
+          made.lots (rw c.expect-replicas.ensures at c.make_replicas.ensures);
+    }

@@ -8,4 +8,5 @@ pub write_told-ended-requires-clause-bound : goal.write_told-ended-requires-clau
 write_told-ended-requires-clause-bound g c =
     let made = rw c.expect-prepared.ensures at c.make-2.ensures in
     let is = rw (made.instance, made.initial, made.lots) at c.solve-run.ensures in
-    bound_told c.args.inst.now.tables c.args.a0.now.items c.args.lots.now c.solve-run.result c.bound_from-bound.result is c.bound_from-bound.ensures
+    bound_told c.args.inst.now.tables c.args.a0.now.items c.args.lots.now c.solve-run.result c.bound_from-bound.result
+    is c.bound_from-bound.ensures
