@@ -8,3 +8,4 @@ pub mod KeepLemmas
 pub mod OptionLemmas
 pub mod SumLemmas
 pub mod RunLemmas
+pub mod ShiftLemmas

@@ -6,3 +6,4 @@ pub mod Keeping
 pub mod Following
 pub mod Repairs
 pub mod Laws
+pub mod Shifting

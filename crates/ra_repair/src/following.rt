@@ -37,7 +37,7 @@ pub(crate) fn follow<L: Ledger>(
 }
 
 /// Follows one step. The penalty changes by what the step's process can change of it, before and after.
-fn follow_step<L: Ledger>(
+pub(crate) fn follow_step<L: Ledger>(
     inst: &Instance,
     topo: &Topology,
     start: &Assignment,

@@ -9,6 +9,7 @@ mod following;
 mod kept;
 mod options;
 mod repair;
+mod shifting;
 mod sums;
 mod touched;
 mod tries;

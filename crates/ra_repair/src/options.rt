@@ -12,9 +12,10 @@ ghost use Rattle.ra_repair.specs.Runs.{try_count, try_option, penalty_by, option
 
 use crate::following::{follow, go_back};
 use crate::kept::Kept;
+use crate::shifting::choose_shift;
 use ra_base::{Assignment, Drawing, Steps};
 use ra_model::Instance;
-use ra_moves::{Move, first_flaw, options, resolve};
+use ra_moves::{Move, MoveKind, first_flaw, options, resolve};
 use ra_topology::Topology;
 use std::sync::ledger::Ledger;
 
@@ -26,8 +27,38 @@ pub(crate) struct Choice {
 }
 
 /// The first option of least penalty among those that the words of a proposal name and that aren't left out, and option
-/// 0 if all are. Each option is made on what is kept, and taken back.
+/// 0 if all are.
 pub(crate) fn choose<L: Ledger>(
+    inst: &Instance,
+    topo: &Topology,
+    start: &Assignment,
+    kept: &mut Kept<'_>,
+    words: &[u64; 8],
+    steps: &mut Steps<L>,
+) -> Choice
+    requires start { IsAssignment inst.now.tables start.now.items }
+    requires topology { IsTopologyOf topo.now inst.now.tables }
+    requires keeps { Keeps kept.old inst.now.tables start.now.items }
+    ensures chosen { result.mv ≡
+        chosen inst.now.tables start.now.items kept.old.assignment.items words.now }
+    ensures least { result.after ≡
+        least_after inst.now.tables start.now.items kept.old.assignment.items words.now }
+    ensures keeps { Keeps kept.new inst.now.tables start.now.items }
+    ensures same { kept.new.assignment.items ≡ kept.old.assignment.items }
+{
+    let first = resolve(&kept.assignment, words, inst.machines(), Drawing::Two, 0);
+    match first.kind() {
+        MoveKind::Shift => {
+            let leaves = first.step(0);
+            let (process, home) = (leaves.process, leaves.from);
+            choose_shift(inst, topo, start, kept, words, process, home, steps)
+        }
+        MoveKind::Swap | MoveKind::Chain => choose_in_turn(inst, topo, start, kept, words, steps),
+    }
+}
+
+/// The same. Each option is made on what is kept, and taken back before the next one.
+fn choose_in_turn<L: Ledger>(
     inst: &Instance,
     topo: &Topology,
     start: &Assignment,
@@ -140,7 +171,7 @@ fn penalty_beyond<L: Ledger>(
 }
 
 /// The second of two moves if the penalty after it is lower, else the first.
-fn better(first: Choice, second: Choice) -> Choice
+pub(crate) fn better(first: Choice, second: Choice) -> Choice
     ensures { result ≡ (if is_better second.after first.after then second else first) }
 {
     if is_lower(second.after, first.after) {

@@ -3,7 +3,7 @@ use Rattle.std.proofs.Common.{◌≡◌}
 use Rattle.ra_repair.specs.Keeping.{Keeps}
 use Rattle.ra_repair.specs.Runs.{try_option, option_penalty}
 use Rattle.ra_repair.proofs.OptionLemmas.{IsChosen}
-use Rattle.ra_repair.proofs.options.choose.Given as goal
+use Rattle.ra_repair.proofs.options.choose_in_turn.Given as goal
 
 abbrev pub invariant-loop-option : goal.invariant-loop-option
 invariant-loop-option g l = record {
