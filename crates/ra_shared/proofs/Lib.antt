@@ -6,3 +6,4 @@ pub mod Resting
 pub mod Turned
 pub mod Back
 pub mod Known
+pub mod Next
