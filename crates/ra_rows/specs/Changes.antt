@@ -1,10 +1,11 @@
 -- Changes of a table by machine and resource.
-use Rattle.std.specs.Prelude.{◌≡◌, ◌≢◌, ℕ, ◌+◌, ◌<◌, ◌≤◌, if◌then◌else◌, ◌==◌, List, length}
+use Rattle.std.specs.Prelude.{◌≡◌, ◌≢◌, ℕ, ◌+◌, ◌*◌, ◌^◌, ◌<◌, ◌≤◌, if◌then◌else◌, ◌==◌, List, length}
 use Rattle.ra_base.specs.Tables.{cell}
 use Rattle.ra_base.specs.declared.ids.Machine.{Machine}
 use Rattle.ra_model.specs.declared.raw.Tables.{Tables}
-use Rattle.ra_model.specs.Numbers.{resource_count, requirement_of}
+use Rattle.ra_model.specs.Numbers.{resource_count, machine_count, requirement_of}
 use Rattle.ra_model.specs.Assignments.{tally}
+use Rattle.ra_rows.specs.Rows.{IsBelow}
 
 -- an amount at row `at` alone
 unfoldable pub at_row : ℕ → ℕ → ℕ → ℕ
@@ -47,3 +48,9 @@ pub record IsTally (width n : ℕ) (share : ℕ → ℕ → ℕ → ℕ → ℕ)
 pub record HasRoomFor (i : Tables) (p at : ℕ) (table : List ℕ) : Type 0 where
   pub each : (r : ℕ) → r < resource_count i
       → requirement_of i p r ≤ cell (resource_count i) table at r
+
+-- a table with a small number for each machine and resource, from whose row `at` what process p requires may be taken
+pub record MayLeave (i : Tables) (p at : ℕ) (table : List ℕ) : Type 0 where
+  pub grid : length table ≡ machine_count i * resource_count i
+  pub below : IsBelow (resource_count i) (2 ^ 48) table
+  pub enough : HasRoomFor i p at table

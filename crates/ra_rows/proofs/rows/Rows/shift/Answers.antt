@@ -6,23 +6,31 @@ use Rattle.ra_rows.specs.Rows.{StandFor, HasAt}
 use Rattle.ra_rows.proofs.StandLemmas.{rows_of, used_enough, transient_enough, stand_after, are_rows}
 use Rattle.ra_rows.proofs.rows.Rows.shift.Goals as goal
 
-pub shift_rows-requires-clause-used_enough : goal.shift_rows-requires-clause-used_enough
-shift_rows-requires-clause-used_enough g c =
+pub shift_rows-requires-clause-used : goal.shift_rows-requires-clause-used
+shift_rows-requires-clause-used g c =
     let rows = rows_of c.self.inside.inst.now.tables c.self.inside.a0.now.items c.self.inside.used.items
     c.self.inside.between.items in
     let seen : rows ≡ c.args.self.now = c.self.view_is in
-    used_enough rows c.args.p.0 c.args.from.0
-    (subst (λ v. c.args.p.0 < process_count v.tables) (sym seen) c.requires.process)
-    (subst (λ v. HasAt v c.args.p.0 c.args.from.0) (sym seen) c.requires.stands)
+    record {
+      grid = c.self.invariant.used_grid;
+      below = c.self.invariant.used_below;
+      enough = used_enough rows c.args.p.0 c.args.from.0
+          (subst (λ v. c.args.p.0 < process_count v.tables) (sym seen) c.requires.process)
+          (subst (λ v. HasAt v c.args.p.0 c.args.from.0) (sym seen) c.requires.stands);
+    }
 
-pub shift_rows-requires-clause-between_enough : goal.shift_rows-requires-clause-between_enough
-shift_rows-requires-clause-between_enough g c =
+pub shift_rows-requires-clause-between : goal.shift_rows-requires-clause-between
+shift_rows-requires-clause-between g c =
     let rows = rows_of c.self.inside.inst.now.tables c.self.inside.a0.now.items c.self.inside.used.items
     c.self.inside.between.items in
     let seen : rows ≡ c.args.self.now = c.self.view_is in
-    transient_enough rows c.args.p.0 c.args.from.0
-    (subst (λ v. c.args.p.0 < process_count v.tables) (sym seen) c.requires.process)
-    (subst (λ v. HasAt v c.args.p.0 c.args.from.0) (sym seen) c.requires.stands)
+    record {
+      grid = c.self.invariant.between_grid;
+      below = c.self.invariant.between_below;
+      enough = transient_enough rows c.args.p.0 c.args.from.0
+          (subst (λ v. c.args.p.0 < process_count v.tables) (sym seen) c.requires.process)
+          (subst (λ v. HasAt v c.args.p.0 c.args.from.0) (sym seen) c.requires.stands);
+    }
 
 pub invariant_of-self : goal.invariant_of-self
 invariant_of-self g c =
