@@ -13,10 +13,11 @@ use Rattle.ra_model.specs.Assignments.{IsAssignment}
 use Rattle.ra_model.specs.Broken.{first_broken}
 use Rattle.ra_model.specs.Costs.{parts_of}
 use Rattle.ra_model.specs.Feasible.{Feasible}
+use Rattle.ra_model.specs.Numbers.{resource_count}
 use Rattle.ra_model.proofs.BrokenLemmas.{feasible_from_unbroken, unbroken_from_feasible}
 use Rattle.ra_edit_read.specs.declared.edits.Edit.{Edit}
 use Rattle.ra_edit_read.specs.declared.edits.Edit.TheVariants.{Add, Retire, Resize}
-use Rattle.ra_edit_read.specs.EditLists.{EditLists, edit_at, row_of, AreEditsFor}
+use Rattle.ra_edit_read.specs.EditLists.{EditLists, edit_at, row_of, AreEditsFor, FitsInstance}
 use Rattle.ra_edit.specs.declared.replies.EditReply.{EditReply}
 use Rattle.ra_edit.specs.declared.replies.EditReply.TheVariants.{Done, NoProcess, Full, Last, Broken}
 use Rattle.ra_edit.specs.Drafts.{Drafted, with_processes, instance_of, draft_of}
@@ -165,13 +166,28 @@ next_sound d old next e k same sound fits within free is width =
     (width ∙ here.width))
 
 -- and it is what the kind of the edit says
-pub next_edited : (d old next : Drafted) (e : EditLists) (k : ℕ) (edit : Edit) → d ≡ old → IsSound d →
-    AreEditsFor old.origin e → k < length e.edits → edit ≡ edit_at e k → barred (length d.rows) (edit_at e k) ≡ None →
-    next ≡ edited d (edit_at e k) (row_of e.width e.requirements k) → length (row_of e.width e.requirements k) ≡
-    e.width → IsEdited d edit next
+pub next_edited : (d old next : Drafted) (e : EditLists) (k : ℕ) (edit : Edit) (asked : List ℕ) → d ≡ old → IsSound d →
+    AreEditsFor old.origin e → k < length e.edits → edit ≡ edit_at e k → asked ≡ row_of e.width e.requirements k →
+    barred (length d.rows) (edit_at e k) ≡ None → next ≡ edited d (edit_at e k) (row_of e.width e.requirements k) →
+    length (row_of e.width e.requirements k) ≡ e.width → IsEdited d edit asked next
 unfolding edit_at
-next_edited d old next e k edit same sound fits within is free made width =
+next_edited d old next e k edit asked same sound fits within is asked_is free made width =
     let fits_d : AreEditsFor d.origin e = subst (λ (o : Drafted). AreEditsFor o.origin e) (sym same) fits in
-    subst (λ (x : Edit). IsEdited d x next) (sym is)
+    subst (λ (x : Edit). IsEdited d x asked next) (sym is)
+    (subst (λ (row : List ℕ). IsEdited d (edit_at e k) row next) (sym asked_is)
     (edited_is d next (edit_at e k) (row_of e.width e.requirements k) sound free (fits_d.each k within)
-    (width ∙ fits_d.width) made)
+    (width ∙ fits_d.width) made))
+
+-- its service and its machine exist
+pub next_fits : (d old : Drafted) (e : EditLists) (k : ℕ) (edit : Edit) → d ≡ old → AreEditsFor old.origin e →
+    k < length e.edits → edit ≡ edit_at e k → FitsInstance d.origin edit
+unfolding edit_at
+next_fits d old e k edit same fits within is =
+    let fits_d : AreEditsFor d.origin e = subst (λ (o : Drafted). AreEditsFor o.origin e) (sym same) fits in
+    subst (λ (x : Edit). FitsInstance d.origin x) (sym is) (fits_d.each k within)
+
+-- and as many requirements are given as there are resources
+pub next_width : (d old : Drafted) (e : EditLists) (asked : List ℕ) → d ≡ old → AreEditsFor old.origin e →
+    length asked ≡ e.width → length asked ≡ resource_count d.origin
+next_width d old e asked same fits width =
+    width ∙ (subst (λ (o : Drafted). AreEditsFor o.origin e) (sym same) fits).width

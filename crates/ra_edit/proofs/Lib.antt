@@ -11,7 +11,9 @@ pub mod OneMoreLaws
 pub mod ShareLaws
 pub mod BrokenLaws
 pub mod ScanLaws
-pub mod RowsLaws
 pub mod TestLaws
 pub mod SeenLaws
 pub mod VerdictLaws
+pub mod LoadLaws
+pub mod TouchLaws
+pub mod ReadLaws

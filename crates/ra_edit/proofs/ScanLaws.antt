@@ -28,20 +28,6 @@ use Rattle.ra_edit.proofs.OneMoreLaws.{row_read, requirement_read}
 pub few : (i : Tables) (l : Lists) → IsSound (drafted i l) → AreFew (drafted i l)
 few i l sound = few_of (drafted i l) sound
 
-pub place_there : (i : Tables) (l : Lists) (p r : ℕ) → IsSound (drafted i l) → p < length l.rows.items →
-    r < resource_count i → p * resource_count i + r < length l.requirements.items
-place_there i l p r sound p_in r_in =
-    let f = few i l sound in omega (arith, place_within p r (length l.rows.items) (resource_count i) p_in r_in, f.table)
-
-pub requirement_told : (i : Tables) (l : Lists) (p r place x : ℕ) → IsSound (drafted i l) → p < length l.rows.items →
-    r < resource_count i → place ≡ p * resource_count i + r → x ≡ get_or l.requirements.items place x →
-    x ≡ requirement_of (tables_with i l) p r
-requirement_told i l p r place x sound p_in r_in place_is read =
-    let there = place_there i l p r sound p_in r_in in
-    get_or_read l.requirements.items place x (omega (arith, there, place_is)) read 0
-    ∙ ap (λ k. get_or l.requirements.items k 0) place_is ∙ sym (cell_is (resource_count i) l.requirements.items p r)
-    ∙ sym (requirement_read i l.rows.items l.requirements.items p r)
-
 pub service_told : (i : Tables) (l : Lists) (p : ℕ) (row : ProcessRow) → p < length l.rows.items →
     row ≡ get_or l.rows.items p row → row.service.0 ≡ service_of (tables_with i l) p
 unfolding service_of
@@ -56,18 +42,6 @@ cost_told i l p row p_in read =
 
 -- sums over the processes are those of the definitions
 
-pub use_told : (i : Tables) (l : Lists) (m r n x : ℕ) → n ≡ length l.rows.items →
-    x ≡ tally n (use_share (tables_with i l) m r) l.current.items → x ≡ use_of (tables_with i l) l.current.items m r
-unfolding use_of process_count with_processes
-use_told i l m r n x all is = is ∙ ap (λ k. tally k (use_share (tables_with i l) m r) l.current.items) all
-
-pub transient_told : (i : Tables) (l : Lists) (m r n x : ℕ) → n ≡ length l.rows.items →
-    x ≡ tally n (transient_share (tables_with i l) l.initial.items m r) l.current.items →
-    x ≡ transient_of (tables_with i l) l.initial.items l.current.items m r
-unfolding transient_of process_count with_processes
-transient_told i l m r n x all is =
-    is ∙ ap (λ k. tally k (transient_share (tables_with i l) l.initial.items m r) l.current.items) all
-
 pub members_told : (i : Tables) (l : Lists) (s : ℕ) (test : ℕ → ℕ → Bool) (n x : ℕ) → n ≡ length l.rows.items →
     x ≡ tally n (of_service (tables_with i l) s test) l.current.items →
     x ≡ members_at (tables_with i l) l.current.items s test
@@ -75,30 +49,6 @@ unfolding members_at process_count with_processes
 members_told i l s test n x all is = is ∙ ap (λ k. tally k (of_service (tables_with i l) s test) l.current.items) all
 
 -- shares
-
-pub use_here : (i : Tables) (m r p at amount : ℕ) → at ≡ m → amount ≡ requirement_of i p r →
-    amount ≡ use_share i m r p at
-unfolding use_share
-use_here i m r p at amount same is = is ∙ sym (rw (eq-eqb at m same) refl)
-
-pub use_away : (i : Tables) (m r p at : ℕ) → at ≢ m → 0 ≡ use_share i m r p at
-unfolding use_share
-use_away i m r p at apart = sym (rw (ne_eqb at m apart) refl)
-
-pub between_home : (i : Tables) (a0 : List Machine) (m r p at amount : ℕ) → machine_at a0 p ≡ m →
-    amount ≡ requirement_of i p r → amount ≡ transient_share i a0 m r p at
-unfolding transient_share
-between_home i a0 m r p at amount home is = is ∙ sym (rw (eq-eqb (machine_at a0 p) m home) refl)
-
-pub between_here : (i : Tables) (a0 : List Machine) (m r p at amount : ℕ) → machine_at a0 p ≢ m → at ≡ m →
-    amount ≡ requirement_of i p r → amount ≡ transient_share i a0 m r p at
-unfolding transient_share
-between_here i a0 m r p at amount away here is = is ∙ sym (rw (ne_eqb (machine_at a0 p) m away, eq-eqb at m here) refl)
-
-pub between_away : (i : Tables) (a0 : List Machine) (m r p at : ℕ) → machine_at a0 p ≢ m → at ≢ m →
-    0 ≡ transient_share i a0 m r p at
-unfolding transient_share
-between_away i a0 m r p at away apart = sym (rw (ne_eqb (machine_at a0 p) m away, ne_eqb at m apart) refl)
 
 pub cost_stays : (i : Tables) (a0 : List Machine) (p at w : ℕ) → at ≡ machine_at a0 p → 0 ≡ w * process_share i a0 p at
 unfolding process_share
@@ -143,7 +93,7 @@ pub location_told : (d : Drafted) (a : List Machine) (s label n : ℕ) →
 unfolding in_location location_of machine_row with_processes
 location_told d a s label n is = is
 
-pub ruleset readings = (few, place_there, requirement_told, service_told)
+pub ruleset readings = (few, service_told)
 
 -- numbers of other processes are small too
 

@@ -15,9 +15,7 @@ use Rattle.ra_model.specs.Relations.{depends}
 use Rattle.ra_model.specs.Services.{on_machine, in_neighbourhood, locations_of}
 use Rattle.ra_model.specs.Broken.{cause_if, capacity_test, row_capacity, transient_test, row_transient, conflict_test}
 use Rattle.ra_model.specs.Broken.{spread_test}
-use Rattle.ra_edit.specs.declared.lists.Lists.{Lists}
-use Rattle.ra_edit.specs.Drafts.{with_processes}
-use Rattle.ra_edit.specs.Keeping.{tables_with}
+use Rattle.ra_edit.specs.Drafts.{Drafted, with_processes, instance_of}
 use Rattle.ra_edit.specs.Touched.{far_from, left_alone, left_by, first_of_two, resized_breaks}
 use Rattle.ra_base.specs.Searches.{or_else, first}
 use Rattle.ra_base.proofs.Searches.{or_else_none, first_none_from}
@@ -30,116 +28,104 @@ held_if : (failed : Bool) (cause : Cause) → failed ≡ false → None ≡ caus
 unfolding cause_if
 held_if failed cause is = sym (cond-false failed (Some cause) None is)
 
-capacity_in : (i : Tables) (l : Lists) (m r : ℕ) → capacity_of (tables_with i l) m r ≡ capacity_of i m r
+capacity_in : (e : Drafted) (m r : ℕ) → capacity_of (instance_of e) m r ≡ capacity_of e.origin m r
 unfolding with_processes capacity_of resource_count
-capacity_in i l m r = refl
+capacity_in e m r = refl
 
-transient_in : (i : Tables) (l : Lists) (r : ℕ) → transient_at (tables_with i l) r ≡ transient_at i r
+transient_in : (e : Drafted) (r : ℕ) → transient_at (instance_of e) r ≡ transient_at e.origin r
 unfolding with_processes transient_at resource_row
-transient_in i l r = refl
+transient_in e r = refl
 
-spread_in : (i : Tables) (l : Lists) (s : ℕ) → spread_of (tables_with i l) s ≡ spread_of i s
+spread_in : (e : Drafted) (s : ℕ) → spread_of (instance_of e) s ≡ spread_of e.origin s
 unfolding with_processes spread_of service_row
-spread_in i l s = refl
+spread_in e s = refl
 
-pub capacity_over : (i : Tables) (l : Lists) (m r used cap : ℕ) → used ≡ use_of (tables_with i l) l.current.items m r →
-    cap ≡ capacity_of i m r → cap < used → Some (Capacity (record { 0 = m }) (record { 0 = r }) used cap) ≡
-    capacity_test (tables_with i l) l.current.items m r
+pub capacity_over : (e : Drafted) (m r used cap : ℕ) → used ≡ use_of (instance_of e) e.current m r →
+    cap ≡ capacity_of e.origin m r → cap < used → Some (Capacity (record { 0 = m }) (record { 0 = r }) used cap) ≡
+    capacity_test (instance_of e) e.current m r
 unfolding capacity_test
-capacity_over i l m r used cap use_is cap_is over = let c : cap ≡ capacity_of (tables_with i l) m r = cap_is
-    ∙ sym (capacity_in i l m r) in rw (← use_is, ← c) (failed_if _ _ (lt-ltb cap used over))
+capacity_over e m r used cap use_is cap_is over = let c : cap ≡ capacity_of (instance_of e) m r = cap_is
+    ∙ sym (capacity_in e m r) in rw (← use_is, ← c) (failed_if _ _ (lt-ltb cap used over))
 
-pub capacity_within : (i : Tables) (l : Lists) (m r used cap : ℕ) →
-    used ≡ use_of (tables_with i l) l.current.items m r → cap ≡ capacity_of i m r → used ≤ cap →
-    None ≡ capacity_test (tables_with i l) l.current.items m r
+pub capacity_within : (e : Drafted) (m r used cap : ℕ) → used ≡ use_of (instance_of e) e.current m r →
+    cap ≡ capacity_of e.origin m r → used ≤ cap → None ≡ capacity_test (instance_of e) e.current m r
 unfolding capacity_test
-capacity_within i l m r used cap use_is cap_is within = let c : cap ≡ capacity_of (tables_with i l) m r = cap_is
-    ∙ sym (capacity_in i l m r) in rw (← use_is, ← c) (held_if _ _ (le-ltb cap used within))
+capacity_within e m r used cap use_is cap_is within = let c : cap ≡ capacity_of (instance_of e) m r = cap_is
+    ∙ sym (capacity_in e m r) in rw (← use_is, ← c) (held_if _ _ (le-ltb cap used within))
 
-pub transient_over : (i : Tables) (l : Lists) (m r used cap : ℕ) →
-    used ≡ transient_of (tables_with i l) l.initial.items l.current.items m r → cap ≡ capacity_of i m r →
-    transient_at i r ≡ true → cap < used → Some (Transient (record { 0 = m }) (record { 0 = r }) used cap) ≡
-    transient_test (tables_with i l) l.initial.items l.current.items m r
+pub transient_over : (e : Drafted) (m r used cap : ℕ) → used ≡ transient_of (instance_of e) e.initial e.current m r →
+    cap ≡ capacity_of e.origin m r → transient_at e.origin r ≡ true → cap < used →
+    Some (Transient (record { 0 = m }) (record { 0 = r }) used cap) ≡ transient_test (instance_of e) e.initial e.current
+    m r
 unfolding transient_test
-transient_over i l m r used cap use_is cap_is twice over = let c : cap ≡ capacity_of (tables_with i l) m r = cap_is
-    ∙ sym (capacity_in i l m r) in
-    rw (← use_is, ← c) (failed_if _ _ (and_from _ _ (transient_in i l r ∙ twice) (lt-ltb cap used over)))
+transient_over e m r used cap use_is cap_is twice over = let c : cap ≡ capacity_of (instance_of e) m r = cap_is
+    ∙ sym (capacity_in e m r) in
+    rw (← use_is, ← c) (failed_if _ _ (and_from _ _ (transient_in e r ∙ twice) (lt-ltb cap used over)))
 
-pub transient_within : (i : Tables) (l : Lists) (m r used cap : ℕ) →
-    used ≡ transient_of (tables_with i l) l.initial.items l.current.items m r → cap ≡ capacity_of i m r → used ≤ cap →
-    None ≡ transient_test (tables_with i l) l.initial.items l.current.items m r
+pub transient_within : (e : Drafted) (m r used cap : ℕ) → used ≡ transient_of (instance_of e) e.initial e.current m r →
+    cap ≡ capacity_of e.origin m r → used ≤ cap → None ≡ transient_test (instance_of e) e.initial e.current m r
 unfolding transient_test
-transient_within i l m r used cap use_is cap_is within = let c : cap ≡ capacity_of (tables_with i l) m r = cap_is
-    ∙ sym (capacity_in i l m r) in rw (← use_is, ← c) (held_if _ _ (and_right _ _ (le-ltb cap used within)))
+transient_within e m r used cap use_is cap_is within = let c : cap ≡ capacity_of (instance_of e) m r = cap_is
+    ∙ sym (capacity_in e m r) in rw (← use_is, ← c) (held_if _ _ (and_right _ _ (le-ltb cap used within)))
 
-pub transient_once : (i : Tables) (l : Lists) (m r : ℕ) → transient_at i r ≡ false →
-    None ≡ transient_test (tables_with i l) l.initial.items l.current.items m r
+pub transient_once : (e : Drafted) (m r : ℕ) → transient_at e.origin r ≡ false →
+    None ≡ transient_test (instance_of e) e.initial e.current m r
 unfolding transient_test
-transient_once i l m r once = held_if _ _ (and_left _ _ (transient_in i l r ∙ once))
+transient_once e m r once = held_if _ _ (and_left _ _ (transient_in e r ∙ once))
 
-pub conflict_some : (i : Tables) (l : Lists) (s m n : ℕ) → n ≡ on_machine (tables_with i l) l.current.items s m →
-    1 < n → Some (Conflict (record { 0 = s }) (record { 0 = m })) ≡ conflict_test (tables_with i l) l.current.items s m
+pub conflict_some : (e : Drafted) (s m n : ℕ) → n ≡ on_machine (instance_of e) e.current s m → 1 < n →
+    Some (Conflict (record { 0 = s }) (record { 0 = m })) ≡ conflict_test (instance_of e) e.current s m
 unfolding conflict_test
-conflict_some i l s m n count more = rw (← count) (failed_if _ _ (lt-ltb 1 n more))
+conflict_some e s m n count more = rw (← count) (failed_if _ _ (lt-ltb 1 n more))
 
-pub conflict_none : (i : Tables) (l : Lists) (s m n : ℕ) → n ≡ on_machine (tables_with i l) l.current.items s m →
-    n ≤ 1 → None ≡ conflict_test (tables_with i l) l.current.items s m
+pub conflict_none : (e : Drafted) (s m n : ℕ) → n ≡ on_machine (instance_of e) e.current s m → n ≤ 1 →
+    None ≡ conflict_test (instance_of e) e.current s m
 unfolding conflict_test
-conflict_none i l s m n count few = rw (← count) (held_if _ _ (le-ltb 1 n few))
+conflict_none e s m n count few = rw (← count) (held_if _ _ (le-ltb 1 n few))
 
-pub spread_few : (i : Tables) (l : Lists) (s has wants : ℕ) → has ≡ locations_of (tables_with i l) l.current.items s →
-    wants ≡ spread_of i s → has < wants → Some (Spread (record { 0 = s }) has wants) ≡ spread_test (tables_with i l)
-    l.current.items s
+pub spread_few : (e : Drafted) (s has wants : ℕ) → has ≡ locations_of (instance_of e) e.current s →
+    wants ≡ spread_of e.origin s → has < wants → Some (Spread (record { 0 = s }) has wants) ≡
+    spread_test (instance_of e) e.current s
 unfolding spread_test
-spread_few i l s has wants has_is wants_is fewer = let c : wants ≡ spread_of (tables_with i l) s = wants_is
-    ∙ sym (spread_in i l s) in rw (← has_is, ← c) (failed_if _ _ (lt-ltb has wants fewer))
+spread_few e s has wants has_is wants_is fewer = let c : wants ≡ spread_of (instance_of e) s = wants_is
+    ∙ sym (spread_in e s) in rw (← has_is, ← c) (failed_if _ _ (lt-ltb has wants fewer))
 
-pub spread_enough : (i : Tables) (l : Lists) (s has wants : ℕ) →
-    has ≡ locations_of (tables_with i l) l.current.items s → wants ≡ spread_of i s → wants ≤ has →
-    None ≡ spread_test (tables_with i l) l.current.items s
+pub spread_enough : (e : Drafted) (s has wants : ℕ) → has ≡ locations_of (instance_of e) e.current s →
+    wants ≡ spread_of e.origin s → wants ≤ has → None ≡ spread_test (instance_of e) e.current s
 unfolding spread_test
-spread_enough i l s has wants has_is wants_is enough = let c : wants ≡ spread_of (tables_with i l) s = wants_is
-    ∙ sym (spread_in i l s) in rw (← has_is, ← c) (held_if _ _ (le-ltb has wants enough))
+spread_enough e s has wants has_is wants_is enough = let c : wants ≡ spread_of (instance_of e) s = wants_is
+    ∙ sym (spread_in e s) in rw (← has_is, ← c) (held_if _ _ (le-ltb has wants enough))
 
-pub need_far : (i : Tables) (l : Lists) (s label k need n : ℕ) → need ≡ need_of (tables_with i l) s k →
-    n ≡ in_neighbourhood (tables_with i l) l.current.items need label → n ≡ 0 →
-    Some (Dependency (record { 0 = s }) (record { 0 = need }) label) ≡ far_from (tables_with i l) l.current.items s
-    label k
+pub need_far : (e : Drafted) (s label k need n : ℕ) → need ≡ need_of (instance_of e) s k →
+    n ≡ in_neighbourhood (instance_of e) e.current need label → n ≡ 0 →
+    Some (Dependency (record { 0 = s }) (record { 0 = need }) label) ≡ far_from (instance_of e) e.current s label k
 unfolding far_from
-need_far i l s label k need n need_is count none = rw (← need_is, ← count) (failed_if _ _ (eq-eqb n 0 none))
+need_far e s label k need n need_is count none = rw (← need_is, ← count) (failed_if _ _ (eq-eqb n 0 none))
 
-pub need_near : (i : Tables) (l : Lists) (s label k need n : ℕ) → need ≡ need_of (tables_with i l) s k →
-    n ≡ in_neighbourhood (tables_with i l) l.current.items need label → n ≢ 0 →
-    None ≡ far_from (tables_with i l) l.current.items s label k
+pub need_near : (e : Drafted) (s label k need n : ℕ) → need ≡ need_of (instance_of e) s k →
+    n ≡ in_neighbourhood (instance_of e) e.current need label → n ≢ 0 →
+    None ≡ far_from (instance_of e) e.current s label k
 unfolding far_from
-need_near i l s label k need n need_is count some = rw (← need_is, ← count) (held_if _ _ (ne_eqb n 0 some))
+need_near e s label k need n need_is count some = rw (← need_is, ← count) (held_if _ _ (ne_eqb n 0 some))
 
-pub left_some : (i : Tables) (l : Lists) (s label u n : ℕ) →
-    in_neighbourhood (tables_with i l) l.current.items s label ≡ 0 →
-    n ≡ in_neighbourhood (tables_with i l) l.current.items u label → 0 < n →
-    Some (Dependency (record { 0 = u }) (record { 0 = s }) label) ≡ left_alone (tables_with i l) l.current.items s label
-    u
+pub left_some : (e : Drafted) (s label u n : ℕ) → in_neighbourhood (instance_of e) e.current s label ≡ 0 →
+    n ≡ in_neighbourhood (instance_of e) e.current u label → 0 < n →
+    Some (Dependency (record { 0 = u }) (record { 0 = s }) label) ≡ left_alone (instance_of e) e.current s label u
 unfolding left_alone
-left_some i l s label u n gone count some =
+left_some e s label u n gone count some =
     rw (← count) (failed_if _ _ (and_from _ _ (eq-eqb _ 0 gone) (lt-ltb 0 n some)))
 
-pub left_none : (i : Tables) (l : Lists) (s label u n : ℕ) →
-    n ≡ in_neighbourhood (tables_with i l) l.current.items u label → n ≤ 0 →
-    None ≡ left_alone (tables_with i l) l.current.items s label u
+pub left_none : (e : Drafted) (s label u n : ℕ) → n ≡ in_neighbourhood (instance_of e) e.current u label → n ≤ 0 →
+    None ≡ left_alone (instance_of e) e.current s label u
 unfolding left_alone
-left_none i l s label u n count none = rw (← count) (held_if _ _ (and_right _ _ (le-ltb 0 n none)))
+left_none e s label u n count none = rw (← count) (held_if _ _ (and_right _ _ (le-ltb 0 n none)))
 
-pub left_near : (i : Tables) (l : Lists) (s label u : ℕ) →
-    0 < in_neighbourhood (tables_with i l) l.current.items s label →
-    None ≡ left_alone (tables_with i l) l.current.items s label u
+pub left_near : (e : Drafted) (s label u : ℕ) → 0 < in_neighbourhood (instance_of e) e.current s label →
+    None ≡ left_alone (instance_of e) e.current s label u
 unfolding left_alone
-left_near i l s label u some =
+left_near e s label u some =
     held_if _ _ (and_left _ _
-    (ne_eqb (in_neighbourhood (tables_with i l) l.current.items s label) 0 (λ none. omega (arith, none, some))))
-
-pub ruleset capacities = (capacity_over, capacity_within)
-
-pub ruleset transients = (transient_over, transient_within, transient_once)
+    (ne_eqb (in_neighbourhood (instance_of e) e.current s label) 0 (λ none. omega (arith, none, some))))
 
 pub ruleset conflicts = (conflict_some, conflict_none)
 
@@ -149,35 +135,35 @@ pub ruleset needs = (need_far, need_near)
 
 pub ruleset lefts = (left_some, left_none)
 
-pub resources_in : (i : Tables) (l : Lists) → resource_count (tables_with i l) ≡ resource_count i
+pub resources_of : (e : Drafted) → resource_count (instance_of e) ≡ resource_count e.origin
 unfolding with_processes resource_count
-resources_in i l = refl
+resources_of e = refl
 
-pub dependencies_in : (i : Tables) (l : Lists) (s : ℕ) → dependency_count (tables_with i l) s ≡ dependency_count i s
+pub dependencies_in : (e : Drafted) (s : ℕ) → dependency_count (instance_of e) s ≡ dependency_count e.origin s
 unfolding with_processes dependency_count dependency_end dependency_start service_row
-dependencies_in i l zero = refl
-dependencies_in i l (suc s) = refl
+dependencies_in e zero = refl
+dependencies_in e (suc s) = refl
 
-pub label_in : (i : Tables) (l : Lists) (m : ℕ) → neighbourhood_of (tables_with i l) m ≡ neighbourhood_of i m
+pub label_in : (e : Drafted) (m : ℕ) → neighbourhood_of (instance_of e) m ≡ neighbourhood_of e.origin m
 unfolding with_processes neighbourhood_of machine_row
-label_in i l m = refl
+label_in e m = refl
 
-pub need_same : (i : Tables) (l : Lists) (s k : ℕ) → need_of (tables_with i l) s k ≡ need_of i s k
+pub need_same : (e : Drafted) (s k : ℕ) → need_of (instance_of e) s k ≡ need_of e.origin s k
 unfolding with_processes need_of need_at dependency_start dependency_end service_row
-need_same i l zero k = refl
-need_same i l (suc s) k = refl
+need_same e zero k = refl
+need_same e (suc s) k = refl
 
-pub processes_in : (i : Tables) (l : Lists) → process_count (tables_with i l) ≡ length l.rows.items
+pub processes_in : (e : Drafted) → process_count (instance_of e) ≡ length e.rows
 unfolding with_processes process_count
-processes_in i l = refl
+processes_in e = refl
 
-pub services_in : (i : Tables) (l : Lists) → service_count (tables_with i l) ≡ service_count i
+pub services_in : (e : Drafted) → service_count (instance_of e) ≡ service_count e.origin
 unfolding with_processes service_count
-services_in i l = refl
+services_in e = refl
 
-pub service_weight_in : (i : Tables) (l : Lists) → service_weight_of (tables_with i l) ≡ service_weight_of i
+pub service_weight_in : (e : Drafted) → service_weight_of (instance_of e) ≡ service_weight_of e.origin
 unfolding with_processes service_weight_of
-service_weight_in i l = refl
+service_weight_in e = refl
 
 -- who depends on whom
 
@@ -187,50 +173,73 @@ pub need_read : (i : Tables) (s k : ℕ) (needs : List Service) →
 need_read i s k needs each long within x read =
     sym (ap (λ (v : Service). v.0) (get_or_read needs k x within read (record { 0 = 0 })) ∙ each k (omega arith))
 
-pub depends_in : (i : Tables) (l : Lists) (s u : ℕ) → depends (tables_with i l) s u ≡ depends i s u
+pub depends_in : (e : Drafted) (s u : ℕ) → depends (instance_of e) s u ≡ depends e.origin s u
 unfolding with_processes depends dependency_count dependency_end dependency_start need_of need_at service_row
-depends_in i l zero u = refl
-depends_in i l (suc s) u = refl
+depends_in e zero u = refl
+depends_in e (suc s) u = refl
 
-pub left_depends : (i : Tables) (l : Lists) (s label u : ℕ) (x : Option Cause) → depends i u s ≡ true →
-    x ≡ left_alone (tables_with i l) l.current.items s label u → x ≡ left_by (tables_with i l) l.current.items s label u
+pub left_depends : (e : Drafted) (s label u : ℕ) (x : Option Cause) → depends e.origin u s ≡ true →
+    x ≡ left_alone (instance_of e) e.current s label u → x ≡ left_by (instance_of e) e.current s label u
 unfolding left_by
-left_depends i l s label u x needs is =
-    is ∙ sym (cond-true _ (left_alone (tables_with i l) l.current.items s label u) None (depends_in i l u s ∙ needs))
+left_depends e s label u x needs is =
+    is ∙ sym (cond-true _ (left_alone (instance_of e) e.current s label u) None (depends_in e u s ∙ needs))
 
-pub left_free : (i : Tables) (l : Lists) (s label u : ℕ) → depends i u s ≡ false →
-    None ≡ left_by (tables_with i l) l.current.items s label u
+pub left_free : (e : Drafted) (s label u : ℕ) → depends e.origin u s ≡ false →
+    None ≡ left_by (instance_of e) e.current s label u
 unfolding left_by
-left_free i l s label u needs =
-    sym (cond-false _ (left_alone (tables_with i l) l.current.items s label u) None (depends_in i l u s ∙ needs))
+left_free e s label u needs =
+    sym (cond-false _ (left_alone (instance_of e) e.current s label u) None (depends_in e u s ∙ needs))
 
 either_none : {X : Type 0} → (b : Bool) (x : Option X) → x ≡ None → cond b x None ≡ None
 either_none true x none = none
 either_none false x none = refl
 
 -- no service is left alone while one of its processes is near
-pub none_left : (i : Tables) (l : Lists) (s label n : ℕ) →
-    0 < in_neighbourhood (tables_with i l) l.current.items s label →
-    None ≡ first n (left_by (tables_with i l) l.current.items s label)
+pub none_left : (e : Drafted) (s label n : ℕ) → 0 < in_neighbourhood (instance_of e) e.current s label →
+    None ≡ first n (left_by (instance_of e) e.current s label)
 unfolding left_by
-none_left i l s label n some =
+none_left e s label n some =
     sym (first_none_from n _
-    (λ u within. either_none (depends (tables_with i l) u s) _ (sym (left_near i l s label u some))))
+    (λ u within. either_none (depends (instance_of e) u s) _ (sym (left_near e s label u some))))
 
 -- two machines in the order of their numbers
 
-pub resized_up : (i : Tables) (l : Lists) (home here : ℕ) (x : Option Cause) →
-    row_capacity (tables_with i l) l.current.items here ≡ None → home < here →
-    x ≡ or_else (row_transient (tables_with i l) l.initial.items l.current.items home)
-    (row_transient (tables_with i l) l.initial.items l.current.items here) →
-    x ≡ resized_breaks (tables_with i l) l.initial.items l.current.items home here
+pub resized_up : (e : Drafted) (home here : ℕ) (x : Option Cause) → row_capacity (instance_of e) e.current here ≡ None →
+    home < here → x ≡ or_else (row_transient (instance_of e) e.initial e.current home)
+    (row_transient (instance_of e) e.initial e.current here) →
+    x ≡ resized_breaks (instance_of e) e.initial e.current home here
 unfolding resized_breaks first_of_two
-resized_up i l home here x none up is = is ∙ sym (rw (none, lt-ltb home here up, or_else_none) refl)
+resized_up e home here x none up is = is ∙ sym (rw (none, lt-ltb home here up, or_else_none) refl)
 
-pub resized_down : (i : Tables) (l : Lists) (home here : ℕ) (x : Option Cause) →
-    row_capacity (tables_with i l) l.current.items here ≡ None → here ≤ home →
-    x ≡ or_else (row_transient (tables_with i l) l.initial.items l.current.items here)
-    (row_transient (tables_with i l) l.initial.items l.current.items home) →
-    x ≡ resized_breaks (tables_with i l) l.initial.items l.current.items home here
+pub resized_down : (e : Drafted) (home here : ℕ) (x : Option Cause) → row_capacity (instance_of e) e.current here ≡
+    None → here ≤ home → x ≡ or_else (row_transient (instance_of e) e.initial e.current here)
+    (row_transient (instance_of e) e.initial e.current home) →
+    x ≡ resized_breaks (instance_of e) e.initial e.current home here
 unfolding resized_breaks first_of_two
-resized_down i l home here x none down is = is ∙ sym (rw (none, le-ltb home here down, or_else_none) refl)
+resized_down e home here x none down is = is ∙ sym (rw (none, le-ltb home here down, or_else_none) refl)
+
+-- what is found first, or behind what isn't there
+
+pub found_first : {X : Type 0} → (a b : Option X) (x : X) → a ≡ Some x → Some x ≡ or_else a b
+unfolding or_else
+found_first a b x is = rw is refl
+
+pub found_later : {X : Type 0} → (a b y : Option X) → a ≡ None → y ≡ b → y ≡ or_else a b
+unfolding or_else
+found_later a b y none is = rw none is
+
+-- numbers of an instance with the same other lists
+
+pub dependencies_from : (e : Drafted) (i : Tables) (s : ℕ) → e.origin ≡ i → dependency_count (instance_of e) s ≡
+    dependency_count i s
+dependencies_from e i s same = dependencies_in e s ∙ ap (λ (j : Tables). dependency_count j s) same
+
+pub label_from : (e : Drafted) (i : Tables) (m : ℕ) → e.origin ≡ i → neighbourhood_of (instance_of e) m ≡
+    neighbourhood_of i m
+label_from e i m same = label_in e m ∙ ap (λ (j : Tables). neighbourhood_of j m) same
+
+pub need_from : (e : Drafted) (i : Tables) (s k : ℕ) → e.origin ≡ i → need_of (instance_of e) s k ≡ need_of i s k
+need_from e i s k same = need_same e s k ∙ ap (λ (j : Tables). need_of j s k) same
+
+pub services_from : (e : Drafted) (i : Tables) → e.origin ≡ i → service_count (instance_of e) ≡ service_count i
+services_from e i same = services_in e ∙ ap service_count same

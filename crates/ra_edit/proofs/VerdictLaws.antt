@@ -3,6 +3,8 @@ use Rattle.std.proofs.Common.{◌≡◌, ℕ, ◌+◌, ◌-◌, ◌*◌, ◌^◌
 use Rattle.std.proofs.Common.{◌++◌, length, get_or, None, refl, sym, ap, ◌∙◌, subst, arith, eq-eqb}
 use Rattle.std.proofs.lemmas.Nat.{mul-lt}
 use Rattle.ra_base.specs.Sums.{greatest, one_if}
+use Rattle.ra_base.proofs.Tables.{cell_is}
+use Rattle.std.proofs.lemmas.List.{get_or-append-add}
 use Rattle.ra_base.specs.declared.costs.Parts.{Parts}
 use Rattle.std.proofs.Math.Seq.{get_or-append_seam}
 use Rattle.ra_base.specs.declared.ids.Machine.{Machine}
@@ -26,9 +28,9 @@ use Rattle.ra_edit_read.specs.declared.edits.Edit.TheVariants.{Add, Retire, Resi
 use Rattle.ra_edit_read.specs.EditLists.{FitsInstance}
 use Rattle.ra_edit.specs.declared.costs.MachineCosts.{MachineCosts}
 use Rattle.ra_edit.specs.Drafts.{Drafted, with_processes, instance_of}
-use Rattle.ra_edit.specs.Editing.{process_of, added, retired, resized, edited}
+use Rattle.ra_edit.specs.Editing.{process_of, put_row, added, retired, resized, edited}
 use Rattle.ra_edit.specs.OneMore.{OneMore}
-use Rattle.ra_edit.specs.Kinds.{HasCome, HasGone, HasOther, IsEdited}
+use Rattle.ra_edit.specs.Kinds.{HasCome, HasGone, HasOther, Asks, IsEdited}
 use Rattle.ra_edit.specs.MachineCosts.{AreCostsOn}
 use Rattle.ra_edit.specs.Touched.{added_breaks, retired_breaks, resized_breaks}
 use Rattle.ra_edit.specs.Replies.{barred, broken_in}
@@ -37,7 +39,7 @@ use Rattle.ra_edit.proofs.ShareLaws.{load_more, balance_more, process_more, way_
 use Rattle.ra_edit.proofs.ShareLaws.{balance_term}
 use Rattle.ra_edit.proofs.BrokenLaws.{added_law, retired_law, resized_law}
 use Rattle.ra_edit.proofs.SoundLaws.{few_of, free_retire, free_resize}
-use Rattle.ra_edit.proofs.OneMoreLaws.{more_joined, more_retired, put_cell_other}
+use Rattle.ra_edit.proofs.OneMoreLaws.{more_joined, more_retired, requirement_read, put_cell_here, put_cell_other}
 
 -- a process has come
 
@@ -67,7 +69,7 @@ has_come d e s m c requirements sound s_in m_in same =
       machine_in = m_in;
     })
 
-has_gone : (d e : Drafted) (p : ℕ) → IsSound d → p < length d.rows → e ≡ retired d p → HasGone d e p
+pub has_gone : (d e : Drafted) (p : ℕ) → IsSound d → p < length d.rows → e ≡ retired d p → HasGone d e p
 has_gone d e p sound within same =
     let few = few_of d sound in
     subst (λ (f : Drafted). HasGone d f p) (sym same) (record {
@@ -93,16 +95,51 @@ has_other d e p requirements sound within width same =
       current = refl;
     })
 
+-- what it requires
+
+come_asks : (d : Drafted) (s : Service) (m : Machine) (c : ℕ) (requirements : List ℕ) → IsSound d →
+    length requirements ≡ resource_count d.origin → Asks (added d s m c requirements) (length d.rows) requirements
+unfolding added
+come_asks d s m c requirements sound width =
+    let few = few_of d sound in
+    let w = resource_count d.origin in
+    record {
+      one_each = width;
+      each = λ r column.
+          sym (requirement_read d.origin (d.rows ++ process_of s c ∷ []) (d.requirements ++ requirements)
+          (length d.rows) r ∙ cell_is w (d.requirements ++ requirements) (length d.rows) r
+          ∙ ap (λ k. get_or (d.requirements ++ requirements) (k + r) 0) (sym few.table)
+          ∙ get_or-append-add d.requirements requirements r 0);
+    }
+
+other_asks : (d : Drafted) (p : ℕ) (requirements : List ℕ) → IsSound d → p < length d.rows →
+    length requirements ≡ resource_count d.origin → Asks (resized d p requirements) p requirements
+unfolding resized
+other_asks d p requirements sound within width =
+    let few = few_of d sound in
+    let w = resource_count d.origin in
+    record {
+      one_each = width;
+      each = λ r column. sym (requirement_read d.origin d.rows (put_row w d.requirements p requirements) p r
+          ∙ put_cell_here w (length d.rows) p r d.requirements requirements few.table within width column);
+    }
+
 pub edited_is : (d e : Drafted) (edit : Edit) (requirements : List ℕ) → IsSound d → barred (length d.rows) edit ≡ None →
     FitsInstance d.origin edit → length requirements ≡ resource_count d.origin → e ≡ edited d edit requirements →
-    IsEdited d edit e
+    IsEdited d edit requirements e
 unfolding edited
-edited_is d e (Add s m c) requirements sound free fits width same =
-    has_come d e s m c requirements sound fits.0 fits.1 same
+edited_is d e (Add s m c) requirements sound free fits width same = (
+  has_come d e s m c requirements sound fits.0 fits.1 same,
+  subst (λ (f : Drafted). Asks f (length d.rows) requirements) (sym same)
+      (come_asks d s m c requirements sound width),
+)
 edited_is d e (Retire p) requirements sound free fits width same =
     has_gone d e p sound (free_retire (length d.rows) p free).0 same
-edited_is d e (Resize p) requirements sound free fits width same =
-    has_other d e p requirements sound (free_resize (length d.rows) p free) width same
+edited_is d e (Resize p) requirements sound free fits width same = (
+  has_other d e p requirements sound (free_resize (length d.rows) p free) width same,
+  subst (λ (f : Drafted). Asks f p requirements) (sym same)
+      (other_asks d p requirements sound (free_resize (length d.rows) p free) width),
+)
 
 -- what is broken
 

@@ -11,4 +11,4 @@ pub mod MachineCosts
 pub mod Locality
 pub mod Kinds
 pub mod Leaving
-pub mod Rows
+pub mod Loads

@@ -1,17 +1,19 @@
 //! What the lists cost after an edit, by what it touches.
-ghost use Rattle.std.specs.Prelude.{◌≡◌, ◌+◌, ◌*◌, ◌^◌, ◌<◌, ◌≤◌, length, IfOk};
+ghost use Rattle.std.specs.Prelude.{◌≡◌, ◌+◌, ◌*◌, ◌^◌, ◌<◌, ◌≤◌, length};
 ghost use Rattle.ra_model.specs.Assignments.{machine_at};
 ghost use Rattle.ra_model.specs.Costs.{process_share};
-ghost use Rattle.ra_model.specs.Numbers.{machine_count, way_cost_of, process_weight_of, machine_weight_of};
-ghost use Rattle.ra_edit.specs.Keeping.{drafted, tables_with, IsSound};
-ghost use Rattle.ra_edit.specs.MachineCosts.{AreCostsOn};
+ghost use Rattle.ra_model.specs.Numbers.{resource_count, machine_count, way_cost_of, process_weight_of, machine_weight_of};
+ghost use Rattle.ra_edit.specs.Drafts.{Drafted};
+ghost use Rattle.ra_edit.specs.Loads.{AreLoadsOf, IsUseRow};
+ghost use Rattle.ra_edit.specs.Keeping.{drafted, tables_with, IsKept, IsSound};
+ghost use Rattle.ra_edit.specs.MachineCosts.{AreCostsOn, AreCostsWith};
 
 use crate::lists::Lists;
-use crate::rows::use_row;
-use ra_base::{Machine, NoMemory, Parts, Process};
+use crate::loads::Loads;
+use crate::scanning::small;
+use ra_base::{Machine, Parts, Process};
 use ra_model::{Instance, machine_of};
 use ra_world::{row_balance, row_load};
-use std::alloc::Global;
 
 /// The load cost and the balance cost of a machine.
 #[derive(Clone, Copy)]
@@ -20,22 +22,46 @@ pub(crate) struct MachineCosts {
     pub(crate) balance: u128,
 }
 
-/// What a machine costs.
-pub(crate) fn costs_on(
-    alloc: Global,
+/// What a machine costs of which this much is used.
+fn costs_on(inst: &Instance, m: Machine, row: &[u64]) -> MachineCosts
+    requires machine { m.0 < machine_count inst.now.tables }
+    requires one_each { length row.now ≡ resource_count inst.now.tables }
+    ensures costs { (e : Drafted) → e.origin ≡ inst.now.tables → IsUseRow e m.0 row.now →
+        AreCostsOn e m.0 result }
+    ensures load_small { result.load ≤ 20 * 2 ^ 96 }
+    ensures balance_small { result.balance ≤ 10 * 2 ^ 96 }
+{
+    MachineCosts {
+        load: row_load(inst, m, row),
+        balance: row_balance(inst, m, row),
+    }
+}
+
+/// The load cost and the balance cost of all machines, if this much of one machine is used instead.
+pub(crate) fn costs_with(
     inst: &Instance,
     lists: &Lists,
+    loads: &Loads,
+    cost: Parts,
     m: Machine,
-) -> Result<MachineCosts, NoMemory>
-    requires sound { IsSound (drafted inst.now.tables lists.now) }
+    row: &[u64],
+) -> MachineCosts
+    requires kept { IsKept (drafted inst.now.tables lists.now) cost }
+    requires loads { AreLoadsOf (drafted inst.now.tables lists.now) loads.now }
     requires machine { m.0 < machine_count inst.now.tables }
-    ensures { IfOk result (AreCostsOn (drafted inst.now.tables lists.now) m.0) }
+    requires one_each { length row.now ≡ resource_count inst.now.tables }
+    ensures costs { (e : Drafted) → e.origin ≡ inst.now.tables → IsUseRow e m.0 row.now →
+        AreCostsWith (drafted inst.now.tables lists.now) e m.0 cost result }
+    ensures load_small { result.load < 2 ^ 120 }
+    ensures balance_small { result.balance < 2 ^ 120 }
 {
-    let row = use_row(alloc, inst, lists, m)?;
-    Ok(MachineCosts {
-        load: row_load(inst, m, row.as_slice()),
-        balance: row_balance(inst, m, row.as_slice()),
-    })
+    small(inst, lists);
+    let before = costs_on(inst, m, loads.use_row(inst, m));
+    let after = costs_on(inst, m, row);
+    MachineCosts {
+        load: replaced(cost.load, before.load, after.load),
+        balance: replaced(cost.balance, before.balance, after.balance),
+    }
 }
 
 /// What a process adds to the process cost.
@@ -66,7 +92,7 @@ pub(crate) fn way_share(inst: &Instance, lists: &Lists, p: Process) -> u128
 }
 
 /// A sum in which one term is replaced.
-pub(crate) fn replaced(sum: u128, before: u128, after: u128) -> u128
+fn replaced(sum: u128, before: u128, after: u128) -> u128
     requires counted { before ≤ sum }
     requires fits { sum + after < 2 ^ 128 }
     ensures { result + before ≡ sum + after }

@@ -14,6 +14,7 @@ ghost use Rattle.ra_edit.specs.SameLists.{AreSameLists};
 use crate::building::build;
 use crate::edited::{Edited, Left};
 use crate::lists::Lists;
+use crate::loads::Loads;
 use crate::replies::EditReply;
 use crate::scanning::small;
 use crate::verdicts::{Judged, judge};
@@ -33,18 +34,20 @@ const MOST_PROCESSES: usize = 50_000;
 pub struct Draft<'a> {
     inst: &'a Instance,
     lists: Lists,
+    loads: Loads,
     parts: Parts,
 }
 
 impl<'a> Model for Draft<'a> {
     ghost use Rattle.ra_edit.specs.Drafts.{Drafted};
-    ghost use Rattle.ra_edit.specs.Keeping.{IsKept, drafted};
+    ghost use Rattle.ra_edit.specs.Keeping.{drafted};
+    ghost use Rattle.ra_edit.specs.Loads.{IsHeld};
 
     ghost Value = { Drafted };
 
     ghost view = { λ d. drafted d.inst.now.tables d.lists };
 
-    ghost invariant = { λ d. IsKept (drafted d.inst.now.tables d.lists) d.parts };
+    ghost invariant = { λ d. IsHeld (drafted d.inst.now.tables d.lists) d.loads d.parts };
 }
 
 impl<'a> Draft<'a> {
@@ -65,9 +68,11 @@ impl<'a> Draft<'a> {
         ensures { IfOk result (λ d. d ≡ draft_of inst.now.tables a0.now.items a.now.items) }
     {
         let lists = Lists::of(alloc, inst, a0, a)?;
+        let loads = Loads::of(alloc, inst, &lists)?;
         Ok(Draft {
             inst,
             lists,
+            loads,
             parts: start,
         })
     }
@@ -89,12 +94,20 @@ impl<'a> Draft<'a> {
         if let Some(reply) = barred(&self.lists, edit) {
             return Ok(reply);
         }
-        let next = self
-            .lists
-            .edited(alloc, self.inst, edit, edits.requirements_of(i))?;
-        match judge(alloc, self.inst, &self.lists, self.parts, &next, edit)? {
+        let asked = edits.requirements_of(i);
+        match judge(
+            alloc,
+            self.inst,
+            &self.lists,
+            &self.loads,
+            self.parts,
+            edit,
+            asked,
+        )? {
             Judged::Refused(cause) => Ok(EditReply::Broken { cause }),
             Judged::Fine(parts) => {
+                let next = self.lists.edited(alloc, self.inst, edit, asked)?;
+                self.loads.follow(self.inst, &self.lists, edit, asked);
                 self.lists = next;
                 self.parts = parts;
                 Ok(EditReply::Done { cost: parts.total })
@@ -129,6 +142,7 @@ impl<'a> Draft<'a> {
         let Draft {
             inst,
             lists,
+            loads: _,
             parts: _,
         } = self;
         small(inst, &lists);
@@ -157,6 +171,7 @@ impl<'a> Draft<'a> {
         let Draft {
             inst,
             lists,
+            loads: _,
             parts: _,
         } = self;
         small(inst, &lists);

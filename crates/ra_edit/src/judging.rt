@@ -1,148 +1,154 @@
 //! What an edit breaks, found where it can break something.
-ghost use Rattle.std.specs.Prelude.{◌≡◌, ℕ, ◌<◌, IfOk};
+ghost use Rattle.std.specs.Prelude.{◌≡◌, ℕ, ◌<◌, true, length, IfOk};
 ghost use Rattle.ra_base.specs.Searches.{or_else, first};
-ghost use Rattle.ra_model.specs.Numbers.{resource_count, machine_count, service_count, dependency_count, need_of, neighbourhood_of};
+ghost use Rattle.ra_model.specs.Numbers.{resource_count, machine_count, service_count, dependency_count, need_of, neighbourhood_of, service_of, transient_at};
 ghost use Rattle.ra_model.specs.Broken.{capacity_test, row_capacity, transient_test, row_transient, conflict_test, spread_test};
 ghost use Rattle.ra_model.specs.Relations.{depends};
 ghost use Rattle.ra_model.specs.Usage.{use_of, transient_of};
-ghost use Rattle.ra_model.specs.Services.{in_neighbourhood};
+ghost use Rattle.ra_model.specs.Assignments.{machine_at};
+ghost use Rattle.ra_model.specs.Services.{locations_of};
 ghost use Rattle.ra_edit.specs.Keeping.{drafted, tables_with, IsSound};
-ghost use Rattle.ra_edit.specs.declared.lists.Lists.{Lists};
+ghost use Rattle.ra_edit.specs.Drafts.{Drafted, instance_of};
+ghost use Rattle.ra_edit.specs.Kinds.{HasCome, HasGone, IsLeft};
+ghost use Rattle.ra_edit.specs.Loads.{IsUseRow, IsTransientRow};
 ghost use Rattle.ra_edit.specs.Touched.{far_from, added_breaks, left_alone, left_by, retired_breaks, resized_breaks};
 
 use crate::lists::Lists;
 use crate::locations::locations;
-use crate::rows::{transient_row, use_row};
 use crate::scanning::{Spot, members};
-use ra_base::{Cause, Machine, NoMemory, Resource, Service};
+use ra_base::{Cause, Machine, NoMemory, Process, Resource, Service};
 use ra_model::Instance;
 use std::alloc::Global;
 
-/// What a process more breaks, which stands on its initial machine.
-#[tactic(auto, using(ra_base::proofs::Searches::choices), unfolding(crate::specs::Touched::added_breaks))]
+/// What a process more breaks, which stands on its initial machine, with which this much is used there.
 pub(crate) fn added_breaks(
-    alloc: Global,
     inst: &Instance,
     lists: &Lists,
     s: Service,
     m: Machine,
-) -> Result<Option<Cause>, NoMemory>
+    used: &[u64],
+    between: &[u64],
+) -> Option<Cause>
     requires sound { IsSound (drafted inst.now.tables lists.now) }
     requires service { s.0 < service_count inst.now.tables }
     requires machine { m.0 < machine_count inst.now.tables }
-    ensures { IfOk result (λ cause. cause ≡ added_breaks (tables_with inst.now.tables lists.now)
-        lists.now.initial.items lists.now.current.items s.0 m.0) }
+    requires used { length used.now ≡ resource_count inst.now.tables }
+    requires between { length between.now ≡ resource_count inst.now.tables }
+    ensures { (e : Drafted) → HasCome (drafted inst.now.tables lists.now) e s.0 m.0 →
+        IsUseRow e m.0 used.now → IsTransientRow e m.0 between.now →
+        result ≡ added_breaks (instance_of e) e.initial e.current s.0 m.0 }
 {
-    if let Some(cause) = row_capacity(alloc, inst, lists, m)? {
-        return Ok(Some(cause));
+    if let Some(cause) = row_capacity(inst, m, used) {
+        return Some(cause);
     }
-    if let Some(cause) = row_transient(alloc, inst, lists, m)? {
-        return Ok(Some(cause));
+    if let Some(cause) = row_transient(inst, m, between) {
+        return Some(cause);
     }
     if let Some(cause) = conflict_test(inst, lists, s, m) {
-        return Ok(Some(cause));
+        return Some(cause);
     }
-    Ok(far_needs(inst, lists, s, m))
+    far_needs(inst, lists, s, m)
 }
 
-/// What a process less breaks, which was one of a service in a neighbourhood.
-#[tactic(auto, using(ra_base::proofs::Searches::choices), unfolding(crate::specs::Touched::retired_breaks))]
+/// What a process less breaks, which is one of a service and on a machine.
 pub(crate) fn retired_breaks(
     alloc: Global,
     inst: &Instance,
     lists: &Lists,
+    p: Process,
     s: Service,
-    label: u32,
+    at: Machine,
 ) -> Result<Option<Cause>, NoMemory>
     requires sound { IsSound (drafted inst.now.tables lists.now) }
     requires service { s.0 < service_count inst.now.tables }
-    ensures { IfOk result (λ cause. cause ≡
-        retired_breaks (tables_with inst.now.tables lists.now) lists.now.current.items s.0 label) }
+    requires process { p.0 < length lists.now.rows.items }
+    requires machine { at.0 < machine_count inst.now.tables }
+    requires mine { s.0 ≡ service_of (tables_with inst.now.tables lists.now) p.0 }
+    requires here { at.0 ≡ machine_at lists.now.current.items p.0 }
+    ensures { IfOk result (λ cause. (e : Drafted) →
+        HasGone (drafted inst.now.tables lists.now) e p.0 → cause ≡
+        retired_breaks (instance_of e) e.current s.0 (neighbourhood_of inst.now.tables at.0)) }
 {
-    if let Some(cause) = spread_test(alloc, inst, lists, s)? {
+    if let Some(cause) = spread_test(alloc, inst, lists, p, s, at)? {
         return Ok(Some(cause));
     }
-    Ok(first_left(inst, lists, s, label))
+    Ok(first_left(inst, lists, p, s, at))
 }
 
-/// What other requirements of a process on a machine break.
-#[tactic(auto, using(ra_base::proofs::Searches::choices), unfolding(crate::specs::Touched::resized_breaks))]
+/// What other requirements of a process break, with which this much is used of its machine, and in between of that and
+/// of its initial machine.
 pub(crate) fn resized_breaks(
-    alloc: Global,
     inst: &Instance,
-    lists: &Lists,
     home: Machine,
     here: Machine,
-) -> Result<Option<Cause>, NoMemory>
-    requires sound { IsSound (drafted inst.now.tables lists.now) }
+    used: &[u64],
+    at_home: &[u64],
+    at_here: &[u64],
+) -> Option<Cause>
     requires home { home.0 < machine_count inst.now.tables }
     requires here { here.0 < machine_count inst.now.tables }
-    ensures { IfOk result (λ cause. cause ≡ resized_breaks (tables_with inst.now.tables lists.now)
-        lists.now.initial.items lists.now.current.items home.0 here.0) }
+    requires used { length used.now ≡ resource_count inst.now.tables }
+    requires at_home { length at_home.now ≡ resource_count inst.now.tables }
+    requires at_here { length at_here.now ≡ resource_count inst.now.tables }
+    ensures { (e : Drafted) → e.origin ≡ inst.now.tables → IsUseRow e here.0 used.now →
+        IsTransientRow e home.0 at_home.now → IsTransientRow e here.0 at_here.now →
+        result ≡ resized_breaks (instance_of e) e.initial e.current home.0 here.0 }
 {
-    if let Some(cause) = row_capacity(alloc, inst, lists, here)? {
-        return Ok(Some(cause));
+    if let Some(cause) = row_capacity(inst, here, used) {
+        return Some(cause);
     }
     if home.0 < here.0 {
-        two_transients(alloc, inst, lists, home, here)
+        two_transients(inst, home, at_home, here, at_here)
     } else {
-        two_transients(alloc, inst, lists, here, home)
+        two_transients(inst, here, at_here, home, at_home)
     }
 }
 
 /// The first transient use above a capacity at one machine, then at another.
-#[tactic(auto, using(ra_base::proofs::Searches::choices))]
 fn two_transients(
-    alloc: Global,
     inst: &Instance,
-    lists: &Lists,
     m: Machine,
+    at_m: &[u64],
     n: Machine,
-) -> Result<Option<Cause>, NoMemory>
-    requires sound { IsSound (drafted inst.now.tables lists.now) }
+    at_n: &[u64],
+) -> Option<Cause>
     requires first { m.0 < machine_count inst.now.tables }
     requires second { n.0 < machine_count inst.now.tables }
-    ensures { IfOk result (λ cause. cause ≡ or_else
-        (row_transient (tables_with inst.now.tables lists.now) lists.now.initial.items
-        lists.now.current.items m.0)
-        (row_transient (tables_with inst.now.tables lists.now) lists.now.initial.items
-        lists.now.current.items n.0)) }
+    requires at_first { length at_m.now ≡ resource_count inst.now.tables }
+    requires at_second { length at_n.now ≡ resource_count inst.now.tables }
+    ensures { (e : Drafted) → e.origin ≡ inst.now.tables → IsTransientRow e m.0 at_m.now →
+        IsTransientRow e n.0 at_n.now →
+        result ≡ or_else (row_transient (instance_of e) e.initial e.current m.0)
+        (row_transient (instance_of e) e.initial e.current n.0) }
 {
-    if let Some(cause) = row_transient(alloc, inst, lists, m)? {
-        return Ok(Some(cause));
+    if let Some(cause) = row_transient(inst, m, at_m) {
+        return Some(cause);
     }
-    row_transient(alloc, inst, lists, n)
+    row_transient(inst, n, at_n)
 }
 
 /// The first use on a machine that is above its capacity.
-#[tactic(auto, using(ra_base::proofs::Searches::searches))]
-fn row_capacity(
-    alloc: Global,
-    inst: &Instance,
-    lists: &Lists,
-    m: Machine,
-) -> Result<Option<Cause>, NoMemory>
-    requires sound { IsSound (drafted inst.now.tables lists.now) }
+fn row_capacity(inst: &Instance, m: Machine, row: &[u64]) -> Option<Cause>
     requires machine { m.0 < machine_count inst.now.tables }
-    ensures { IfOk result (λ cause. cause ≡
-        row_capacity (tables_with inst.now.tables lists.now) lists.now.current.items m.0) }
+    requires one_each { length row.now ≡ resource_count inst.now.tables }
+    ensures { (e : Drafted) → e.origin ≡ inst.now.tables → IsUseRow e m.0 row.now →
+        result ≡ row_capacity (instance_of e) e.current m.0 }
 {
-    let row = use_row(alloc, inst, lists, m)?;
     for r in 0..inst.resources() {
-        if let Some(cause) = capacity_test(inst, m, Resource(r), row.get(r as usize)) {
-            return Ok(Some(cause));
+        if let Some(cause) = capacity_test(inst, m, Resource(r), row[r as usize]) {
+            return Some(cause);
         }
     }
-    Ok(None)
+    None
 }
 
 /// The use of a resource of a machine, if it is above its capacity.
-#[tactic(auto, using(crate::proofs::TestLaws::capacities))]
 fn capacity_test(inst: &Instance, m: Machine, r: Resource, used: u64) -> Option<Cause>
     requires machine { m.0 < machine_count inst.now.tables }
     requires resource { r.0 < resource_count inst.now.tables }
-    ensures { (l : Lists) → used ≡ use_of (tables_with inst.now.tables l) l.current.items m.0 r.0
-        → result ≡ capacity_test (tables_with inst.now.tables l) l.current.items m.0 r.0 }
+    ensures { (e : Drafted) → e.origin ≡ inst.now.tables →
+        used ≡ use_of (instance_of e) e.current m.0 r.0 →
+        result ≡ capacity_test (instance_of e) e.current m.0 r.0 }
 {
     let cap = inst.capacity(m, r);
     if u64::from(cap) < used {
@@ -158,40 +164,44 @@ fn capacity_test(inst: &Instance, m: Machine, r: Resource, used: u64) -> Option<
 }
 
 /// The first transient use on a machine that is above its capacity.
-#[tactic(auto, using(ra_base::proofs::Searches::searches))]
-fn row_transient(
-    alloc: Global,
-    inst: &Instance,
-    lists: &Lists,
-    m: Machine,
-) -> Result<Option<Cause>, NoMemory>
-    requires sound { IsSound (drafted inst.now.tables lists.now) }
+fn row_transient(inst: &Instance, m: Machine, row: &[u64]) -> Option<Cause>
     requires machine { m.0 < machine_count inst.now.tables }
-    ensures { IfOk result (λ cause. cause ≡ row_transient (tables_with inst.now.tables lists.now)
-        lists.now.initial.items lists.now.current.items m.0) }
+    requires one_each { length row.now ≡ resource_count inst.now.tables }
+    ensures { (e : Drafted) → e.origin ≡ inst.now.tables → IsTransientRow e m.0 row.now →
+        result ≡ row_transient (instance_of e) e.initial e.current m.0 }
 {
-    let row = transient_row(alloc, inst, lists, m)?;
     for r in 0..inst.resources() {
-        if let Some(cause) = transient_test(inst, m, Resource(r), row.get(r as usize)) {
-            return Ok(Some(cause));
+        if let Some(cause) = transient_test(inst, m, Resource(r), row[r as usize]) {
+            return Some(cause);
         }
     }
-    Ok(None)
+    None
 }
 
-/// The transient use of a resource of a machine, if it is above its capacity.
-#[tactic(auto, using(crate::proofs::TestLaws::transients))]
+/// The transient use of a resource of a machine, if the resource is transient and the use above its capacity.
 fn transient_test(inst: &Instance, m: Machine, r: Resource, used: u64) -> Option<Cause>
     requires machine { m.0 < machine_count inst.now.tables }
     requires resource { r.0 < resource_count inst.now.tables }
-    ensures { (l : Lists) → used ≡ transient_of (tables_with inst.now.tables l) l.initial.items
-        l.current.items m.0 r.0
-        → result ≡ transient_test (tables_with inst.now.tables l) l.initial.items l.current.items
-        m.0 r.0 }
+    ensures { (e : Drafted) → e.origin ≡ inst.now.tables →
+        used ≡ transient_of (instance_of e) e.initial e.current m.0 r.0 →
+        result ≡ transient_test (instance_of e) e.initial e.current m.0 r.0 }
 {
-    if !inst.transient(r) {
-        return None;
+    if inst.transient(r) {
+        over_capacity(inst, m, r, used)
+    } else {
+        None
     }
+}
+
+/// The transient use of a transient resource of a machine, if it is above its capacity.
+fn over_capacity(inst: &Instance, m: Machine, r: Resource, used: u64) -> Option<Cause>
+    requires machine { m.0 < machine_count inst.now.tables }
+    requires resource { r.0 < resource_count inst.now.tables }
+    requires transient { transient_at inst.now.tables r.0 ≡ true }
+    ensures { (e : Drafted) → e.origin ≡ inst.now.tables →
+        used ≡ transient_of (instance_of e) e.initial e.current m.0 r.0 →
+        result ≡ transient_test (instance_of e) e.initial e.current m.0 r.0 }
+{
     let cap = inst.capacity(m, r);
     if u64::from(cap) < used {
         Some(Cause::Transient {
@@ -205,15 +215,14 @@ fn transient_test(inst: &Instance, m: Machine, r: Resource, used: u64) -> Option
     }
 }
 
-/// More than one process of a service on a machine.
-#[tactic(auto, using(crate::proofs::TestLaws::conflicts))]
+/// One process of a service on a machine, beside one that comes there.
 fn conflict_test(inst: &Instance, lists: &Lists, s: Service, m: Machine) -> Option<Cause>
     requires sound { IsSound (drafted inst.now.tables lists.now) }
-    ensures { result ≡ conflict_test (tables_with inst.now.tables lists.now)
-        lists.now.current.items s.0 m.0 }
+    ensures { (e : Drafted) → HasCome (drafted inst.now.tables lists.now) e s.0 m.0 →
+        result ≡ conflict_test (instance_of e) e.current s.0 m.0 }
 {
     let count = members(inst, lists, s, Spot::OnMachine(m));
-    if 1 < count {
+    if 0 < count {
         Some(Cause::Conflict {
             service: s,
             machine: m,
@@ -223,15 +232,14 @@ fn conflict_test(inst: &Instance, lists: &Lists, s: Service, m: Machine) -> Opti
     }
 }
 
-/// The first dependency of a service that no process is near to on a machine.
-#[tactic(auto, using(ra_base::proofs::Searches::searches))]
+/// The first dependency of a service that no process is near to on a machine, where one of the service comes.
 fn far_needs(inst: &Instance, lists: &Lists, s: Service, m: Machine) -> Option<Cause>
     requires sound { IsSound (drafted inst.now.tables lists.now) }
     requires service { s.0 < service_count inst.now.tables }
     requires machine { m.0 < machine_count inst.now.tables }
-    ensures { result ≡ first (dependency_count (tables_with inst.now.tables lists.now) s.0)
-        (far_from (tables_with inst.now.tables lists.now) lists.now.current.items s.0
-        (neighbourhood_of (tables_with inst.now.tables lists.now) m.0)) }
+    ensures { (e : Drafted) → HasCome (drafted inst.now.tables lists.now) e s.0 m.0 →
+        result ≡ first (dependency_count (instance_of e) s.0) (far_from (instance_of e) e.current s.0
+        (neighbourhood_of (instance_of e) m.0)) }
 {
     let label = inst.neighbourhood(m);
     let needs = inst.depends(s);
@@ -243,13 +251,16 @@ fn far_needs(inst: &Instance, lists: &Lists, s: Service, m: Machine) -> Option<C
     None
 }
 
-/// A service that has no process in a neighbourhood where it is needed.
-#[tactic(auto, using(crate::proofs::TestLaws::needs))]
+/// A service that has no process in a neighbourhood where it is needed, and where one of another service comes.
 fn far_need(inst: &Instance, lists: &Lists, s: Service, need: Service, label: u32) -> Option<Cause>
     requires { IsSound (drafted inst.now.tables lists.now) }
-    ensures { (k : ℕ) → need.0 ≡ need_of (tables_with inst.now.tables lists.now) s.0 k →
-        result ≡ far_from (tables_with inst.now.tables lists.now) lists.now.current.items s.0 label k }
+    ensures { (e : Drafted) (m k : ℕ) → HasCome (drafted inst.now.tables lists.now) e s.0 m →
+        label ≡ neighbourhood_of inst.now.tables m → need.0 ≡ need_of (instance_of e) s.0 k →
+        result ≡ far_from (instance_of e) e.current s.0 label k }
 {
+    if need.0 == s.0 {
+        return None;
+    }
     if members(inst, lists, need, Spot::InNeighbourhood(label)) == 0 {
         Some(Cause::Dependency {
             service: s,
@@ -261,20 +272,26 @@ fn far_need(inst: &Instance, lists: &Lists, s: Service, need: Service, label: u3
     }
 }
 
-/// The number of locations of a service, if it wants more.
-#[tactic(auto, using(crate::proofs::TestLaws::spreads))]
+/// The number of locations of a service without one of its processes, if it wants more.
 fn spread_test(
     alloc: Global,
     inst: &Instance,
     lists: &Lists,
+    p: Process,
     s: Service,
+    at: Machine,
 ) -> Result<Option<Cause>, NoMemory>
     requires sound { IsSound (drafted inst.now.tables lists.now) }
     requires service { s.0 < service_count inst.now.tables }
-    ensures { IfOk result (λ cause. cause ≡
-        spread_test (tables_with inst.now.tables lists.now) lists.now.current.items s.0) }
+    requires process { p.0 < length lists.now.rows.items }
+    requires machine { at.0 < machine_count inst.now.tables }
+    requires mine { s.0 ≡ service_of (tables_with inst.now.tables lists.now) p.0 }
+    requires here { at.0 ≡ machine_at lists.now.current.items p.0 }
+    ensures { IfOk result (λ cause. (e : Drafted) →
+        HasGone (drafted inst.now.tables lists.now) e p.0 → cause ≡
+        spread_test (instance_of e) e.current s.0) }
 {
-    let has = locations(alloc, inst, lists, s)?;
+    let has = locations_without(alloc, inst, lists, p, s, at)?;
     let wants = inst.spread_min(s);
     if has < wants {
         Ok(Some(Cause::Spread {
@@ -287,13 +304,44 @@ fn spread_test(
     }
 }
 
-/// The first service in a neighbourhood that depends on a service of which no process is left there.
-fn first_left(inst: &Instance, lists: &Lists, s: Service, label: u32) -> Option<Cause>
-    requires { IsSound (drafted inst.now.tables lists.now) }
-    ensures { result ≡ first (service_count (tables_with inst.now.tables lists.now))
-        (left_by (tables_with inst.now.tables lists.now) lists.now.current.items s.0 label) }
+/// In how many locations the processes of a service are without one of them.
+fn locations_without(
+    alloc: Global,
+    inst: &Instance,
+    lists: &Lists,
+    p: Process,
+    s: Service,
+    at: Machine,
+) -> Result<u32, NoMemory>
+    requires sound { IsSound (drafted inst.now.tables lists.now) }
+    requires process { p.0 < length lists.now.rows.items }
+    requires machine { at.0 < machine_count inst.now.tables }
+    requires mine { s.0 ≡ service_of (tables_with inst.now.tables lists.now) p.0 }
+    requires here { at.0 ≡ machine_at lists.now.current.items p.0 }
+    ensures { IfOk result (λ has. (e : Drafted) →
+        HasGone (drafted inst.now.tables lists.now) e p.0 → has ≡
+        locations_of (instance_of e) e.current s.0) }
 {
-    if 0 < members(inst, lists, s, Spot::InNeighbourhood(label)) {
+    let has = locations(alloc, inst, lists, s)?;
+    if members(inst, lists, s, Spot::InLocation(inst.location(at))) == 1 {
+        Ok(has - 1)
+    } else {
+        Ok(has)
+    }
+}
+
+/// The first service in a neighbourhood that depends on a service of which no process is left there without one.
+fn first_left(inst: &Instance, lists: &Lists, p: Process, s: Service, at: Machine) -> Option<Cause>
+    requires sound { IsSound (drafted inst.now.tables lists.now) }
+    requires machine { at.0 < machine_count inst.now.tables }
+    requires mine { s.0 ≡ service_of (tables_with inst.now.tables lists.now) p.0 }
+    requires here { at.0 ≡ machine_at lists.now.current.items p.0 }
+    ensures { (e : Drafted) → HasGone (drafted inst.now.tables lists.now) e p.0 →
+        result ≡ first (service_count (instance_of e)) (left_by (instance_of e) e.current s.0
+        (neighbourhood_of inst.now.tables at.0)) }
+{
+    let label = inst.neighbourhood(at);
+    if 1 < members(inst, lists, s, Spot::InNeighbourhood(label)) {
         return None;
     }
     for u in 0..inst.services() {
@@ -308,10 +356,8 @@ fn first_left(inst: &Instance, lists: &Lists, s: Service, label: u32) -> Option<
 fn left_by(inst: &Instance, lists: &Lists, s: Service, label: u32, u: Service) -> Option<Cause>
     requires sound { IsSound (drafted inst.now.tables lists.now) }
     requires there { u.0 < service_count inst.now.tables }
-    requires gone { in_neighbourhood (tables_with inst.now.tables lists.now)
-        lists.now.current.items s.0 label ≡ 0 }
-    ensures { result ≡ left_by (tables_with inst.now.tables lists.now) lists.now.current.items s.0
-        label u.0 }
+    ensures { (e : Drafted) → IsLeft (drafted inst.now.tables lists.now) e s.0 label →
+        result ≡ left_by (instance_of e) e.current s.0 label u.0 }
 {
     if depends(inst, u, s) {
         left_alone(inst, lists, s, label, u)
@@ -321,16 +367,15 @@ fn left_by(inst: &Instance, lists: &Lists, s: Service, label: u32, u: Service) -
 }
 
 /// A service in a neighbourhood where no process is left of one that it depends on.
-#[tactic(auto, using(crate::proofs::TestLaws::lefts))]
 fn left_alone(inst: &Instance, lists: &Lists, s: Service, label: u32, u: Service) -> Option<Cause>
     requires sound { IsSound (drafted inst.now.tables lists.now) }
-    requires gone { in_neighbourhood (tables_with inst.now.tables lists.now)
-        lists.now.current.items s.0 label ≡ 0 }
-    ensures { result ≡ left_alone (tables_with inst.now.tables lists.now) lists.now.current.items
-        s.0 label u.0 }
+    ensures { (e : Drafted) → IsLeft (drafted inst.now.tables lists.now) e s.0 label →
+        result ≡ left_alone (instance_of e) e.current s.0 label u.0 }
 {
-    let count = members(inst, lists, u, Spot::InNeighbourhood(label));
-    if 0 < count {
+    if u.0 == s.0 {
+        return None;
+    }
+    if 0 < members(inst, lists, u, Spot::InNeighbourhood(label)) {
         Some(Cause::Dependency {
             service: u,
             needs: s,

@@ -10,6 +10,7 @@ mod edited;
 mod judging;
 mod laws;
 mod lists;
+mod loads;
 mod locations;
 mod moved;
 mod replies;

@@ -1,103 +1,78 @@
-//! The use of all resources of a machine, found in one pass over the processes.
+//! Rows of numbers, one for each resource.
 ghost use Rattle.std.specs.Prelude.{◌≡◌, ℕ, ◌+◌, ◌*◌, ◌^◌, ◌<◌, ◌≤◌, length, slice_index, IfOk};
-ghost use Rattle.ra_model.specs.Numbers.{resource_count, requirement_of};
-ghost use Rattle.ra_model.specs.Usage.{use_share, use_of, transient_share, transient_of};
-ghost use Rattle.ra_edit.specs.Keeping.{drafted, tables_with, IsSound};
-ghost use Rattle.ra_edit.specs.Rows.{Grows, HasShares};
+ghost use Rattle.std.specs.List.{slice_range};
+ghost use Rattle.ra_base.specs.Tables.{cell};
+ghost use Rattle.ra_edit.specs.Keeping.{drafted, IsSound};
+ghost use Rattle.ra_edit.specs.Kinds.{Asks};
 
 use crate::lists::Lists;
-use crate::scanning::{processes, requirement};
-use ra_base::{Fixed, Machine, NoMemory, Process, Resource};
-use ra_model::{Instance, copies, machine_of};
+use ra_base::{Fixed, NoMemory, Process};
+use ra_model::Instance;
 use std::alloc::Global;
 
-/// The use of each resource of a machine.
-pub(crate) fn use_row(
+/// What a process requires of each resource.
+pub(crate) fn requirements_of<'a>(inst: &Instance, lists: &'a Lists, p: Process) -> &'a [u32]
+    requires sound { IsSound (drafted inst.now.tables lists.now) }
+    requires process { p.0 < length lists.now.rows.items }
+    ensures { Asks (drafted inst.now.tables lists.now) p.0 result.now }
+{
+    let _within = lists.requirements.len();
+    let width = inst.resources() as usize;
+    part(lists.requirements.as_slice(), p.0 as usize * width, width)
+}
+
+/// Some items of a slice, from a place on.
+fn part<T: Copy>(items: &[T], start: usize, count: usize) -> &[T]
+    requires { start + count ≤ length items.now }
+    ensures { result.now ≡ slice_range items.now start (start + count) }
+{
+    &items[start..start + count]
+}
+
+/// A row of a table of this width.
+#[tactic(auto, using(crate::proofs::ReadLaws::rows))]
+pub(crate) fn read_row(table: &Fixed<u64>, width: u32, row: u32) -> &[u64]
+    requires { row * width + width ≤ length table.now.items }
+    ensures one_each { length result.now ≡ width }
+    ensures each { (r : ℕ) → r < width → slice_index result.now r ≡
+        cell width table.now.items row r }
+{
+    let _within = table.len();
+    let start = row as usize * width as usize;
+    &table.as_slice()[start..start + width as usize]
+}
+
+/// A row to which amounts are added.
+pub(crate) fn row_with(alloc: Global, row: &[u64], amounts: &[u32]) -> Result<Fixed<u64>, NoMemory>
+    requires width { length amounts.now ≡ length row.now }
+    requires below { (r : ℕ) → r < length row.now → slice_index row.now r < 2 ^ 63 }
+    ensures one_each { IfOk result (λ sums. length sums.items ≡ length row.now) }
+    ensures each { IfOk result (λ sums. (r : ℕ) → r < length row.now → slice_index sums.items r ≡
+        slice_index row.now r + slice_index amounts.now r) }
+{
+    let mut sums = Fixed::make(alloc, row.len())?;
+    for r in 0..row.len() {
+        sums.push(row[r] + u64::from(amounts[r]));
+    }
+    Ok(sums)
+}
+
+/// A row from which amounts are taken away.
+pub(crate) fn row_without(
     alloc: Global,
-    inst: &Instance,
-    lists: &Lists,
-    m: Machine,
+    row: &[u64],
+    amounts: &[u32],
 ) -> Result<Fixed<u64>, NoMemory>
-    requires { IsSound (drafted inst.now.tables lists.now) }
-    ensures one_each { IfOk result (λ row. length row.items ≡ resource_count inst.now.tables) }
-    ensures each { IfOk result (λ row. (r : ℕ) → r < resource_count inst.now.tables →
-        slice_index row.items r ≡
-        use_of (tables_with inst.now.tables lists.now) lists.now.current.items m.0 r) }
+    requires width { length amounts.now ≡ length row.now }
+    requires enough { (r : ℕ) → r < length row.now → slice_index amounts.now r ≤
+        slice_index row.now r }
+    ensures one_each { IfOk result (λ rests. length rests.items ≡ length row.now) }
+    ensures each { IfOk result (λ rests. (r : ℕ) → r < length row.now →
+        slice_index rests.items r + slice_index amounts.now r ≡ slice_index row.now r) }
 {
-    let mut row = copies(alloc, inst.resources() as usize, 0u64)?;
-    for p in 0..processes(inst, lists) {
-        add_use(inst, lists, Process(p), m, &mut row);
+    let mut rests = Fixed::make(alloc, row.len())?;
+    for r in 0..row.len() {
+        rests.push(row[r] - u64::from(amounts[r]));
     }
-    Ok(row)
-}
-
-/// The transient use of each resource of a machine.
-pub(crate) fn transient_row(
-    alloc: Global,
-    inst: &Instance,
-    lists: &Lists,
-    m: Machine,
-) -> Result<Fixed<u64>, NoMemory>
-    requires { IsSound (drafted inst.now.tables lists.now) }
-    ensures one_each { IfOk result (λ row. length row.items ≡ resource_count inst.now.tables) }
-    ensures each { IfOk result (λ row. (r : ℕ) → r < resource_count inst.now.tables →
-        slice_index row.items r ≡
-        transient_of (tables_with inst.now.tables lists.now) lists.now.initial.items
-        lists.now.current.items m.0 r) }
-{
-    let mut row = copies(alloc, inst.resources() as usize, 0u64)?;
-    for p in 0..processes(inst, lists) {
-        add_transient(inst, lists, Process(p), m, &mut row);
-    }
-    Ok(row)
-}
-
-/// Adds what a process uses on a machine.
-fn add_use(inst: &Instance, lists: &Lists, p: Process, m: Machine, row: &mut Fixed<u64>)
-    requires sound { IsSound (drafted inst.now.tables lists.now) }
-    requires process { p.0 < length lists.now.rows.items }
-    requires row { HasShares p.0 (resource_count inst.now.tables)
-        (use_share (tables_with inst.now.tables lists.now) m.0) lists.now.current.items
-        row.old.items }
-    ensures { HasShares (p.0 + 1) (resource_count inst.now.tables)
-        (use_share (tables_with inst.now.tables lists.now) m.0) lists.now.current.items
-        row.new.items }
-{
-    if machine_of(&lists.current, p).0 == m.0 {
-        add_requirements(inst, lists, p, row)
-    }
-}
-
-/// Adds what a process uses on a machine in between.
-fn add_transient(inst: &Instance, lists: &Lists, p: Process, m: Machine, row: &mut Fixed<u64>)
-    requires sound { IsSound (drafted inst.now.tables lists.now) }
-    requires process { p.0 < length lists.now.rows.items }
-    requires row { HasShares p.0 (resource_count inst.now.tables)
-        (transient_share (tables_with inst.now.tables lists.now) lists.now.initial.items m.0)
-        lists.now.current.items row.old.items }
-    ensures { HasShares (p.0 + 1) (resource_count inst.now.tables)
-        (transient_share (tables_with inst.now.tables lists.now) lists.now.initial.items m.0)
-        lists.now.current.items row.new.items }
-{
-    if machine_of(&lists.initial, p).0 == m.0 {
-        add_requirements(inst, lists, p, row)
-    } else if machine_of(&lists.current, p).0 == m.0 {
-        add_requirements(inst, lists, p, row)
-    }
-}
-
-/// Adds what a process requires of each resource.
-fn add_requirements(inst: &Instance, lists: &Lists, p: Process, row: &mut Fixed<u64>)
-    requires sound { IsSound (drafted inst.now.tables lists.now) }
-    requires process { p.0 < length lists.now.rows.items }
-    requires one_each { length row.old.items ≡ resource_count inst.now.tables }
-    requires bound { (r : ℕ) → slice_index row.old.items r ≤ 50000 * 2 ^ 32 }
-    ensures { Grows (resource_count inst.now.tables)
-        (requirement_of (tables_with inst.now.tables lists.now) p.0) row.old.items row.new.items }
-{
-    for r in 0..inst.resources() {
-        let place = r as usize;
-        let used = row.get(place) + u64::from(requirement(inst, lists, p, Resource(r)));
-        row.set(place, used);
-    }
+    Ok(rests)
 }

@@ -2,13 +2,13 @@
 ghost use Rattle.std.specs.Prelude.{◌≡◌, ℕ, ◌^◌, ◌<◌, ◌≤◌, length, slice_index};
 ghost use Rattle.ra_model.specs.Assignments.{machine_at, tally};
 ghost use Rattle.ra_model.specs.Limits.{Small};
-ghost use Rattle.ra_model.specs.Numbers.{resource_count, machine_count, service_of, requirement_of};
+ghost use Rattle.ra_model.specs.Numbers.{machine_count, service_of};
 ghost use Rattle.ra_model.specs.Services.{of_service, members_at};
 ghost use Rattle.ra_edit.specs.Keeping.{drafted, tables_with, IsSound};
 ghost use Rattle.ra_edit.specs.Spots.{is_there};
 
 use crate::lists::Lists;
-use ra_base::{Fixed, Machine, Process, Resource, Service};
+use ra_base::{Fixed, Machine, Process, Service};
 use ra_model::{Instance, machine_of};
 
 /// Where processes are looked for: on a machine, or on one with a label.
@@ -27,19 +27,6 @@ pub(crate) fn processes(inst: &Instance, lists: &Lists) -> u32
     ensures bound { result ≤ 50000 }
 {
     lists.rows.len() as u32
-}
-
-/// What a process requires of a resource.
-#[tactic(auto, using(crate::proofs::ScanLaws::readings))]
-pub(crate) fn requirement(inst: &Instance, lists: &Lists, p: Process, r: Resource) -> u32
-    requires sound { IsSound (drafted inst.now.tables lists.now) }
-    requires process { p.0 < length lists.now.rows.items }
-    requires resource { r.0 < resource_count inst.now.tables }
-    ensures { result ≡ requirement_of (tables_with inst.now.tables lists.now) p.0 r.0 }
-{
-    let _within = lists.requirements.len();
-    let place = p.0 as usize * inst.resources() as usize + r.0 as usize;
-    lists.requirements.get(place)
 }
 
 /// How many processes of a service are at a spot.

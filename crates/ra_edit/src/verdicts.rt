@@ -1,15 +1,20 @@
-ghost use Rattle.std.specs.Prelude.{◌≡◌, ◌<◌, ◌*◌, ◌^◌, length, IfOk};
+ghost use Rattle.std.specs.Prelude.{◌≡◌, ◌<◌, ◌*◌, ◌^◌, length, None, IfOk};
 ghost use Rattle.ra_model.specs.Limits.{Small};
-ghost use Rattle.ra_model.specs.Numbers.{machine_count, service_count};
+ghost use Rattle.ra_model.specs.Numbers.{resource_count, machine_count, service_count};
 ghost use Rattle.ra_model.specs.Assignments.{machine_at};
 ghost use Rattle.ra_model.specs.Costs.{parts_of};
-ghost use Rattle.ra_edit.specs.Keeping.{drafted, tables_with, IsSound, IsKept, IsJudged};
-ghost use Rattle.ra_edit.specs.Kinds.{HasCome, HasGone, HasOther, IsEdited};
+ghost use Rattle.ra_edit_read.specs.EditLists.{FitsInstance};
+ghost use Rattle.ra_edit.specs.Drafts.{Drafted, instance_of};
+ghost use Rattle.ra_edit.specs.Keeping.{drafted, IsKept, IsJudged};
+ghost use Rattle.ra_edit.specs.Replies.{barred};
+ghost use Rattle.ra_edit.specs.Kinds.{Asks, HasCome, HasGone, HasOther, IsEdited};
+ghost use Rattle.ra_edit.specs.Loads.{AreLoadsOf};
 
-use crate::costs::{costs_on, moved_share, replaced, summed, way_share};
+use crate::costs::{costs_with, moved_share, summed, way_share};
 use crate::judging::{added_breaks, resized_breaks, retired_breaks};
 use crate::lists::Lists;
-use crate::moved::service_cost;
+use crate::loads::Loads;
+use crate::moved::service_cost_without;
 use crate::scanning::{service_of, small};
 use ra_base::{Cause, Machine, NoMemory, Parts, Process, Service};
 use ra_edit_read::Edit;
@@ -24,32 +29,35 @@ pub(crate) enum Judged {
 }
 
 /// Whether the current list breaks a constraint after an edit of feasible lists, and what it costs. Only what the edit
-/// touches is looked at.
+/// touches is looked at, and nothing is changed.
 pub(crate) fn judge(
     alloc: Global,
     inst: &Instance,
     lists: &Lists,
+    loads: &Loads,
     cost: Parts,
-    next: &Lists,
     edit: Edit,
+    asked: &[u32],
 ) -> Result<Judged, NoMemory>
     requires kept { IsKept (drafted inst.now.tables lists.now) cost }
-    requires sound { IsSound (drafted inst.now.tables next.now) }
-    requires edited { IsEdited (drafted inst.now.tables lists.now) edit
-        (drafted inst.now.tables next.now) }
-    ensures { IfOk result (IsJudged (drafted inst.now.tables next.now)) }
+    requires loads { AreLoadsOf (drafted inst.now.tables lists.now) loads.now }
+    requires free { barred (length lists.now.rows.items) edit ≡ None }
+    requires fits { FitsInstance inst.now.tables edit }
+    requires asked { length asked.now ≡ resource_count inst.now.tables }
+    ensures { IfOk result (λ judged. (e : Drafted) →
+        IsEdited (drafted inst.now.tables lists.now) edit asked.now e → IsJudged e judged) }
 {
     match edit {
         Edit::Add {
             service,
             machine,
             ..
-        } => judge_added(alloc, inst, lists, cost, next, service, machine),
+        } => judge_added(alloc, inst, lists, loads, cost, service, machine, asked),
         Edit::Retire { process } => {
-            judge_retired(alloc, inst, lists, cost, next, Process(process))
+            judge_retired(alloc, inst, lists, loads, cost, Process(process))
         }
         Edit::Resize { process } => {
-            judge_resized(alloc, inst, lists, cost, next, Process(process))
+            judge_resized(alloc, inst, lists, loads, cost, Process(process), asked)
         }
     }
 }
@@ -59,30 +67,32 @@ fn judge_added(
     alloc: Global,
     inst: &Instance,
     lists: &Lists,
+    loads: &Loads,
     cost: Parts,
-    next: &Lists,
     s: Service,
     m: Machine,
+    asked: &[u32],
 ) -> Result<Judged, NoMemory>
     requires kept { IsKept (drafted inst.now.tables lists.now) cost }
-    requires sound { IsSound (drafted inst.now.tables next.now) }
-    requires come { HasCome (drafted inst.now.tables lists.now) (drafted inst.now.tables next.now)
-        s.0 m.0 }
-    ensures { IfOk result (IsJudged (drafted inst.now.tables next.now)) }
+    requires loads { AreLoadsOf (drafted inst.now.tables lists.now) loads.now }
+    requires service { s.0 < service_count inst.now.tables }
+    requires machine { m.0 < machine_count inst.now.tables }
+    requires asked { length asked.now ≡ resource_count inst.now.tables }
+    ensures { IfOk result (λ judged. (e : Drafted) →
+        HasCome (drafted inst.now.tables lists.now) e s.0 m.0 →
+        Asks e (length lists.now.rows.items) asked.now → IsJudged e judged) }
 {
-    if let Some(cause) = added_breaks(alloc, inst, next, s, m)? {
+    small(inst, lists);
+    let used = loads.use_added(alloc, inst, lists, m, asked)?;
+    let between = loads.transient_added(alloc, inst, lists, m, asked)?;
+    if let Some(cause) = added_breaks(inst, lists, s, m, used.as_slice(), between.as_slice()) {
         return Ok(Judged::Refused(cause));
     }
-    small(inst, lists);
-    small(inst, next);
-    let before = costs_on(alloc, inst, lists, m)?;
-    let after = costs_on(alloc, inst, next, m)?;
-    let load = replaced(cost.load, before.load, after.load);
-    let balance = replaced(cost.balance, before.balance, after.balance);
+    let costs = costs_with(inst, lists, loads, cost, m, used.as_slice());
     let way = u128::from(inst.machine_weight()) * u128::from(inst.move_cost(m, m));
     let cost = summed(
-        load,
-        balance,
+        costs.load,
+        costs.balance,
         cost.process,
         cost.service,
         cost.machine + way,
@@ -95,28 +105,43 @@ fn judge_resized(
     alloc: Global,
     inst: &Instance,
     lists: &Lists,
+    loads: &Loads,
     cost: Parts,
-    next: &Lists,
     p: Process,
+    asked: &[u32],
 ) -> Result<Judged, NoMemory>
     requires kept { IsKept (drafted inst.now.tables lists.now) cost }
-    requires sound { IsSound (drafted inst.now.tables next.now) }
-    requires other { HasOther (drafted inst.now.tables lists.now) (drafted inst.now.tables next.now)
-        p.0 }
-    ensures { IfOk result (IsJudged (drafted inst.now.tables next.now)) }
+    requires loads { AreLoadsOf (drafted inst.now.tables lists.now) loads.now }
+    requires process { p.0 < length lists.now.rows.items }
+    requires asked { length asked.now ≡ resource_count inst.now.tables }
+    ensures { IfOk result (λ judged. (e : Drafted) →
+        HasOther (drafted inst.now.tables lists.now) e p.0 → Asks e p.0 asked.now →
+        IsJudged e judged) }
 {
     let home = machine_of(&lists.initial, p);
     let here = machine_of(&lists.current, p);
-    if let Some(cause) = resized_breaks(alloc, inst, next, home, here)? {
+    small(inst, lists);
+    let used = loads.use_resized(alloc, inst, lists, p, here, asked)?;
+    let at_home = loads.transient_resized(alloc, inst, lists, p, home, asked)?;
+    let at_here = loads.transient_resized(alloc, inst, lists, p, here, asked)?;
+    if let Some(cause) = resized_breaks(
+        inst,
+        home,
+        here,
+        used.as_slice(),
+        at_home.as_slice(),
+        at_here.as_slice(),
+    ) {
         return Ok(Judged::Refused(cause));
     }
-    small(inst, lists);
-    small(inst, next);
-    let before = costs_on(alloc, inst, lists, here)?;
-    let after = costs_on(alloc, inst, next, here)?;
-    let load = replaced(cost.load, before.load, after.load);
-    let balance = replaced(cost.balance, before.balance, after.balance);
-    let cost = summed(load, balance, cost.process, cost.service, cost.machine);
+    let costs = costs_with(inst, lists, loads, cost, here, used.as_slice());
+    let cost = summed(
+        costs.load,
+        costs.balance,
+        cost.process,
+        cost.service,
+        cost.machine,
+    );
     Ok(Judged::Fine(cost))
 }
 
@@ -125,49 +150,48 @@ fn judge_retired(
     alloc: Global,
     inst: &Instance,
     lists: &Lists,
+    loads: &Loads,
     cost: Parts,
-    next: &Lists,
     p: Process,
 ) -> Result<Judged, NoMemory>
     requires kept { IsKept (drafted inst.now.tables lists.now) cost }
-    requires sound { IsSound (drafted inst.now.tables next.now) }
-    requires gone { HasGone (drafted inst.now.tables lists.now) (drafted inst.now.tables next.now)
-        p.0 }
-    ensures { IfOk result (IsJudged (drafted inst.now.tables next.now)) }
+    requires loads { AreLoadsOf (drafted inst.now.tables lists.now) loads.now }
+    requires process { p.0 < length lists.now.rows.items }
+    ensures { IfOk result (λ judged. (e : Drafted) →
+        HasGone (drafted inst.now.tables lists.now) e p.0 → IsJudged e judged) }
 {
     let s = service_of(inst, lists, p);
-    let label = inst.neighbourhood(machine_of(&lists.current, p));
-    if let Some(cause) = retired_breaks(alloc, inst, next, s, label)? {
+    let here = machine_of(&lists.current, p);
+    if let Some(cause) = retired_breaks(alloc, inst, lists, p, s, here)? {
         return Ok(Judged::Refused(cause));
     }
-    let parts = parts_without(alloc, inst, lists, cost, next, p)?;
+    let parts = parts_without(alloc, inst, lists, loads, cost, p, here)?;
     Ok(Judged::Fine(parts))
 }
 
-/// What the current list costs after a process has gone.
+/// What the current list costs after a process has gone from a machine.
 fn parts_without(
     alloc: Global,
     inst: &Instance,
     lists: &Lists,
+    loads: &Loads,
     cost: Parts,
-    next: &Lists,
     p: Process,
+    here: Machine,
 ) -> Result<Parts, NoMemory>
     requires kept { IsKept (drafted inst.now.tables lists.now) cost }
-    requires sound { IsSound (drafted inst.now.tables next.now) }
-    requires gone { HasGone (drafted inst.now.tables lists.now) (drafted inst.now.tables next.now)
-        p.0 }
-    ensures { IfOk result (λ parts. parts ≡ parts_of (tables_with inst.now.tables next.now)
-        next.now.initial.items next.now.current.items) }
+    requires loads { AreLoadsOf (drafted inst.now.tables lists.now) loads.now }
+    requires process { p.0 < length lists.now.rows.items }
+    requires here { here.0 ≡ machine_at lists.now.current.items p.0 }
+    ensures { IfOk result (λ parts. (e : Drafted) →
+        HasGone (drafted inst.now.tables lists.now) e p.0 →
+        parts ≡ parts_of (instance_of e) e.initial e.current) }
 {
     small(inst, lists);
-    let here = machine_of(&lists.current, p);
-    let before = costs_on(alloc, inst, lists, here)?;
-    let after = costs_on(alloc, inst, next, here)?;
-    let load = replaced(cost.load, before.load, after.load);
-    let balance = replaced(cost.balance, before.balance, after.balance);
+    let used = loads.use_retired(alloc, inst, lists, p, here)?;
+    let costs = costs_with(inst, lists, loads, cost, here, used.as_slice());
     let process = cost.process - moved_share(inst, lists, p);
-    let service = service_cost(alloc, inst, next)?;
+    let service = service_cost_without(alloc, inst, lists, p)?;
     let machine = cost.machine - way_share(inst, lists, p);
-    Ok(summed(load, balance, process, service, machine))
+    Ok(summed(costs.load, costs.balance, process, service, machine))
 }

@@ -1,18 +1,21 @@
--- The count is that of the definition.
+-- The process that comes is one more.
+use Rattle.std.proofs.Common.{◌+◌, ◌∙◌, sym, ap, arith}
 use Rattle.ra_edit.specs.Keeping.{drafted}
 use Rattle.ra_edit.proofs.ScanLaws.{machine_told}
 use Rattle.ra_edit.proofs.TestLaws.{conflict_some, conflict_none}
-use Rattle.std.proofs.Common.{arith}
+use Rattle.ra_edit.proofs.TouchLaws.{come_on}
 use Rattle.ra_edit.proofs.judging.conflict_test.Goals as goal
 
-pub returns-then-count-gt1 : goal.returns-then-count-gt1
-returns-then-count-gt1 c = conflict_some c.args.inst.now.tables c.args.lists.now c.args.s.0 c.args.m.0
-    c.members-count.result
-    (machine_told (drafted c.args.inst.now.tables c.args.lists.now) c.args.lists.now.current.items c.args.s.0
-    c.members-count.result c.args.m c.members-count.ensures.value) (omega (arith, c.if-count-gt1.true))
+pub returns-then-count-gt0 : goal.returns-then-count-gt0
+returns-then-count-gt0 c = λ e come.
+    let d = drafted c.args.inst.now.tables c.args.lists.now in
+    let told = machine_told d d.current c.args.s.0 c.members-count.result c.args.m c.members-count.ensures.value in
+    conflict_some e c.args.s.0 c.args.m.0 (c.members-count.result + 1)
+    (ap (λ n. n + 1) told ∙ sym (come_on d e c.args.s.0 c.args.m.0 come)) (omega (arith, c.if-count-gt0.true))
 
-pub returns-else-count-gt1 : goal.returns-else-count-gt1
-returns-else-count-gt1 c = conflict_none c.args.inst.now.tables c.args.lists.now c.args.s.0 c.args.m.0
-    c.members-count.result
-    (machine_told (drafted c.args.inst.now.tables c.args.lists.now) c.args.lists.now.current.items c.args.s.0
-    c.members-count.result c.args.m c.members-count.ensures.value) (omega (arith, c.if-count-gt1.false))
+pub returns-else-count-gt0 : goal.returns-else-count-gt0
+returns-else-count-gt0 c = λ e come.
+    let d = drafted c.args.inst.now.tables c.args.lists.now in
+    let told = machine_told d d.current c.args.s.0 c.members-count.result c.args.m c.members-count.ensures.value in
+    conflict_none e c.args.s.0 c.args.m.0 (c.members-count.result + 1)
+    (ap (λ n. n + 1) told ∙ sym (come_on d e c.args.s.0 c.args.m.0 come)) (omega (arith, c.if-count-gt0.false))

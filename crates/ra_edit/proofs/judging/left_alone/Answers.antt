@@ -1,18 +1,26 @@
--- The count is that of the definition.
-use Rattle.std.proofs.Common.{arith}
+-- None of the service is left, and of another one as many as before.
+use Rattle.std.proofs.Common.{◌∙◌, sym, ap, arith}
+use Rattle.ra_model.specs.Services.{in_neighbourhood}
+use Rattle.ra_edit.specs.Drafts.{instance_of}
 use Rattle.ra_edit.specs.Keeping.{drafted}
 use Rattle.ra_edit.proofs.ScanLaws.{near_told}
 use Rattle.ra_edit.proofs.TestLaws.{left_some, left_none}
 use Rattle.ra_edit.proofs.judging.left_alone.Goals as goal
 
-pub returns-then-count-gt0 : goal.returns-then-count-gt0
-returns-then-count-gt0 c = left_some c.args.inst.now.tables c.args.lists.now c.args.s.0 c.args.label c.args.u.0
-    c.members-count.result c.requires.gone
-    (near_told (drafted c.args.inst.now.tables c.args.lists.now) c.args.lists.now.current.items c.args.u.0 c.args.label
-    c.members-count.result c.members-count.ensures.value) (omega (arith, c.if-count-gt0.true))
+pub returns-then-u-s : goal.returns-then-u-s
+returns-then-u-s c = λ e left. left_none e c.args.s.0 c.args.label c.args.u.0 0
+    (sym (ap (λ x. in_neighbourhood (instance_of e) e.current x c.args.label) c.if-u-s.true ∙ left.none)) (omega arith)
 
-pub returns-else-count-gt0 : goal.returns-else-count-gt0
-returns-else-count-gt0 c = left_none c.args.inst.now.tables c.args.lists.now c.args.s.0 c.args.label c.args.u.0
-    c.members-count.result
-    (near_told (drafted c.args.inst.now.tables c.args.lists.now) c.args.lists.now.current.items c.args.u.0 c.args.label
-    c.members-count.result c.members-count.ensures.value) (omega (arith, c.if-count-gt0.false))
+pub returns-then-members-gt0 : goal.returns-then-members-gt0
+returns-then-members-gt0 c = λ e left.
+    let d = drafted c.args.inst.now.tables c.args.lists.now in
+    left_some e c.args.s.0 c.args.label c.args.u.0 c.members.result left.none
+    (near_told d d.current c.args.u.0 c.args.label c.members.result c.members.ensures.value
+    ∙ sym (left.others c.args.u.0 c.if-u-s.false)) (omega (arith, c.if-members-gt0.true))
+
+pub returns-else-members-gt0 : goal.returns-else-members-gt0
+returns-else-members-gt0 c = λ e left.
+    let d = drafted c.args.inst.now.tables c.args.lists.now in
+    left_none e c.args.s.0 c.args.label c.args.u.0 c.members.result
+    (near_told d d.current c.args.u.0 c.args.label c.members.result c.members.ensures.value
+    ∙ sym (left.others c.args.u.0 c.if-u-s.false)) (omega (arith, c.if-members-gt0.false))

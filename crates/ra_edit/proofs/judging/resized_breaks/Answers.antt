@@ -1,18 +1,20 @@
 -- The machines in the order of their numbers.
 use Rattle.std.proofs.Common.{◌∙◌, sym, arith}
-use Rattle.std.proofs.lemmas.Result.{IfOk-weaker}
-use Rattle.ra_edit.proofs.TestLaws.{resized_up, resized_down}
+use Rattle.ra_edit.specs.Touched.{resized_breaks}
+use Rattle.ra_edit.proofs.TestLaws.{found_first, resized_up, resized_down}
 use Rattle.ra_edit.proofs.judging.resized_breaks.Goals as goal
 
+pub returns-in-Some : goal.returns-in-Some
+unfolding resized_breaks
+returns-in-Some c = λ e same used at_home at_here.
+    found_first _ _ c.in-Some.cause (sym (c.row_capacity.ensures e same used) ∙ c.in-Some.is)
+
 pub returns-then-home-here : goal.returns-then-home-here
-returns-then-home-here c =
-    IfOk-weaker c.two_transients.result _ _
-    (λ cause told. resized_up c.args.inst.now.tables c.args.lists.now c.args.home.0 c.args.here.0 cause
-    (sym c.in_ok-cause.ensures ∙ c.in_default.is) (omega (arith, c.if-home-here.true)) told)
-    c.two_transients.ensures
+returns-then-home-here c = λ e same used at_home at_here. resized_up e c.args.home.0 c.args.here.0 _
+    (sym (c.row_capacity.ensures e same used) ∙ c.in_default.is) (omega (arith, c.if-home-here.true))
+    (c.two_transients.ensures e same at_home at_here)
 
 pub returns-else-home-here : goal.returns-else-home-here
-returns-else-home-here c = IfOk-weaker c.two_transients-else-home-here.result _ _
-    (λ cause told. resized_down c.args.inst.now.tables c.args.lists.now c.args.home.0 c.args.here.0 cause
-    (sym c.in_ok-cause.ensures ∙ c.in_default.is) (omega (arith, c.if-home-here.false)) told)
-    c.two_transients-else-home-here.ensures
+returns-else-home-here c = λ e same used at_home at_here. resized_down e c.args.home.0 c.args.here.0 _
+    (sym (c.row_capacity.ensures e same used) ∙ c.in_default.is) (omega (arith, c.if-home-here.false))
+    (c.two_transients-else-home-here.ensures e same at_here at_home)

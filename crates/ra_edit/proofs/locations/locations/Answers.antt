@@ -1,6 +1,6 @@
 -- The locations of all processes are those of the service.
 use Rattle.std.proofs.Common.{arith}
-use Rattle.ra_edit.specs.Keeping.{tables_with}
+use Rattle.ra_edit.specs.Keeping.{drafted, tables_with}
 use Rattle.ra_edit.proofs.SeenLaws.{none_seen, none_counted, all_seen}
 use Rattle.ra_edit.proofs.TestLaws.{processes_in}
 use Rattle.ra_edit.proofs.locations.locations.Goals as goal
@@ -22,5 +22,5 @@ returns c = all_seen (tables_with c.args.inst.now.tables c.args.lists.now) c.arg
       c.loop-p-test.false,
       c.loop-p.auto.p-end,
       c.processes-p-end.ensures.value,
-      processes_in c.args.inst.now.tables c.args.lists.now,
+      processes_in (drafted c.args.inst.now.tables c.args.lists.now),
     )) c.loop-p.invariant.value

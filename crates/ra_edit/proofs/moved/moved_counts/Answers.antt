@@ -3,7 +3,7 @@ use Rattle.std.proofs.Common.{◌≡◌, ◌<◌, arith}
 use Rattle.std.proofs.lemmas.List.{length-replicate}
 use Rattle.ra_model.specs.Numbers.{process_count}
 use Rattle.ra_check.proofs.MovedLaws.{moved_start, moved_next, moved_below}
-use Rattle.ra_edit.specs.Keeping.{tables_with}
+use Rattle.ra_edit.specs.Keeping.{drafted, tables_with}
 use Rattle.ra_edit.proofs.TestLaws.{processes_in}
 use Rattle.ra_edit.proofs.moved.moved_counts.Goals as goal
 
@@ -30,5 +30,11 @@ returns-clause-counted c =
     let i = c.args.inst.now.tables in
     let l = c.args.lists.now in
     let all : c.loop-p.p ≡ process_count (tables_with i l) =
-    omega (arith, c.loop-p-test.false, c.loop-p.auto.p-end, c.processes-p-end.ensures.value, processes_in i l) in
+    omega (
+      arith,
+      c.loop-p-test.false,
+      c.loop-p.auto.p-end,
+      c.processes-p-end.ensures.value,
+      processes_in (drafted i l),
+    ) in
     rw all at c.loop-p.invariant.counted

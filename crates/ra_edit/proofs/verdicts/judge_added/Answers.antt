@@ -1,42 +1,50 @@
 -- A process that has come: what it touches, or what it costs.
-use Rattle.std.proofs.Common.{◌∙◌, ◌*◌, sym, ap₂, arith}
+use Rattle.std.proofs.Common.{◌∙◌, ◌*◌, length, refl, sym, ap₂, arith}
 use Rattle.ra_edit.specs.Keeping.{drafted}
-use Rattle.ra_edit.proofs.VerdictLaws.{HasParts, parts_told, come_broken, come_parts, load_counted, balance_counted}
-use Rattle.ra_edit.proofs.VerdictLaws.{times_small}
+use Rattle.ra_edit.proofs.VerdictLaws.{HasParts, parts_told, come_broken, come_parts, times_small}
 use Rattle.ra_edit.proofs.verdicts.judge_added.Goals as goal
 
+pub use_added-requires : goal.use_added-requires
+use_added-requires c = record {
+  sound = c.requires.kept.sound;
+  loads = c.requires.loads;
+  machine = c.requires.machine;
+  asked = c.requires.asked;
+}
+
+pub transient_added-requires : goal.transient_added-requires
+transient_added-requires c = record {
+  sound = c.requires.kept.sound;
+  loads = c.requires.loads;
+  machine = c.requires.machine;
+  asked = c.requires.asked;
+}
+
+pub added_breaks-requires : goal.added_breaks-requires
+added_breaks-requires c = record {
+  sound = c.requires.kept.sound;
+  service = c.requires.service;
+  machine = c.requires.machine;
+  used = rw c.as_slice.ensures c.in_ok-used.ensures.one_each;
+  between = rw c.as_slice-2.ensures c.in_ok-between.ensures.one_each;
+}
+
 pub returns-in-Some : goal.returns-in-Some
-returns-in-Some c = come_broken (drafted c.args.inst.now.tables c.args.lists.now)
-    (drafted c.args.inst.now.tables c.args.next.now) c.args.cost c.args.s.0 c.args.m.0 c.requires.kept c.requires.come
-    ∙ sym c.in_ok-cause.ensures ∙ c.in-Some.is
+returns-in-Some c = λ e come asks.
+    let n = length c.args.lists.now.rows.items in
+    come_broken (drafted c.args.inst.now.tables c.args.lists.now) e c.args.cost c.args.s.0 c.args.m.0 c.requires.kept
+    come
+    ∙ sym (c.added_breaks.ensures e come (rw c.as_slice.ensures (c.in_ok-used.ensures.row e n come.more come.here asks))
+    (rw c.as_slice-2.ensures (c.in_ok-between.ensures.row e n come.more come.here asks)))
+    ∙ c.in-Some.is
 
-pub replaced-load-requires : goal.replaced-load-requires
-replaced-load-requires c =
-    let d = drafted c.args.inst.now.tables c.args.lists.now in
-    let has : HasParts d c.args.cost = parts_told d c.args.cost c.requires.kept c.small.ensures in
-    record {
-      counted = omega (
-        arith,
-        has.load,
-        load_counted d c.args.m.0 c.in_ok-before.before c.requires.come.machine_in
-            c.in_ok-before.ensures,
-      );
-      fits = omega (arith, has.load_small, c.in_ok-after.ensures.load_small);
-    }
-
-pub replaced-balance-requires : goal.replaced-balance-requires
-replaced-balance-requires c =
-    let d = drafted c.args.inst.now.tables c.args.lists.now in
-    let has : HasParts d c.args.cost = parts_told d c.args.cost c.requires.kept c.small.ensures in
-    record {
-      counted = omega (
-        arith,
-        has.balance,
-        balance_counted d c.args.m.0 c.in_ok-before.before c.requires.come.machine_in
-            c.in_ok-before.ensures,
-      );
-      fits = omega (arith, has.balance_small, c.in_ok-after.ensures.balance_small);
-    }
+pub costs_with-costs-requires : goal.costs_with-costs-requires
+costs_with-costs-requires c = record {
+  kept = c.requires.kept;
+  loads = c.requires.loads;
+  machine = c.requires.machine;
+  one_each = rw c.as_slice-3.ensures c.in_ok-used.ensures.one_each;
+}
 
 pub overflow_add-cost : goal.overflow_add-cost
 overflow_add-cost c =
@@ -54,8 +62,8 @@ summed-cost-requires c =
     let d = drafted c.args.inst.now.tables c.args.lists.now in
     let has : HasParts d c.args.cost = parts_told d c.args.cost c.requires.kept c.small.ensures in
     record {
-      load = omega (arith, has.load_small, c.in_ok-after.ensures.load_small, c.replaced-load.ensures);
-      balance = omega (arith, has.balance_small, c.in_ok-after.ensures.balance_small, c.replaced-balance.ensures);
+      load = c.costs_with-costs.ensures.load_small;
+      balance = c.costs_with-costs.ensures.balance_small;
       process = omega (arith, has.process_small);
       service = omega (arith, has.service_small);
       machine = omega (
@@ -67,15 +75,19 @@ summed-cost-requires c =
     }
 
 pub returns : goal.returns
-returns c =
+returns c = λ e come asks.
     let d = drafted c.args.inst.now.tables c.args.lists.now in
-    let e = drafted c.args.inst.now.tables c.args.next.now in
-    let has : HasParts d c.args.cost = parts_told d c.args.cost c.requires.kept c.small.ensures in (
-      come_broken d e c.args.cost c.args.s.0 c.args.m.0 c.requires.kept c.requires.come ∙ sym c.in_ok-cause.ensures
+    let n = length c.args.lists.now.rows.items in
+    let has : HasParts d c.args.cost = parts_told d c.args.cost c.requires.kept c.small.ensures in
+    let costs = c.costs_with-costs.ensures.costs e come.more.origin
+    (rw c.as_slice-3.ensures (c.in_ok-used.ensures.row e n come.more come.here asks)) in (
+      come_broken d e c.args.cost c.args.s.0 c.args.m.0 c.requires.kept come
+          ∙ sym (c.added_breaks.ensures e come
+          (rw c.as_slice.ensures (c.in_ok-used.ensures.row e n come.more come.here asks))
+          (rw c.as_slice-2.ensures (c.in_ok-between.ensures.row e n come.more come.here asks)))
           ∙ c.in_default.is,
-      c.summed-cost.ensures ∙ come_parts d e c.args.cost c.args.s.0 c.args.m.0 c.replaced-load.result
-          c.replaced-balance.result (c.from.result * c.from-2.result) c.in_ok-before.before c.in_ok-after.after
-          c.args.inst.now.well_formed has c.requires.come c.in_ok-before.ensures c.in_ok-after.ensures
-          c.replaced-load.ensures c.replaced-balance.ensures
+      c.summed-cost.ensures ∙ come_parts d e c.args.cost c.args.s.0 c.args.m.0 c.costs_with-costs.result.load
+          c.costs_with-costs.result.balance (c.from.result * c.from-2.result) costs.before costs.after
+          c.args.inst.now.well_formed has come costs.before_are costs.after_are costs.load costs.balance
           (ap₂ (λ x y. x * y) (c.from.ensures ∙ c.machine_weight.ensures) (c.from-2.ensures ∙ c.move_cost.ensures)),
     )

@@ -1,85 +1,91 @@
 -- A process that requires something else: what it touches, or what it costs.
-use Rattle.std.proofs.Common.{◌∙◌, ◌<◌, sym, arith}
+use Rattle.std.proofs.Common.{◌∙◌, ◌<◌, true, eqb, ◌||◌, refl, sym, arith, eq-eqb}
+use Rattle.std.proofs.lemmas.Bool.{or_left, or_right}
+use Rattle.ra_model.specs.Assignments.{machine_at}
 use Rattle.ra_model.specs.Numbers.{machine_count}
 use Rattle.ra_edit.specs.Keeping.{drafted}
-use Rattle.ra_edit.proofs.VerdictLaws.{HasParts, parts_told, other_broken, other_parts, load_counted, balance_counted}
-use Rattle.ra_edit.proofs.VerdictLaws.{here_in, home_in}
+use Rattle.ra_edit.proofs.VerdictLaws.{HasParts, parts_told, other_broken, other_parts, here_in, home_in}
 use Rattle.ra_edit.proofs.SoundLaws.{few_of}
 use Rattle.ra_edit.proofs.verdicts.judge_resized.Goals as goal
 
 pub machine_of-home-requires : goal.machine_of-home-requires
 machine_of-home-requires c = let few = few_of (drafted c.args.inst.now.tables c.args.lists.now) c.requires.kept.sound in
-    omega (arith, few.initial, c.requires.other.there)
+    omega (arith, few.initial, c.requires.process)
 
 pub machine_of-here-requires : goal.machine_of-here-requires
 machine_of-here-requires c = let few = few_of (drafted c.args.inst.now.tables c.args.lists.now) c.requires.kept.sound in
-    omega (arith, few.current, c.requires.other.there)
+    omega (arith, few.current, c.requires.process)
+
+pub use_resized-requires : goal.use_resized-requires
+use_resized-requires c = record {
+  sound = c.requires.kept.sound;
+  loads = c.requires.loads;
+  process = c.requires.process;
+  here = c.machine_of-here.ensures;
+  asked = c.requires.asked;
+}
+
+pub transient_resized-requires : goal.transient_resized-requires
+transient_resized-requires c =
+    let d = drafted c.args.inst.now.tables c.args.lists.now in
+    record {
+      sound = c.requires.kept.sound;
+      loads = c.requires.loads;
+      process = c.requires.process;
+      machine = omega (arith, c.machine_of-home.ensures, home_in d c.args.p.0 c.requires.kept.sound c.requires.process);
+      there =
+          or_left _ _ (eq-eqb (machine_at d.initial c.args.p.0) c.machine_of-home.result.0
+          (sym c.machine_of-home.ensures));
+      asked = c.requires.asked;
+    }
+
+pub transient_resized-requires-2 : goal.transient_resized-requires-2
+transient_resized-requires-2 c =
+    let d = drafted c.args.inst.now.tables c.args.lists.now in
+    record {
+      sound = c.requires.kept.sound;
+      loads = c.requires.loads;
+      process = c.requires.process;
+      machine = omega (arith, c.machine_of-here.ensures, here_in d c.args.p.0 c.requires.kept.sound c.requires.process);
+      there =
+          or_right _ _
+          (eq-eqb (machine_at d.current c.args.p.0) c.machine_of-here.result.0 (sym c.machine_of-here.ensures));
+      asked = c.requires.asked;
+    }
 
 pub resized_breaks-requires : goal.resized_breaks-requires
 resized_breaks-requires c =
     let d = drafted c.args.inst.now.tables c.args.lists.now in
     record {
-      sound = c.requires.sound;
-      home =
-          omega (arith, c.machine_of-home.ensures, home_in d c.args.p.0 c.requires.kept.sound c.requires.other.there);
-      here =
-          omega (arith, c.machine_of-here.ensures, here_in d c.args.p.0 c.requires.kept.sound c.requires.other.there);
+      home = omega (arith, c.machine_of-home.ensures, home_in d c.args.p.0 c.requires.kept.sound c.requires.process);
+      here = omega (arith, c.machine_of-here.ensures, here_in d c.args.p.0 c.requires.kept.sound c.requires.process);
+      used = rw c.as_slice.ensures c.in_ok-used.ensures.one_each;
+      at_home = rw c.as_slice-2.ensures c.in_ok-at_home.ensures.one_each;
+      at_here = rw c.as_slice-3.ensures c.in_ok-at_here.ensures.one_each;
     }
 
 pub returns-in-Some : goal.returns-in-Some
-returns-in-Some c = other_broken (drafted c.args.inst.now.tables c.args.lists.now)
-    (drafted c.args.inst.now.tables c.args.next.now) c.args.cost c.args.p.0 c.machine_of-home.result.0
-    c.machine_of-here.result.0 c.requires.kept c.requires.other c.machine_of-home.ensures c.machine_of-here.ensures
-    ∙ sym c.in_ok-cause.ensures ∙ c.in-Some.is
+returns-in-Some c = λ e other asks.
+    other_broken (drafted c.args.inst.now.tables c.args.lists.now) e c.args.cost c.args.p.0 c.machine_of-home.result.0
+    c.machine_of-here.result.0 c.requires.kept other c.machine_of-home.ensures c.machine_of-here.ensures
+    ∙ sym (c.resized_breaks.ensures e (other.after.origin ∙ sym other.before.origin)
+    (rw c.as_slice.ensures (c.in_ok-used.ensures.row e other asks))
+    (rw c.as_slice-2.ensures (c.in_ok-at_home.ensures.row e other asks))
+    (rw c.as_slice-3.ensures (c.in_ok-at_here.ensures.row e other asks)))
+    ∙ c.in-Some.is
 
-pub costs_on-requires-clause-machine : goal.costs_on-requires-clause-machine
-costs_on-requires-clause-machine c =
-    omega (
-      arith,
-      c.machine_of-here.ensures,
-      here_in (drafted c.args.inst.now.tables c.args.lists.now) c.args.p.0
-          c.requires.kept.sound c.requires.other.there,
-    )
-
-pub costs_on-requires-2-clause-machine : goal.costs_on-requires-2-clause-machine
-costs_on-requires-2-clause-machine c =
-    omega (
-      arith,
-      c.machine_of-here.ensures,
-      here_in (drafted c.args.inst.now.tables c.args.lists.now) c.args.p.0
-          c.requires.kept.sound c.requires.other.there,
-    )
-
-pub replaced-load-requires : goal.replaced-load-requires
-replaced-load-requires c =
-    let d = drafted c.args.inst.now.tables c.args.lists.now in
-    let has : HasParts d c.args.cost = parts_told d c.args.cost c.requires.kept c.small.ensures in
-    let within : c.machine_of-here.result.0 < machine_count c.args.inst.now.tables =
-    omega (arith, c.machine_of-here.ensures, here_in d c.args.p.0 c.requires.kept.sound c.requires.other.there) in
+pub costs_with-costs-requires : goal.costs_with-costs-requires
+costs_with-costs-requires c =
     record {
-      counted = omega (
+      kept = c.requires.kept;
+      loads = c.requires.loads;
+      machine = omega (
         arith,
-        has.load,
-        load_counted d c.machine_of-here.result.0 c.in_ok-before.before within
-            c.in_ok-before.ensures,
+        c.machine_of-here.ensures,
+        here_in (drafted c.args.inst.now.tables c.args.lists.now) c.args.p.0
+            c.requires.kept.sound c.requires.process,
       );
-      fits = omega (arith, has.load_small, c.in_ok-after.ensures.load_small);
-    }
-
-pub replaced-balance-requires : goal.replaced-balance-requires
-replaced-balance-requires c =
-    let d = drafted c.args.inst.now.tables c.args.lists.now in
-    let has : HasParts d c.args.cost = parts_told d c.args.cost c.requires.kept c.small.ensures in
-    let within : c.machine_of-here.result.0 < machine_count c.args.inst.now.tables =
-    omega (arith, c.machine_of-here.ensures, here_in d c.args.p.0 c.requires.kept.sound c.requires.other.there) in
-    record {
-      counted = omega (
-        arith,
-        has.balance,
-        balance_counted d c.machine_of-here.result.0 c.in_ok-before.before within
-            c.in_ok-before.ensures,
-      );
-      fits = omega (arith, has.balance_small, c.in_ok-after.ensures.balance_small);
+      one_each = rw c.as_slice-4.ensures c.in_ok-used.ensures.one_each;
     }
 
 pub summed-cost-requires : goal.summed-cost-requires
@@ -87,25 +93,30 @@ summed-cost-requires c =
     let d = drafted c.args.inst.now.tables c.args.lists.now in
     let has : HasParts d c.args.cost = parts_told d c.args.cost c.requires.kept c.small.ensures in
     record {
-      load = omega (arith, has.load_small, c.in_ok-after.ensures.load_small, c.replaced-load.ensures);
-      balance = omega (arith, has.balance_small, c.in_ok-after.ensures.balance_small, c.replaced-balance.ensures);
+      load = c.costs_with-costs.ensures.load_small;
+      balance = c.costs_with-costs.ensures.balance_small;
       process = omega (arith, has.process_small);
       service = omega (arith, has.service_small);
       machine = omega (arith, has.machine_small);
     }
 
 pub returns : goal.returns
-returns c =
+returns c = λ e other asks.
     let d = drafted c.args.inst.now.tables c.args.lists.now in
-    let e = drafted c.args.inst.now.tables c.args.next.now in
     let has : HasParts d c.args.cost = parts_told d c.args.cost c.requires.kept c.small.ensures in
     let within : c.machine_of-here.result.0 < machine_count c.args.inst.now.tables =
-    omega (arith, c.machine_of-here.ensures, here_in d c.args.p.0 c.requires.kept.sound c.requires.other.there) in (
+    omega (arith, c.machine_of-here.ensures, here_in d c.args.p.0 c.requires.kept.sound c.requires.process) in
+    let costs = c.costs_with-costs.ensures.costs e (other.after.origin ∙ sym other.before.origin)
+    (rw c.as_slice-4.ensures (c.in_ok-used.ensures.row e other asks)) in (
       other_broken d e c.args.cost c.args.p.0 c.machine_of-home.result.0 c.machine_of-here.result.0 c.requires.kept
-          c.requires.other c.machine_of-home.ensures c.machine_of-here.ensures ∙ sym c.in_ok-cause.ensures
+          other c.machine_of-home.ensures c.machine_of-here.ensures
+          ∙ sym (c.resized_breaks.ensures e (other.after.origin ∙ sym other.before.origin)
+          (rw c.as_slice.ensures (c.in_ok-used.ensures.row e other asks))
+          (rw c.as_slice-2.ensures (c.in_ok-at_home.ensures.row e other asks))
+          (rw c.as_slice-3.ensures (c.in_ok-at_here.ensures.row e other asks)))
           ∙ c.in_default.is,
-      c.summed-cost.ensures ∙ other_parts d e c.args.cost c.args.p.0 c.machine_of-here.result.0 c.replaced-load.result
-          c.replaced-balance.result c.in_ok-before.before c.in_ok-after.after c.args.inst.now.well_formed within
-          c.machine_of-here.ensures has c.requires.other c.in_ok-before.ensures c.in_ok-after.ensures
-          c.replaced-load.ensures c.replaced-balance.ensures,
+      c.summed-cost.ensures ∙ other_parts d e c.args.cost c.args.p.0 c.machine_of-here.result.0
+          c.costs_with-costs.result.load c.costs_with-costs.result.balance costs.before costs.after
+          c.args.inst.now.well_formed within c.machine_of-here.ensures has other costs.before_are costs.after_are
+          costs.load costs.balance,
     )

@@ -11,7 +11,7 @@ returns-clause-feasible c =
     let same = rw (c.apart-rows.ensures.rows, c.apart-rows.ensures.requirements) at c.in_ok-instance.ensures in
     rw (c.apart-rows.ensures.initial, c.apart-rows.ensures.current)
     (built_feasible (drafted c.self.inside.inst.now.tables c.self.inside.lists) c.self.inside.parts
-    c.in_ok-instance.instance.tables c.self.invariant same)
+    c.in_ok-instance.instance.tables c.self.invariant.kept same)
 
 pub returns-clause-parts : goal.returns-clause-parts
 returns-clause-parts c =
@@ -24,7 +24,7 @@ returns-clause-parts c =
 
 pub returns-clause-limits : goal.returns-clause-limits
 returns-clause-limits c =
-    subst (λ (o : Drafted). WellFormed (instance_of o)) c.self.view_is c.self.invariant.sound.well_formed
+    subst (λ (o : Drafted). WellFormed (instance_of o)) c.self.view_is c.self.invariant.kept.sound.well_formed
 
 pub returns-clause-small : goal.returns-clause-small
 returns-clause-small c = subst (λ (o : Drafted). Small (instance_of o)) c.self.view_is c.small.ensures

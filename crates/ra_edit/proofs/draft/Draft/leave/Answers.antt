@@ -7,4 +7,5 @@ use Rattle.ra_edit.proofs.draft.Draft.leave.Goals as goal
 
 pub returns-clause-feasible : goal.returns-clause-feasible
 returns-clause-feasible c = subst (λ (o : Drafted). Feasible (instance_of o) o.initial o.current) c.self.view_is
-    (kept_feasible (drafted c.self.inside.inst.now.tables c.self.inside.lists) c.self.inside.parts c.self.invariant)
+    (kept_feasible (drafted c.self.inside.inst.now.tables c.self.inside.lists) c.self.inside.parts
+    c.self.invariant.kept)

@@ -1,0 +1,14 @@
+-- The row of the process is read.
+use Rattle.std.proofs.Common.{◌∙◌, ap, ap₂, ◌*◌, ◌+◌, arith}
+use Rattle.ra_edit.specs.Keeping.{drafted}
+use Rattle.ra_edit.proofs.ReadLaws.{row_of_process, asks_read}
+use Rattle.ra_edit.proofs.rows.requirements_of.Goals as goal
+
+pub part-requires : goal.part-requires
+part-requires c =
+    rw (c.as_slice.ensures, c.resources-width.ensures)
+    (row_of_process (drafted c.args.inst.now.tables c.args.lists.now) c.args.p.0 c.requires.sound c.requires.process)
+
+pub returns : goal.returns
+returns c = asks_read (drafted c.args.inst.now.tables c.args.lists.now) c.args.p.0 c.part.result.now c.requires.sound
+    c.requires.process (rw (c.as_slice.ensures, c.resources-width.ensures) at c.part.ensures)

@@ -1,0 +1,64 @@
+-- What is kept of the use of the machines while edits change it.
+use Rattle.std.specs.Prelude.{◌≡◌, ℕ, ◌+◌, ◌<◌, if◌then◌else◌, ◌==◌, ◌||◌, true, List, length, slice_index}
+use Rattle.ra_base.specs.Tables.{cell}
+use Rattle.ra_base.specs.declared.costs.Parts.{Parts}
+use Rattle.ra_model.specs.Numbers.{resource_count}
+use Rattle.ra_model.specs.Assignments.{machine_at}
+use Rattle.ra_model.specs.Usage.{use_share, use_of, transient_share, transient_of}
+use Rattle.ra_check.specs.Made.{IsGrid}
+use Rattle.ra_check.specs.Stands.{IsTally}
+use Rattle.ra_edit.specs.declared.loads.Loads.{Loads}
+use Rattle.ra_edit.specs.Drafts.{Drafted, instance_of}
+use Rattle.ra_edit.specs.Keeping.{IsKept}
+
+-- one table has more than another: an amount of each resource at machine `at`
+pub record HasMoreAt (width at : ℕ) (amount : ℕ → ℕ) (low high : List ℕ) : Type 0 where
+  pub each : (m r : ℕ) → r < width
+      → cell width high m r ≡ cell width low m r + (if at == m then amount r else 0)
+  pub same_length : length high ≡ length low
+
+-- an amount of each resource at two machines, and once if they are one
+pub record HasMoreBetween (width home at : ℕ) (amount : ℕ → ℕ) (low high : List ℕ) : Type 0 where
+  pub each : (m r : ℕ) → r < width
+      → cell width high m r
+      ≡ cell width low m r + (if (home == m) || (at == m) then amount r else 0)
+  pub same_length : length high ≡ length low
+
+-- one of two has what a process uses besides, whose machine was `home` at first and is `at` now
+pub record HasMore (width home at : ℕ) (amount : ℕ → ℕ) (low high : Loads) : Type 0 where
+  pub used : HasMoreAt width at amount low.used.items high.used.items
+  pub between : HasMoreBetween width home at amount low.between.items high.between.items
+
+-- what the first n processes of a draft use of each resource of each machine, now and in between
+pub record HasCounted (d : Drafted) (n : ℕ) (loads : Loads) : Type 0 where
+  pub used : IsTally (resource_count d.origin) n (use_share (instance_of d)) d.current
+      loads.used.items
+  pub between : IsTally (resource_count d.origin) n (transient_share (instance_of d) d.initial)
+      d.current loads.between.items
+  pub used_grid : IsGrid d.origin loads.used.items
+  pub between_grid : IsGrid d.origin loads.between.items
+
+-- what all of them use
+abbrev pub AreLoadsOf : Drafted → Loads → Type 0
+AreLoadsOf d loads = HasCounted d (length d.rows) loads
+
+-- the use of each resource of machine m
+pub record IsUseRow (d : Drafted) (m : ℕ) (row : List ℕ) : Type 0 where
+  pub one_each : length row ≡ resource_count d.origin
+  pub each : (r : ℕ) → r < resource_count d.origin
+      → slice_index row r ≡ use_of (instance_of d) d.current m r
+
+-- the transient use of each resource of machine m
+pub record IsTransientRow (d : Drafted) (m : ℕ) (row : List ℕ) : Type 0 where
+  pub one_each : length row ≡ resource_count d.origin
+  pub each : (r : ℕ) → r < resource_count d.origin
+      → slice_index row r ≡ transient_of (instance_of d) d.initial d.current m r
+
+-- a machine of process p: the initial one, or that of now
+abbrev pub IsThere : Drafted → ℕ → ℕ → Type 0
+IsThere d p m = ((machine_at d.initial p == m) || (machine_at d.current p == m)) ≡ true
+
+-- what a draft holds: its lists, the cost of the current one, and what the processes use
+pub record IsHeld (d : Drafted) (loads : Loads) (parts : Parts) : Type 0 where
+  pub kept : IsKept d parts
+  pub loads_are : AreLoadsOf d loads

@@ -1,0 +1,365 @@
+//! The use of the machines, kept while edits change it.
+ghost use Rattle.std.specs.Prelude.{◌≡◌, ℕ, ◌+◌, ◌*◌, ◌^◌, ◌<◌, ◌≤◌, length, slice_index, None, IfOk};
+ghost use Rattle.ra_base.specs.Tables.{cell};
+ghost use Rattle.ra_check.specs.Stands.{IsBelow};
+ghost use Rattle.ra_check.specs.Made.{IsGrid};
+ghost use Rattle.ra_model.specs.Assignments.{machine_at};
+ghost use Rattle.ra_model.specs.Numbers.{resource_count, machine_count};
+ghost use Rattle.ra_edit.specs.Drafts.{Drafted};
+ghost use Rattle.ra_edit.specs.Keeping.{drafted, IsSound};
+ghost use Rattle.ra_edit.specs.Kinds.{Asks, HasCome, HasGone, HasOther, IsEdited};
+ghost use Rattle.ra_edit.specs.Loads.{AreLoadsOf, HasCounted, HasMore, HasMoreAt, IsUseRow, IsTransientRow, IsThere};
+ghost use Rattle.ra_edit.specs.OneMore.{OneMore};
+ghost use Rattle.ra_edit.specs.Replies.{barred};
+ghost use Rattle.ra_edit_read.specs.EditLists.{FitsInstance};
+
+use crate::lists::Lists;
+use crate::rows::{read_row, requirements_of, row_with, row_without};
+use crate::scanning::{processes, small};
+use ra_base::{Fixed, Machine, NoMemory, Process};
+use ra_edit_read::Edit;
+use ra_model::{Instance, copies, machine_of};
+use std::alloc::Global;
+
+/// What the processes use of each resource of each machine: those that are there now, and those that were there at first
+/// besides. Both tables are by machine, then resource.
+pub(crate) struct Loads {
+    pub(crate) used: Fixed<u64>,
+    pub(crate) between: Fixed<u64>,
+}
+
+/// Lets both tables go in one call, so that the end of an owner is short to prove.
+impl Drop for Loads {
+    fn drop(self) {
+        let Loads {
+            used: _,
+            between: _,
+        } = self;
+    }
+}
+
+impl Loads {
+    /// What the processes of some lists use.
+    pub(crate) fn of(alloc: Global, inst: &Instance, lists: &Lists) -> Result<Loads, NoMemory>
+        requires { IsSound (drafted inst.now.tables lists.now) }
+        ensures { IfOk result (λ loads. AreLoadsOf (drafted inst.now.tables lists.now) loads) }
+    {
+        let cells = inst.machines() as usize * inst.resources() as usize;
+        let used = copies(alloc, cells, 0u64)?;
+        let between = copies(alloc, cells, 0u64)?;
+        let mut loads = Loads { used, between };
+        for p in 0..processes(inst, lists) {
+            loads.count(inst, lists, Process(p));
+        }
+        Ok(loads)
+    }
+
+    /// Adds what one process more uses.
+    fn count(&mut self, inst: &Instance, lists: &Lists, p: Process)
+        requires sound { IsSound (drafted inst.now.tables lists.now) }
+        requires process { p.0 < length lists.now.rows.items }
+        requires counted { HasCounted (drafted inst.now.tables lists.now) p.0 self.old }
+        ensures { HasCounted (drafted inst.now.tables lists.now) (p.0 + 1) self.new }
+    {
+        small(inst, lists);
+        let home = machine_of(&lists.initial, p);
+        let here = machine_of(&lists.current, p);
+        self.come(home, here, requirements_of(inst, lists, p));
+    }
+
+    /// The use of each resource of a machine.
+    pub(crate) fn use_row(&self, inst: &Instance, m: Machine) -> &[u64]
+        requires machine { m.0 < machine_count inst.now.tables }
+        requires grid { IsGrid inst.now.tables self.now.used.items }
+        ensures one_each { length result.now ≡ resource_count inst.now.tables }
+        ensures row { (d : Drafted) → d.origin ≡ inst.now.tables → AreLoadsOf d self.now →
+            IsUseRow d m.0 result.now }
+    {
+        read_row(&self.used, inst.resources(), m.0)
+    }
+
+    /// The transient use of each resource of a machine.
+    pub(crate) fn transient_row(&self, inst: &Instance, m: Machine) -> &[u64]
+        requires machine { m.0 < machine_count inst.now.tables }
+        requires grid { IsGrid inst.now.tables self.now.between.items }
+        ensures one_each { length result.now ≡ resource_count inst.now.tables }
+        ensures row { (d : Drafted) → d.origin ≡ inst.now.tables → AreLoadsOf d self.now →
+            IsTransientRow d m.0 result.now }
+    {
+        read_row(&self.between, inst.resources(), m.0)
+    }
+
+    /// The use of a machine with a process more there.
+    pub(crate) fn use_added(
+        &self,
+        alloc: Global,
+        inst: &Instance,
+        lists: &Lists,
+        m: Machine,
+        asked: &[u32],
+    ) -> Result<Fixed<u64>, NoMemory>
+        requires sound { IsSound (drafted inst.now.tables lists.now) }
+        requires loads { AreLoadsOf (drafted inst.now.tables lists.now) self.now }
+        requires machine { m.0 < machine_count inst.now.tables }
+        requires asked { length asked.now ≡ resource_count inst.now.tables }
+        ensures one_each { IfOk result (λ row. length row.items ≡ resource_count inst.now.tables) }
+        ensures row { IfOk result (λ row. (e : Drafted) (p : ℕ) →
+            OneMore (drafted inst.now.tables lists.now) e p → machine_at e.current p ≡ m.0 →
+            Asks e p asked.now → IsUseRow e m.0 row.items) }
+    {
+        small(inst, lists);
+        Ok(row_with(alloc, self.use_row(inst, m), asked)?)
+    }
+
+    /// The transient use of a machine with a process more there.
+    pub(crate) fn transient_added(
+        &self,
+        alloc: Global,
+        inst: &Instance,
+        lists: &Lists,
+        m: Machine,
+        asked: &[u32],
+    ) -> Result<Fixed<u64>, NoMemory>
+        requires sound { IsSound (drafted inst.now.tables lists.now) }
+        requires loads { AreLoadsOf (drafted inst.now.tables lists.now) self.now }
+        requires machine { m.0 < machine_count inst.now.tables }
+        requires asked { length asked.now ≡ resource_count inst.now.tables }
+        ensures one_each { IfOk result (λ row. length row.items ≡ resource_count inst.now.tables) }
+        ensures row { IfOk result (λ row. (e : Drafted) (p : ℕ) →
+            OneMore (drafted inst.now.tables lists.now) e p → machine_at e.current p ≡ m.0 →
+            Asks e p asked.now → IsTransientRow e m.0 row.items) }
+    {
+        small(inst, lists);
+        Ok(row_with(alloc, self.transient_row(inst, m), asked)?)
+    }
+
+    /// The use of the machine of a process without it.
+    pub(crate) fn use_retired(
+        &self,
+        alloc: Global,
+        inst: &Instance,
+        lists: &Lists,
+        p: Process,
+        m: Machine,
+    ) -> Result<Fixed<u64>, NoMemory>
+        requires sound { IsSound (drafted inst.now.tables lists.now) }
+        requires loads { AreLoadsOf (drafted inst.now.tables lists.now) self.now }
+        requires process { p.0 < length lists.now.rows.items }
+        requires here { m.0 ≡ machine_at lists.now.current.items p.0 }
+        ensures one_each { IfOk result (λ row. length row.items ≡ resource_count inst.now.tables) }
+        ensures row { IfOk result (λ row. (e : Drafted) →
+            OneMore e (drafted inst.now.tables lists.now) p.0 → IsUseRow e m.0 row.items) }
+    {
+        let asked = requirements_of(inst, lists, p);
+        Ok(row_without(alloc, self.use_row(inst, m), asked)?)
+    }
+
+    /// The transient use of a machine of a process, the initial one or that of now, without the process.
+    fn transient_retired(
+        &self,
+        alloc: Global,
+        inst: &Instance,
+        lists: &Lists,
+        p: Process,
+        m: Machine,
+    ) -> Result<Fixed<u64>, NoMemory>
+        requires sound { IsSound (drafted inst.now.tables lists.now) }
+        requires loads { AreLoadsOf (drafted inst.now.tables lists.now) self.now }
+        requires process { p.0 < length lists.now.rows.items }
+        requires machine { m.0 < machine_count inst.now.tables }
+        requires there { IsThere (drafted inst.now.tables lists.now) p.0 m.0 }
+        ensures one_each { IfOk result (λ row. length row.items ≡ resource_count inst.now.tables) }
+        ensures row { IfOk result (λ row. (e : Drafted) →
+            OneMore e (drafted inst.now.tables lists.now) p.0 → IsTransientRow e m.0 row.items) }
+    {
+        let asked = requirements_of(inst, lists, p);
+        Ok(row_without(alloc, self.transient_row(inst, m), asked)?)
+    }
+
+    /// The use of the machine of a process that requires something else.
+    pub(crate) fn use_resized(
+        &self,
+        alloc: Global,
+        inst: &Instance,
+        lists: &Lists,
+        p: Process,
+        m: Machine,
+        asked: &[u32],
+    ) -> Result<Fixed<u64>, NoMemory>
+        requires sound { IsSound (drafted inst.now.tables lists.now) }
+        requires loads { AreLoadsOf (drafted inst.now.tables lists.now) self.now }
+        requires process { p.0 < length lists.now.rows.items }
+        requires here { m.0 ≡ machine_at lists.now.current.items p.0 }
+        requires asked { length asked.now ≡ resource_count inst.now.tables }
+        ensures one_each { IfOk result (λ row. length row.items ≡ resource_count inst.now.tables) }
+        ensures row { IfOk result (λ row. (e : Drafted) →
+            HasOther (drafted inst.now.tables lists.now) e p.0 → Asks e p.0 asked.now →
+            IsUseRow e m.0 row.items) }
+    {
+        small(inst, lists);
+        let rests = self.use_retired(alloc, inst, lists, p, m)?;
+        Ok(row_with(alloc, rests.as_slice(), asked)?)
+    }
+
+    /// The transient use of a machine of a process that requires something else.
+    pub(crate) fn transient_resized(
+        &self,
+        alloc: Global,
+        inst: &Instance,
+        lists: &Lists,
+        p: Process,
+        m: Machine,
+        asked: &[u32],
+    ) -> Result<Fixed<u64>, NoMemory>
+        requires sound { IsSound (drafted inst.now.tables lists.now) }
+        requires loads { AreLoadsOf (drafted inst.now.tables lists.now) self.now }
+        requires process { p.0 < length lists.now.rows.items }
+        requires machine { m.0 < machine_count inst.now.tables }
+        requires there { IsThere (drafted inst.now.tables lists.now) p.0 m.0 }
+        requires asked { length asked.now ≡ resource_count inst.now.tables }
+        ensures one_each { IfOk result (λ row. length row.items ≡ resource_count inst.now.tables) }
+        ensures row { IfOk result (λ row. (e : Drafted) →
+            HasOther (drafted inst.now.tables lists.now) e p.0 → Asks e p.0 asked.now →
+            IsTransientRow e m.0 row.items) }
+    {
+        small(inst, lists);
+        let rests = self.transient_retired(alloc, inst, lists, p, m)?;
+        Ok(row_with(alloc, rests.as_slice(), asked)?)
+    }
+
+    /// Follows an edit of the lists, which gives these requirements.
+    pub(crate) fn follow(&mut self, inst: &Instance, lists: &Lists, edit: Edit, asked: &[u32])
+        requires sound { IsSound (drafted inst.now.tables lists.now) }
+        requires loads { AreLoadsOf (drafted inst.now.tables lists.now) self.old }
+        requires free { barred (length lists.now.rows.items) edit ≡ None }
+        requires fits { FitsInstance inst.now.tables edit }
+        requires asked { length asked.now ≡ resource_count inst.now.tables }
+        ensures { (e : Drafted) →
+            IsEdited (drafted inst.now.tables lists.now) edit asked.now e → AreLoadsOf e self.new }
+    {
+        match edit {
+            Edit::Add { machine, .. } => self.add(inst, lists, machine, asked),
+            Edit::Retire { process } => self.retire(inst, lists, Process(process)),
+            Edit::Resize { process } => self.resize(inst, lists, Process(process), asked),
+        }
+    }
+
+    /// Follows a process more, on its initial machine.
+    fn add(&mut self, inst: &Instance, lists: &Lists, m: Machine, asked: &[u32])
+        requires sound { IsSound (drafted inst.now.tables lists.now) }
+        requires loads { AreLoadsOf (drafted inst.now.tables lists.now) self.old }
+        requires machine { m.0 < machine_count inst.now.tables }
+        requires asked { length asked.now ≡ resource_count inst.now.tables }
+        ensures { (e : Drafted) (s : ℕ) → HasCome (drafted inst.now.tables lists.now) e s m.0 →
+            Asks e (length lists.now.rows.items) asked.now → AreLoadsOf e self.new }
+    {
+        small(inst, lists);
+        self.come(m, m, asked);
+    }
+
+    /// Follows a process less.
+    fn retire(&mut self, inst: &Instance, lists: &Lists, p: Process)
+        requires sound { IsSound (drafted inst.now.tables lists.now) }
+        requires loads { AreLoadsOf (drafted inst.now.tables lists.now) self.old }
+        requires process { p.0 < length lists.now.rows.items }
+        ensures { (e : Drafted) → HasGone (drafted inst.now.tables lists.now) e p.0 →
+            AreLoadsOf e self.new }
+    {
+        let home = machine_of(&lists.initial, p);
+        let here = machine_of(&lists.current, p);
+        self.go(home, here, requirements_of(inst, lists, p));
+    }
+
+    /// Follows a process that requires something else.
+    fn resize(&mut self, inst: &Instance, lists: &Lists, p: Process, asked: &[u32])
+        requires sound { IsSound (drafted inst.now.tables lists.now) }
+        requires loads { AreLoadsOf (drafted inst.now.tables lists.now) self.old }
+        requires process { p.0 < length lists.now.rows.items }
+        requires asked { length asked.now ≡ resource_count inst.now.tables }
+        ensures { (e : Drafted) → HasOther (drafted inst.now.tables lists.now) e p.0 →
+            Asks e p.0 asked.now → AreLoadsOf e self.new }
+    {
+        small(inst, lists);
+        let home = machine_of(&lists.initial, p);
+        let here = machine_of(&lists.current, p);
+        self.go(home, here, requirements_of(inst, lists, p));
+        self.come(home, here, asked);
+    }
+
+    /// Adds what a process uses, whose machine was `home` at first and is `here` now.
+    pub(crate) fn come(&mut self, home: Machine, here: Machine, amounts: &[u32])
+        requires used { here.0 * length amounts.now + length amounts.now ≤
+            length self.old.used.items }
+        requires home { home.0 * length amounts.now + length amounts.now ≤
+            length self.old.between.items }
+        requires here { here.0 * length amounts.now + length amounts.now ≤
+            length self.old.between.items }
+        requires used_below { IsBelow (length amounts.now) (2 ^ 62) self.old.used.items }
+        requires between_below { IsBelow (length amounts.now) (2 ^ 62) self.old.between.items }
+        ensures { HasMore (length amounts.now) home.0 here.0 (slice_index amounts.now) self.old
+            self.new }
+    {
+        add_amounts(&mut self.used, here, amounts);
+        add_amounts(&mut self.between, home, amounts);
+        if home != here {
+            add_amounts(&mut self.between, here, amounts);
+        }
+    }
+
+    /// Takes away what a process uses, whose machine was `home` at first and is `here` now.
+    pub(crate) fn go(&mut self, home: Machine, here: Machine, amounts: &[u32])
+        requires used { here.0 * length amounts.now + length amounts.now ≤
+            length self.old.used.items }
+        requires home { home.0 * length amounts.now + length amounts.now ≤
+            length self.old.between.items }
+        requires here { here.0 * length amounts.now + length amounts.now ≤
+            length self.old.between.items }
+        requires used_enough { (r : ℕ) → r < length amounts.now → slice_index amounts.now r ≤
+            cell (length amounts.now) self.old.used.items here.0 r }
+        requires home_enough { (r : ℕ) → r < length amounts.now → slice_index amounts.now r ≤
+            cell (length amounts.now) self.old.between.items home.0 r }
+        requires here_enough { (r : ℕ) → r < length amounts.now → slice_index amounts.now r ≤
+            cell (length amounts.now) self.old.between.items here.0 r }
+        ensures { HasMore (length amounts.now) home.0 here.0 (slice_index amounts.now) self.new
+            self.old }
+    {
+        take_amounts(&mut self.used, here, amounts);
+        take_amounts(&mut self.between, home, amounts);
+        if home != here {
+            take_amounts(&mut self.between, here, amounts);
+        }
+    }
+}
+
+/// Adds an amount of each resource at a machine.
+fn add_amounts(table: &mut Fixed<u64>, at: Machine, amounts: &[u32])
+    requires place { at.0 * length amounts.now + length amounts.now ≤ length table.old.items }
+    requires below { IsBelow (length amounts.now) (2 ^ 63) table.old.items }
+    ensures { HasMoreAt (length amounts.now) at.0 (slice_index amounts.now) table.old.items
+        table.new.items }
+{
+    let _within = table.len();
+    let width = amounts.len();
+    let start = at.0 as usize * width;
+    for r in 0..width {
+        let sum = table.get(start + r) + u64::from(amounts[r]);
+        table.set(start + r, sum);
+    }
+}
+
+/// Takes an amount of each resource away from a machine.
+fn take_amounts(table: &mut Fixed<u64>, at: Machine, amounts: &[u32])
+    requires place { at.0 * length amounts.now + length amounts.now ≤ length table.old.items }
+    requires enough { (r : ℕ) → r < length amounts.now → slice_index amounts.now r ≤
+        cell (length amounts.now) table.old.items at.0 r }
+    ensures { HasMoreAt (length amounts.now) at.0 (slice_index amounts.now) table.new.items
+        table.old.items }
+{
+    let _within = table.len();
+    let width = amounts.len();
+    let start = at.0 as usize * width;
+    for r in 0..width {
+        let rest = table.get(start + r) - u64::from(amounts[r]);
+        table.set(start + r, rest);
+    }
+}
