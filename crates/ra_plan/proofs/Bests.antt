@@ -1,6 +1,6 @@
 -- The best option so far, one option after another.
 use Rattle.std.proofs.Common.{◌≡◌, ◌≢◌, ◌↔◌, ℕ, ◌+◌, ◌^◌, ◌<◌, ◌≤◌, arith, length, Bool, true, false, cond, ltb, List}
-use Rattle.std.proofs.Common.{[], ◌∷◌, Option, Some, None, refl, sym, ap, ap₂, ◌∙◌}
+use Rattle.std.proofs.Common.{[], ◌∷◌, Option, Some, None, refl, sym, ap, ap₂, ◌∙◌, subst}
 use Rattle.std.proofs.lemmas.Bool.{ltb-true, ltb-false}
 use Rattle.ra_base.specs.Searches.{is_better, least, least_place, or_else}
 use Rattle.ra_base.specs.declared.causes.Cause.{Cause}
@@ -15,6 +15,7 @@ use Rattle.ra_model.specs.Limits.{WellFormed}
 use Rattle.ra_model.specs.Assignments.{IsAssignment}
 use Rattle.ra_moves.specs.declared.steps.Step.{Step}
 use Rattle.ra_moves.specs.declared.verdicts.Verdict.{Verdict}
+use Rattle.ra_moves.specs.declared.verdicts.Weighed.{Weighed}
 use Rattle.ra_moves.specs.declared.verdicts.Verdict.TheVariants.{Done, Refused}
 use Rattle.ra_model.specs.Broken.{cause_if}
 use Rattle.ra_model.specs.Costs.{objective}
@@ -32,6 +33,7 @@ use Rattle.ra_moves.specs.Options.{kind_of, option_count, drawn, target, leaving
 use Rattle.ra_moves.specs.Options.{plan_place, plan_of}
 use Rattle.ra_world.specs.declared.world.World.{World}
 use Rattle.ra_plan.specs.Choosing.{IsBest, cost_in, steps_in, bound_of}
+use Rattle.ra_plan.specs.Deciding.{IsPlanned}
 use Rattle.ra_plan.specs.declared.best.Best.{Best}
 use Rattle.ra_plan.proofs.OptionSizes.{option_few, option_some, shift_steps, least_place_below}
 
@@ -166,6 +168,12 @@ pub best_planned : (w : World) (x : List ℕ) (d : Drawing) (allowed m : ℕ) (b
     mv ≡ plan_of w.inst.now.tables w.start.now.items w.kept.assignment.items x d allowed
 unfolding plan_of plan_place cost_in
 best_planned w x d allowed m best mv machines is option = rw (machines, is.option) at option
+
+-- a plan of a move is one of the same move
+pub planned_same : (w : World) (x : List ℕ) (d : Drawing) (allowed : ℕ) (mv same : MoveSteps) (weighed : Weighed) →
+    mv ≡ same → IsPlanned w x d allowed same weighed → IsPlanned w x d allowed mv weighed
+planned_same w x d allowed mv same weighed is planned =
+    subst (λ (m : MoveSteps). IsPlanned w x d allowed m weighed) (sym is) planned
 
 -- and it is one of them
 pub best_below : (w : World) (x : List ℕ) (d : Drawing) (allowed m : ℕ) (best : Best) →

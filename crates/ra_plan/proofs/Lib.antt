@@ -4,3 +4,4 @@ pub mod Weighed
 pub mod Marked
 pub mod RingPlaces
 pub mod Below
+mod Flawless

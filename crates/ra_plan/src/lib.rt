@@ -4,6 +4,7 @@
 #![tactic(auto)]
 
 mod best;
+mod flaws;
 mod marks;
 mod moves;
 mod planning;

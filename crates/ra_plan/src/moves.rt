@@ -12,8 +12,9 @@ ghost use Rattle.ra_plan.specs.Choosing.{IsBest, steps_in, bound_of};
 ghost use Rattle.ra_plan.specs.Deciding.{IsMoveBelow};
 
 use crate::best::Best;
+use crate::flaws::flaw_of;
 use ra_base::{Drawing, Steps};
-use ra_moves::{Move, first_flaw, options, resolve};
+use ra_moves::{Move, options, resolve};
 use ra_weigh_causes::is_unbroken;
 use ra_weigh_changes::{cost_after_move, has_room};
 use ra_world::{World, requirements};
@@ -61,10 +62,11 @@ fn cost_below<L: Ledger>(
     ensures counted { steps.new ≤ steps.old
         + 2 * (length mv.now.steps * resource_count (tables_of world.now)) }
 {
-    if let Some(_cause) = first_flaw(mv) {
+    if let Some(_cause) = flaw_of(mv) {
         return None;
     }
-    let required = requirements(world.instance(), mv, steps);
+    let mut required = [0; 60];
+    requirements(world.instance(), mv, &mut required, steps);
     if !has_room(world, mv, &required) {
         return None;
     }

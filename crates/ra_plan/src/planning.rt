@@ -19,13 +19,6 @@ use ra_weigh_changes::changed_by;
 use ra_world::{World, requirements};
 use std::sync::ledger::Ledger;
 
-/// A move and its weighing.
-#[derive(Clone, Copy)]
-struct Planned {
-    mv: Move,
-    weighed: Weighed,
-}
-
 /// What the eight words of a proposal make of the assignment of a world: of the options that they name, the first of
 /// least cost among those that are judged Done, and option 0 if there is none; with its weighing, and with the
 /// numbers `q`, how many entries of the journal the world has taken in, and `k`, that of the proposal among its
@@ -54,81 +47,98 @@ pub fn plan<L: Ledger>(
 {
     let machines = world.instance().machines();
     let first = resolve(world.assignment(), words, machines, drawing, 0);
-    let Planned { mv, weighed } = planned_by(world, &first, words, drawing, allowed, steps);
-    Plan { q, k, mv, weighed }
+    let mut plan = Plan {
+        q,
+        k,
+        mv: first,
+        weighed: Weighed {
+            broken: None,
+            local: 0,
+            first: None,
+            second: None,
+            third: None,
+        },
+    };
+    fill(world, &first, words, drawing, allowed, &mut plan, steps);
+    plan
 }
 
-/// The plan of words whose option 0 is at hand.
-fn planned_by<L: Ledger>(
+/// Gives a plan the move and the weighing of words whose option 0 is at hand and is its move so far.
+fn fill<L: Ledger>(
     world: &World<'_>,
     first: &Move,
     words: &[u64; 8],
     drawing: Drawing,
     allowed: u64,
+    plan: &mut Plan,
     steps: &mut Steps<L>,
-) -> Planned
-    requires { first.now ≡
+)
+    requires first { first.now ≡
         option_at (here_of world.now) words.now (machine_count (tables_of world.now)) drawing 0 }
-    ensures planned { IsPlanned world.now words.now drawing allowed result.mv result.weighed }
+    requires begun { plan.old.mv ≡ first.now }
+    ensures planned { IsPlanned world.now words.now drawing allowed plan.new.mv plan.new.weighed }
+    ensures numbers_q { plan.new.q ≡ plan.old.q }
+    ensures numbers_k { plan.new.k ≡ plan.old.k }
     ensures counted { steps.new ≤ steps.old + 24 * resource_count (tables_of world.now) }
 {
     match first.kind() {
-        MoveKind::Shift => planned_shift(world, first, words, drawing, allowed, steps),
-        _ => planned_move(world, first, words, drawing, allowed, steps),
+        MoveKind::Shift => fill_by_shift(world, first, words, drawing, allowed, plan, steps),
+        _ => fill_by_move(world, first, words, drawing, allowed, plan, steps),
     }
 }
 
-/// The plan of words that ask for a shift. Option 0 is weighed at the end, if none is done.
-fn planned_shift<L: Ledger>(
+/// The same for words that ask for a shift. Option 0 is weighed at the end, if none is done.
+fn fill_by_shift<L: Ledger>(
     world: &World<'_>,
     first: &Move,
     words: &[u64; 8],
     drawing: Drawing,
     allowed: u64,
+    plan: &mut Plan,
     steps: &mut Steps<L>,
-) -> Planned
+)
     requires first { first.now ≡
         option_at (here_of world.now) words.now (machine_count (tables_of world.now)) drawing 0 }
     requires shift { kind_of words.now ≡ kind.Shift }
-    ensures planned { IsPlanned world.now words.now drawing allowed result.mv result.weighed }
+    ensures planned { IsPlanned world.now words.now drawing allowed plan.new.mv plan.new.weighed }
+    ensures numbers_q { plan.new.q ≡ plan.old.q }
+    ensures numbers_k { plan.new.k ≡ plan.old.k }
     ensures counted { steps.new ≤ steps.old + 24 * resource_count (tables_of world.now) }
 {
     let best = best_shift(world, first.step(0).process, words, drawing, allowed, steps);
-    let mv = move_of(world, first, words, drawing, best.option);
-    let weighed = weighing(world, &best, &mv, steps);
-    Planned { mv, weighed }
+    plan.mv = move_of(world, first, words, drawing, best.option);
+    plan.weighed = weighing(world, &best, &plan.mv, steps);
 }
 
-/// The plan of words that ask for a swap or a chain. Option 0 is weighed first and once, since most of these plans are
+/// The same for words that ask for a swap or a chain. Option 0 is weighed first and once, since most of these plans are
 /// for it: the others have to cost less.
-fn planned_move<L: Ledger>(
+fn fill_by_move<L: Ledger>(
     world: &World<'_>,
     first: &Move,
     words: &[u64; 8],
     drawing: Drawing,
     allowed: u64,
+    plan: &mut Plan,
     steps: &mut Steps<L>,
-) -> Planned
+)
     requires first { first.now ≡
         option_at (here_of world.now) words.now (machine_count (tables_of world.now)) drawing 0 }
+    requires begun { plan.old.mv ≡ first.now }
     requires other { kind_of words.now ≢ kind.Shift }
-    ensures planned { IsPlanned world.now words.now drawing allowed result.mv result.weighed }
+    ensures planned { IsPlanned world.now words.now drawing allowed plan.new.mv plan.new.weighed }
+    ensures numbers_q { plan.new.q ≡ plan.old.q }
+    ensures numbers_k { plan.new.k ≡ plan.old.k }
     ensures counted { steps.new ≤ steps.old + 24 * resource_count (tables_of world.now) }
 {
-    let weighed = weigh(world, first, steps);
-    let judged = Best::none().consider(0, &verdict(world, &weighed, allowed));
+    plan.weighed = weigh(world, first, steps);
+    let judged = Best::none().consider(0, &verdict(world, &plan.weighed, allowed));
     let best = best_move(world, words, drawing, allowed, judged, steps);
     if best.option == 0 {
-        return Planned {
-            mv: *first,
-            weighed,
-        };
+        return;
     }
     let mv = move_of(world, first, words, drawing, best.option);
-    Planned {
-        mv,
-        weighed: weighing(world, &best, &mv, steps),
-    }
+    plan.mv = mv;
+    plan.weighed = weighing(world, &best, &mv, steps);
 }
 
 /// An option of words whose option 0 is at hand.
@@ -156,7 +166,8 @@ fn weighing<L: Ledger>(world: &World<'_>, best: &Best, mv: &Move, steps: &mut St
 {
     match best.cost {
         Some(_) => {
-            let required = requirements(world.instance(), mv, steps);
+            let mut required = [0; 60];
+            requirements(world.instance(), mv, &mut required, steps);
             changed_by(world, mv, &required)
         }
         None => weigh(world, mv, steps),

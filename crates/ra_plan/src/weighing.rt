@@ -3,8 +3,9 @@ ghost use Rattle.ra_model.specs.Numbers.{resource_count};
 ghost use Rattle.ra_moves.specs.Moving.{IsOffered};
 ghost use Rattle.ra_moves.specs.Weighing.{weighed_of};
 
+use crate::flaws::flaw_of;
 use ra_base::{Cause, Steps};
-use ra_moves::{Move, Weighed, first_flaw};
+use ra_moves::{Move, Weighed};
 use ra_weigh_causes::first_broken;
 use ra_weigh_changes::changed_by;
 use ra_world::{World, requirements};
@@ -19,10 +20,11 @@ pub fn weigh<L: Ledger>(world: &World<'_>, mv: &Move, steps: &mut Steps<L>) -> W
         world.now.kept.assignment.items mv.now.steps }
     ensures counted { steps.new ≤ steps.old + 6 * resource_count world.now.inst.now.tables }
 {
-    if let Some(cause) = first_flaw(mv) {
+    if let Some(cause) = flaw_of(mv) {
         return bare(cause);
     }
-    let required = requirements(world.instance(), mv, steps);
+    let mut required = [0; 60];
+    requirements(world.instance(), mv, &mut required, steps);
     match first_broken(world, mv, &required) {
         Some(cause) => bare(cause),
         None => changed_by(world, mv, &required),

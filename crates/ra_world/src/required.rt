@@ -8,20 +8,24 @@ use ra_model::Instance;
 use ra_moves::Move;
 use std::sync::ledger::Ledger;
 
-/// The requirements of the processes of a move, in rows of twenty numbers, a row for each step. Each is read once.
+/// Reads the requirements of the processes of a move into rows of twenty numbers, a row for each step. Each is read once.
 #[inline(always)]
-pub fn requirements<L: Ledger>(inst: &Instance, mv: &Move, steps: &mut Steps<L>) -> [u32; 60]
+pub fn requirements<L: Ledger>(
+    inst: &Instance,
+    mv: &Move,
+    required: &mut [u32; 60],
+    steps: &mut Steps<L>,
+)
     requires { (j : ℕ) → j < length mv.now.steps →
         process_in mv.now.steps j < process_count inst.now.tables }
-    ensures required { AreRequired inst.now.tables mv.now.steps (length mv.now.steps) result }
+    ensures required { AreRequired inst.now.tables mv.now.steps
+        (length mv.now.steps) required.new }
     ensures counted { steps.new ≡
         steps.old + length mv.now.steps * resource_count inst.now.tables }
 {
-    let mut required = [0u32; 60];
     for j in 0..mv.steps() {
-        read_row(inst, mv.step(j).process, j, &mut required, steps);
+        read_row(inst, mv.step(j).process, j, required, steps);
     }
-    required
 }
 
 /// Reads the requirements of a process into a row.

@@ -4,27 +4,27 @@ use Rattle.ra_plan.proofs.Below.{none_below, some_below, unfit_below, room_free}
 use Rattle.ra_plan.proofs.Weighed.{flawed, flawless, flawless_move, processes_known}
 use Rattle.ra_plan.proofs.moves.cost_below.Goals as goal
 
-pub requirements-required-requires : goal.requirements-required-requires
-requirements-required-requires g c =
+pub requirements-requires : goal.requirements-requires
+requirements-requires g c =
     rw c.instance.ensures (processes_known _ _ _ (flawless_move _ _ _ c.requires.offered c.in_default.ensures))
 
 pub has_room-requires-clause-moves : goal.has_room-requires-clause-moves
 has_room-requires-clause-moves g c = flawless_move _ _ _ c.requires.offered c.in_default.ensures
 
 pub has_room-requires-clause-required : goal.has_room-requires-clause-required
-has_room-requires-clause-required g c = rw c.instance.ensures at c.requirements-required.ensures.required
+has_room-requires-clause-required g c = rw c.instance.ensures at c.requirements.ensures.required
 
 pub cost_after_move-cost-requires-clause-moves : goal.cost_after_move-cost-requires-clause-moves
 cost_after_move-cost-requires-clause-moves g c = flawless_move _ _ _ c.requires.offered c.in_default.ensures
 
 pub cost_after_move-cost-requires-clause-required : goal.cost_after_move-cost-requires-clause-required
-cost_after_move-cost-requires-clause-required g c = rw c.instance.ensures at c.requirements-required.ensures.required
+cost_after_move-cost-requires-clause-required g c = rw c.instance.ensures at c.requirements.ensures.required
 
 pub is_unbroken-requires-clause-moves : goal.is_unbroken-requires-clause-moves
 is_unbroken-requires-clause-moves g c = flawless_move _ _ _ c.requires.offered c.in_default.ensures
 
 pub is_unbroken-requires-clause-required : goal.is_unbroken-requires-clause-required
-is_unbroken-requires-clause-required g c = rw c.instance.ensures at c.requirements-required.ensures.required
+is_unbroken-requires-clause-required g c = rw c.instance.ensures at c.requirements.ensures.required
 
 pub returns-in-Some-clause-below : goal.returns-in-Some-clause-below
 returns-in-Some-clause-below g c = none_below _ _ _ (λ none. absurd (cc (none, flawed _ _ _ _ _ c.in-Some.ensures)))

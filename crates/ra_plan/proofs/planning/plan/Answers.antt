@@ -7,8 +7,8 @@ pub resolve-first-requires-clause-named : goal.resolve-first-requires-clause-nam
 resolve-first-requires-clause-named g c =
     option_some _ _ _ (rw (c.machines-machines.ensures) c.instance.result.now.well_formed.some_machine)
 
-pub planned_by-mv-requires : goal.planned_by-mv-requires
-planned_by-mv-requires g c =
+pub fill-requires-clause-first : goal.fill-requires-clause-first
+fill-requires-clause-first g c =
     let world = c.args.world.now in
     let machines : c.machines-machines.result ≡ machine_count world.inst.now.tables =
     rw c.instance.ensures at c.machines-machines.ensures in

@@ -3,21 +3,21 @@ use Rattle.ra_weigh_settle.proofs.Settles.{bare_is}
 use Rattle.ra_plan.proofs.Weighed.{flawed, flawless, flawless_move, processes_known, reads_few}
 use Rattle.ra_plan.proofs.weighing.weigh.Goals as goal
 
-pub requirements-required-requires : goal.requirements-required-requires
-requirements-required-requires g c =
+pub requirements-requires : goal.requirements-requires
+requirements-requires g c =
     rw c.instance.ensures (processes_known _ _ _ (flawless_move _ _ _ c.requires c.in_default.ensures))
 
 pub first_broken-requires-clause-moves : goal.first_broken-requires-clause-moves
 first_broken-requires-clause-moves g c = flawless_move _ _ _ c.requires c.in_default.ensures
 
 pub first_broken-requires-clause-required : goal.first_broken-requires-clause-required
-first_broken-requires-clause-required g c = rw c.instance.ensures at c.requirements-required.ensures.required
+first_broken-requires-clause-required g c = rw c.instance.ensures at c.requirements.ensures.required
 
 pub changed_by-requires-clause-moves : goal.changed_by-requires-clause-moves
 changed_by-requires-clause-moves g c = flawless_move _ _ _ c.requires c.in_default.ensures
 
 pub changed_by-requires-clause-required : goal.changed_by-requires-clause-required
-changed_by-requires-clause-required g c = rw c.instance.ensures at c.requirements-required.ensures.required
+changed_by-requires-clause-required g c = rw c.instance.ensures at c.requirements.ensures.required
 
 pub changed_by-requires-clause-unbroken : goal.changed_by-requires-clause-unbroken
 changed_by-requires-clause-unbroken g c =
@@ -33,10 +33,10 @@ returns-in-Some-first_broken-clause-value g c = c.bare-in-Some-first_broken.ensu
 
 pub returns-in-Some-first_broken-clause-counted : goal.returns-in-Some-first_broken-clause-counted
 returns-in-Some-first_broken-clause-counted g c =
-    let read = rw c.instance.ensures at c.requirements-required.ensures.counted in
+    let read = rw c.instance.ensures at c.requirements.ensures.counted in
     omega (arith, read, reads_few _ _ _ (flawless_move _ _ _ c.requires c.in_default.ensures))
 
 pub returns-in-None-clause-counted : goal.returns-in-None-clause-counted
 returns-in-None-clause-counted g c =
-    let read = rw c.instance.ensures at c.requirements-required.ensures.counted in
+    let read = rw c.instance.ensures at c.requirements.ensures.counted in
     omega (arith, read, reads_few _ _ _ (flawless_move _ _ _ c.requires c.in_default.ensures))

@@ -4,10 +4,11 @@ use Rattle.ra_moves.specs.Moving.{IsOffered}
 use Rattle.ra_moves.specs.Options.{option_at}
 use Rattle.ra_plan.proofs.OptionSizes.{rest_reads}
 use Rattle.ra_plan.proofs.Bests.{best_below, best_planned, best_unbroken, option_in, option_offered, judged_in}
-use Rattle.ra_plan.proofs.planning.planned_move.Goals as goal
+use Rattle.ra_plan.proofs.Bests.{planned_same}
+use Rattle.ra_plan.proofs.planning.fill_by_move.Goals as goal
 
-pub weigh-weighed-requires : goal.weigh-weighed-requires
-weigh-weighed-requires g c =
+pub weigh-plan-requires : goal.weigh-plan-requires
+weigh-plan-requires g c =
     rw c.requires.first
     (option_offered _ _ _ _ _ c.args.world.now.inst.now.well_formed c.args.world.now.keeps.stand.fits)
 
@@ -17,7 +18,7 @@ verdict-requires g c = record {
     steps = c.args.first.now.steps;
     offered = rw c.requires.first
         (option_offered _ _ _ _ _ c.args.world.now.inst.now.well_formed c.args.world.now.keeps.stand.fits);
-    is = c.weigh-weighed.ensures.value;
+    is = c.weigh-plan.ensures.value;
   };
 }
 
@@ -26,7 +27,7 @@ best_move-best-requires g c =
     let world = c.args.world.now in
     let offered : IsOffered world.inst.now.tables world.kept.assignment.items c.args.first.now.steps =
     rw c.requires.first (option_offered _ _ _ _ _ world.inst.now.well_formed world.keeps.stand.fits) in
-    let judged = c.verdict.ensures c.args.first.now.steps offered c.weigh-weighed.ensures.value in
+    let judged = c.verdict.ensures c.args.first.now.steps offered c.weigh-plan.ensures.value in
     let same = option_in world _ _ _ 0 _ refl c.requires.first in
     record {
       first = c.consider-judged.ensures world c.args.words.now c.args.drawing c.args.allowed
@@ -39,13 +40,13 @@ move_of-mv-requires-clause-named g c =
     best_below c.args.world.now _ _ _ _ _ refl c.args.world.now.inst.now.well_formed.some_machine
     c.best_move-best.ensures.best
 
-pub weighing-requires-clause-offered : goal.weighing-requires-clause-offered
-weighing-requires-clause-offered g c =
+pub weighing-plan-requires-clause-offered : goal.weighing-plan-requires-clause-offered
+weighing-plan-requires-clause-offered g c =
     rw c.move_of-mv.ensures
     (option_offered _ _ _ _ _ c.args.world.now.inst.now.well_formed c.args.world.now.keeps.stand.fits)
 
-pub weighing-requires-clause-best : goal.weighing-requires-clause-best
-weighing-requires-clause-best g c =
+pub weighing-plan-requires-clause-best : goal.weighing-plan-requires-clause-best
+weighing-plan-requires-clause-best g c =
     λ cost there. best_unbroken c.args.world.now _ _ _ _ cost _ _ c.best_move-best.ensures.best
     (option_in c.args.world.now _ _ _ _ _ refl c.move_of-mv.ensures) there
 
@@ -55,17 +56,19 @@ returns g c =
     let reads = rest_reads c.args.words.now (machine_count world.inst.now.tables) c.args.drawing
     (resource_count world.inst.now.tables) c.requires.other in
     record {
+      numbers_q = refl;
+      numbers_k = refl;
       planned = record {
         planned = best_planned world _ _ _ _ _ _ refl c.best_move-best.ensures.best c.move_of-mv.ensures;
-        weighing = c.weighing.ensures.value;
+        weighing = c.weighing-plan.ensures.value;
         offered = rw c.move_of-mv.ensures (option_offered _ _ _ _ _ world.inst.now.well_formed world.keeps.stand.fits);
       };
       counted = omega (
         arith,
         reads,
-        c.weigh-weighed.ensures.counted,
+        c.weigh-plan.ensures.counted,
         c.best_move-best.ensures.counted,
-        c.weighing.ensures.counted,
+        c.weighing-plan.ensures.counted,
       );
     }
 
@@ -75,13 +78,15 @@ returns-then-best-eq0 g c =
     let reads = rest_reads c.args.words.now (machine_count world.inst.now.tables) c.args.drawing
     (resource_count world.inst.now.tables) c.requires.other in
     record {
-      planned = record {
+      numbers_q = refl;
+      numbers_k = refl;
+      planned = planned_same world _ _ _ _ _ _ c.requires.begun (record {
         planned = best_planned world _ _ _ _ _ _ refl c.best_move-best.ensures.best
             (c.requires.first
             ∙ ap (λ o. option_at world.kept.assignment.items c.args.words.now (machine_count world.inst.now.tables)
             c.args.drawing o) (sym c.if-best-eq0.true));
-        weighing = c.weigh-weighed.ensures.value;
+        weighing = c.weigh-plan.ensures.value;
         offered = rw c.requires.first (option_offered _ _ _ _ _ world.inst.now.well_formed world.keeps.stand.fits);
-      };
-      counted = omega (arith, reads, c.weigh-weighed.ensures.counted, c.best_move-best.ensures.counted);
+      });
+      counted = omega (arith, reads, c.weigh-plan.ensures.counted, c.best_move-best.ensures.counted);
     }
