@@ -17,8 +17,7 @@ far_from i a s label k =
     (Dependency (record { 0 = s }) (record { 0 = need_of i s k }) label)
 
 -- a process more, of service s on machine m, which is its initial machine too: the capacity and the transient use of
--- the
--- machine, a conflict there, and what its service depends on
+-- the machine, a conflict there, and what its service depends on
 unfoldable pub added_breaks : Tables → List Machine → List Machine → ℕ → ℕ → Option Cause
 added_breaks i a0 a s m =
     or_else (row_capacity i a m)

@@ -44,8 +44,7 @@ unfoldable pub edits_output : Tables → List Machine → List Machine → EditL
 edits_output i a0 a e = text_left (draft_of i a0 a) (left_of i a0 a e) e
 
 -- both lists are feasible, the edited instance is within the limits, and nothing is wrong with its text as a model
--- file; the
--- edited current list is feasible from the edited initial list, and the text of the run of edits was sent
+-- file; the edited current list is feasible from the edited initial list, and the text of the run of edits was sent
 pub record IsEdited (i : Tables) (a0 a : List Machine) (e : EditLists) (sent : List ℕ → Type 0) :
     Type 0 where
   pub start : Feasible i a0 a0
@@ -107,8 +106,7 @@ EditOwn held names written Write = written
 EditOwn held names written refusal = ⊥
 
 -- when each of its own statuses comes: all lists are accepted and the edits file is refused; or that is accepted too,
--- and a
--- list breaks a constraint
+-- and a list breaks a constraint
 pub record EditComes (held : Held) (names : Names) (before now : Faults) (status : Status) : Type 0
   where
     pub bad_edits :

@@ -14,8 +14,7 @@ use Rattle.ra_jobs.specs.Output.{Output, BrokeOff, Put}
 use Rattle.ra_jobs.specs.Statuses.{status_of}
 
 -- `Refused` and the first fields of `Does` by parts, from which the others follow: what the output tells, and the
--- reasons of a
--- command's own refusals
+-- reasons of a command's own refusals
 pub record IsRefused (held : Held) (names : Names) (before now : Faults) (own : Refusal → Type 0)
     (tells : List ℕ → Type 0) (out_same : Type 0) (status : Status) : Type 0 where
   pub refusal : Refusal

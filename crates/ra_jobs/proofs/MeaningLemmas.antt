@@ -1,6 +1,5 @@
 -- Over told bytes the files of a job mean one instance, but for the room of its lists, and one assignment each: so no
--- file
--- is accepted and refused at once.
+-- file is accepted and refused at once.
 use Rattle.std.proofs.Common.{◌≡◌, ℕ, ◌<◌, Bool, false, List, Option, Some, None, Result, Ok, IfSome, IsSome, refl, sym}
 use Rattle.std.proofs.Common.{◌∙◌, ap, subst}
 use Rattle.std.proofs.lemmas.List.{ext_get_or}

@@ -43,8 +43,7 @@ KnownTo held names before now file.Report =
     × IsKnown held names before now file.Initial × IsKnown held names before now file.Report
 
 -- a status comes only if its cause stands; and if that stands, over files that are known, no other status comes but
--- that of
--- refused memory
+-- that of refused memory
 pub record Exactly (status this : Status) (known cause : Type 0) : Type 0 where
   pub only : status ≡ this → cause
   pub always : known → cause → (status ≡ this) ⊎ (status ≡ NoMemory)
@@ -71,8 +70,7 @@ pub record BadAssignmentComes (held : Held) (names : Names) (before now : Faults
       → (status ≡ BadAssignment) ⊎ (status ≡ NoMemory)
 
 -- each status of a refused job that any job may have, and when it comes. The status of refused memory is free, but
--- nothing
--- was written then
+-- nothing was written then
 pub record Comes (held : Held) (names : Names) (before now : Faults) (own : Refusal → Type 0)
     (out_same : Type 0) (status : Status) : Type 0 where
   pub read_fault : status ≡ ReadFault → (f : File) × ReadFailed held names before now f

@@ -1,6 +1,5 @@
 -- A command: its files, what it prints and why it refuses, and how it ends. How far a text came is a predicate on
--- texts: `sent`
--- in what is printed. The output took it whole, or broke off behind a front of it.
+-- texts: `sent` in what is printed. The output took it whole, or broke off behind a front of it.
 use Rattle.std.specs.Prelude.{◌≡◌, ◌⊎◌, ℕ, List}
 use Rattle.ra_draws.specs.declared.budgets.Lots.{Lots}
 use Rattle.ra_io.specs.Outside.{Reading, Took}
@@ -29,8 +28,7 @@ pub record Command : Type 1 where
   pub answers : Status → Type 0
 
 -- what is a command's own of one that reads a model and lists: its own refusals, when their statuses come, and what
--- makes
--- its files valid
+-- makes its files valid
 pub record OverFiles : Type 1 where
   pub names : Names
   pub prints : Held → (List ℕ → Type 0) → Type 0

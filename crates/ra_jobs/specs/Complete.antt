@@ -16,8 +16,7 @@ ListAccepted held name i =
     (bytes : List ℕ) × (held name ≡ Some bytes) × (assign_refusal bytes i ≡ None)
 
 -- the model, the closed list and the lists of a job are told and accepted: the model file is a model, the closed list
--- is one,
--- if it is named, and the lists that are named are assignments
+-- is one, if it is named, and the lists that are named are assignments
 pub record AreAccepted (held : Held) (names : Names) : Type 0 where
   pub model : (bytes : List ℕ) × (held names.model ≡ Some bytes) × (model_refusal bytes ≡ None)
   pub closed : (name : List ℕ) → names.closed ≡ Some name → (i : Tables)

@@ -18,8 +18,7 @@ puts_first Write = true
 puts_first refusal = false
 
 -- a command is refused: the reason of its refusal stands, its status is that of the refusal, its line is put to the
--- error
--- sink, and the output took nothing, unless the refusal came after it
+-- error sink, and the output took nothing, unless the refusal came after it
 pub record Refused (c : Command) (files : Reading) (out err : Output) (status : Status) : Type 0
   where
     pub refusal : Refusal
@@ -35,10 +34,8 @@ pub record Leaves (files : Reading) (out err : Output) : Type 0 where
   pub err_never_falls : err.sink.before ≤ err.sink.after
 
 -- a command does what it promises: it is done, its output was printed and the error sink took nothing; or it is
--- refused. Each
--- status comes only if its cause stands. If nothing is wrong with its files, and neither reading nor writing failed, it
--- is done,
--- or ends with a verdict of its own, or memory was refused
+-- refused. Each status comes only if its cause stands. If nothing is wrong with its files, and neither reading nor
+-- writing failed, it is done, or ends with a verdict of its own, or memory was refused
 pub record Does (c : Command) (files : Reading) (out err : Output) (status : Status) : Type 0 where
   pub printed : status ≡ Done → c.prints files.held (Took out.sink)
   pub no_line : status ≡ Done → err.same

@@ -16,8 +16,7 @@ use Rattle.ra_jobs.specs.declared.refusals.Role.{Role}
 use Rattle.ra_jobs.specs.declared.refusals.Role.TheVariants as role
 
 -- the files of a job by their names; those that a job doesn't have are not there. The list `changed` is the new one of
--- a
--- check, and the current one of edits
+-- a check, and the current one of edits
 pub record Names : Type 0 where
   pub model : List ℕ
   pub closed : Option (List ℕ)

@@ -24,8 +24,7 @@ use Rattle.ra_jobs.specs.Files.{Held, Faults, Names, name_of, file_of, IsNamed, 
 use Rattle.ra_jobs.specs.Files.{Accepts, Passes}
 
 -- what was done before a file of the job is read: the model, then the closed list, then the initial list, then the new
--- or
--- current one, then the edits; a report is read once the initial list is known to be feasible
+-- or current one, then the edits; a report is read once the initial list is known to be feasible
 abbrev pub ReadBefore : Held → Names → File → Type 0
 ReadBefore held names file.Model = Unit {0}
 ReadBefore held names file.Closed = (i : Tables) × ModelIs held names.model i
@@ -113,10 +112,8 @@ RoleBreaks held names role.Initial cause = InitialBreaks held names cause
 RoleBreaks held names role.Changed cause = ChangedBreaks held names cause
 
 -- the reason of each refusal: what is so of the files of a job, whose counts of faults went from before to now. What is
--- the
--- job's own stands in `own`: the reasons of its refusals beyond those of the model, of the closed list, of the lists
--- and of
--- memory
+-- the job's own stands in `own`: the reasons of its refusals beyond those of the model, of the closed list, of the
+-- lists and of memory
 abbrev pub Reason : Held → Names → Faults → Faults → (Refusal → Type 0) → Refusal → Type 0
 Reason held names before now own (Read f) = ReadFailed held names before now f
 Reason held names before now own (Model fault) = ModelRefused held names.model fault

@@ -20,8 +20,7 @@ use Rattle.ra_jobs.specs.Complete.{AreAccepted}
 use Rattle.ra_jobs.specs.Files.{Held, Faults, Names, Accepts, solve_names}
 
 -- the run of tries from a list: its last list breaks this constraint first, or none, and its text was sent. A list that
--- breaks
--- none is feasible, and before one that breaks some all of the budget was tried
+-- breaks none is feasible, and before one that breaks some all of the budget was tried
 pub record IsTried (i : Tables) (a0 : List Machine) (lot : Lot) (broken : Option Cause)
     (sent : List ℕ → Type 0) : Type 0 where
   pub is : first_broken i a0 (repair_run i a0 lot).assignment ≡ broken
@@ -40,8 +39,7 @@ pub record RepairPrinted (held : Held) (names : Names) (l : Lots) (broken : Opti
   pub run : IsTried tables a0 lot broken sent
 
 -- its own refusals: the output took the text of a run whose last list breaks a constraint; or it broke off behind a
--- front of a
--- text
+-- front of a text
 abbrev pub RepairOwn : Held → Names → Lots → (List ℕ → Type 0) → (List ℕ → Type 0) → Refusal
     → Type 0
 RepairOwn held names l took broke_off (Left cause) = RepairPrinted held names l (Some cause) took
@@ -56,8 +54,7 @@ LeavesBroken i a0 l broken =
     → first_broken i a0 (repair_run i a0 lot).assignment ≡ broken
 
 -- of the lots that were asked for: when each of its own statuses comes. No list has to be feasible. Any instance that
--- the files
--- mean will do: by `told_files_mean_one` and `alike_run_alike` of `ra_laws` the run is the same from each
+-- the files mean will do: by `told_files_mean_one` and `alike_run_alike` of `ra_laws` the run is the same from each
 pub record RepairComes (held : Held) (names : Names) (asked : Lots → Type 0) (before now : Faults)
     (status : Status) : Type 0 where
   pub never_infeasible : status ≢ Infeasible

@@ -1,6 +1,5 @@
 -- In a legal journal each move that is made stands where it is made, and each entry was offered, where it was planned
--- and
--- at its own place.
+-- and at its own place.
 use Rattle.std.proofs.Common.{◌≡◌, ℕ, zero, suc, ◌<◌, ◌≤◌, List, length, Option, Some, None, sym, refl, ◌∙◌, subst}
 use Rattle.std.proofs.Common.{⊎_elim, arith}
 use Rattle.std.proofs.lemmas.Bool.{cases_lt}

@@ -71,8 +71,7 @@ pub record IsOpened (inst : Instance) (topo : TopologyLists) (a0 : Listed Machin
   pub entries : entries_in j ≡ []
 
 -- a journal has answered worker w, which handed in a plan: it is over what it was over, and if a guard of the plan's
--- move
--- is newer nothing of it changed
+-- move is newer nothing of it changed
 pub record Answers (old new : Journal) (w : ℕ) (plan : Plan) (said : Reply) : Type 0 where
   pub journal : entries_in new ≡ (answer_to old w plan).journal
   pub reply : said ≡ (answer_to old w plan).reply

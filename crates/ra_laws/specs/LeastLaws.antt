@@ -31,8 +31,7 @@ BestIsLeast =
     → IsLeast (suc (length h)) (λ j. Some (cost_at i a0 h j)) (best_of i a0 h) (cost_at i a0 h (best_of i a0 h))
 
 -- the option that a try of a repair chooses is the first with the least penalty after it among those that neither
--- repeat
--- a process nor stay, and option 0 if all do
+-- repeat a process nor stay, and option 0 if all do
 abbrev pub ChoiceIsLeast : Type 0
 ChoiceIsLeast =
     (i : Tables) (a0 a : List Machine) (x : List ℕ)

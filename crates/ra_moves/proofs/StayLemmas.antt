@@ -1,6 +1,5 @@
 -- What a move doesn't touch stays: sums of which it takes as much as it adds, the use of machines that it neither
--- leaves
--- nor enters, and counts of services that it doesn't move.
+-- leaves nor enters, and counts of services that it doesn't move.
 use Rattle.std.proofs.Common.{◌≡◌, ◌≢◌, ℕ, ◌+◌, ◌^◌, ◌<◌, Bool, false, cond, eqb, ltb, ◌||◌, List, length, sym, ap, ◌∙◌}
 use Rattle.std.proofs.Common.{arith, ne_eqb}
 use Rattle.std.proofs.lemmas.Bool.{and_left, and_right, both_ways}

@@ -1,6 +1,5 @@
 -- The weighing of a move: what it breaks, or else what it changes but for the greatest moved count, which depends on
--- all
--- services (this project's).
+-- all services (this project's).
 use Rattle.std.specs.Prelude.{ℕ, zero, suc, ◌+◌, ℤ, pos, ◌-ℤ◌, Bool, not, List, [], ◌∷◌, ◌++◌, length, Option, Some}
 use Rattle.std.specs.Prelude.{None, if◌then◌else◌}
 use Rattle.ra_base.specs.Sums.{is_named}

@@ -1,6 +1,5 @@
 -- The output of a repair: whether its last assignment is feasible or what is broken first, that assignment, and a line
--- for
--- each try.
+-- for each try.
 use Rattle.std.specs.Prelude.{ℕ, zero, suc, List, [], ◌∷◌, ◌++◌, length, codes, Bool, true, false, Option, Some, None}
 use Rattle.ra_base.specs.declared.causes.Cause.{Cause}
 use Rattle.ra_base.specs.declared.ids.Machine.{Machine}

@@ -25,10 +25,9 @@ pub record IsFirstLeast (i : Tables) (a0 : List Machine) (h : List Entry) (j : �
   pub first : (n : ℕ) → n < j → cost_at i a0 h j < cost_at i a0 h n
 
 -- `solve`, the headline: the printed journal is one legal history in which every proposal of every worker stands
--- exactly
--- once; every state in it meets all constraints, and its kept cost is the challenge's objective computed afresh; the
--- printed assignment is the first of least cost among those states, its parts are exact, and no feasible assignment
--- costs less than the printed bound
+-- exactly once; every state in it meets all constraints, and its kept cost is the challenge's objective computed
+-- afresh; the printed assignment is the first of least cost among those states, its parts are exact, and no feasible
+-- assignment costs less than the printed bound
 pub record SolvePrinted (held : Held) (names : Names) (l : Lots) (sent : List ℕ → Type 0) : Type 0 where
   pub tables : Tables
   pub a0 : List Machine
@@ -50,8 +49,7 @@ pub record SolvePrinted (held : Held) (names : Names) (l : Lots) (sent : List �
   -- every state is a feasible assignment, and the kept cost there is its objective
   pub sound : (j : ℕ) → j ≤ length journal → IsSound tables a0 journal j
   -- the first of least cost among those states is at this place; the lines tell its parts, the bound's total, the
-  -- place,
-  -- the state and the drawing, and then the journal
+  -- place, the state and the drawing, and then the journal
   pub best_at : ℕ
   pub best : IsFirstLeast tables a0 journal best_at
   pub lines :

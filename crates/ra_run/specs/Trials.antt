@@ -33,8 +33,7 @@ pub record IsTrialStart (number : ℕ) (i : Tables) (a0 : List Machine) : Type 0
   pub initial : a0 ≡ start_list
 
 -- the one lot of a number: its words are those of the generator that the number seeds, and it makes 2,000 proposals;
--- the
--- slack is 1,000, and the drawing is the second
+-- the slack is 1,000, and the drawing is the second
 pub record IsTrialLots (number : ℕ) (l : Lots) : Type 0 where
   pub slack : l.slack ≡ 1000
   pub drawing : l.drawing ≡ Two
@@ -45,8 +44,7 @@ abbrev pub IsSummarized : Tables → List Machine → Lots → (List ℕ → Typ
 IsSummarized i a0 l sent = sent (summary_text i a0 (solo i a0 l))
 
 -- `trial`: so was that of the trial of a number, from its instance, its start and its lot. Which instance and which
--- lots
--- of the number these are is no matter: they differ in rooms alone, and the text rests on the number (`ra_laws`,
+-- lots of the number these are is no matter: they differ in rooms alone, and the text rests on the number (`ra_laws`,
 -- `trials_have_one_text`)
 pub record TrialPrinted (number : ℕ) (sent : List ℕ → Type 0) : Type 0 where
   pub tables : Tables

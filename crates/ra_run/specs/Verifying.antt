@@ -74,8 +74,7 @@ IsRightReport held names i a0 l =
     IfSome (held (name_of names file.Report)) (λ bytes. (n : ℕ) × IsReport i a0 l bytes n)
 
 -- of the lots that were asked for: the status tells a wrong report, and over known files that pass a wrong report is
--- told, and one
--- that is right is accepted. Any instance that the other files mean will do: by `told_files_mean_one` and
+-- told, and one that is right is accepted. Any instance that the other files mean will do: by `told_files_mean_one` and
 -- `alike_run_alike` of `ra_laws` a report is wrong for one of them exactly if it is for each
 pub record VerdictComes (held : Held) (names : Names) (asked : Lots → Type 0) (before now : Faults)
     (status : Status) : Type 0 where

@@ -1,6 +1,5 @@
 -- The numbers of a trial instance: 4 resources, 100 machines, 250 services and 1,000 processes. Those that are drawn
--- are
--- made from words g 0, g 1, .., of which the first 5,650 are used.
+-- are made from words g 0, g 1, .., of which the first 5,650 are used.
 use Rattle.std.specs.Prelude.{ℕ, ◌+◌, ◌*◌, ◌/◌, ◌%◌, ◌==◌, if◌then◌else◌}
 use Rattle.ra_base.specs.Sums.{total}
 use Rattle.ra_draws.specs.Words.{stream_word, seed_stream}

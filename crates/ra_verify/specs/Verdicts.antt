@@ -20,8 +20,7 @@ use Rattle.ra_verify.specs.Reading.{AreRead, IsHead, IsWrongNext}
 use Rattle.ra_verify.specs.WrongLines.{AreAllRight, IsWrongLine, IsReport, first_over_long}
 
 -- the report of a run of these lots was checked: it is accepted if no line is wrong, and then it is the report of a
--- legal
--- whole journal with so many entries; and else its wrong line is told
+-- legal whole journal with so many entries; and else its wrong line is told
 pub record TellsVerdict (i : Tables) (a0 : List Machine) (l : Lots) (files : Reading)
     (name : List ℕ) (told : Result ℕ VerifyFault) : Type 0 where
   pub none_wrong :
@@ -49,8 +48,7 @@ pub record AreAtStart (checker : Checker) (world : World) (bound : Bound) : Type
       bound ≡ pinned_bound_of checker.journal.inst.now.tables checker.journal.a0.now.items
 
 -- the first ten lines of a report were read, or all if it has fewer, and their number is told; or the first that is
--- over
--- long
+-- over long
 pub record ReadsHead (files : Reading) (old new : Standing) (head : List ℕ)
     (told : Result ℕ VerifyFault) : Type 0 where
   pub reads : Reads (files.held_after new.name) new
@@ -66,8 +64,7 @@ pub record ReadsHead (files : Reading) (old new : Standing) (head : List ℕ)
   pub leaves : LeavesFiles files
 
 -- the lines behind these were read: they are the entry lines of a legal journal, whose entries a checker has taken in;
--- or the
--- first is told that is the line of no entry that may follow
+-- or the first is told that is the line of no entry that may follow
 pub record ReadsEntries (files : Reading) (name : List ℕ) (lines : ℕ) (before after : Checker)
     (told : Result (Unit {0}) VerifyFault) : Type 0 where
   pub right :

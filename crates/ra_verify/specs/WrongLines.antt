@@ -1,8 +1,6 @@
 -- Which line of a report is told to be wrong. Four rules are tried in turn, and the first that a report breaks names
--- the line;
--- so it needn't be the lowest that differs. Lines count from 1; lines 1 to 10 are the head of a report, and those from
--- the
--- eleventh on are its entry lines. (`line_at` counts from 0.)
+-- the line; so it needn't be the lowest that differs. Lines count from 1; lines 1 to 10 are the head of a report, and
+-- those from the eleventh on are its entry lines. (`line_at` counts from 0.)
 use Rattle.std.specs.Prelude.{◌≡◌, ◌≢◌, ◌⊎◌, ℕ, ◌+◌, ◌<◌, ◌≤◌, ◌==◌, nat_lt, if◌then◌else◌, List, [], ◌∷◌, ◌++◌, length}
 use Rattle.std.specs.Prelude.{Option, Some, None}
 use Rattle.ra_base.specs.Searches.{first}
@@ -65,8 +63,7 @@ pub record IsCutOff (i : Tables) (a0 : List Machine) (l : Lots) (bytes : List �
     pub number : n ≡ length (lines_of bytes) + 1
 
 -- all entry lines are right and their journal is whole, and line n is the first of lines 1 to 10 that isn't there or
--- isn't
--- that line of the journal's report
+-- isn't that line of the journal's report
 pub record IsWrongHead (i : Tables) (a0 : List Machine) (l : Lots) (bytes : List ℕ) (n : ℕ) : Type 0
   where
     pub short : first_over_long bytes ≡ None
@@ -79,8 +76,7 @@ pub record IsWrongHead (i : Tables) (a0 : List Machine) (l : Lots) (bytes : List
     pub number : n ≡ place + 1
 
 -- no line is wrong: none is over long among the first ten, all entry lines are right, their journal is whole, and lines
--- 1
--- to 10 are those of its report
+-- 1 to 10 are those of its report
 pub record NoneIsWrong (i : Tables) (a0 : List Machine) (l : Lots) (bytes : List ℕ) : Type 0 where
   pub short : first_over_long bytes ≡ None
   pub journal : List Entry
@@ -89,8 +85,7 @@ pub record NoneIsWrong (i : Tables) (a0 : List Machine) (l : Lots) (bytes : List
   pub head : (n : ℕ) → n < 10 → line_at n bytes ≡ line_at n (report_text i a0 l journal)
 
 -- the wrong line of a report's bytes, by the first of these that applies: an over long line among lines 1 to 10, an
--- entry line
--- that isn't right, the line behind the last if the journal isn't whole, a line of the head; and None else
+-- entry line that isn't right, the line behind the last if the journal isn't whole, a line of the head; and None else
 abbrev pub IsWrongLine : Tables → List Machine → Lots → List ℕ → Option ℕ → Type 0
 IsWrongLine i a0 l bytes (Some n) =
     (first_over_long bytes ≡ Some n)

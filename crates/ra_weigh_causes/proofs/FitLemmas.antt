@@ -1,6 +1,5 @@
 -- Capacity and transient use in one pass: a transient resource whose transient use is within its capacity is used
--- within
--- it too.
+-- within it too.
 use Rattle.std.proofs.Common.{◌≡◌, ℕ, ◌+◌, ◌<◌, ◌≤◌, true, false, cond, eqb, ◌||◌, List, length, sym, refl, ⊎_elim}
 use Rattle.std.proofs.Common.{arith}
 use Rattle.std.proofs.lemmas.Bool.{cases_Bool}

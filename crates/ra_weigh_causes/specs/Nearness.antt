@@ -40,8 +40,7 @@ pub record LeavesOne (i : Tables) (b : List Machine) (s u t label : ℕ) : Type 
   pub each : t ≡ u → in_neighbourhood i b u label ≡ 0 → in_neighbourhood i b s label ≡ 0
 
 -- a step of service t, which enters one neighbourhood and leaves another, keeps service s near each of the first n of
--- some
--- services
+-- some services
 pub record KeepsEach (i : Tables) (b : List Machine) (s : ℕ) (needs : List Service) (t to from n : ℕ) : Type 0 where
   pub finds : (x : ℕ) → x < n → FindsOne i b s (service_at needs x) t to
   pub leaves : (x : ℕ) → x < n → LeavesOne i b s (service_at needs x) t from

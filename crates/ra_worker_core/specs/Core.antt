@@ -1,6 +1,5 @@
 -- The core of a run: its journal, and for each worker the place up to which it has taken the journal in. The workers
--- take
--- their turns in any order.
+-- take their turns in any order.
 use Rattle.std.specs.Prelude.{◌≡◌, ℕ, zero, suc, ◌+◌, ◌-◌, ◌<◌, ◌≤◌, min, if◌then◌else◌, List, [], ◌∷◌, ◌++◌, length}
 use Rattle.std.specs.Prelude.{slice_index, slice_index_or, slice_set}
 use Rattle.ra_base.specs.declared.ids.Machine.{Machine}

@@ -10,8 +10,7 @@ use Rattle.ra_journal.specs.States.{state}
 use Rattle.ra_worker_crew.specs.declared.solved.Solved.{Solved}
 
 -- its journal is legal and has each proposal of each worker once, its best state is the first of least cost, and its
--- parts
--- are that state's
+-- parts are that state's
 pub record IsRun (i : Tables) (a0 : List Machine) (l : Lots) (run : Solved) : Type 0 where
   pub instance : run.journal.inst.now.tables ≡ i
   pub initial : run.journal.a0.now.items ≡ a0
