@@ -1,9 +1,9 @@
 -- What is lacking of the terms, from one on.
 use Rattle.std.proofs.Common.{◌≡◌, ℕ, ◌+◌, ◌-◌, ◌*◌, ◌%◌, ◌^◌, ◌<◌, ◌≤◌, List, [], ◌∷◌, length, get_or, drop, refl, ap}
-use Rattle.std.proofs.Common.{ap₂, ◌∙◌, arith, add-one, drop-cons}
+use Rattle.std.proofs.Common.{◌∙◌, arith, add-one, drop-cons}
 use Rattle.std.proofs.lemmas.List.{drop_all}
 use Rattle.ra_weigh_lanes.specs.declared.windows.Term.{Term}
-use Rattle.ra_weigh_lanes.specs.Windows.{lacking, amounts, total}
+use Rattle.ra_weigh_lanes.specs.Windows.{lacking, amounts}
 use Rattle.std.proofs.Math.Nat.{mod-eq_of_lt}
 
 -- no more is lacking than is asked
@@ -29,11 +29,9 @@ pub next_sum : (sum rest here after whole next : ℕ) → rest ≡ here + after 
     → next ≡ (sum + here) % 2 ^ 32 → next + after ≡ whole
 next_sum sum rest here after whole next r w small n = omega arith
 
--- a way at a weight and what is lacking there, the sum of its machine
-pub whole_sum : (rows ways : List ℕ) (terms : List Term) (start from k weight first read : ℕ)
-    → first ≡ weight * read % 2 ^ 32 → read ≡ get_or ways (from + k) 0 → weight * get_or ways (from + k) 0 ≤ 2 ^ 30
-    → first + lacking rows terms (start + from + k) ≡ total rows terms start ways weight (from + k)
-whole_sum rows ways terms start from k weight first read w r small =
-    let way : first ≡ weight * get_or ways (from + k) 0 = w ∙ ap (λ n. weight * n % 2 ^ 32) r
-    ∙ mod-eq_of_lt (omega arith) in
-    ap₂ (λ (a b : ℕ). a + b) way (ap (lacking rows terms) (omega arith))
+-- a sum and a way at a weight are added without wrapping
+pub sum_with_way : (said sum weight weighed read way : ℕ) → said ≡ sum → weighed ≡ weight * read % 2 ^ 32 → read ≡ way
+    → sum ≤ 2 ^ 30 → weight * way ≤ 2 ^ 30 → (said + weighed) % 2 ^ 32 ≡ sum + weight * way
+sum_with_way said sum weight weighed read way s w r low small =
+    let whole : weighed ≡ weight * way = w ∙ ap (λ n. weight * n % 2 ^ 32) r ∙ mod-eq_of_lt (omega arith) in
+    omega (arith, s, whole)

@@ -1,5 +1,5 @@
--- What is asked of rows of numbers and not there, for one machine, and with it what its way costs.
-use Rattle.std.specs.Prelude.{◌≡◌, ℕ, ◌+◌, ◌-◌, ◌*◌, ◌%◌, ◌<◌, List, [], ◌∷◌, ◌⊎◌, length, slice_index}
+-- What is asked of rows of numbers and not there, for one machine.
+use Rattle.std.specs.Prelude.{◌≡◌, ℕ, ◌+◌, ◌-◌, ◌%◌, ◌<◌, ◌≤◌, List, [], ◌∷◌, ◌⊎◌, length, slice_index}
 use Rattle.ra_weigh_lanes.specs.declared.windows.Term.{Term}
 
 -- the sum, over the terms, of what the number at a place of the term's row lacks of the term's amount
@@ -12,13 +12,9 @@ unfoldable pub amounts : List Term → ℕ
 amounts [] = 0
 amounts (t ∷ terms) = t.amount + amounts terms
 
--- the sum of the k-th machine from start on: what it lacks, and its way at a weight
-abbrev pub total : List ℕ → List Term → ℕ → List ℕ → ℕ → ℕ → ℕ
-total rows terms start ways weight k = weight * slice_index ways k + lacking rows terms (start + k)
-
--- a sum, or in its place a number that is above the limit as the sum is
+-- a sum, or in its place a part of it that is above the limit
 abbrev pub IsSumOrLarge : ℕ → ℕ → ℕ → Type 0
-IsSumOrLarge limit said sum = (said ≡ sum) ⊎ ((limit < said) × (limit < sum))
+IsSumOrLarge limit said sum = (said ≡ sum) ⊎ ((limit < said) × (said ≤ sum))
 
 -- sixteen numbers side by side
 pub record HasLanes (lanes : List ℕ) (f : ℕ → ℕ) : Type 0 where

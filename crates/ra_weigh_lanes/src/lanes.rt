@@ -17,6 +17,22 @@ pub(crate) fn load(numbers: &[u32], at: usize) -> u32x16
     u32x16::from_slice(&numbers[at..])
 }
 
+/// Sixteen zeros.
+#[inline(always)]
+pub(crate) fn nothing() -> u32x16
+    ensures { HasLanes result (λ k. 0) }
+{
+    u32x16::splat(0)
+}
+
+/// The sums of two lists of sixteen numbers.
+#[inline(always)]
+pub(crate) fn add(left: u32x16, right: u32x16) -> u32x16
+    ensures { HasLanes result (λ k. (slice_index left k + slice_index right k) % 2 ^ 32) }
+{
+    left + right
+}
+
 /// Each number as often as a weight says.
 #[inline(always)]
 pub(crate) fn weigh(numbers: u32x16, weight: u32) -> u32x16
@@ -91,6 +107,7 @@ pub(crate) fn store(sums: u32x16, list: &mut [u32], at: usize)
     requires { at + 16 ≤ length list.old }
     ensures there { (k : ℕ) → k < 16 → slice_index list.new (at + k) ≡ slice_index sums k }
     ensures before { (k : ℕ) → k < at → slice_index list.new k ≡ slice_index list.old k }
+    ensures after { (k : ℕ) → at + 16 ≤ k → slice_index list.new k ≡ slice_index list.old k }
 {
     sums.copy_to_slice(&mut list[at..]);
 }

@@ -6,4 +6,4 @@ mod rings;
 mod windows;
 
 pub use rings::ring_part;
-pub use windows::{Term, window};
+pub use windows::{Term, add_up, add_ways, marks_of};

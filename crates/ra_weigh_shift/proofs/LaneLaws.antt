@@ -10,7 +10,7 @@ use Rattle.ra_base.specs.Sums.{total}
 use Rattle.ra_base.specs.Tables.{cell}
 use Rattle.ra_base.specs.declared.ids.Machine.{Machine}
 use Rattle.ra_base.proofs.Sums.{total_of_sum, total_same, total_split, total_term}
-use Rattle.ra_weigh_lanes.specs.Windows.{lacking, amounts, IsRingPart, total as lanes_total}
+use Rattle.ra_weigh_lanes.specs.Windows.{lacking, amounts, IsRingPart, IsSumOrLarge}
 use Rattle.ra_weigh_lanes.specs.declared.windows.Term.{Term}
 use Rattle.ra_weigh_lanes.proofs.SumLemmas.{lacking_within}
 use Rattle.ra_model.specs.declared.raw.Tables.{Tables}
@@ -23,7 +23,7 @@ use Rattle.ra_world.specs.Worlds.{tables_of, start_of, here_of}
 use Rattle.ra_world.specs.declared.world.World.{World}
 use Rattle.ra_weigh_shift.specs.Arriving.{cost_added, cost_taken, sum_at, IsCostBelow}
 use Rattle.ra_weigh_shift.specs.Filter.{load_above, balance_above, filter_sum}
-use Rattle.ra_weigh_shift.specs.Lanes.{filter_asked, AreInRows, AreTerms, AreSums, AreMarked, machine_in}
+use Rattle.ra_weigh_shift.specs.Lanes.{filter_asked, AreInRows, AreTerms, AreSums, AreMarked, HaveWays, machine_in, way_in}
 use Rattle.ra_weigh_shift.proofs.FilterLaws.{dear_cost, sum_none}
 
 -- what is asked of each kind of row, and what a machine has there
@@ -119,35 +119,95 @@ lanes_lack i a p place table terms rows are small within =
     (omega (arith, low, total_term n j (filter_asked i p) below)))
     ∙ rows_add_up i a p m
 
--- the sum of one machine of a window
-pub lanes_sum : (w : World) (p home first k weight : ℕ) (table ways : List ℕ) (terms : List Term) →
-    IsRowTable (tables_of w) (here_of w) table → AreTerms (tables_of w) (filter_row_count (tables_of w))
-    (filter_asked (tables_of w) p) terms → amounts terms ≤ 2 ^ 30 → first + k < filter_width (tables_of w)
-    → weight ≡ machine_weight_of (tables_of w) → home ≡ machine_at (start_of w) p →
-    get_or ways k 0 ≡ way_cost_of (tables_of w) home (machine_in w first k) →
-    lanes_total table terms first ways weight k ≡ sum_at w p (machine_in w first k)
-unfolding filter_sum
-lanes_sum w p home first k weight table ways terms rows are small within weight_is home_is way =
-    let to : ℕ = machine_in w first k in
-    let lacks = lanes_lack (tables_of w) (here_of w) p (first + k) table terms rows are small within in
-    let both = ap₂ (λ x y. x * y) weight_is (way ∙ ap (λ m. way_cost_of (tables_of w) m to) home_is) in
-    omega (arith, lacks, both)
+-- no bit of 0 is set
+zero_unset : (k : ℕ) → bit_at 0 k ≡ 1 → ⊥
+zero_unset k set = absurd (omega (arith, set, bit_at-zero k))
 
--- all sums of it
-pub window_sums : (w : World) (p first limit marks weight : ℕ) (table ways sums : List ℕ) (terms : List Term) →
-    ((k : ℕ) → k < 64 → lanes_total table terms first ways weight k ≡ sum_at w p (machine_in w first k)) →
-    ((k : ℕ) → k < 64 → weight * get_or ways k 0 ≤ 2 ^ 30) → amounts terms ≤ 2 ^ 30
-    → ((k : ℕ) → k < 64 → (bit_at marks k ≡ 1) ↔ (lanes_total table terms first ways weight k ≤ limit)) →
-    ((k : ℕ) → k < 64 → bit_at marks k ≡ 1 → get_or sums k 0 ≡ lanes_total table terms first ways weight k) →
+-- a number in place of a sum: it is the sum if it is at most the limit, it is at most the sum, and if it is above the
+-- limit so is the sum
+same_if_small : (limit said sum : ℕ) → IsSumOrLarge limit said sum → said ≤ limit → said ≡ sum
+same_if_small limit said sum either low =
+    ⊎_elim (λ (same : said ≡ sum). same) (λ (part : (limit < said) × (said ≤ sum)). absurd (omega (arith, part.0)))
+    either
+
+pub at_most : (limit said sum : ℕ) → IsSumOrLarge limit said sum → said ≤ sum
+at_most limit said sum either =
+    ⊎_elim (λ (same : said ≡ sum). omega arith) (λ (part : (limit < said) × (said ≤ sum)). part.1) either
+
+above_from : (limit said sum : ℕ) → IsSumOrLarge limit said sum → (said ≤ limit → ⊥) → limit < sum
+above_from limit said sum either high =
+    ⊎_elim (λ (above : limit < said). omega (arith, above, at_most limit said sum either))
+    (λ (low : said ≤ limit). absurd (high low)) (cases_lt limit said)
+
+-- what the machines of a window lack, and their ways
+pub window_lacks : (w : World) (p first : ℕ) (table : List ℕ) (terms : List Term) →
+    IsRowTable (tables_of w) (here_of w) table → AreTerms (tables_of w) (filter_row_count (tables_of w))
+    (filter_asked (tables_of w) p) terms → amounts terms ≤ 2 ^ 30 → first < machine_count (tables_of w) →
+    (k : ℕ) → k < 64 → sum_at w p (machine_in w first k) ≡ lacking table terms (first + k)
+    + way_in (tables_of w) (machine_at (start_of w) p) first k
+unfolding filter_sum
+window_lacks w p first table terms rows are small within k below =
+    omega (arith, lanes_lack (tables_of w) (here_of w) p (first + k) table terms rows are small (omega arith))
+
+-- the sums of a window of which no machine is at most a limit even without its way
+pub far_sums : (w : World) (p first limit : ℕ) (table said sums : List ℕ) (terms : List Term) → amounts terms ≤ 2 ^ 30 →
+    ((k : ℕ) → k < 64 → sum_at w p (machine_in w first k) ≡ lacking table terms (first + k)
+    + way_in (tables_of w) (machine_at (start_of w) p) first k) →
+    ((k : ℕ) → k < 64 → IsSumOrLarge limit (get_or said k 0) (lacking table terms (first + k))) →
+    ((k : ℕ) → k < 64 → (bit_at 0 k ≡ 1) ↔ (get_or said k 0 ≤ limit)) → AreSums w p first limit 0 sums
+far_sums w p first limit table said sums terms small each are bits =
+    let above : (k : ℕ) → k < 64 → limit < lacking table terms (first + k) = λ k below.
+    above_from limit (get_or said k 0) (lacking table terms (first + k)) (are k below)
+    (λ low. zero_unset k ((bits k below).1 low)) in
+    record {
+      bits = λ k below. (
+        λ set. absurd (zero_unset k set),
+        λ low. absurd (omega (arith, low, each k below, above k below)),
+      );
+      each = λ k below set. absurd (zero_unset k set);
+      passed = λ k below _. omega (arith, above k below, small, lacking_within table terms (first + k));
+    }
+
+-- the sums of a window with the ways
+pub near_sums : (w : World) (p first limit marks : ℕ) (table said sums : List ℕ) (terms : List Term) →
+    amounts terms ≤ 2 ^ 30 → ((k : ℕ) → k < 64 → sum_at w p (machine_in w first k) ≡ lacking table terms (first + k)
+    + way_in (tables_of w) (machine_at (start_of w) p) first k) →
+    ((k : ℕ) → k < 64 → IsSumOrLarge limit (get_or said k 0) (lacking table terms (first + k))) →
+    HaveWays (tables_of w) (machine_at (start_of w) p) first limit said marks sums →
     AreSums w p first limit marks sums
-window_sums w p first limit marks weight table ways sums terms each ways_small small bits found = record {
+near_sums w p first limit marks table said sums terms small each are have = record {
   bits = λ k below. (
-    λ set. omega (arith, (bits k below).0 set, each k below),
-    λ low. (bits k below).1 (omega (arith, low, each k below)),
+    λ set. omega (
+      arith,
+      each k below,
+      have.each k below,
+      said_is k below ((have.bits k below).0 set),
+      (have.bits k below).0 set,
+    ),
+    λ low. (have.bits k below).1 (omega (
+      arith,
+      low,
+      each k below,
+      have.each k below,
+      said_least k below,
+    )),
   );
-  each = λ k below set. found k below set ∙ each k below;
-  small = λ k below. omega (arith, each k below, ways_small k below, small, lacking_within table terms (first + k));
+  each = λ k below set. omega (arith, each k below, have.each k below, said_is k below ((have.bits k below).0 set));
+  passed = λ k below high. omega (
+    arith,
+    high,
+    each k below,
+    have.small k below,
+    small,
+    lacking_within table terms (first + k),
+  );
 }
+  where
+    said_is : (k : ℕ) → k < 64 → get_or sums k 0 ≤ limit → get_or said k 0 ≡ lacking table terms (first + k)
+    said_is k below low = same_if_small limit (get_or said k 0) _ (are k below) (omega (arith, low, have.each k below))
+
+    said_least : (k : ℕ) → k < 64 → get_or said k 0 ≤ lacking table terms (first + k)
+    said_least k below = at_most limit (get_or said k 0) _ (are k below)
 
 -- the ways of a window, cut out of the ring of all ways from a machine
 pub ways_in_ring : (i : Tables) (home first : ℕ) (ring part : List ℕ) → first < machine_count i →
@@ -159,7 +219,7 @@ ways_in_ring i home first ring part some many each are k below =
     ∙ each ((first + k) % machine_count i) (omega (arith, some))
 
 -- what is above the limit of a room isn't below the room
-above_limit : (room limit sum : ℕ) → 0 < room → limit ≡ min (room - 1) (2 ^ 32 - 1) → sum ≤ 2 ^ 31 → limit < sum →
+above_limit : (room limit sum : ℕ) → 0 < room → limit ≡ min (room - 1) (2 ^ 32 - 1) → limit < 2 ^ 31 → limit < sum →
     room ≤ sum
 above_limit room limit sum some is small above = omega arith
 
@@ -185,7 +245,7 @@ marked w p first bound taken added room limit marks sums known taken_is added_is
       (λ (low : sum_at w p to ≤ limit). absurd (unset ((are.bits k below).1 low)))
       (cases_lt limit (sum_at w p to)) in
       dear_at w p to bound taken added room known (in_machines w first k) apart taken_is added_is room_is
-      (above_limit room limit (sum_at w p to) some limit_is (are.small k below) above);
+      (above_limit room limit (sum_at w p to) some limit_is (are.passed k below above) above);
   each = λ k below set apart. are.each k below set;
 }
 
@@ -198,9 +258,6 @@ none_marked w p first bound taken added room sums known taken_is added_is room_i
       apart taken_is added_is room_is (omega arith);
   each = λ k below set apart. absurd (zero_unset k set);
 }
-  where
-    zero_unset : (k : ℕ) → bit_at 0 k ≡ 1 → ⊥
-    zero_unset k set = absurd (omega (arith, set, bit_at-zero k))
 
 -- a window is within each row
 pub rows_within : (i : Tables) (a : List Machine) (first : ℕ) (table : List ℕ) (terms : List Term) →

@@ -8,7 +8,7 @@ use Rattle.ra_base.specs.Tables.{cell}
 use Rattle.ra_weigh_lanes.specs.Windows.{lacking, amounts}
 use Rattle.ra_weigh_lanes.specs.declared.windows.Term.{Term}
 use Rattle.ra_model.specs.declared.raw.Tables.{Tables}
-use Rattle.ra_model.specs.Numbers.{resource_count, machine_count, balance_count}
+use Rattle.ra_model.specs.Numbers.{resource_count, machine_count, balance_count, machine_weight_of, way_cost_of}
 use Rattle.ra_model.specs.Assignments.{machine_at}
 use Rattle.ra_rows.specs.FilterRows.{load_asked, first_asked, second_asked}
 use Rattle.ra_world.specs.FilterTables.{filter_row_count, filter_width}
@@ -56,7 +56,18 @@ pub record AreSums (w : World) (p first limit marks : ℕ) (sums : List ℕ) : T
       → (bit_at marks k ≡ 1) ↔ (sum_at w p (machine_in w first k) ≤ limit)
   pub each : (k : ℕ) → k < 64 → bit_at marks k ≡ 1
       → slice_index sums k ≡ sum_at w p (machine_in w first k)
-  pub small : (k : ℕ) → k < 64 → sum_at w p (machine_in w first k) ≤ 2 ^ 31
+  -- a limit that is passed is a true one: a bound is no limit of lanes if it isn't below 2^32
+  pub passed : (k : ℕ) → k < 64 → limit < sum_at w p (machine_in w first k) → limit < 2 ^ 31
+
+-- what the way from a machine to the k-th of sixty-four costs, with its weight
+abbrev pub way_in : Tables → ℕ → ℕ → ℕ → ℕ
+way_in i home first k = machine_weight_of i * way_cost_of i home ((first + k) % machine_count i)
+
+-- sixty-four sums with the ways to their machines, and a bit for each that is at most a limit
+pub record HaveWays (i : Tables) (home first limit : ℕ) (sums : List ℕ) (marks : ℕ) (with : List ℕ) : Type 0 where
+  pub small : (k : ℕ) → k < 64 → way_in i home first k ≤ 2 ^ 30
+  pub each : (k : ℕ) → k < 64 → slice_index with k ≡ slice_index sums k + way_in i home first k
+  pub bits : (k : ℕ) → k < 64 → (bit_at marks k ≡ 1) ↔ (slice_index with k ≤ limit)
 
 -- a bit for each of sixty-four machines to which a shift may cost less than a bound, and what each adds
 pub record AreMarked (w : World) (p first bound marks : ℕ) (sums : List ℕ) : Type 0 where

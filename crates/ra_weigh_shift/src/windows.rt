@@ -2,20 +2,22 @@ ghost use Rattle.std.specs.Prelude.{◌≡◌, ℕ, ◌-◌, ◌^◌, ◌<◌, �
 ghost use Rattle.ra_model.specs.Numbers.{machine_count};
 ghost use Rattle.ra_model.specs.Assignments.{machine_at};
 ghost use Rattle.ra_world.specs.Worlds.{tables_of, start_of};
-ghost use Rattle.ra_weigh_shift.specs.Lanes.{AreSums};
+ghost use Rattle.ra_weigh_shift.specs.Lanes.{AreSums, HaveWays};
 ghost use Rattle.ra_weigh_shift.specs.Sharing.{AreRequired};
 
 use crate::terms::find_terms;
 use arrayvec::ArrayVec;
 use ra_base::Machine;
-use ra_weigh_lanes::{ring_part, window};
+use ra_model::Instance;
+use ra_weigh_lanes::{add_up, add_ways, marks_of, ring_part};
 use ra_world::World;
 
 /// How much a way may cost with its weight, so that sums fit lanes.
 const MOST: u64 = 1 << 30;
 
 /// What each of sixty-four machines from one on adds for a process with this initial machine, if that is at most a
-/// limit. The answer has a bit for each such machine; there is no answer if the numbers are too great for lanes.
+/// limit. The answer has a bit for each such machine; there is no answer if the numbers are too great for lanes. Most
+/// windows have no such machine even if all ways were free, and then no way is read.
 pub(crate) fn sums_of(
     world: &World<'_>,
     required: &[u32; 20],
@@ -31,27 +33,47 @@ pub(crate) fn sums_of(
         IfSome result (λ marks. AreSums world.now p first limit marks sums.new) }
 {
     let inst = world.instance();
-    let weight = inst.machine_weight();
     let mut terms = ArrayVec::new();
     if !find_terms(inst, required, &mut terms) {
         return None;
     }
+    add_up(
+        world.filter_rows(),
+        terms.as_slice(),
+        first as usize,
+        limit,
+        sums,
+    );
+    if marks_of(sums, limit) == 0 {
+        return Some(0);
+    }
+    with_ways(inst, home, first, limit, sums)
+}
+
+/// Adds to sixty-four sums what the ways to their machines cost, unless that is too much for lanes. The answer has a bit
+/// for each sum that is then at most a limit.
+fn with_ways(
+    inst: &Instance,
+    home: Machine,
+    first: u32,
+    limit: u32,
+    sums: &mut [u32; 64],
+) -> Option<u64>
+    requires home { home.0 < machine_count inst.now.tables }
+    requires first { first < machine_count inst.now.tables }
+    requires small { (k : ℕ) → k < 64 → slice_index sums.old k ≤ 2 ^ 30 }
+    ensures { IfSome result (λ marks.
+        HaveWays inst.now.tables home.0 first limit sums.old marks sums.new) }
+{
+    let weight = inst.machine_weight();
     let mut copy = [0; 64];
     let ways = ring_part(inst.ways_from(home), first as usize, &mut copy);
     let most = greatest_of(ways);
     if u64::from(weight) * u64::from(most) > MOST {
         return None;
     }
-    let rows = world.filter_rows();
-    Some(window(
-        rows,
-        terms.as_slice(),
-        first as usize,
-        ways,
-        weight,
-        limit,
-        sums,
-    ))
+    add_ways(ways, weight, sums);
+    Some(marks_of(sums, limit))
 }
 
 /// A number that is at least each number of a list.

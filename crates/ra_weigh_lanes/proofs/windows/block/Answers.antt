@@ -13,8 +13,8 @@ loop-i-preserved c k l =
     ap (λ n. get_or rows n 0) (omega arith) in
     let read : get_or c.load.result k 0 ≡ get_or rows (term.row + (c.args.at + k)) 0 = c.load.ensures.each k l
     ∙ place in
-    let whole : get_or c.args.first k 0 + lacking rows terms (c.args.at + k) < 2 ^ 32 =
-    omega (arith, c.requires.first_small k l, c.requires.amounts_small, lacking_within rows terms (c.args.at + k)) in
+    let whole : lacking rows terms (c.args.at + k) < 2 ^ 32 =
+    omega (arith, c.requires.amounts_small, lacking_within rows terms (c.args.at + k)) in
     next_sum _ _ _ _ _ _
     (lacking_from rows terms c.loop-i.i (c.args.at + k) (record { row = 0; amount = 0 }) c.loop-i-test.true)
     (c.loop-i.invariant k l) whole
