@@ -21,10 +21,11 @@ use Rattle.ra_rows.specs.FilterRows.{load_asked, load_row, first_asked, first_ro
 use Rattle.ra_world.specs.FilterTables.{filter_row_count, filter_width, filter_row, IsRowTable}
 use Rattle.ra_world.specs.Worlds.{tables_of, start_of, here_of}
 use Rattle.ra_world.specs.declared.world.World.{World}
-use Rattle.ra_weigh_shift.specs.Arriving.{cost_added, cost_taken, sum_at, IsCostBelow}
+use Rattle.ra_weigh_shift.specs.Arriving.{BreaksNothing, cost_after, cost_added, cost_taken, sum_at, IsCostBelow}
 use Rattle.ra_weigh_shift.specs.Filter.{load_above, balance_above, filter_sum}
-use Rattle.ra_weigh_shift.specs.Lanes.{filter_asked, AreInRows, AreTerms, AreSums, AreMarked, HaveWays, machine_in, way_in}
-use Rattle.ra_weigh_shift.proofs.FilterLaws.{dear_cost, sum_none}
+use Rattle.ra_weigh_shift.specs.Lanes.{filter_asked, AreInRows, AreTerms, AreSums, AreMarked, HaveWays, machine_in}
+use Rattle.ra_weigh_shift.specs.Lanes.{way_in}
+use Rattle.ra_weigh_shift.proofs.FilterLaws.{dear_cost, filtered_at, sum_none}
 
 -- what is asked of each kind of row, and what a machine has there
 asked_load : (i : Tables) (p j : ℕ) → j < resource_count i → filter_asked i p j ≡ load_asked i p j
@@ -230,6 +231,13 @@ dear_at w p to bound taken added room known reach apart taken_is added_is room_i
     dear_cost w p to bound taken added room None None known reach apart taken_is added_is room_is
     (sum_none w p to room (sum_at w p to) above (omega arith)) refl refl
 
+cheap_at : (w : World) (p to bound taken added room limit : ℕ) → p < process_count (tables_of w) →
+    to < machine_count (tables_of w) → machine_at (start_of w) p ≢ to → taken ≡ cost_taken w p →
+    added ≡ cost_added w p → room ≡ bound + taken - added → 0 < room → limit ≡ min (room - 1) (2 ^ 32 - 1) →
+    sum_at w p to ≤ limit → BreaksNothing w p to → cost_after w p to < bound
+cheap_at w p to bound taken added room limit known reach apart taken_is added_is room_is some limit_is low free =
+    omega (arith, filtered_at w p to known reach free apart, taken_is, added_is, room_is, some, limit_is, low)
+
 in_machines : (w : World) (first k : ℕ) → machine_in w first k < machine_count (tables_of w)
 in_machines w first k = omega (arith, w.inst.now.well_formed.some_machine)
 
@@ -246,6 +254,8 @@ marked w p first bound taken added room limit marks sums known taken_is added_is
       (cases_lt limit (sum_at w p to)) in
       dear_at w p to bound taken added room known (in_machines w first k) apart taken_is added_is room_is
       (above_limit room limit (sum_at w p to) some limit_is (are.passed k below above) above);
+  cheap = λ k below set apart free. cheap_at w p (machine_in w first k) bound taken added room limit known
+      (in_machines w first k) apart taken_is added_is room_is some limit_is ((are.bits k below).0 set) free;
   each = λ k below set apart. are.each k below set;
 }
 
@@ -256,6 +266,7 @@ pub none_marked : (w : World) (p first bound taken added room : ℕ) (sums : Lis
 none_marked w p first bound taken added room sums known taken_is added_is room_is none = record {
   dear = λ k below unset apart. dear_at w p (machine_in w first k) bound taken added room known (in_machines w first k)
       apart taken_is added_is room_is (omega arith);
+  cheap = λ k below set apart free. absurd (zero_unset k set);
   each = λ k below set apart. absurd (zero_unset k set);
 }
 

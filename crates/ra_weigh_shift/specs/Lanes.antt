@@ -14,7 +14,7 @@ use Rattle.ra_rows.specs.FilterRows.{load_asked, first_asked, second_asked}
 use Rattle.ra_world.specs.FilterTables.{filter_row_count, filter_width}
 use Rattle.ra_world.specs.Worlds.{tables_of, start_of}
 use Rattle.ra_world.specs.declared.world.World.{World}
-use Rattle.ra_weigh_shift.specs.Arriving.{sum_at, IsCostBelow}
+use Rattle.ra_weigh_shift.specs.Arriving.{BreaksNothing, cost_after, sum_at, IsCostBelow}
 
 -- what p asks of row j of the filter rows
 unfoldable pub filter_asked : Tables → ℕ → ℕ → ℕ
@@ -75,6 +75,10 @@ pub record AreMarked (w : World) (p first bound marks : ℕ) (sums : List ℕ) :
   pub dear : (k : ℕ) → k < 64 → bit_at marks k ≢ 1
       → machine_at (start_of w) p ≢ machine_in w first k
       → IsCostBelow w p (machine_in w first k) bound None
+  -- if there is one, it costs less or breaks something, unless p comes home
+  pub cheap : (k : ℕ) → k < 64 → bit_at marks k ≡ 1
+      → machine_at (start_of w) p ≢ machine_in w first k
+      → BreaksNothing w p (machine_in w first k) → cost_after w p (machine_in w first k) < bound
   pub each : (k : ℕ) → k < 64 → bit_at marks k ≡ 1
       → machine_at (start_of w) p ≢ machine_in w first k
       → slice_index sums k ≡ sum_at w p (machine_in w first k)
