@@ -1,6 +1,7 @@
 -- The best option so far, one option after another.
 use Rattle.std.proofs.Common.{◌≡◌, ◌≢◌, ◌↔◌, ℕ, ◌+◌, ◌^◌, ◌<◌, ◌≤◌, arith, length, Bool, true, false, cond, ltb, List}
 use Rattle.std.proofs.Common.{[], ◌∷◌, Option, Some, None, refl, sym, ap, ap₂, ◌∙◌, subst}
+use Rattle.std.specs.Option.{is_some}
 use Rattle.std.proofs.lemmas.Bool.{ltb-true, ltb-false}
 use Rattle.ra_base.specs.Searches.{is_better, least, least_place, or_else}
 use Rattle.ra_base.specs.declared.causes.Cause.{Cause}
@@ -256,6 +257,16 @@ pub best_unbroken : (w : World) (x : List ℕ) (d : Drawing) (allowed n cost : �
     broken_by w.inst.now.tables w.start.now.items w.kept.assignment.items steps ≡ None
 best_unbroken w x d allowed n cost best steps is same there =
     (best_means w x d allowed n cost best steps is same there).0
+
+pub best_free : (w : World) (x : List ℕ) (d : Drawing) (allowed n : ℕ) (best : Best) (steps : List Step) →
+    IsBest w x d allowed n best → steps_in w x d best.option ≡ steps → is_some best.cost ≡ true →
+    broken_by w.inst.now.tables w.start.now.items w.kept.assignment.items steps ≡ None
+best_free w x d allowed n best steps is same some = by_cost best.cost refl some
+  where
+    by_cost : (o : Option ℕ) → best.cost ≡ o → is_some o ≡ true →
+        broken_by w.inst.now.tables w.start.now.items w.kept.assignment.items steps ≡ None
+    by_cost None e there = absurd (omega (arith, ap (λ (b : Bool). cond {A = ℕ} b 1 0) there))
+    by_cost (Some cost) e there = best_unbroken w x d allowed n cost best steps is same e
 
 -- bounds
 bound_low : (o : Option ℕ) (most : ℕ) → ((b : ℕ) → o ≡ Some b → b < most) → bound_of o most ≤ most

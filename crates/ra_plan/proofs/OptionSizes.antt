@@ -103,6 +103,13 @@ pub process_drawn : (a : List Machine) (x : List ℕ) (m : ℕ) (d : Drawing) (i
 process_drawn a x m d i mv option is = ap (λ (v : MoveSteps). (step_at v.steps 0).process.0) option
     ∙ first_drawn a x m d i (asks_shift a x m d i mv option is)
 
+-- its one step
+pub alone : (a : List Machine) (x : List ℕ) (m : ℕ) (d : Drawing) (i p : ℕ) (mv : MoveSteps) →
+    mv ≡ option_at a x m d i → kind_of x ≡ Shift → p ≡ drawn a x 1 →
+    mv.steps ≡ leaving a p (step_at mv.steps 0).to.0 ∷ []
+unfolding option_at option_of shift_of step_at leaving
+alone a x m d i p mv option is process = rw (option, is, process) refl
+
 pub drawn_below : (a : List Machine) (x : List ℕ) (j : ℕ) → 0 < length a → drawn a x j < length a
 unfolding drawn
 drawn_below a x j some = omega arith

@@ -1,12 +1,12 @@
 -- What a world has for settling, and the two forms of a weighing.
-use Rattle.std.proofs.Common.{◌≡◌, ℕ, ◌*◌, ◌<◌, ◌≤◌, List, length, Some, None, sym, ap, ◌∙◌, arith, mul-le-mul_right}
+use Rattle.std.proofs.Common.{◌≡◌, ℕ, ◌*◌, ◌<◌, ◌≤◌, List, [], ◌∷◌, length, Some, None, sym, ap, ◌∙◌, arith, mul-le-mul_right}
 use Rattle.ra_base.specs.Searches.{or_else}
 use Rattle.ra_base.specs.declared.causes.Cause.{Cause}
 use Rattle.ra_base.specs.declared.costs.Parts.{Parts}
 use Rattle.ra_base.specs.declared.ids.Machine.{Machine}
 use Rattle.ra_base.proofs.Searches.{or_else_none, or_else_some, or_else_assoc, left_none}
 use Rattle.ra_model.specs.declared.raw.Tables.{Tables}
-use Rattle.ra_model.specs.Numbers.{resource_count, service_count, process_count}
+use Rattle.ra_model.specs.Numbers.{resource_count, machine_count, service_count, process_count}
 use Rattle.ra_model.specs.Assignments.{IsAssignment}
 use Rattle.ra_model.specs.Broken.{first_broken}
 use Rattle.ra_model.specs.Costs.{parts_of}
@@ -17,9 +17,11 @@ use Rattle.ra_moves.specs.declared.steps.Step.{Step}
 use Rattle.ra_moves.specs.declared.verdicts.Weighed.{Weighed}
 use Rattle.ra_moves.specs.Judging.{repeat_of, same_of, broken_by}
 use Rattle.ra_moves.specs.Replacing.{applied}
-use Rattle.ra_moves.specs.Steps.{process_in}
+use Rattle.ra_moves.specs.Options.{leaving}
+use Rattle.ra_moves.specs.Steps.{process_in, step_at, to_in}
 use Rattle.ra_moves.specs.Moving.{IsMove, IsOffered}
 use Rattle.ra_moves.specs.Weighing.{weighed_of}
+use Rattle.ra_weigh_shift.proofs.AllowLaws.{no_repeat}
 use Rattle.ra_weigh_settle.specs.Settling.{AreMovedOf, IsSettling, HasSettling}
 use Rattle.ra_plan.specs.Weighings.{IsWeighing}
 
@@ -86,6 +88,13 @@ flawless_move i a steps offered none = offered (left_none (repeat_of steps) (sam
 pub reads_few : (i : Tables) (a : List Machine) (steps : List Step) → IsMove i a steps →
     length steps * resource_count i ≤ 3 * resource_count i
 reads_few i a steps move = mul-le-mul_right (resource_count i) move.few
+
+-- the one step of a shift enters a machine of the instance
+pub one_reaches : (i : Tables) (a : List Machine) (p to : ℕ) (steps : List Step) → IsOffered i a steps →
+    steps ≡ leaving a p to ∷ [] → (step_at steps 0).to.0 < machine_count i
+unfolding to_in
+one_reaches i a p to steps offered one =
+    (offered (ap repeat_of one ∙ no_repeat a p to)).reaches 0 (omega (arith, ap (λ (xs : List Step). length xs) one))
 
 pub processes_known : (i : Tables) (a : List Machine) (steps : List Step) → IsMove i a steps → (j : ℕ) →
     j < length steps → process_in steps j < process_count i

@@ -1,5 +1,5 @@
 -- What is found of one move: its cost if that can still win, and its weighing if it is planned.
-use Rattle.std.specs.Prelude.{◌≡◌, ℕ, ◌<◌, ◌≤◌, List, Option, Some, None}
+use Rattle.std.specs.Prelude.{◌≡◌, ℕ, ◌<◌, ◌≤◌, List, [], ◌∷◌, Option, Some, None}
 use Rattle.ra_base.specs.declared.causes.Cause.{Cause}
 use Rattle.ra_base.specs.declared.causes.Drawing.{Drawing}
 use Rattle.ra_model.specs.Costs.{objective}
@@ -8,7 +8,8 @@ use Rattle.ra_moves.specs.declared.verdicts.Weighed.{Weighed}
 use Rattle.ra_moves.specs.Judging.{broken_by}
 use Rattle.ra_moves.specs.MoveSteps.{MoveSteps}
 use Rattle.ra_moves.specs.Moving.{IsOffered}
-use Rattle.ra_moves.specs.Options.{plan_of}
+use Rattle.ra_moves.specs.Options.{leaving, plan_of}
+use Rattle.ra_moves.specs.Steps.{step_at}
 use Rattle.ra_moves.specs.Replacing.{applied}
 use Rattle.ra_moves.specs.Weighing.{weighed_of}
 use Rattle.ra_world.specs.Worlds.{tables_of, start_of, here_of}
@@ -25,6 +26,10 @@ cost_at w steps = objective (tables_of w) (start_of w) (applied (here_of w) step
 -- its weighing
 abbrev pub weighed_at : World → List Step → Weighed
 weighed_at w steps = weighed_of (tables_of w) (start_of w) (here_of w) steps
+
+-- the steps are that process p leaves its machine, for the machine of the first step
+abbrev pub IsShiftOf : World → ℕ → List Step → Type 0
+IsShiftOf w p steps = steps ≡ leaving (here_of w) p (step_at steps 0).to.0 ∷ []
 
 -- a cost if the move breaks nothing and costs less than a bound, and none if it breaks something or costs no less
 pub record IsMoveBelow (w : World) (steps : List Step) (bound : ℕ) (cost : Option ℕ) : Type 0 where

@@ -1,4 +1,4 @@
-ghost use Rattle.std.specs.Prelude.{◌≡◌, ◌≢◌, ℕ, Some, None, ◌+◌, ◌*◌, ◌<◌, ◌≤◌};
+ghost use Rattle.std.specs.Prelude.{◌≡◌, ◌≢◌, ℕ, Some, None, true, ◌+◌, ◌*◌, ◌<◌, ◌≤◌};
 ghost use Rattle.ra_base.specs.declared.causes.Drawing.TheVariants.{One, Two};
 ghost use Rattle.ra_model.specs.Numbers.{resource_count, machine_count};
 ghost use Rattle.ra_moves.specs.declared.steps.MoveKind.TheVariants as kind;
@@ -6,7 +6,7 @@ ghost use Rattle.ra_moves.specs.Options.{kind_of, plan_of, option_at, option_cou
 ghost use Rattle.ra_moves.specs.Moving.{IsOffered};
 ghost use Rattle.ra_moves.specs.Weighing.{weighed_of};
 ghost use Rattle.ra_world.specs.Worlds.{tables_of, here_of};
-ghost use Rattle.ra_plan.specs.Deciding.{cause_at, weighed_at, IsPlanned};
+ghost use Rattle.ra_plan.specs.Deciding.{cause_at, weighed_at, IsPlanned, IsShiftOf};
 
 use crate::best::Best;
 use crate::moves::best_move;
@@ -16,6 +16,7 @@ use crate::weighing::weigh;
 use ra_base::{Drawing, Steps};
 use ra_moves::{Move, MoveKind, Plan, Weighed, resolve};
 use ra_weigh_changes::changed_by;
+use ra_weigh_shift::Shift;
 use ra_world::{World, requirements};
 use std::sync::ledger::Ledger;
 
@@ -105,9 +106,10 @@ fn fill_by_shift<L: Ledger>(
     ensures numbers_k { plan.new.k ≡ plan.old.k }
     ensures counted { steps.new ≤ steps.old + 24 * resource_count (tables_of world.now) }
 {
-    let best = best_shift(world, first.step(0).process, words, drawing, allowed, steps);
+    let shift = Shift::make(world, first.step(0).process, steps);
+    let best = best_shift(world, &shift, words, drawing, allowed);
     plan.mv = move_of(world, first, words, drawing, best.option);
-    plan.weighed = weighing(world, &best, &plan.mv, steps);
+    plan.weighed = shift_weighing(world, &shift, &best, &plan.mv, steps);
 }
 
 /// The same for words that ask for a swap or a chain. Option 0 is weighed first and once, since most of these plans are
@@ -138,7 +140,7 @@ fn fill_by_move<L: Ledger>(
     }
     let mv = move_of(world, first, words, drawing, best.option);
     plan.mv = mv;
-    plan.weighed = weighing(world, &best, &mv, steps);
+    plan.weighed = weighing(world, best.cost.is_some(), &mv, steps);
 }
 
 /// An option of words whose option 0 is at hand.
@@ -157,19 +159,37 @@ fn move_of(world: &World<'_>, first: &Move, words: &[u64; 8], drawing: Drawing, 
     resolve(world.assignment(), words, machines, drawing, option)
 }
 
-/// The weighing of the move that is planned: of the best option, or of option 0 if none is done.
-fn weighing<L: Ledger>(world: &World<'_>, best: &Best, mv: &Move, steps: &mut Steps<L>) -> Weighed
+/// The weighing of the shift that is planned: of the best option, or of option 0 if none is done. What is known of the
+/// process tells soonest whether option 0 breaks nothing.
+fn shift_weighing<L: Ledger>(
+    world: &World<'_>,
+    shift: &Shift<'_, '_>,
+    best: &Best,
+    mv: &Move,
+    steps: &mut Steps<L>,
+) -> Weighed
+    requires world { shift.now.world.now ≡ world.now }
     requires offered { IsOffered (tables_of world.now) (here_of world.now) mv.now.steps }
+    requires alone { IsShiftOf world.now shift.now.process.0 mv.now.steps }
     requires best { (cost : ℕ) → best.now.cost ≡ Some cost → cause_at world.now mv.now.steps ≡ None }
     ensures value { result ≡ weighed_at world.now mv.now.steps }
     ensures counted { steps.new ≤ steps.old + 6 * resource_count (tables_of world.now) }
 {
-    match best.cost {
-        Some(_) => {
-            let mut required = [0; 60];
-            requirements(world.instance(), mv, &mut required, steps);
-            changed_by(world, mv, &required)
-        }
-        None => weigh(world, mv, steps),
+    let free = best.cost.is_some() || shift.fits(mv.step(0).to);
+    weighing(world, free, mv, steps)
+}
+
+/// The weighing of a move of which it is known that it breaks nothing, or of any other.
+fn weighing<L: Ledger>(world: &World<'_>, free: bool, mv: &Move, steps: &mut Steps<L>) -> Weighed
+    requires offered { IsOffered (tables_of world.now) (here_of world.now) mv.now.steps }
+    requires free { free ≡ true → cause_at world.now mv.now.steps ≡ None }
+    ensures value { result ≡ weighed_at world.now mv.now.steps }
+    ensures counted { steps.new ≤ steps.old + 6 * resource_count (tables_of world.now) }
+{
+    if !free {
+        return weigh(world, mv, steps);
     }
+    let mut required = [0; 60];
+    requirements(world.instance(), mv, &mut required, steps);
+    changed_by(world, mv, &required)
 }

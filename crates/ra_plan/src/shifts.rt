@@ -1,5 +1,5 @@
 ghost use Rattle.std.specs.Prelude.{◌≡◌, ◌≢◌, ◌+◌, ℕ, ◌%◌, ◌^◌, ◌<◌, ◌≤◌, min, List, [], ◌∷◌, slice_index};
-ghost use Rattle.ra_model.specs.Numbers.{resource_count, machine_count, process_count};
+ghost use Rattle.ra_model.specs.Numbers.{machine_count};
 ghost use Rattle.ra_moves.specs.declared.steps.MoveKind.TheVariants as kind;
 ghost use Rattle.ra_moves.specs.Options.{kind_of, drawn, target, count_of, option_count};
 ghost use Rattle.ra_base.specs.declared.causes.Drawing.{Drawing};
@@ -13,32 +13,28 @@ ghost use Rattle.ra_plan.specs.Choosing.{IsBest, IsWindowOf, steps_in, bound_of}
 
 use crate::best::Best;
 use crate::marks::{next_mark, with_mark};
-use ra_base::{Drawing, Machine, Process, Steps};
+use ra_base::{Drawing, Machine};
 use ra_moves::options;
 use ra_weigh_shift::Shift;
 use ra_world::World;
-use std::sync::ledger::Ledger;
 
-/// The best of all options of a shift: what is the same for each of them is found once.
-pub(crate) fn best_shift<L: Ledger>(
+/// The best of all options of a shift.
+pub(crate) fn best_shift(
     world: &World<'_>,
-    process: Process,
+    shift: &Shift<'_, '_>,
     words: &[u64; 8],
     drawing: Drawing,
     allowed: u64,
-    steps: &mut Steps<L>,
 ) -> Best
-    requires there { process.0 < process_count world.now.inst.now.tables }
+    requires world { shift.now.world.now ≡ world.now }
     requires shift { kind_of words.now ≡ kind.Shift }
-    requires named { process.0 ≡ drawn world.now.kept.assignment.items words.now 1 }
-    ensures best { IsBest world.now words.now drawing allowed
-        (option_count words.now (machine_count world.now.inst.now.tables) drawing) result }
-    ensures counted { steps.new ≡ steps.old + resource_count world.now.inst.now.tables }
+    requires named { shift.now.process.0 ≡ drawn (here_of world.now) words.now 1 }
+    ensures { IsBest world.now words.now drawing allowed
+        (option_count words.now (machine_count (tables_of world.now)) drawing) result }
 {
-    let shift = Shift::make(world, process, steps);
     match drawing {
-        Drawing::One => best_in_order(world, &shift, words, Drawing::One, allowed),
-        Drawing::Two => best_in_window(world, &shift, words, allowed),
+        Drawing::One => best_in_order(world, shift, words, Drawing::One, allowed),
+        Drawing::Two => best_in_window(world, shift, words, allowed),
     }
 }
 

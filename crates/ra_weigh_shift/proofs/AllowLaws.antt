@@ -50,7 +50,7 @@ pub applied_one : (a : List Machine) (p to : ℕ) → applied a (leaving a p to 
 unfolding applied after_steps process_in step_at leaving
 applied_one a p to = refl
 
-no_repeat : (a : List Machine) (p to : ℕ) → repeat_of (leaving a p to ∷ []) ≡ None
+pub no_repeat : (a : List Machine) (p to : ℕ) → repeat_of (leaving a p to ∷ []) ≡ None
 unfolding repeat_of repeat_test first cause_if is_named or_else
 no_repeat a p to = refl
 

@@ -14,7 +14,7 @@ use Rattle.ra_weigh_lanes.specs.Windows.{lacking, amounts, IsRingPart, IsSumOrLa
 use Rattle.ra_weigh_lanes.specs.declared.windows.Term.{Term}
 use Rattle.ra_weigh_lanes.proofs.SumLemmas.{lacking_within}
 use Rattle.ra_model.specs.declared.raw.Tables.{Tables}
-use Rattle.ra_model.specs.Numbers.{resource_count, machine_count, process_count, balance_count, machine_weight_of}
+use Rattle.ra_model.specs.Numbers.{resource_count, machine_count, process_count, balance_count}
 use Rattle.ra_model.specs.Numbers.{way_cost_of}
 use Rattle.ra_model.specs.Assignments.{machine_at}
 use Rattle.ra_rows.specs.FilterRows.{load_asked, load_row, first_asked, first_row, second_asked, second_row}

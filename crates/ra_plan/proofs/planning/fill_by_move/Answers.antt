@@ -3,7 +3,7 @@ use Rattle.ra_model.specs.Numbers.{resource_count, machine_count}
 use Rattle.ra_moves.specs.Moving.{IsOffered}
 use Rattle.ra_moves.specs.Options.{option_at}
 use Rattle.ra_plan.proofs.OptionSizes.{rest_reads}
-use Rattle.ra_plan.proofs.Bests.{best_below, best_planned, best_unbroken, option_in, option_offered, judged_in}
+use Rattle.ra_plan.proofs.Bests.{best_below, best_planned, best_free, option_in, option_offered, judged_in}
 use Rattle.ra_plan.proofs.Bests.{planned_same}
 use Rattle.ra_plan.proofs.planning.fill_by_move.Goals as goal
 
@@ -45,10 +45,10 @@ weighing-plan-requires-clause-offered g c =
     rw c.move_of-mv.ensures
     (option_offered _ _ _ _ _ c.args.world.now.inst.now.well_formed c.args.world.now.keeps.stand.fits)
 
-pub weighing-plan-requires-clause-best : goal.weighing-plan-requires-clause-best
-weighing-plan-requires-clause-best g c =
-    λ cost there. best_unbroken c.args.world.now _ _ _ _ cost _ _ c.best_move-best.ensures.best
-    (option_in c.args.world.now _ _ _ _ _ refl c.move_of-mv.ensures) there
+pub weighing-plan-requires-clause-free : goal.weighing-plan-requires-clause-free
+weighing-plan-requires-clause-free g c =
+    λ some. best_free c.args.world.now _ _ _ _ _ _ c.best_move-best.ensures.best
+    (option_in c.args.world.now _ _ _ _ _ refl c.move_of-mv.ensures) (sym c.is_some.ensures ∙ some)
 
 pub returns : goal.returns
 returns g c =

@@ -1,22 +1,22 @@
--- The best option breaks nothing.
+-- The move breaks nothing.
 use Rattle.std.proofs.Common.{arith}
 use Rattle.ra_plan.proofs.Weighed.{move_of, processes_known, reads_few}
 use Rattle.ra_plan.proofs.planning.weighing.Goals as goal
 
 pub requirements-requires : goal.requirements-requires
 requirements-requires g c =
-    rw c.instance.ensures (processes_known _ _ _ (move_of _ _ _ _ c.requires.offered (c.requires.best _ c.in-Some.is)))
+    rw c.instance.ensures (processes_known _ _ _ (move_of _ _ _ _ c.requires.offered (c.requires.free c.if-not-free.false)))
 
 pub changed_by-requires-clause-moves : goal.changed_by-requires-clause-moves
-changed_by-requires-clause-moves g c = move_of _ _ _ _ c.requires.offered (c.requires.best _ c.in-Some.is)
+changed_by-requires-clause-moves g c = move_of _ _ _ _ c.requires.offered (c.requires.free c.if-not-free.false)
 
 pub changed_by-requires-clause-required : goal.changed_by-requires-clause-required
 changed_by-requires-clause-required g c = rw c.instance.ensures at c.requirements.ensures.required
 
 pub changed_by-requires-clause-unbroken : goal.changed_by-requires-clause-unbroken
-changed_by-requires-clause-unbroken g c = c.requires.best _ c.in-Some.is
+changed_by-requires-clause-unbroken g c = c.requires.free c.if-not-free.false
 
-pub returns-in-Some-clause-counted : goal.returns-in-Some-clause-counted
-returns-in-Some-clause-counted g c =
+pub returns-clause-counted : goal.returns-clause-counted
+returns-clause-counted g c =
     let read = rw c.instance.ensures at c.requirements.ensures.counted in
-    omega (arith, read, reads_few _ _ _ (move_of _ _ _ _ c.requires.offered (c.requires.best _ c.in-Some.is)))
+    omega (arith, read, reads_few _ _ _ (move_of _ _ _ _ c.requires.offered (c.requires.free c.if-not-free.false)))

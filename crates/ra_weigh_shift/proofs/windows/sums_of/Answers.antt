@@ -1,15 +1,7 @@
 -- The sums of the lanes are those of the machines.
-use Rattle.std.proofs.Common.{◌≡◌, ◌↔◌, ℕ, ◌+◌, ◌^◌, ◌<◌, ◌≤◌, List, length, get_or, ap, sym, subst, ◌∙◌, arith}
-use Rattle.std.specs.Int.{bit_at}
-use Rattle.std.specs.List.{All}
+use Rattle.std.proofs.Common.{◌+◌, get_or, arith}
 use Rattle.std.proofs.lemmas.Option.{IfSome_then}
-use Rattle.ra_weigh_lanes.specs.Windows.{amounts}
-use Rattle.ra_weigh_lanes.specs.declared.windows.Term.{Term}
 use Rattle.ra_weigh_lanes.proofs.SumLemmas.{lacking_within}
-use Rattle.ra_model.specs.Numbers.{machine_count}
-use Rattle.ra_model.specs.declared.numbers.Instance.{Instance}
-use Rattle.ra_world.specs.Worlds.{tables_of, here_of}
-use Rattle.ra_weigh_shift.specs.Lanes.{HaveWays}
 use Rattle.ra_weigh_shift.proofs.LaneLaws.{at_most, window_lacks, far_sums, near_sums}
 use Rattle.ra_weigh_shift.proofs.windows.sums_of.Goals as goal
 

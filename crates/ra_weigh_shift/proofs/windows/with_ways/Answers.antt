@@ -1,5 +1,5 @@
 -- The sums with the ways of the machines.
-use Rattle.std.proofs.Common.{◌≡◌, ℕ, ◌+◌, ◌*◌, ◌^◌, ◌<◌, ◌≤◌, get_or, ap, ap₂, sym, subst, ◌∙◌, arith}
+use Rattle.std.proofs.Common.{◌≡◌, ℕ, ◌*◌, ◌<◌, get_or, ap₂, arith}
 use Rattle.ra_weigh_shift.specs.Lanes.{way_in}
 use Rattle.ra_weigh_shift.proofs.LaneLaws.{ways_in_ring, way_small}
 use Rattle.ra_weigh_shift.proofs.windows.with_ways.Goals as goal
