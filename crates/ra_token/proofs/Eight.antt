@@ -1,6 +1,6 @@
 -- Eight digits at a time, by three multiplications.
 use Rattle.std.proofs.Common.{◌≡◌, ℕ, zero, suc, ◌+◌, ◌*◌, ◌-◌, ◌/◌, ◌%◌, ◌^◌, ◌<◌, ◌≤◌, true, List, length, get_or}
-use Rattle.std.proofs.Common.{refl, ap, ◌∙◌, subst, add-one, arith, bit_and}
+use Rattle.std.proofs.Common.{refl, sym, ap, ◌∙◌, subst, add-one, pow-suc, zero-add, suc-add, mul_assoc, arith, bit_and}
 use Rattle.std.specs.Char.{is_ascii_digit}
 use Rattle.std.proofs.lemmas.Nat.{and_block, and_mask, mod_low, shr_high}
 use Rattle.ra_token.specs.Runs.{digit_at}
@@ -84,140 +84,122 @@ joined_is a b c d e f g h sa sb sc sd se sf sg sh =
 abbrev pub moved : ℕ → ℕ → ℕ
 moved eight count = (eight + 14974415777481871312) % 18446744073709551616 * 2 ^ (64 - 8 * count) % 18446744073709551616
 
-record IsDigit (b x : ℕ) : Type 0 where
-  is : b ≡ x + 48
-  small : x ≤ 9
+-- some bytes or digits as one number, the first at the low end
+abbrev packed : (ℕ → ℕ) → ℕ → ℕ
+packed x zero = 0
+packed x (suc n) = x 0 + 256 * packed (λ k. x (suc k)) n
 
-one : (a b c d e f g h xa : ℕ) → IsDigit a xa →
-    joined (moved (a + 256 * (b + 256 * (c + 256 * (d + 256 * (e + 256 * (f + 256 * (g + 256 * h))))))) 1) ≡ (0) * 10
-    + xa
-one a b c d e f g h xa da =
-    let digits : moved (a + 256 * (b + 256 * (c + 256 * (d + 256 * (e + 256 * (f + 256 * (g + 256 * h))))))) 1 ≡ 0 + 256
-    * (0 + 256 * (0 + 256 * (0 + 256 * (0 + 256 * (0 + 256 * (0 + 256 * (xa))))))) =
-    omega (arith, da.is, da.small) in
-    ap joined digits ∙ joined_is 0 0 0 0 0 0 0 xa (omega arith) (omega arith) (omega arith) (omega arith) (omega arith)
-    (omega arith) (omega arith) da.small ∙ omega arith
+-- what digits are worth, the first at the high end
+abbrev worth_of : (ℕ → ℕ) → ℕ → ℕ
+worth_of x zero = 0
+worth_of x (suc n) = worth_of x n * 10 + x n
 
-two : (a b c d e f g h xa xb : ℕ) → IsDigit a xa → IsDigit b xb →
-    joined (moved (a + 256 * (b + 256 * (c + 256 * (d + 256 * (e + 256 * (f + 256 * (g + 256 * h))))))) 2) ≡
-    ((0) * 10 + xa) * 10 + xb
-two a b c d e f g h xa xb da db =
-    let digits : moved (a + 256 * (b + 256 * (c + 256 * (d + 256 * (e + 256 * (f + 256 * (g + 256 * h))))))) 2 ≡ 0 + 256
-    * (0 + 256 * (0 + 256 * (0 + 256 * (0 + 256 * (0 + 256 * (xa + 256 * (xb))))))) =
-    omega (arith, da.is, da.small, db.is, db.small) in
-    ap joined digits ∙ joined_is 0 0 0 0 0 0 xa xb (omega arith) (omega arith) (omega arith) (omega arith) (omega arith)
-    (omega arith) da.small db.small ∙ omega arith
+-- as many zeros, and then the digits
+abbrev padded : ℕ → (ℕ → ℕ) → ℕ → ℕ
+padded zero x k = x k
+padded (suc z) x zero = 0
+padded (suc z) x (suc k) = padded z x k
 
-three : (a b c d e f g h xa xb xc : ℕ) → IsDigit a xa → IsDigit b xb → IsDigit c xc →
-    joined (moved (a + 256 * (b + 256 * (c + 256 * (d + 256 * (e + 256 * (f + 256 * (g + 256 * h))))))) 3) ≡
-    (((0) * 10 + xa) * 10 + xb) * 10 + xc
-three a b c d e f g h xa xb xc da db dc =
-    let digits : moved (a + 256 * (b + 256 * (c + 256 * (d + 256 * (e + 256 * (f + 256 * (g + 256 * h))))))) 3 ≡ 0 + 256
-    * (0 + 256 * (0 + 256 * (0 + 256 * (0 + 256 * (xa + 256 * (xb + 256 * (xc))))))) =
-    omega (arith, da.is, da.small, db.is, db.small, dc.is, dc.small) in
-    ap joined digits ∙ joined_is 0 0 0 0 0 xa xb xc (omega arith) (omega arith) (omega arith) (omega arith)
-    (omega arith) da.small db.small dc.small ∙ omega arith
+-- as many digits 1, packed
+abbrev ones : ℕ → ℕ
+ones zero = 0
+ones (suc n) = 1 + 256 * ones n
 
-four : (a b c d e f g h xa xb xc xd : ℕ) → IsDigit a xa → IsDigit b xb → IsDigit c xc → IsDigit d xd →
-    joined (moved (a + 256 * (b + 256 * (c + 256 * (d + 256 * (e + 256 * (f + 256 * (g + 256 * h))))))) 4) ≡
-    ((((0) * 10 + xa) * 10 + xb) * 10 + xc) * 10 + xd
-four a b c d e f g h xa xb xc xd da db dc dd =
-    let digits : moved (a + 256 * (b + 256 * (c + 256 * (d + 256 * (e + 256 * (f + 256 * (g + 256 * h))))))) 4 ≡ 0 + 256
-    * (0 + 256 * (0 + 256 * (0 + 256 * (xa + 256 * (xb + 256 * (xc + 256 * (xd))))))) =
-    omega (arith, da.is, da.small, db.is, db.small, dc.is, dc.small, dd.is, dd.small) in
-    ap joined digits ∙ joined_is 0 0 0 0 xa xb xc xd (omega arith) (omega arith) (omega arith) (omega arith) da.small
-    db.small dc.small dd.small ∙ omega arith
+-- eight digits, packed and joined
+joined_digits : (x : ℕ → ℕ) → ((k : ℕ) → k < 8 → x k ≤ 9) → joined (packed x 8) ≡ worth_of x 8
+joined_digits x small =
+    let all : packed x 8 ≡ x 0 + 256
+    * (x 1 + 256 * (x 2 + 256 * (x 3 + 256 * (x 4 + 256 * (x 5 + 256 * (x 6 + 256 * x 7)))))) = omega arith in
+    ap joined all
+    ∙ joined_is (x 0) (x 1) (x 2) (x 3) (x 4) (x 5) (x 6) (x 7) (small 0 (omega arith)) (small 1 (omega arith))
+    (small 2 (omega arith)) (small 3 (omega arith)) (small 4 (omega arith)) (small 5 (omega arith))
+    (small 6 (omega arith)) (small 7 (omega arith))
+    ∙ omega arith
 
-five : (a b c d e f g h xa xb xc xd xe : ℕ) → IsDigit a xa → IsDigit b xb → IsDigit c xc → IsDigit d xd → IsDigit e xe →
-    joined (moved (a + 256 * (b + 256 * (c + 256 * (d + 256 * (e + 256 * (f + 256 * (g + 256 * h))))))) 5) ≡
-    (((((0) * 10 + xa) * 10 + xb) * 10 + xc) * 10 + xd) * 10 + xe
-five a b c d e f g h xa xb xc xd xe da db dc dd de =
-    let digits : moved (a + 256 * (b + 256 * (c + 256 * (d + 256 * (e + 256 * (f + 256 * (g + 256 * h))))))) 5 ≡ 0 + 256
-    * (0 + 256 * (0 + 256 * (xa + 256 * (xb + 256 * (xc + 256 * (xd + 256 * (xe))))))) =
-    omega (arith, da.is, da.small, db.is, db.small, dc.is, dc.small, dd.is, dd.small, de.is, de.small) in
-    ap joined digits ∙ joined_is 0 0 0 xa xb xc xd xe (omega arith) (omega arith) (omega arith) da.small db.small
-    dc.small dd.small de.small ∙ omega arith
+-- a number that begins one byte higher
+one_higher : (n m : ℕ) → 256 ^ suc n * m ≡ 256 * (256 ^ n * m)
+one_higher n m =
+    let next : 256 ^ suc n ≡ 256 * 256 ^ n = omega (arith, pow-suc 256 n) in
+    ap (λ k. k * m) next ∙ mul_assoc 256 (256 ^ n) m
 
-six : (a b c d e f g h xa xb xc xd xe xf : ℕ) → IsDigit a xa → IsDigit b xb → IsDigit c xc → IsDigit d xd →
-    IsDigit e xe → IsDigit f xf →
-    joined (moved (a + 256 * (b + 256 * (c + 256 * (d + 256 * (e + 256 * (f + 256 * (g + 256 * h))))))) 6) ≡
-    ((((((0) * 10 + xa) * 10 + xb) * 10 + xc) * 10 + xd) * 10 + xe) * 10 + xf
-six a b c d e f g h xa xb xc xd xe xf da db dc dd de df =
-    let digits : moved (a + 256 * (b + 256 * (c + 256 * (d + 256 * (e + 256 * (f + 256 * (g + 256 * h))))))) 6 ≡ 0 + 256
-    * (0 + 256 * (xa + 256 * (xb + 256 * (xc + 256 * (xd + 256 * (xe + 256 * (xf))))))) =
+-- digits never carry into the byte above them
+packed_small : (x : ℕ → ℕ) → (n : ℕ) → ((k : ℕ) → k < n → x k ≤ 9) → packed x n < 256 ^ n
+packed_small x zero small = omega arith
+packed_small x (suc n) small =
     omega (
       arith,
-      da.is,
-      da.small,
-      db.is,
-      db.small,
-      dc.is,
-      dc.small,
-      dd.is,
-      dd.small,
-      de.is,
-      de.small,
-      df.is,
-      df.small,
-    ) in
-    ap joined digits ∙ joined_is 0 0 xa xb xc xd xe xf (omega arith) (omega arith) da.small db.small dc.small dd.small
-    de.small df.small ∙ omega arith
+      small 0 (omega arith),
+      packed_small (λ k. x (suc k)) n (λ k below. small (suc k) (omega arith)),
+      pow-suc 256 n,
+    )
 
-seven : (a b c d e f g h xa xb xc xd xe xf xg : ℕ) → IsDigit a xa → IsDigit b xb → IsDigit c xc → IsDigit d xd →
-    IsDigit e xe → IsDigit f xf → IsDigit g xg →
-    joined (moved (a + 256 * (b + 256 * (c + 256 * (d + 256 * (e + 256 * (f + 256 * (g + 256 * h))))))) 7) ≡
-    (((((((0) * 10 + xa) * 10 + xb) * 10 + xc) * 10 + xd) * 10 + xe) * 10 + xf) * 10 + xg
-seven a b c d e f g h xa xb xc xd xe xf xg da db dc dd de df dg =
-    let digits : moved (a + 256 * (b + 256 * (c + 256 * (d + 256 * (e + 256 * (f + 256 * (g + 256 * h))))))) 7 ≡ 0 + 256
-    * (xa + 256 * (xb + 256 * (xc + 256 * (xd + 256 * (xe + 256 * (xf + 256 * (xg))))))) =
+-- what stands above the first bytes
+abbrev above : (ℕ → ℕ) → ℕ → ℕ → ℕ
+above b zero m = packed b m
+above b (suc n) m = above (λ k. b (suc k)) n m
+
+-- bytes of which the first ones are digits: the digits, 48 for each, and what stands above them
+packed_digits : (b x : ℕ → ℕ) → (n m : ℕ) → ((k : ℕ) → k < n → b k ≡ x k + 48) → packed b (n + m) ≡ packed x n
+    + 48 * ones n + 256 ^ n * above b n m
+packed_digits b x zero m are = omega (arith, ap (packed b) (zero-add m))
+packed_digits b x (suc n) m are =
     omega (
       arith,
-      da.is,
-      da.small,
-      db.is,
-      db.small,
-      dc.is,
-      dc.small,
-      dd.is,
-      dd.small,
-      de.is,
-      de.small,
-      df.is,
-      df.small,
-      dg.is,
-      dg.small,
-    ) in
-    ap joined digits ∙ joined_is 0 xa xb xc xd xe xf xg (omega arith) da.small db.small dc.small dd.small de.small
-    df.small dg.small ∙ omega arith
+      ap (packed b) (suc-add n m),
+      are 0 (omega arith),
+      packed_digits (λ k. b (suc k)) (λ k. x (suc k)) n m (λ k below. are (suc k) (omega arith)),
+      one_higher n (above b (suc n) m),
+    )
 
-eight : (a b c d e f g h xa xb xc xd xe xf xg xh : ℕ) → IsDigit a xa → IsDigit b xb → IsDigit c xc → IsDigit d xd →
-    IsDigit e xe → IsDigit f xf → IsDigit g xg → IsDigit h xh →
-    joined (moved (a + 256 * (b + 256 * (c + 256 * (d + 256 * (e + 256 * (f + 256 * (g + 256 * h))))))) 8) ≡
-    ((((((((0) * 10 + xa) * 10 + xb) * 10 + xc) * 10 + xd) * 10 + xe) * 10 + xf) * 10 + xg) * 10 + xh
-eight a b c d e f g h xa xb xc xd xe xf xg xh da db dc dd de df dg dh =
-    let digits : moved (a + 256 * (b + 256 * (c + 256 * (d + 256 * (e + 256 * (f + 256 * (g + 256 * h))))))) 8 ≡
-    xa + 256 * (xb + 256 * (xc + 256 * (xd + 256 * (xe + 256 * (xf + 256 * (xg + 256 * (xh))))))) =
+-- the digits alone are moved to the end, whatever stands above them
+moved_up : (n digits above : ℕ) → n ≤ 8 → digits < 256 ^ n → moved (digits + 48 * ones n + 256 ^ n * above) n ≡
+    256 ^ (8 - n) * digits
+moved_up zero digits above few small = omega arith
+moved_up (suc zero) digits above few small = omega arith
+moved_up (suc (suc zero)) digits above few small = omega arith
+moved_up (suc (suc (suc zero))) digits above few small = omega arith
+moved_up (suc (suc (suc (suc zero)))) digits above few small = omega arith
+moved_up (suc (suc (suc (suc (suc zero))))) digits above few small = omega arith
+moved_up (suc (suc (suc (suc (suc (suc zero)))))) digits above few small = omega arith
+moved_up (suc (suc (suc (suc (suc (suc (suc zero))))))) digits above few small = omega arith
+moved_up (suc (suc (suc (suc (suc (suc (suc (suc zero)))))))) digits above few small = omega arith
+moved_up (suc (suc (suc (suc (suc (suc (suc (suc (suc n))))))))) digits above few small = absurd (omega arith)
+
+-- zeros in front move digits up, and change neither what they are worth nor that they are digits
+padded_packed : (z n : ℕ) (x : ℕ → ℕ) → packed (padded z x) (z + n) ≡ 256 ^ z * packed x n
+padded_packed zero n x = omega (arith, ap (packed x) (zero-add n))
+padded_packed (suc z) n x =
+    omega (arith, ap (packed (padded (suc z) x)) (suc-add z n), padded_packed z n x, one_higher z (packed x n))
+
+padded_front : (z k : ℕ) (x : ℕ → ℕ) → k < z → padded z x k ≡ 0
+padded_front zero k x within = absurd (omega arith)
+padded_front (suc z) zero x within = refl
+padded_front (suc z) (suc k) x within = padded_front z k x (omega arith)
+
+padded_behind : (z k : ℕ) (x : ℕ → ℕ) → padded z x (z + k) ≡ x k
+padded_behind zero k x = ap x (zero-add k)
+padded_behind (suc z) k x = ap (padded (suc z) x) (suc-add z k) ∙ padded_behind z k x
+
+padded_small : (z n k : ℕ) (x : ℕ → ℕ) → ((j : ℕ) → j < n → x j ≤ 9) → k < z + n → padded z x k ≤ 9
+padded_small zero n k x small within = small k (omega arith)
+padded_small (suc z) n zero x small within = omega arith
+padded_small (suc z) n (suc k) x small within = padded_small z n k x small (omega arith)
+
+worth_front : (z k : ℕ) (x : ℕ → ℕ) → k ≤ z → worth_of (padded z x) k ≡ 0
+worth_front z zero x within = refl
+worth_front z (suc k) x within = omega (arith, worth_front z k x (omega arith), padded_front z k x within)
+
+worth_padded : (z n : ℕ) (x : ℕ → ℕ) → worth_of (padded z x) (n + z) ≡ worth_of x n
+worth_padded z zero x = ap (worth_of (padded z x)) (zero-add z) ∙ worth_front z z x (omega arith)
+worth_padded z (suc n) x =
+    let here : z + n ≡ n + z = omega arith in
     omega (
       arith,
-      da.is,
-      da.small,
-      db.is,
-      db.small,
-      dc.is,
-      dc.small,
-      dd.is,
-      dd.small,
-      de.is,
-      de.small,
-      df.is,
-      df.small,
-      dg.is,
-      dg.small,
-      dh.is,
-      dh.small,
-    ) in
-    ap joined digits ∙ joined_is xa xb xc xd xe xf xg xh da.small db.small dc.small dd.small de.small df.small dg.small
-    dh.small ∙ omega arith
+      ap (worth_of (padded z x)) (suc-add n z),
+      worth_padded z n x,
+      ap (padded z x) here,
+      padded_behind z n x,
+    )
 
 -- from the bytes to what their digits are worth
 
@@ -230,11 +212,17 @@ digits_more : (bytes : List ℕ) (from k : ℕ) → digits_worth bytes from (suc
 unfolding digits_worth
 digits_more bytes from k = refl
 
-is_digit : (byte : ℕ) → is_ascii_digit byte ≡ true → IsDigit byte (byte - 48)
-is_digit byte digit = record { is = grind arith; small = digit_below byte digit }
+digits_are : (bytes : List ℕ) (from n : ℕ) → worth_of (λ k. get_or bytes (from + k) 0 - 48) n ≡
+    digits_worth bytes from n
+digits_are bytes from zero = sym (digits_none bytes from)
+digits_are bytes from (suc n) = omega (arith, digits_are bytes from n, digits_more bytes from n)
 
 byte_first : (bytes : List ℕ) (from : ℕ) → get_or bytes (from + 0) 0 ≡ get_or bytes from 0
 byte_first bytes from = let same : from + 0 ≡ from = omega arith in ap (λ i. get_or bytes i 0) same
+
+-- a digit's byte
+digit_byte : (byte : ℕ) → is_ascii_digit byte ≡ true → byte ≡ byte - 48 + 48
+digit_byte byte digit = grind arith
 
 -- the digits of a run, moved and joined
 abbrev JoinsTo : List ℕ → ℕ → ℕ → Type 0
@@ -248,144 +236,28 @@ JoinsTo bytes from n =
     * (get_or bytes (from + 5) 0 + 256 * (get_or bytes (from + 6) 0 + 256 * get_or bytes (from + 7) 0)))))))
     n) ≡ digits_worth bytes from n
 
-module _ (bytes : List ℕ) (from : ℕ) where
-  joins_one : ((k : ℕ) → k < 1 → digit_at bytes (from + k) ≡ true) → JoinsTo bytes from 1
-  joins_one digits = one (get_or bytes from 0) (get_or bytes (from + 1) 0) (get_or bytes (from + 2) 0)
-      (get_or bytes (from + 3) 0) (get_or bytes (from + 4) 0) (get_or bytes (from + 5) 0) (get_or bytes (from + 6) 0)
-      (get_or bytes (from + 7) 0) _
-      (subst (λ b. IsDigit b (b - 48)) (byte_first bytes from) (is_digit _ (digits 0 (omega arith))))
-      ∙ omega (arith, digits_none bytes from, byte_first bytes from, digits_more bytes from 0)
-
-  joins_two : ((k : ℕ) → k < 2 → digit_at bytes (from + k) ≡ true) → JoinsTo bytes from 2
-  joins_two digits = two (get_or bytes from 0) (get_or bytes (from + 1) 0) (get_or bytes (from + 2) 0)
-      (get_or bytes (from + 3) 0) (get_or bytes (from + 4) 0) (get_or bytes (from + 5) 0) (get_or bytes (from + 6) 0)
-      (get_or bytes (from + 7) 0) _ _
-      (subst (λ b. IsDigit b (b - 48)) (byte_first bytes from) (is_digit _ (digits 0 (omega arith))))
-      (is_digit _ (digits 1 (omega arith)))
-      ∙ omega (arith, digits_none bytes from, byte_first bytes from, digits_more bytes from 0, digits_more bytes from 1)
-
-  joins_three : ((k : ℕ) → k < 3 → digit_at bytes (from + k) ≡ true) → JoinsTo bytes from 3
-  joins_three digits = three (get_or bytes from 0) (get_or bytes (from + 1) 0) (get_or bytes (from + 2) 0)
-      (get_or bytes (from + 3) 0) (get_or bytes (from + 4) 0) (get_or bytes (from + 5) 0) (get_or bytes (from + 6) 0)
-      (get_or bytes (from + 7) 0) _ _ _
-      (subst (λ b. IsDigit b (b - 48)) (byte_first bytes from) (is_digit _ (digits 0 (omega arith))))
-      (is_digit _ (digits 1 (omega arith))) (is_digit _ (digits 2 (omega arith)))
-      ∙ omega (
-        arith,
-        digits_none bytes from,
-        byte_first bytes from,
-        digits_more bytes from 0,
-        digits_more bytes from 1,
-        digits_more bytes from 2,
-      )
-
-  joins_four : ((k : ℕ) → k < 4 → digit_at bytes (from + k) ≡ true) → JoinsTo bytes from 4
-  joins_four digits = four (get_or bytes from 0) (get_or bytes (from + 1) 0) (get_or bytes (from + 2) 0)
-      (get_or bytes (from + 3) 0) (get_or bytes (from + 4) 0) (get_or bytes (from + 5) 0) (get_or bytes (from + 6) 0)
-      (get_or bytes (from + 7) 0) _ _ _ _
-      (subst (λ b. IsDigit b (b - 48)) (byte_first bytes from) (is_digit _ (digits 0 (omega arith))))
-      (is_digit _ (digits 1 (omega arith))) (is_digit _ (digits 2 (omega arith))) (is_digit _ (digits 3 (omega arith)))
-      ∙ omega (
-        arith,
-        digits_none bytes from,
-        byte_first bytes from,
-        digits_more bytes from 0,
-        digits_more bytes from 1,
-        digits_more bytes from 2,
-        digits_more bytes from 3,
-      )
-
-  joins_five : ((k : ℕ) → k < 5 → digit_at bytes (from + k) ≡ true) → JoinsTo bytes from 5
-  joins_five digits = five (get_or bytes from 0) (get_or bytes (from + 1) 0) (get_or bytes (from + 2) 0)
-      (get_or bytes (from + 3) 0) (get_or bytes (from + 4) 0) (get_or bytes (from + 5) 0) (get_or bytes (from + 6) 0)
-      (get_or bytes (from + 7) 0) _ _ _ _ _
-      (subst (λ b. IsDigit b (b - 48)) (byte_first bytes from) (is_digit _ (digits 0 (omega arith))))
-      (is_digit _ (digits 1 (omega arith))) (is_digit _ (digits 2 (omega arith))) (is_digit _ (digits 3 (omega arith)))
-      (is_digit _ (digits 4 (omega arith)))
-      ∙ omega (
-        arith,
-        digits_none bytes from,
-        byte_first bytes from,
-        digits_more bytes from 0,
-        digits_more bytes from 1,
-        digits_more bytes from 2,
-        digits_more bytes from 3,
-        digits_more bytes from 4,
-      )
-
-  joins_six : ((k : ℕ) → k < 6 → digit_at bytes (from + k) ≡ true) → JoinsTo bytes from 6
-  joins_six digits = six (get_or bytes from 0) (get_or bytes (from + 1) 0) (get_or bytes (from + 2) 0)
-      (get_or bytes (from + 3) 0) (get_or bytes (from + 4) 0) (get_or bytes (from + 5) 0) (get_or bytes (from + 6) 0)
-      (get_or bytes (from + 7) 0) _ _ _ _ _ _
-      (subst (λ b. IsDigit b (b - 48)) (byte_first bytes from) (is_digit _ (digits 0 (omega arith))))
-      (is_digit _ (digits 1 (omega arith))) (is_digit _ (digits 2 (omega arith))) (is_digit _ (digits 3 (omega arith)))
-      (is_digit _ (digits 4 (omega arith))) (is_digit _ (digits 5 (omega arith)))
-      ∙ omega (
-        arith,
-        digits_none bytes from,
-        byte_first bytes from,
-        digits_more bytes from 0,
-        digits_more bytes from 1,
-        digits_more bytes from 2,
-        digits_more bytes from 3,
-        digits_more bytes from 4,
-        digits_more bytes from 5,
-      )
-
-  joins_seven : ((k : ℕ) → k < 7 → digit_at bytes (from + k) ≡ true) → JoinsTo bytes from 7
-  joins_seven digits = seven (get_or bytes from 0) (get_or bytes (from + 1) 0) (get_or bytes (from + 2) 0)
-      (get_or bytes (from + 3) 0) (get_or bytes (from + 4) 0) (get_or bytes (from + 5) 0) (get_or bytes (from + 6) 0)
-      (get_or bytes (from + 7) 0) _ _ _ _ _ _ _
-      (subst (λ b. IsDigit b (b - 48)) (byte_first bytes from) (is_digit _ (digits 0 (omega arith))))
-      (is_digit _ (digits 1 (omega arith))) (is_digit _ (digits 2 (omega arith))) (is_digit _ (digits 3 (omega arith)))
-      (is_digit _ (digits 4 (omega arith))) (is_digit _ (digits 5 (omega arith))) (is_digit _ (digits 6 (omega arith)))
-      ∙ omega (
-        arith,
-        digits_none bytes from,
-        byte_first bytes from,
-        digits_more bytes from 0,
-        digits_more bytes from 1,
-        digits_more bytes from 2,
-        digits_more bytes from 3,
-        digits_more bytes from 4,
-        digits_more bytes from 5,
-        digits_more bytes from 6,
-      )
-
-  joins_eight : ((k : ℕ) → k < 8 → digit_at bytes (from + k) ≡ true) → JoinsTo bytes from 8
-  joins_eight digits = eight (get_or bytes from 0) (get_or bytes (from + 1) 0) (get_or bytes (from + 2) 0)
-      (get_or bytes (from + 3) 0) (get_or bytes (from + 4) 0) (get_or bytes (from + 5) 0) (get_or bytes (from + 6) 0)
-      (get_or bytes (from + 7) 0) _ _ _ _ _ _ _ _
-      (subst (λ b. IsDigit b (b - 48)) (byte_first bytes from) (is_digit _ (digits 0 (omega arith))))
-      (is_digit _ (digits 1 (omega arith))) (is_digit _ (digits 2 (omega arith))) (is_digit _ (digits 3 (omega arith)))
-      (is_digit _ (digits 4 (omega arith))) (is_digit _ (digits 5 (omega arith))) (is_digit _ (digits 6 (omega arith)))
-      (is_digit _ (digits 7 (omega arith)))
-      ∙ omega (
-        arith,
-        digits_none bytes from,
-        byte_first bytes from,
-        digits_more bytes from 0,
-        digits_more bytes from 1,
-        digits_more bytes from 2,
-        digits_more bytes from 3,
-        digits_more bytes from 4,
-        digits_more bytes from 5,
-        digits_more bytes from 6,
-        digits_more bytes from 7,
-      )
-
 pub joins : (bytes : List ℕ) (from n : ℕ) → 0 < n → n ≤ 8 → ((k : ℕ) → k < n → digit_at bytes (from + k) ≡ true) →
     JoinsTo bytes from n
-joins bytes from zero some few digits = absurd (omega arith)
-joins bytes from (suc zero) some few digits = joins_one bytes from digits
-joins bytes from (suc (suc zero)) some few digits = joins_two bytes from digits
-joins bytes from (suc (suc (suc zero))) some few digits = joins_three bytes from digits
-joins bytes from (suc (suc (suc (suc zero)))) some few digits = joins_four bytes from digits
-joins bytes from (suc (suc (suc (suc (suc zero))))) some few digits = joins_five bytes from digits
-joins bytes from (suc (suc (suc (suc (suc (suc zero)))))) some few digits = joins_six bytes from digits
-joins bytes from (suc (suc (suc (suc (suc (suc (suc zero))))))) some few digits = joins_seven bytes from digits
-joins bytes from (suc (suc (suc (suc (suc (suc (suc (suc zero)))))))) some few digits = joins_eight bytes from digits
-joins bytes from (suc (suc (suc (suc (suc (suc (suc (suc (suc n))))))))) some few digits = absurd (omega arith)
+joins bytes from n some few digits =
+    let b : ℕ → ℕ = λ k. get_or bytes (from + k) 0 in
+    let x : ℕ → ℕ = λ k. b k - 48 in
+    let z : ℕ = 8 - n in
+    let whole : n + z ≡ 8 = omega arith in
+    let whole_too : z + n ≡ 8 = omega arith in
+    let small : (k : ℕ) → k < n → x k ≤ 9 = λ k below. digit_below (b k) (digits k below) in
+    let each : (k : ℕ) → k < 8 → padded z x k ≤ 9 = λ k below. padded_small z n k x small (omega arith) in
+    let all : get_or bytes from 0 + 256
+    * (b 1 + 256 * (b 2 + 256 * (b 3 + 256 * (b 4 + 256 * (b 5 + 256 * (b 6 + 256 * b 7)))))) ≡ packed b 8 =
+    omega (arith, byte_first bytes from) in
+    let bytes_are = ap (packed b) (sym whole) ∙ packed_digits b x n z (λ k below. digit_byte (b k) (digits k below)) in
+    let digits_up = moved_up n (packed x n) (above b n z) few (packed_small x n small)
+    ∙ sym (padded_packed z n x) ∙ ap (packed (padded z x)) whole_too in
+    ap (λ e. joined (moved e n)) (all ∙ bytes_are)
+    ∙ ap joined digits_up
+    ∙ joined_digits (padded z x) each
+    ∙ ap (worth_of (padded z x)) (sym whole)
+    ∙ worth_padded z n x
+    ∙ digits_are bytes from n
 
 -- few digits are worth little, and a run goes on over them
 
