@@ -1,11 +1,11 @@
 -- Errors that are passed on, and what is told of a file that was read twice.
-use Rattle.std.proofs.Common.{◌≡◌, ℕ, ◌-◌, ◌^◌, ◌<◌, ◌≤◌, ⊎_elim, List, Option, Some, None, Result, Ok, Err, IfSome}
+use Rattle.std.proofs.Common.{◌≡◌, ℕ, ◌-◌, ◌^◌, ◌<◌, ◌≤◌, ⊎_elim, List, Option, Some, None, Result, Err, IfSome}
 use Rattle.std.proofs.Common.{slice_get, sym, refl, ◌∙◌, subst, inl, inr, arith}
 use Rattle.std.specs.Prelude.{⊤}
 use Rattle.ra_io.specs.Faults.{Rose}
 use Rattle.ra_token.specs.declared.answers.TheConstants.{LARGEST}
 use Rattle.ra_token.specs.declared.answers.TokenFault.{TokenFault}
-use Rattle.ra_token.specs.declared.answers.TokenFault.TheVariants.{ReadFault, BadByte, TooLarge, TooLong, NoMemory}
+use Rattle.ra_token.specs.declared.answers.TokenFault.TheVariants.{ReadFault, TooLarge}
 use Rattle.ra_token.specs.TokenList.{IsAnswer, tokens, tokens_before}
 use Rattle.ra_token.specs.Reads.{IsBetween}
 use Rattle.ra_token.specs.Scan.{IsReached, Begins, InRun, IsTaken, IsNext, FaultsAt, token_of}
@@ -16,48 +16,19 @@ use Rattle.ra_token.proofs.Scanning.{KeepsFiles}
 pub same_err : {T U E : Type 0} (x y : E) → ◌≡◌ {A = Result T E} (Err x) (Err y) → ◌≡◌ {A = Result U E} (Err x) (Err y)
 same_err x y same = cc
 
--- a value is no error
-pub ok_not_err : {T E : Type 0} (x : T) (y : E) → ◌≡◌ {A = Result T E} (Ok x) (Err y) → ⊥
-ok_not_err x y same = cc
-
--- faults that are not a failed fetch, nor refused memory
-pub read_not_memory : {T : Type 0} (fault : TokenFault) → fault ≡ ReadFault →
-    ◌≡◌ {A = Result T TokenFault} (Err fault) (Err NoMemory) → ⊥
-read_not_memory fault is same = cc
-
-pub long_not_memory : {T : Type 0} → ◌≡◌ {A = Result T TokenFault} (Err TooLong) (Err NoMemory) → ⊥
-long_not_memory same = cc
-
-pub long_not_read : {T : Type 0} → ◌≡◌ {A = Result T TokenFault} (Err TooLong) (Err ReadFault) → ⊥
-long_not_read same = cc
-
-pub bad_not_memory : {T : Type 0} (at byte : ℕ) → ◌≡◌ {A = Result T TokenFault} (Err (BadByte at byte)) (Err NoMemory) →
-    ⊥
-bad_not_memory at byte same = cc
-
-pub bad_not_read : {T : Type 0} (at byte : ℕ) → ◌≡◌ {A = Result T TokenFault} (Err (BadByte at byte)) (Err ReadFault) →
-    ⊥
-bad_not_read at byte same = cc
-
-pub large_not_memory : {T : Type 0} (at : ℕ) → ◌≡◌ {A = Result T TokenFault} (Err (TooLarge at)) (Err NoMemory) → ⊥
-large_not_memory at same = cc
-
-pub large_not_read : {T : Type 0} (at : ℕ) → ◌≡◌ {A = Result T TokenFault} (Err (TooLarge at)) (Err ReadFault) → ⊥
-large_not_read at same = cc
-
 -- a count that had not fallen before it rose
 pub rose_later : (before between now : ℕ) → before ≤ between → Rose between now → Rose before now
 rose_later before between now low rose =
     ⊎_elim (λ (more : between < now). inl (omega arith)) (λ (last : now ≡ 2 ^ 64 - 1). inr last) rose
 
 -- nothing that is held changed in one more call, and no fault was forgotten
-pub keeps_on : (held_before held_between held_now : List ℕ → Option (List ℕ))
-    (faults_before faults_between faults_now : List ℕ → ℕ) →
+pub keeps_on : {held_before held_between held_now : List ℕ → Option (List ℕ)}
+    {faults_before faults_between faults_now : List ℕ → ℕ} →
     KeepsFiles held_before held_between faults_before faults_between →
     ((other : List ℕ) → held_now other ≡ held_between other) →
     ((other : List ℕ) → faults_between other ≤ faults_now other) →
     KeepsFiles held_before held_now faults_before faults_now
-keeps_on held_before held_between held_now faults_before faults_between faults_now keeps kept never_fell = record {
+keeps_on keeps kept never_fell = record {
   kept = λ other. kept other ∙ keeps.kept other;
   never_fell = λ other. omega (arith, keeps.never_fell other, never_fell other);
 }

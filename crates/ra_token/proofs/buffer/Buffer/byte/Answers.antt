@@ -1,4 +1,4 @@
-use Rattle.std.proofs.Common.{◌-◌, get_or, refl, sym, rules, arith}
+use Rattle.std.proofs.Common.{◌-◌, refl, sym, rules, arith}
 use Rattle.std.proofs.lemmas.List.{get_or_read}
 use Rattle.ra_token.proofs.Told.{told_byte}
 use Rattle.ra_token.proofs.buffer.Buffer.byte.Goals as goal

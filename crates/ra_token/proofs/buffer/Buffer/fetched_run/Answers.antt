@@ -1,5 +1,5 @@
 use Rattle.std.proofs.lemmas.Result.{err_from_is_err_and}
-use Rattle.ra_token.proofs.Exits.{same_err, ok_not_err, rose_later, keeps_on, told_first, told_next, told_refused}
+use Rattle.ra_token.proofs.Exits.{same_err, rose_later, keeps_on, told_first, told_next, told_refused}
 use Rattle.ra_token.proofs.buffer.Buffer.fetched_run.Goals as goal
 
 pub returns-in_err-first : goal.returns-in_err-first
@@ -29,8 +29,8 @@ returns-in_default g c =
       refused = by.refused;
       place = tt;
       small = tt;
-      memory = λ e. ok_not_err _ _ e;
-      fault = λ e. absurd (ok_not_err _ _ e);
+      memory = λ e. cc;
+      fault = λ e. absurd cc;
       kept = by.kept;
       never_fall = by.never_fall;
     }
@@ -51,10 +51,7 @@ returns-in_err-run g c =
     let why = err_from_is_err_and c.from_residual-in_err-run.result c.from_residual-in_err-run.ensures.1 in
     let first = c.in_ok-first.ensures in
     let by = c.in_err-run.ensures in
-    let keeps = keeps_on (g.F.Files.held c.args.files.now) (g.F.Files.held c.first_digit.new.files)
-    (g.F.Files.held c.run_from.new.files) (g.F.Files.faults c.args.files.now)
-    (g.F.Files.faults c.first_digit.new.files) (g.F.Files.faults c.run_from.new.files)
-    (record { kept = first.kept; never_fell = first.never_fall }) by.kept by.never_fall in
+    let keeps = keeps_on (record { kept = first.kept; never_fell = first.never_fall }) by.kept by.never_fall in
     rw (why.1, why.2) (record {
       shows = by.shows;
       next = first.refused;
@@ -74,10 +71,7 @@ pub returns : goal.returns
 returns g c =
     let first = c.in_ok-first.ensures in
     let by = c.in_ok-run.ensures in
-    let keeps = keeps_on (g.F.Files.held c.args.files.now) (g.F.Files.held c.first_digit.new.files)
-    (g.F.Files.held c.run_from.new.files) (g.F.Files.faults c.args.files.now)
-    (g.F.Files.faults c.first_digit.new.files) (g.F.Files.faults c.run_from.new.files)
-    (record { kept = first.kept; never_fell = first.never_fall }) by.kept by.never_fall in
+    let keeps = keeps_on (record { kept = first.kept; never_fell = first.never_fall }) by.kept by.never_fall in
     record {
       shows = by.shows;
       next = told_next (g.F.Files.held c.args.files.now c.args.name.now)
@@ -87,8 +81,8 @@ returns g c =
       refused = first.refused;
       place = by.place;
       small = by.small;
-      memory = λ e. ok_not_err _ _ e;
-      fault = λ e. absurd (ok_not_err _ _ e);
+      memory = λ e. cc;
+      fault = λ e. absurd cc;
       kept = keeps.kept;
       never_fall = keeps.never_fell;
     }

@@ -1,7 +1,6 @@
 use Rattle.std.proofs.Common.{◌∙◌, rules, arith}
 use Rattle.std.proofs.lemmas.Result.{err_from_is_err_and}
-use Rattle.ra_token.proofs.Exits.{ok_not_err, read_not_memory, long_not_memory, long_not_read, bad_not_memory}
-use Rattle.ra_token.proofs.Exits.{bad_not_read, rose_later, keeps_on, keeps_still, told_nothing, told_unread}
+use Rattle.ra_token.proofs.Exits.{rose_later, keeps_on, keeps_still, told_nothing, told_unread}
 use Rattle.ra_token.proofs.Exits.{told_stands, told_passes}
 use Rattle.ra_token.proofs.ToldByte.{byte_told, end_told, told_limit, told_begins, told_bad, told_end}
 use Rattle.ra_token.proofs.buffer.Buffer.first_digit.Goals as goal
@@ -22,16 +21,14 @@ returns-in_err-byte g c =
     let why = err_from_is_err_and c.from_residual.result c.from_residual.ensures.1 in
     let by = c.in_err-byte.ensures in
     let before = c.loop-byte.invariant.1 in
-    let keeps = keeps_on (g.F.Files.held c.args.files.now) (g.F.Files.held c.loop-byte.files)
-    (g.F.Files.held c.byte.new.files) (g.F.Files.faults c.args.files.now) (g.F.Files.faults c.loop-byte.files)
-    (g.F.Files.faults c.byte.new.files) before by.kept by.never_fall in
+    let keeps = keeps_on before by.kept by.never_fall in
     rw (why.1, why.2) (record {
       shows = by.shows;
       begins = told_nothing told;
       ended = told_nothing told;
       refused = told_unread told c.args.place c.in_err-byte.field-0.0 by.cause;
       low = tt;
-      memory = λ e. read_not_memory _ by.cause e;
+      memory = λ e. cc;
       fault = λ e. rose_later _ _ _ (before.never_fell c.args.name.now) by.fault;
       kept = keeps.kept;
       never_fall = keeps.never_fell;
@@ -42,20 +39,17 @@ returns-then-at-eq-PLACE_LIMIT g c =
     let told = g.F.Files.held c.args.files.now c.args.name.now in
     let by = c.in_ok-byte.ensures in
     let before = c.loop-byte.invariant.1 in
-    let keeps = keeps_on (g.F.Files.held c.args.files.now) (g.F.Files.held c.loop-byte.files)
-    (g.F.Files.held c.byte.new.files) (g.F.Files.faults c.args.files.now) (g.F.Files.faults c.loop-byte.files)
-    (g.F.Files.faults c.byte.new.files) before by.kept by.never_fall in
+    let keeps = keeps_on before by.kept by.never_fall in
     record {
       shows = by.shows;
       begins = told_nothing told;
       ended = told_nothing told;
       refused = told_limit told c.args.place c.loop-byte.at c.in-Some.byte c.if-at-eq-PLACE_LIMIT.true
-          (byte_told told (g.F.Files.held c.loop-byte.files c.args.name.now) c.in_ok-byte.field-0 c.loop-byte.at
-          c.in-Some.byte (before.kept c.args.name.now) c.in-Some.is by.byte)
+          (byte_told _ _ _ _ _ (before.kept c.args.name.now) c.in-Some.is by.byte)
           c.loop-byte.invariant.0.reached;
       low = tt;
-      memory = λ e. long_not_memory e;
-      fault = λ e. absurd (long_not_read e);
+      memory = λ e. cc;
+      fault = λ e. absurd cc;
       kept = keeps.kept;
       never_fall = keeps.never_fell;
     }
@@ -65,20 +59,17 @@ returns-then-is_ascii_digit g c =
     let told = g.F.Files.held c.args.files.now c.args.name.now in
     let by = c.in_ok-byte.ensures in
     let before = c.loop-byte.invariant.1 in
-    let keeps = keeps_on (g.F.Files.held c.args.files.now) (g.F.Files.held c.loop-byte.files)
-    (g.F.Files.held c.byte.new.files) (g.F.Files.faults c.args.files.now) (g.F.Files.faults c.loop-byte.files)
-    (g.F.Files.faults c.byte.new.files) before by.kept by.never_fall in
+    let keeps = keeps_on before by.kept by.never_fall in
     record {
       shows = by.shows;
       begins = told_begins told c.args.place c.loop-byte.at c.in-Some.byte (search rules)
-          (byte_told told (g.F.Files.held c.loop-byte.files c.args.name.now) c.in_ok-byte.field-0 c.loop-byte.at
-          c.in-Some.byte (before.kept c.args.name.now) c.in-Some.is by.byte)
+          (byte_told _ _ _ _ _ (before.kept c.args.name.now) c.in-Some.is by.byte)
           c.loop-byte.invariant.0.reached;
       ended = told_nothing told;
       refused = told_nothing told;
       low = omega arith;
-      memory = λ e. ok_not_err _ _ e;
-      fault = λ e. absurd (ok_not_err _ _ e);
+      memory = λ e. cc;
+      fault = λ e. absurd cc;
       kept = keeps.kept;
       never_fall = keeps.never_fell;
     }
@@ -88,20 +79,17 @@ returns-then-not-is_blank g c =
     let told = g.F.Files.held c.args.files.now c.args.name.now in
     let by = c.in_ok-byte.ensures in
     let before = c.loop-byte.invariant.1 in
-    let keeps = keeps_on (g.F.Files.held c.args.files.now) (g.F.Files.held c.loop-byte.files)
-    (g.F.Files.held c.byte.new.files) (g.F.Files.faults c.args.files.now) (g.F.Files.faults c.loop-byte.files)
-    (g.F.Files.faults c.byte.new.files) before by.kept by.never_fall in
+    let keeps = keeps_on before by.kept by.never_fall in
     record {
       shows = by.shows;
       begins = told_nothing told;
       ended = told_nothing told;
       refused = told_bad told c.args.place c.loop-byte.at c.in-Some.byte (omega arith) (search rules) (search rules)
-          (byte_told told (g.F.Files.held c.loop-byte.files c.args.name.now) c.in_ok-byte.field-0 c.loop-byte.at
-          c.in-Some.byte (before.kept c.args.name.now) c.in-Some.is by.byte)
+          (byte_told _ _ _ _ _ (before.kept c.args.name.now) c.in-Some.is by.byte)
           c.loop-byte.invariant.0.reached;
       low = tt;
-      memory = λ e. bad_not_memory _ _ e;
-      fault = λ e. absurd (bad_not_read _ _ e);
+      memory = λ e. cc;
+      fault = λ e. absurd cc;
       kept = keeps.kept;
       never_fall = keeps.never_fell;
     }
@@ -118,9 +106,7 @@ loop-byte-preserved g c =
             (by.kept c.args.name.now ∙ before.kept c.args.name.now) c.loop-byte.invariant.0.reached
             (c.past_blanks-at.ensures.reached (g.F.Files.held c.byte.new.files c.args.name.now) by.shows);
       },
-      keeps_on (g.F.Files.held c.args.files.now) (g.F.Files.held c.loop-byte.files) (g.F.Files.held c.byte.new.files)
-          (g.F.Files.faults c.args.files.now) (g.F.Files.faults c.loop-byte.files) (g.F.Files.faults c.byte.new.files)
-          before by.kept by.never_fall,
+      keeps_on before by.kept by.never_fall,
     )
 
 pub returns : goal.returns
@@ -128,20 +114,17 @@ returns g c =
     let told = g.F.Files.held c.args.files.now c.args.name.now in
     let by = c.in_ok-byte.ensures in
     let before = c.loop-byte.invariant.1 in
-    let keeps = keeps_on (g.F.Files.held c.args.files.now) (g.F.Files.held c.loop-byte.files)
-    (g.F.Files.held c.byte.new.files) (g.F.Files.faults c.args.files.now) (g.F.Files.faults c.loop-byte.files)
-    (g.F.Files.faults c.byte.new.files) before by.kept by.never_fall in
+    let keeps = keeps_on before by.kept by.never_fall in
     record {
       shows = by.shows;
       begins = told_nothing told;
       ended = told_end told c.args.place c.loop-byte.at
-          (end_told told (g.F.Files.held c.loop-byte.files c.args.name.now) c.in_ok-byte.field-0 c.loop-byte.at
-          (before.kept c.args.name.now) c.in_default.is by.byte)
+          (end_told _ _ _ _ (before.kept c.args.name.now) c.in_default.is by.byte)
           c.loop-byte.invariant.0.reached;
       refused = told_nothing told;
       low = tt;
-      memory = λ e. ok_not_err _ _ e;
-      fault = λ e. absurd (ok_not_err _ _ e);
+      memory = λ e. cc;
+      fault = λ e. absurd cc;
       kept = keeps.kept;
       never_fall = keeps.never_fell;
     }

@@ -1,6 +1,6 @@
 use Rattle.ra_token.specs.Reads.{IsBetween}
 use Rattle.ra_token.specs.Scan.{IsNext}
-use Rattle.ra_token.proofs.Exits.{ok_not_err, told_nothing, told_given, keeps_still}
+use Rattle.ra_token.proofs.Exits.{told_nothing, told_given, keeps_still}
 use Rattle.ra_token.proofs.buffer.Buffer.next_run.Goals as goal
 
 pub returns-in-Some : goal.returns-in-Some
@@ -16,8 +16,8 @@ returns-in-Some g c =
       refused = told_nothing told;
       place = c.in-Some.ensures.place;
       small = c.in-Some.ensures.small;
-      memory = λ e. ok_not_err _ _ e;
-      fault = λ e. absurd (ok_not_err _ _ e);
+      memory = λ e. cc;
+      fault = λ e. absurd cc;
       kept = keeps.kept;
       never_fall = keeps.never_fell;
     }

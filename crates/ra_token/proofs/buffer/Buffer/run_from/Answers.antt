@@ -1,7 +1,6 @@
 use Rattle.std.proofs.Common.{◌∙◌, rules, arith}
 use Rattle.std.proofs.lemmas.Result.{err_from_is_err_and}
-use Rattle.ra_token.proofs.Exits.{ok_not_err, read_not_memory, long_not_memory, long_not_read, large_not_memory}
-use Rattle.ra_token.proofs.Exits.{large_not_read, rose_later, keeps_on, keeps_still, told_nothing, told_unread}
+use Rattle.ra_token.proofs.Exits.{rose_later, keeps_on, keeps_still, told_nothing, told_unread}
 use Rattle.ra_token.proofs.Exits.{told_run_on, told_run_large}
 use Rattle.ra_token.proofs.ToldByte.{byte_told, end_told, told_run_begins, told_long, told_taken, told_taken_end}
 use Rattle.ra_token.proofs.buffer.Buffer.run_from.Goals as goal
@@ -24,16 +23,14 @@ returns-in_err-byte g c =
     let told = g.F.Files.held c.args.files.now c.args.name.now in
     let by = c.in_err-byte.ensures in
     let before = c.loop-byte.invariant.1 in
-    let keeps = keeps_on (g.F.Files.held c.args.files.now) (g.F.Files.held c.loop-byte.files)
-    (g.F.Files.held c.byte.new.files) (g.F.Files.faults c.args.files.now) (g.F.Files.faults c.loop-byte.files)
-    (g.F.Files.faults c.byte.new.files) before by.kept by.never_fall in
+    let keeps = keeps_on before by.kept by.never_fall in
     rw (why.1, why.2) (record {
       shows = by.shows;
       taken = told_nothing told;
       refused = told_unread told c.args.first c.in_err-byte.field-0.0 by.cause;
       place = tt;
       small = tt;
-      memory = λ e. read_not_memory _ by.cause e;
+      memory = λ e. cc;
       fault = λ e. rose_later _ _ _ (before.never_fell c.args.name.now) by.fault;
       kept = keeps.kept;
       never_fall = keeps.never_fell;
@@ -44,21 +41,18 @@ returns-then-end-eq-PLACE_LIMIT g c =
     let told = g.F.Files.held c.args.files.now c.args.name.now in
     let by = c.in_ok-byte.ensures in
     let before = c.loop-byte.invariant.1 in
-    let keeps = keeps_on (g.F.Files.held c.args.files.now) (g.F.Files.held c.loop-byte.files)
-    (g.F.Files.held c.byte.new.files) (g.F.Files.faults c.args.files.now) (g.F.Files.faults c.loop-byte.files)
-    (g.F.Files.faults c.byte.new.files) before by.kept by.never_fall in
+    let keeps = keeps_on before by.kept by.never_fall in
     record {
       shows = by.shows;
       taken = told_nothing told;
       refused = told_long told c.args.first c.loop-byte.end c.loop-byte.value c.in-Some.byte
           c.if-end-eq-PLACE_LIMIT.true (search rules)
-          (byte_told told (g.F.Files.held c.loop-byte.files c.args.name.now) c.in_ok-byte.field-0 c.loop-byte.end
-          c.in-Some.byte (before.kept c.args.name.now) c.in-Some.is by.byte)
+          (byte_told _ _ _ _ _ (before.kept c.args.name.now) c.in-Some.is by.byte)
           c.loop-byte.invariant.0.run;
       place = tt;
       small = tt;
-      memory = λ e. long_not_memory e;
-      fault = λ e. absurd (long_not_read e);
+      memory = λ e. cc;
+      fault = λ e. absurd cc;
       kept = keeps.kept;
       never_fall = keeps.never_fell;
     }
@@ -68,9 +62,7 @@ returns-then-run-gt-LARGEST g c =
     let told = g.F.Files.held c.args.files.now c.args.name.now in
     let by = c.in_ok-byte.ensures in
     let before = c.loop-byte.invariant.1 in
-    let keeps = keeps_on (g.F.Files.held c.args.files.now) (g.F.Files.held c.loop-byte.files)
-    (g.F.Files.held c.byte.new.files) (g.F.Files.faults c.args.files.now) (g.F.Files.faults c.loop-byte.files)
-    (g.F.Files.faults c.byte.new.files) before by.kept by.never_fall in
+    let keeps = keeps_on before by.kept by.never_fall in
     record {
       shows = by.shows;
       taken = told_nothing told;
@@ -81,8 +73,8 @@ returns-then-run-gt-LARGEST g c =
           c.if-run-gt-LARGEST.true;
       place = tt;
       small = tt;
-      memory = λ e. large_not_memory _ e;
-      fault = λ e. absurd (large_not_read _ e);
+      memory = λ e. cc;
+      fault = λ e. absurd cc;
       kept = keeps.kept;
       never_fall = keeps.never_fell;
     }
@@ -103,9 +95,7 @@ loop-byte-preserved g c =
             (c.more_digits-run.ensures.goes_on (g.F.Files.held c.byte.new.files c.args.name.now) by.shows)
             c.if-run-gt-LARGEST.false;
       },
-      keeps_on (g.F.Files.held c.args.files.now) (g.F.Files.held c.loop-byte.files) (g.F.Files.held c.byte.new.files)
-          (g.F.Files.faults c.args.files.now) (g.F.Files.faults c.loop-byte.files) (g.F.Files.faults c.byte.new.files)
-          before by.kept by.never_fall,
+      keeps_on before by.kept by.never_fall,
     )
 
 pub returns-then-not-is_ascii_digit : goal.returns-then-not-is_ascii_digit
@@ -113,21 +103,18 @@ returns-then-not-is_ascii_digit g c =
     let told = g.F.Files.held c.args.files.now c.args.name.now in
     let by = c.in_ok-byte.ensures in
     let before = c.loop-byte.invariant.1 in
-    let keeps = keeps_on (g.F.Files.held c.args.files.now) (g.F.Files.held c.loop-byte.files)
-    (g.F.Files.held c.byte.new.files) (g.F.Files.faults c.args.files.now) (g.F.Files.faults c.loop-byte.files)
-    (g.F.Files.faults c.byte.new.files) before by.kept by.never_fall in
+    let keeps = keeps_on before by.kept by.never_fall in
     record {
       shows = by.shows;
       taken = told_taken told c.args.first c.loop-byte.end c.loop-byte.value c.in-Some.byte
           c.loop-byte.invariant.0.after (search rules) c.requires.begins
-          (byte_told told (g.F.Files.held c.loop-byte.files c.args.name.now) c.in_ok-byte.field-0 c.loop-byte.end
-          c.in-Some.byte (before.kept c.args.name.now) c.in-Some.is by.byte)
+          (byte_told _ _ _ _ _ (before.kept c.args.name.now) c.in-Some.is by.byte)
           c.loop-byte.invariant.0.run;
       refused = told_nothing told;
       place = c.loop-byte.invariant.0.low;
       small = c.loop-byte.invariant.0.small;
-      memory = λ e. ok_not_err _ _ e;
-      fault = λ e. absurd (ok_not_err _ _ e);
+      memory = λ e. cc;
+      fault = λ e. absurd cc;
       kept = keeps.kept;
       never_fall = keeps.never_fell;
     }
@@ -137,21 +124,18 @@ returns-in_default g c =
     let told = g.F.Files.held c.args.files.now c.args.name.now in
     let by = c.in_ok-byte.ensures in
     let before = c.loop-byte.invariant.1 in
-    let keeps = keeps_on (g.F.Files.held c.args.files.now) (g.F.Files.held c.loop-byte.files)
-    (g.F.Files.held c.byte.new.files) (g.F.Files.faults c.args.files.now) (g.F.Files.faults c.loop-byte.files)
-    (g.F.Files.faults c.byte.new.files) before by.kept by.never_fall in
+    let keeps = keeps_on before by.kept by.never_fall in
     record {
       shows = by.shows;
       taken = told_taken_end told c.args.first c.loop-byte.end c.loop-byte.value c.loop-byte.invariant.0.after
           c.requires.begins
-          (end_told told (g.F.Files.held c.loop-byte.files c.args.name.now) c.in_ok-byte.field-0 c.loop-byte.end
-          (before.kept c.args.name.now) c.in_default.is by.byte)
+          (end_told _ _ _ _ (before.kept c.args.name.now) c.in_default.is by.byte)
           c.loop-byte.invariant.0.run;
       refused = told_nothing told;
       place = c.loop-byte.invariant.0.low;
       small = c.loop-byte.invariant.0.small;
-      memory = λ e. ok_not_err _ _ e;
-      fault = λ e. absurd (ok_not_err _ _ e);
+      memory = λ e. cc;
+      fault = λ e. absurd cc;
       kept = keeps.kept;
       never_fall = keeps.never_fell;
     }

@@ -1,7 +1,7 @@
-use Rattle.std.proofs.Common.{Ok, refl, ap, ◌∙◌, sym, subst, arith, length}
+use Rattle.std.proofs.Common.{refl, ap, ◌∙◌, sym, subst, arith, length}
 use Rattle.std.proofs.lemmas.List.{length_push}
 use Rattle.ra_token.specs.Reads.{Reads}
-use Rattle.ra_token.proofs.ValueLaws.{told_none, told_more, told_as_many}
+use Rattle.ra_token.proofs.ValueLaws.{told_none, told_more}
 use Rattle.ra_token.proofs.reader.Tokens.next_values.Goals as goal
 
 pub loop-taken-init : goal.loop-taken-init
