@@ -110,12 +110,16 @@ pub balance_summed : (i : Tables) (a : List Machine) (costs : List ℕ) →
 balance_summed i a costs are =
     balance_by_machine i a ∙ sym (summed_costs costs (machine_count i) (machine_balance i a) are)
 
+-- one more item, as a loop counts
+pub one_longer : (old new : List ℕ) (n x : ℕ) → new ≡ old ++ x ∷ [] → length old ≡ n → length new ≡ n + 1
+one_longer old new n x grown long = ap length grown ∙ length-append old (x ∷ []) ∙ ap (λ k. k + 1) long
+
 -- one more cost, as a loop counts
-pub pushed : (costs : List ℕ) (n cost : ℕ) (f : ℕ → ℕ) → AreCosts costs n f → cost ≡ f n →
-    AreCosts (costs ++ cost ∷ []) (n + 1) f
-pushed costs n cost f are is = record {
-  one_each = length-append costs (cost ∷ []) ∙ ap (λ k. k + 1) are.one_each;
-  each = λ m within. ⊎_elim
+pub pushed : (costs new : List ℕ) (n cost : ℕ) (f : ℕ → ℕ) → new ≡ costs ++ cost ∷ [] → AreCosts costs n f →
+    cost ≡ f n → AreCosts new (n + 1) f
+pushed costs new n cost f grown are is = record {
+  one_each = one_longer costs new n cost grown are.one_each;
+  each = λ m within. ap (λ xs. slice_index xs m) grown ∙ ⊎_elim
       (λ (before : m < n). get_or_append_left costs (cost ∷ []) 0 m (omega (arith, are.one_each)) ∙ are.each m before)
       (λ (after : n ≤ m). let here : m ≡ n = omega arith in
       ap (slice_index (costs ++ cost ∷ [])) (here ∙ sym are.one_each) ∙ get_or-append_seam costs cost [] 0 ∙ is

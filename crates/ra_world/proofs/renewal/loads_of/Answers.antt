@@ -1,9 +1,8 @@
 -- Each machine adds its cost.
-use Rattle.std.proofs.Common.{List, ℕ, ◌+◌, sym, subst, arith, ◌≡◌, ◌∙◌, ◌∷◌, [], ap, length, length-append}
+use Rattle.std.proofs.Common.{List, ℕ, arith, ◌≡◌, ◌∙◌, ap, length}
 use Rattle.ra_base.specs.declared.ids.Machine.{Machine}
 use Rattle.ra_model.specs.MachineCosts.{machine_load}
-use Rattle.ra_world.specs.Costs.{AreCosts}
-use Rattle.ra_world.proofs.RenewalLaws.{pushed, no_costs}
+use Rattle.ra_world.proofs.RenewalLaws.{one_longer, pushed, no_costs}
 use Rattle.ra_model.specs.Numbers.{machine_count}
 use Rattle.ra_world.proofs.renewal.loads_of.Goals as goal
 
@@ -17,17 +16,9 @@ loop-m-init c = record {
 pub loop-m-preserved : goal.loop-m-preserved
 loop-m-preserved c = record {
   room = c.push.ensures.room ∙ c.loop-m.invariant.room;
-  so_far = omega (
-    arith,
-    ap (length {A = ℕ}) c.push.ensures.items,
-    length-append c.loop-m.costs.items (c.load_of.result ∷ []),
-    c.loop-m.invariant.so_far,
-  );
+  so_far = one_longer _ _ _ _ c.push.ensures.items c.loop-m.invariant.so_far;
   value = λ (a : List Machine) stand.
-      let next = pushed c.loop-m.costs.items c.loop-m.m c.load_of.result (machine_load c.args.inst.now.tables a)
-      (c.loop-m.invariant.value a stand) (c.load_of.ensures.value a stand) in
-      let P : List ℕ → Type 0 = λ xs. AreCosts xs (c.loop-m.m + 1) (machine_load c.args.inst.now.tables a) in
-      subst P (sym c.push.ensures.items) next;
+      pushed _ _ _ _ _ c.push.ensures.items (c.loop-m.invariant.value a stand) (c.load_of.ensures.value a stand);
 }
 
 pub push-requires : goal.push-requires
