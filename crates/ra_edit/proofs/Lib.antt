@@ -10,6 +10,9 @@ pub mod RunLaws
 pub mod OneMoreLaws
 pub mod ShareLaws
 pub mod BrokenLaws
+pub mod AddedLaws
+pub mod RetiredLaws
+pub mod ResizedLaws
 pub mod ScanLaws
 pub mod TestLaws
 pub mod SeenLaws

@@ -37,7 +37,9 @@ use Rattle.ra_edit.specs.Replies.{barred, broken_in}
 use Rattle.ra_edit.specs.Keeping.{IsSound, IsKept}
 use Rattle.ra_edit.proofs.ShareLaws.{load_more, balance_more, process_more, way_more, moved_more, load_term}
 use Rattle.ra_edit.proofs.ShareLaws.{balance_term}
-use Rattle.ra_edit.proofs.BrokenLaws.{added_law, retired_law, resized_law}
+use Rattle.ra_edit.proofs.AddedLaws.{added_law}
+use Rattle.ra_edit.proofs.RetiredLaws.{retired_law}
+use Rattle.ra_edit.proofs.ResizedLaws.{resized_law}
 use Rattle.ra_edit.proofs.SoundLaws.{few_of, free_retire, free_resize}
 use Rattle.ra_edit.proofs.OneMoreLaws.{more_joined, more_retired, requirement_read, put_cell_here, put_cell_other}
 

@@ -52,7 +52,8 @@ impl<'a> Model for Draft<'a> {
 
 impl<'a> Draft<'a> {
     /// The draft of a feasible current list, whose cost has these parts. The instance is lent, and nothing is read of its
-    /// topology.
+    /// topology. The time grows with the processes times the resources and with the machines times the resources. Besides
+    /// the lists of the processes, the draft keeps two numbers for each machine and resource.
     pub fn make(
         alloc: Global,
         inst: &'a Instance,
@@ -185,7 +186,7 @@ impl<'a> Draft<'a> {
     }
 }
 
-/// Why an edit makes nothing at all of some lists.
+/// Why an edit can't apply at all: no such process, none would be left, or the instance is full.
 #[tactic(auto, unfolding(crate::specs::Replies::barred))]
 fn barred(lists: &Lists, edit: Edit) -> Option<EditReply>
     ensures { result ≡ barred (length lists.now.rows.items) edit }

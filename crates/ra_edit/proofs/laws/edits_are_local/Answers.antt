@@ -1,5 +1,7 @@
 -- One law for each kind of edit.
-use Rattle.ra_edit.proofs.BrokenLaws.{added_law, retired_law, resized_law}
+use Rattle.ra_edit.proofs.AddedLaws.{added_law}
+use Rattle.ra_edit.proofs.RetiredLaws.{retired_law}
+use Rattle.ra_edit.proofs.ResizedLaws.{resized_law}
 use Rattle.ra_edit.proofs.laws.edits_are_local.Goals as goal
 
 pub returns-clause-adds : goal.returns-clause-adds
