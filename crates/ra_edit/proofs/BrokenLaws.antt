@@ -123,8 +123,8 @@ unfolding with_processes closed_at
 closed_with d m = refl
 
 -- the same number in two drafts of one instance
-pub with_both : (d e : Drafted) (f : Tables → ℕ) → e.origin ≡ d.origin → ((g : Drafted) → f (instance_of g) ≡ f g.origin) →
-    f (instance_of e) ≡ f (instance_of d)
+pub with_both : (d e : Drafted) (f : Tables → ℕ) → e.origin ≡ d.origin →
+    ((g : Drafted) → f (instance_of g) ≡ f g.origin) → f (instance_of e) ≡ f (instance_of d)
 with_both d e f origin same = same e ∙ ap f origin ∙ sym (same d)
 
 pub capacity_both : (d e : Drafted) (m r : ℕ) → e.origin ≡ d.origin →
@@ -148,8 +148,8 @@ transient_less d e p m r more column = omega (arith, transient_more d e p m r mo
 
 -- a process more uses its machine alone
 
-pub use_elsewhere : (d e : Drafted) (p m r : ℕ) → OneMore d e p → r < resource_count d.origin → machine_at e.current p ≢ m →
-    use_of (instance_of e) e.current m r ≡ use_of (instance_of d) d.current m r
+pub use_elsewhere : (d e : Drafted) (p m r : ℕ) → OneMore d e p → r < resource_count d.origin →
+    machine_at e.current p ≢ m → use_of (instance_of e) e.current m r ≡ use_of (instance_of d) d.current m r
 use_elsewhere d e p m r more column apart = let h = use_more d e p m r more column in
     let n = ne_eqb (machine_at e.current p) m apart in let g = rw n at h in omega (arith, g)
 

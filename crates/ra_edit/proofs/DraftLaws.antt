@@ -27,7 +27,7 @@ use Rattle.ra_edit.specs.SameLists.{AreSameLists}
 use Rattle.ra_edit.specs.Keeping.{IsSound, IsKept}
 use Rattle.ra_edit.proofs.RowLaws.{process_same}
 use Rattle.ra_edit.specs.Kinds.{IsEdited}
-use Rattle.ra_edit.proofs.SoundLaws.{edited_sound}
+use Rattle.ra_edit.proofs.SoundLaws.{edited_sound, few_of, AreFew}
 use Rattle.ra_edit.proofs.VerdictLaws.{edited_is}
 use Rattle.ra_edit.proofs.SameLaws.{same_well, same_fits, same_broken, same_parts}
 
@@ -50,6 +50,13 @@ pub made_kept : (d : Drafted) (i : Tables) (a0 a : List Machine) (parts : Parts)
     IsAssignment i a0 → IsAssignment i a → first_broken i a0 a ≡ None → parts ≡ parts_of i a0 a → IsKept d parts
 made_kept d i a0 a parts same well fits0 fits unbroken cost =
     subst (λ (e : Drafted). IsKept e parts) (sym same) (new_kept i a0 a parts well fits0 fits unbroken cost)
+
+-- whose lists are short
+pub few_at_first : (i : Tables) (a0 a : List Machine) → WellFormed i → IsAssignment i a0 → IsAssignment i a →
+    AreFew (draft_of i a0 a)
+unfolding with_processes
+few_at_first i a0 a well fits0 fits =
+    few_of (draft_of i a0 a) (record { well_formed = well; initial = fits0; current = fits })
 
 -- what bars an edit isn't that it is done
 never_done : (count : ℕ) (e : Edit) (cost : ℕ) → barred count e ≡ Some (Done cost) → ⊥

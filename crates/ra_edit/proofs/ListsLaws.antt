@@ -1,4 +1,4 @@
--- The lists that an edit makes, put together.
+-- What an edit makes of the lists, list by list.
 use Rattle.std.proofs.Common.{◌≡◌, ℕ, ◌+◌, ◌*◌, List, [], ◌∷◌, ◌++◌, length, take, drop, refl}
 use Rattle.std.specs.List.{swap_remove}
 use Rattle.ra_base.specs.declared.ids.Machine.{Machine}
@@ -34,16 +34,15 @@ pub retired_is : (d : Drafted) (p w n : ℕ) (rows : List ProcessRow) (table : L
 unfolding retired
 retired_is d p w n rows table initial current e f width count g h = rw (e, f, width, count, g, h) refl
 
-pub resized_is : (d : Drafted) (p start : ℕ) (requirements table : List ℕ) (rows : List ProcessRow)
-    (initial current : List Machine) → rows ≡ d.rows → start ≡ p * resource_count d.origin →
-    length requirements ≡ resource_count d.origin → table ≡ (take start d.requirements ++ requirements) ++ drop
-    (start + length requirements) d.requirements → initial ≡ d.initial → current ≡ d.current → record {
+pub resized_is : (d : Drafted) (p start : ℕ) (requirements table : List ℕ) → start ≡ p * resource_count d.origin →
+    length requirements ≡ resource_count d.origin → table ≡ take start d.requirements ++ (requirements ++ drop
+    (start + length requirements) d.requirements) → record {
       origin = d.origin;
-      rows = rows;
+      rows = d.rows;
       requirements = table;
-      initial = initial;
-      current = current;
+      initial = d.initial;
+      current = d.current;
     } ≡ resized d p requirements
 unfolding resized
-resized_is d p start requirements table rows initial current e start_is width f g h =
-    rw (e, f, g, h, put_here (resource_count d.origin) p start d.requirements requirements width start_is) refl
+resized_is d p start requirements table start_is width e =
+    rw (e, put_here (resource_count d.origin) p start d.requirements requirements width start_is) refl

@@ -1,8 +1,9 @@
 -- What holds of a draft at all times, and of what an edit makes of it.
-use Rattle.std.specs.Prelude.{◌≡◌, Some, None}
+use Rattle.std.specs.Prelude.{◌≡◌, ◌*◌, Some, None}
 use Rattle.ra_base.specs.declared.costs.Parts.{Parts}
 use Rattle.ra_model.specs.declared.raw.Tables.{Tables}
 use Rattle.ra_model.specs.Limits.{WellFormed}
+use Rattle.ra_model.specs.Numbers.{resource_count}
 use Rattle.ra_model.specs.Assignments.{IsAssignment}
 use Rattle.ra_model.specs.Costs.{parts_of}
 use Rattle.ra_edit.specs.declared.verdicts.Judged.{Judged}
@@ -25,6 +26,13 @@ drafted i l =
 -- the instance of an instance's other lists and the lists of its processes
 abbrev pub tables_with : Tables → Lists → Tables
 tables_with i l = instance_of (drafted i l)
+
+-- the lists have room for the most processes that an instance may have
+pub record HasRoom (i : Tables) (l : Lists) : Type 0 where
+  pub rows : l.rows.room ≡ 50000
+  pub requirements : l.requirements.room ≡ 50000 * resource_count i
+  pub initial : l.initial.room ≡ 50000
+  pub current : l.current.room ≡ 50000
 
 -- an instance within the limits, and two lists that fit it
 pub record IsSound (d : Drafted) : Type 0 where

@@ -2,14 +2,16 @@
 use Rattle.std.specs.Prelude.{◌≡◌, ℕ, ◌+◌, ◌<◌, if◌then◌else◌, ◌==◌, ◌||◌, true, List, length, slice_index}
 use Rattle.ra_base.specs.Tables.{cell}
 use Rattle.ra_base.specs.declared.costs.Parts.{Parts}
+use Rattle.ra_model.specs.declared.raw.Tables.{Tables}
 use Rattle.ra_model.specs.Numbers.{resource_count}
 use Rattle.ra_model.specs.Assignments.{machine_at}
 use Rattle.ra_model.specs.Usage.{use_share, use_of, transient_share, transient_of}
 use Rattle.ra_check.specs.Made.{IsGrid}
 use Rattle.ra_check.specs.Stands.{IsTally}
+use Rattle.ra_edit.specs.declared.lists.Lists.{Lists}
 use Rattle.ra_edit.specs.declared.loads.Loads.{Loads}
 use Rattle.ra_edit.specs.Drafts.{Drafted, instance_of}
-use Rattle.ra_edit.specs.Keeping.{IsKept}
+use Rattle.ra_edit.specs.Keeping.{drafted, HasRoom, IsKept}
 
 -- one table has more than another: an amount of each resource at machine `at`
 pub record HasMoreAt (width at : ℕ) (amount : ℕ → ℕ) (low high : List ℕ) : Type 0 where
@@ -59,6 +61,7 @@ abbrev pub IsThere : Drafted → ℕ → ℕ → Type 0
 IsThere d p m = ((machine_at d.initial p == m) || (machine_at d.current p == m)) ≡ true
 
 -- what a draft holds: its lists, the cost of the current one, and what the processes use
-pub record IsHeld (d : Drafted) (loads : Loads) (parts : Parts) : Type 0 where
-  pub kept : IsKept d parts
-  pub loads_are : AreLoadsOf d loads
+pub record IsHeld (i : Tables) (lists : Lists) (loads : Loads) (parts : Parts) : Type 0 where
+  pub kept : IsKept (drafted i lists) parts
+  pub loads_are : AreLoadsOf (drafted i lists) loads
+  pub room : HasRoom i lists

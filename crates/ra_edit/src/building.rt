@@ -25,12 +25,3 @@ pub(crate) fn build(
     let (raw, flags) = base.raw(inst, rows, requirements);
     Ok(Instance::of(raw).closing(flags))
 }
-
-/// A list of the same items.
-pub(crate) fn copy_of<T: Copy>(alloc: Global, items: &[T]) -> Result<Fixed<T>, NoMemory>
-    ensures { IfOk result (λ list. list.items ≡ items.now) }
-{
-    let mut list = Fixed::make(alloc, items.len())?;
-    list.extend_from_slice(items);
-    Ok(list)
-}

@@ -8,11 +8,11 @@ ghost use Rattle.ra_edit.specs.Loads.{AreLoadsOf, IsUseRow};
 ghost use Rattle.ra_edit.specs.Keeping.{drafted, tables_with, IsKept, IsSound};
 ghost use Rattle.ra_edit.specs.MachineCosts.{AreCostsOn, AreCostsWith};
 
-use crate::lists::Lists;
+use crate::lists::{Lists, machine_of};
 use crate::loads::Loads;
 use crate::scanning::small;
 use ra_base::{Machine, Parts, Process};
-use ra_model::{Instance, machine_of};
+use ra_model::Instance;
 use ra_world::{row_balance, row_load};
 
 /// The load cost and the balance cost of a machine.

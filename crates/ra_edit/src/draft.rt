@@ -13,7 +13,7 @@ ghost use Rattle.ra_edit.specs.SameLists.{AreSameLists};
 
 use crate::building::build;
 use crate::edited::{Edited, Left};
-use crate::lists::Lists;
+use crate::lists::{Lists, MOST_PROCESSES};
 use crate::loads::Loads;
 use crate::replies::EditReply;
 use crate::scanning::small;
@@ -24,9 +24,6 @@ use ra_model::Instance;
 use ra_topology::Topology;
 use std::alloc::Global;
 use std::marker::Model;
-
-/// How many processes an instance may have.
-const MOST_PROCESSES: usize = 50_000;
 
 /// An instance whose processes are edited, with the list of their initial machines and the list of their machines now.
 /// The second is feasible at all times.
@@ -47,13 +44,14 @@ impl<'a> Model for Draft<'a> {
 
     ghost view = { λ d. drafted d.inst.now.tables d.lists };
 
-    ghost invariant = { λ d. IsHeld (drafted d.inst.now.tables d.lists) d.loads d.parts };
+    ghost invariant = { λ d. IsHeld d.inst.now.tables d.lists d.loads d.parts };
 }
 
 impl<'a> Draft<'a> {
-    /// The draft of a feasible current list, whose cost has these parts. The instance is lent, and nothing is read of its
-    /// topology. The time grows with the processes times the resources and with the machines times the resources. Besides
-    /// the lists of the processes, the draft keeps two numbers for each machine and resource.
+    /// The draft of a feasible current list, whose cost has these parts. The instance is lent, and nothing is read of
+    /// its topology. The time grows with the processes times the resources and with the machines times the resources.
+    /// The draft keeps two numbers for each machine and resource, and twice the room of the lists of the most
+    /// processes that an instance may have, of which `leave` and `finish` fill the second.
     pub fn make(
         alloc: Global,
         inst: &'a Instance,
@@ -107,9 +105,8 @@ impl<'a> Draft<'a> {
         )? {
             Judged::Refused(cause) => Ok(EditReply::Broken { cause }),
             Judged::Fine(parts) => {
-                let next = self.lists.edited(alloc, self.inst, edit, asked)?;
                 self.loads.follow(self.inst, &self.lists, edit, asked);
-                self.lists = next;
+                self.lists.edit(self.inst, edit, asked);
                 self.parts = parts;
                 Ok(EditReply::Done { cost: parts.total })
             }

@@ -8,7 +8,7 @@ ghost use Rattle.ra_edit.specs.Keeping.{IsSound};
 ghost use Rattle.ra_edit.specs.Leaving.{left_in};
 ghost use Rattle.ra_edit.specs.SameLists.{AreSameLists};
 
-use crate::scanning::numbers_in;
+use crate::scanning::small_numbers;
 use ra_base::{Assignment, Fixed};
 use ra_model::{Instance, ProcessRow, Tables};
 
@@ -68,10 +68,10 @@ fn instance_with(inst: Instance, rows: Fixed<ProcessRow>, requirements: Fixed<u3
 {
     let Instance { tables } = inst;
     let tables = tables_with(tables, rows, requirements);
-    let _capacities = numbers_in(&tables.raw.capacities);
-    let _safeties = numbers_in(&tables.raw.safeties);
-    let _move_costs = numbers_in(&tables.raw.move_costs);
-    let _requirements = numbers_in(&tables.raw.requirements);
+    small_numbers(tables.raw.capacities.as_slice());
+    small_numbers(tables.raw.safeties.as_slice());
+    small_numbers(tables.raw.move_costs.as_slice());
+    small_numbers(tables.raw.requirements.as_slice());
     Instance { tables }
 }
 

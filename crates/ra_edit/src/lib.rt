@@ -7,6 +7,7 @@ mod building;
 mod costs;
 mod draft;
 mod edited;
+mod growing;
 mod judging;
 mod laws;
 mod lists;

@@ -1,28 +1,31 @@
-ghost use Rattle.std.specs.Prelude.{◌≡◌, ◌+◌, ◌*◌, ◌^◌, ◌<◌, ◌≤◌, ◌++◌, length, take, drop, None, IfOk};
-ghost use Rattle.std.specs.List.{swap_remove};
+ghost use Rattle.std.specs.Prelude.{◌≡◌, ◌*◌, ◌<◌, length, None, IfOk};
+ghost use Rattle.ra_model.specs.Assignments.{IsAssignment, machine_at};
 ghost use Rattle.ra_model.specs.Numbers.{resource_count};
 ghost use Rattle.ra_edit.specs.Drafts.{draft_of};
-ghost use Rattle.ra_edit.specs.Editing.{added, retired, resized, edited, drop_row};
+ghost use Rattle.ra_edit.specs.Editing.{added, retired, resized, edited};
 ghost use Rattle.ra_edit.specs.Replies.{barred};
-ghost use Rattle.ra_edit.specs.Keeping.{drafted, IsSound};
+ghost use Rattle.ra_edit.specs.Keeping.{drafted, HasRoom, IsSound};
 
-use crate::building::copy_of;
+use crate::growing::Growing;
 use crate::tables::{processes_of, requirements_of};
-use ra_base::{Assignment, Fixed, Machine, NoMemory};
+use ra_base::{Assignment, Fixed, Machine, NoMemory, Process};
 use ra_edit_read::Edit;
 use ra_model::{Instance, ProcessRow};
 use std::alloc::Global;
 use std::marker::Brand;
 use std::sync::ledger::Blank;
 
+/// How many processes an instance may have.
+pub(crate) const MOST_PROCESSES: usize = 50_000;
+
 /// The lists of a draft that edits change: its processes, what they require, their initial machines and their machines
 /// now.
 pub(crate) struct Lists {
-    pub(crate) rows: Fixed<ProcessRow>,
+    pub(crate) rows: Growing<ProcessRow>,
     /// By process, then resource.
-    pub(crate) requirements: Fixed<u32>,
-    pub(crate) initial: Assignment,
-    pub(crate) current: Assignment,
+    pub(crate) requirements: Growing<u32>,
+    pub(crate) initial: Growing<Machine>,
+    pub(crate) current: Growing<Machine>,
 }
 
 /// Lets all lists go in one call, so that the end of an owner is short to prove.
@@ -38,25 +41,31 @@ impl Drop for Lists {
 }
 
 impl Lists {
-    /// The lists of an instance and of two assignments.
+    /// The lists of an instance and of two assignments, with room for the most processes.
     pub(crate) fn of(
         alloc: Global,
         inst: &Instance,
         a0: &Assignment,
         a: &Assignment,
     ) -> Result<Lists, NoMemory>
-        ensures { IfOk result (λ lists. drafted inst.now.tables lists
+        requires a0_fits { IsAssignment inst.now.tables a0.now.items }
+        requires fits { IsAssignment inst.now.tables a.now.items }
+        ensures lists { IfOk result (λ lists. drafted inst.now.tables lists
             ≡ draft_of inst.now.tables a0.now.items a.now.items) }
+        ensures room { IfOk result (λ lists. HasRoom inst.now.tables lists) }
     {
+        let rows = processes_of(alloc, inst)?;
+        let requirements = requirements_of::<Brand>(alloc, inst, Blank::new(1))?;
+        let numbers = MOST_PROCESSES * inst.resources() as usize;
         Ok(Lists {
-            rows: processes_of(alloc, inst)?,
-            requirements: requirements_of::<Brand>(alloc, inst, Blank::new(1))?,
-            initial: copy_of(alloc, a0.as_slice())?,
-            current: copy_of(alloc, a.as_slice())?,
+            rows: Growing::make(alloc, rows.as_slice(), MOST_PROCESSES)?,
+            requirements: Growing::make(alloc, requirements.as_slice(), numbers)?,
+            initial: Growing::make(alloc, a0.as_slice(), MOST_PROCESSES)?,
+            current: Growing::make(alloc, a.as_slice(), MOST_PROCESSES)?,
         })
     }
 
-    /// The four lists.
+    /// The four lists. No memory is taken.
     pub(crate) fn apart(self) -> (Fixed<ProcessRow>, Fixed<u32>, Assignment, Assignment)
         ensures rows { result.0.items ≡ self.rows.items }
         ensures requirements { result.1.items ≡ self.requirements.items }
@@ -69,176 +78,97 @@ impl Lists {
             initial,
             current,
         } = self;
-        (rows, requirements, initial, current)
+        (
+            rows.into_fixed(),
+            requirements.into_fixed(),
+            initial.into_fixed(),
+            current.into_fixed(),
+        )
     }
 
-    /// What an edit makes of the lists, if nothing bars it.
+    /// Does an edit, if nothing bars it. The lists are changed in place, in a time that grows with the resources alone.
     #[tactic(auto, unfolding(crate::specs::Editing::edited))]
-    pub(crate) fn edited(
-        &self,
-        alloc: Global,
-        inst: &Instance,
-        edit: Edit,
-        requirements: &[u32],
-    ) -> Result<Lists, NoMemory>
-        requires sound { IsSound (drafted inst.now.tables self.now) }
-        requires free { barred (length self.now.rows.items) edit ≡ None }
+    pub(crate) fn edit(&mut self, inst: &Instance, edit: Edit, requirements: &[u32])
+        requires sound { IsSound (drafted inst.now.tables self.old) }
+        requires room { HasRoom inst.now.tables self.old }
+        requires free { barred (length self.old.rows.items) edit ≡ None }
         requires width { length requirements.now ≡ resource_count inst.now.tables }
-        ensures { IfOk result (λ next. drafted inst.now.tables next
-            ≡ edited (drafted inst.now.tables self.now) edit requirements.now) }
+        ensures lists { drafted inst.now.tables self.new
+            ≡ edited (drafted inst.now.tables self.old) edit requirements.now }
+        ensures room { HasRoom inst.now.tables self.new }
     {
         match edit {
             Edit::Add {
                 service,
                 machine,
                 move_cost,
-            } => self.added(
-                alloc,
+            } => self.add(
                 inst,
                 ProcessRow { service, move_cost },
                 machine,
                 requirements,
             ),
-            Edit::Retire { process } => self.retired(alloc, inst, process),
-            Edit::Resize { process } => self.resized(alloc, inst, process, requirements),
+            Edit::Retire { process } => self.retire(inst, process),
+            Edit::Resize { process } => self.resize(inst, process, requirements),
         }
     }
 
     /// One process more.
-    fn added(
-        &self,
-        alloc: Global,
-        inst: &Instance,
-        row: ProcessRow,
-        machine: Machine,
-        requirements: &[u32],
-    ) -> Result<Lists, NoMemory>
-        requires sound { IsSound (drafted inst.now.tables self.now) }
+    fn add(&mut self, inst: &Instance, row: ProcessRow, machine: Machine, requirements: &[u32])
+        requires sound { IsSound (drafted inst.now.tables self.old) }
+        requires room { HasRoom inst.now.tables self.old }
+        requires few { length self.old.rows.items < 50000 }
         requires width { length requirements.now ≡ resource_count inst.now.tables }
-        ensures { IfOk result (λ next. drafted inst.now.tables next
-            ≡ added (drafted inst.now.tables self.now) row.service machine row.move_cost
-            requirements.now) }
+        ensures lists { drafted inst.now.tables self.new
+            ≡ added (drafted inst.now.tables self.old) row.service machine row.move_cost
+            requirements.now }
+        ensures room { HasRoom inst.now.tables self.new }
     {
-        Ok(Lists {
-            rows: with_items(alloc, self.rows.as_slice(), &[row])?,
-            requirements: with_items(alloc, self.requirements.as_slice(), requirements)?,
-            initial: with_items(alloc, self.initial.as_slice(), &[machine])?,
-            current: with_items(alloc, self.current.as_slice(), &[machine])?,
-        })
+        self.rows.push(row);
+        self.requirements.extend_from_slice(requirements);
+        self.initial.push(machine);
+        self.current.push(machine);
     }
 
     /// One process less: the last process takes its number.
-    fn retired(&self, alloc: Global, inst: &Instance, process: u32) -> Result<Lists, NoMemory>
-        requires sound { IsSound (drafted inst.now.tables self.now) }
-        requires process { process < length self.now.rows.items }
-        ensures { IfOk result (λ next. drafted inst.now.tables next
-            ≡ retired (drafted inst.now.tables self.now) process) }
+    fn retire(&mut self, inst: &Instance, process: u32)
+        requires sound { IsSound (drafted inst.now.tables self.old) }
+        requires room { HasRoom inst.now.tables self.old }
+        requires process { process < length self.old.rows.items }
+        ensures lists { drafted inst.now.tables self.new
+            ≡ retired (drafted inst.now.tables self.old) process }
+        ensures room { HasRoom inst.now.tables self.new }
     {
         let p = process as usize;
         let width = inst.resources() as usize;
-        let count = self.rows.len();
-        Ok(Lists {
-            rows: without(alloc, self.rows.as_slice(), p)?,
-            requirements: without_row(alloc, self.requirements.as_slice(), width, count, p)?,
-            initial: without(alloc, self.initial.as_slice(), p)?,
-            current: without(alloc, self.current.as_slice(), p)?,
-        })
+        let last = self.rows.len() - 1;
+        self.rows.swap_remove(p);
+        self.requirements.swap_remove_part(p * width, last * width);
+        self.initial.swap_remove(p);
+        self.current.swap_remove(p);
     }
 
     /// Other requirements of a process.
-    fn resized(
-        &self,
-        alloc: Global,
-        inst: &Instance,
-        process: u32,
-        requirements: &[u32],
-    ) -> Result<Lists, NoMemory>
-        requires sound { IsSound (drafted inst.now.tables self.now) }
-        requires process { process < length self.now.rows.items }
+    fn resize(&mut self, inst: &Instance, process: u32, requirements: &[u32])
+        requires sound { IsSound (drafted inst.now.tables self.old) }
+        requires room { HasRoom inst.now.tables self.old }
+        requires process { process < length self.old.rows.items }
         requires width { length requirements.now ≡ resource_count inst.now.tables }
-        ensures { IfOk result (λ next. drafted inst.now.tables next
-            ≡ resized (drafted inst.now.tables self.now) process requirements.now) }
+        ensures lists { drafted inst.now.tables self.new
+            ≡ resized (drafted inst.now.tables self.old) process requirements.now }
+        ensures room { HasRoom inst.now.tables self.new }
     {
         let start = process as usize * inst.resources() as usize;
-        Ok(Lists {
-            rows: copy_of(alloc, self.rows.as_slice())?,
-            requirements: with_part(alloc, self.requirements.as_slice(), start, requirements)?,
-            initial: copy_of(alloc, self.initial.as_slice())?,
-            current: copy_of(alloc, self.current.as_slice())?,
-        })
+        self.requirements.write(start, requirements);
     }
 }
 
-/// A list of some items and some more behind them.
-fn with_items<T: Copy>(alloc: Global, items: &[T], more: &[T]) -> Result<Fixed<T>, NoMemory>
-    requires { length items.now + length more.now < 2 ^ 32 }
-    ensures { IfOk result (λ list. list.items ≡ items.now ++ more.now) }
+/// The machine of a process.
+#[tactic(auto, using(ra_model::proofs::TallyLemmas::machine_at_read))]
+pub(crate) fn machine_of(a: &Growing<Machine>, p: Process) -> Machine
+    requires { p.0 < length a.now.items }
+    ensures { result.0 ≡ machine_at a.now.items p.0 }
 {
-    let mut list = Fixed::make(alloc, items.len() + more.len())?;
-    list.extend_from_slice(items);
-    list.extend_from_slice(more);
-    Ok(list)
-}
-
-/// A list without item `p`, whose place the last item takes.
-#[tactic(auto, using(crate::proofs::ListLaws::removals))]
-fn without<T: Copy>(alloc: Global, items: &[T], p: usize) -> Result<Fixed<T>, NoMemory>
-    requires { p < length items.now }
-    ensures { IfOk result (λ list. (d : T) → list.items ≡ swap_remove items.now p d) }
-{
-    let last = items.len() - 1;
-    let (front, _) = items.split_at(last);
-    if p == last {
-        return copy_of(alloc, front);
-    }
-    let mut list = copy_of(alloc, front)?;
-    list.set(p, items[last]);
-    Ok(list)
-}
-
-/// A table of `count` rows without row `p`, whose place the last row takes.
-#[tactic(auto, using(crate::proofs::ListLaws::drops))]
-fn without_row(
-    alloc: Global,
-    table: &[u32],
-    width: usize,
-    count: usize,
-    p: usize,
-) -> Result<Fixed<u32>, NoMemory>
-    requires size { length table.now ≡ count * width }
-    requires row { p < count }
-    requires few { count ≤ 50000 }
-    requires narrow { width ≤ 20 }
-    ensures { IfOk result (λ list. list.items ≡ drop_row width table.now count p) }
-{
-    let last = (count - 1) * width;
-    let (front, back) = table.split_at(last);
-    if p + 1 == count {
-        return copy_of(alloc, front);
-    }
-    let start = p * width;
-    let (before, _) = table.split_at(start);
-    let mut list = Fixed::make(alloc, last)?;
-    list.extend_from_slice(before);
-    list.extend_from_slice(back);
-    list.extend_from_slice(&table[start + width..last]);
-    Ok(list)
-}
-
-/// A list with other items from a place on.
-fn with_part(
-    alloc: Global,
-    items: &[u32],
-    start: usize,
-    part: &[u32],
-) -> Result<Fixed<u32>, NoMemory>
-    requires within { start + length part.now ≤ length items.now }
-    ensures { IfOk result (λ list. list.items
-        ≡ take start items.now ++ part.now ++ drop (start + length part.now) items.now) }
-{
-    let mut list = Fixed::make(alloc, items.len())?;
-    list.extend_from_slice(&items[..start]);
-    list.extend_from_slice(part);
-    list.extend_from_slice(&items[start + part.len()..]);
-    Ok(list)
+    let _count = a.len();
+    a.get(p.0 as usize)
 }

@@ -13,12 +13,12 @@ ghost use Rattle.ra_edit.specs.OneMore.{OneMore};
 ghost use Rattle.ra_edit.specs.Replies.{barred};
 ghost use Rattle.ra_edit_read.specs.EditLists.{FitsInstance};
 
-use crate::lists::Lists;
+use crate::lists::{Lists, machine_of};
 use crate::rows::{read_row, requirements_of, row_with, row_without};
 use crate::scanning::{processes, small};
 use ra_base::{Fixed, Machine, NoMemory, Process};
 use ra_edit_read::Edit;
-use ra_model::{Instance, copies, machine_of};
+use ra_model::{Instance, copies};
 use std::alloc::Global;
 
 /// What the processes use of each resource of each machine: those that are there now, and those that were there at first

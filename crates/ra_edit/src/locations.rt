@@ -5,10 +5,10 @@ ghost use Rattle.ra_model.specs.Services.{locations_of};
 ghost use Rattle.ra_edit.specs.Keeping.{drafted, tables_with, IsSound};
 ghost use Rattle.ra_edit.specs.Seen.{seen_at, HasSeen};
 
-use crate::lists::Lists;
+use crate::lists::{Lists, machine_of};
 use crate::scanning::{processes, service_of};
 use ra_base::{NoMemory, Process, Service};
-use ra_model::{Instance, machine_of};
+use ra_model::Instance;
 use std::alloc::Global;
 use std::collections::BTreeSet;
 

@@ -8,10 +8,10 @@ ghost use Rattle.ra_edit.specs.Drafts.{Drafted, instance_of};
 ghost use Rattle.ra_edit.specs.Kinds.{HasGone};
 ghost use Rattle.ra_edit.specs.Keeping.{drafted, tables_with, IsSound};
 
-use crate::lists::Lists;
+use crate::lists::{Lists, machine_of};
 use crate::scanning::{processes, service_of};
 use ra_base::{Fixed, NoMemory, Process};
-use ra_model::{Instance, copies, machine_of};
+use ra_model::{Instance, copies};
 use std::alloc::Global;
 
 /// The service cost without one process: the greatest number of moved processes of one service, times its weight.

@@ -7,9 +7,9 @@ ghost use Rattle.ra_model.specs.Services.{of_service, members_at};
 ghost use Rattle.ra_edit.specs.Keeping.{drafted, tables_with, IsSound};
 ghost use Rattle.ra_edit.specs.Spots.{is_there};
 
-use crate::lists::Lists;
-use ra_base::{Fixed, Machine, Process, Service};
-use ra_model::{Instance, machine_of};
+use crate::lists::{Lists, machine_of};
+use ra_base::{Machine, Process, Service};
+use ra_model::Instance;
 
 /// Where processes are looked for: on a machine, or on one with a label.
 #[derive(Clone, Copy)]
@@ -89,15 +89,12 @@ fn is_there(inst: &Instance, spot: Spot, at: Machine) -> bool
 pub(crate) fn small(inst: &Instance, lists: &Lists)
     ensures { Small (tables_with inst.now.tables lists.now) }
 {
-    let _numbers = numbers_in(&lists.requirements);
+    small_numbers(lists.requirements.as_slice());
 }
 
-/// The numbers of a table, each below 2^32 by its type.
-pub(crate) fn numbers_in(table: &Fixed<u32>) -> &[u32]
-    ensures same { result.now ≡ table.now.items }
-    ensures small { (k : ℕ) → slice_index table.now.items k < 2 ^ 32 }
+/// Each of some numbers is below 2^32, by its type.
+pub(crate) fn small_numbers(numbers: &[u32])
+    ensures { (k : ℕ) → slice_index numbers.now k < 2 ^ 32 }
 {
-    let numbers = table.as_slice();
     let _count = numbers.len();
-    numbers
 }

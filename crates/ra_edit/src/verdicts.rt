@@ -12,13 +12,13 @@ ghost use Rattle.ra_edit.specs.Loads.{AreLoadsOf};
 
 use crate::costs::{costs_with, moved_share, summed, way_share};
 use crate::judging::{added_breaks, resized_breaks, retired_breaks};
-use crate::lists::Lists;
+use crate::lists::{Lists, machine_of};
 use crate::loads::Loads;
 use crate::moved::service_cost_without;
 use crate::scanning::{service_of, small};
 use ra_base::{Cause, Machine, NoMemory, Parts, Process, Service};
 use ra_edit_read::Edit;
-use ra_model::{Instance, machine_of};
+use ra_model::Instance;
 use std::alloc::Global;
 
 /// What is found of the current list of a draft: the first constraint that it breaks, or what it costs.

@@ -7,7 +7,9 @@ pub invariant_of-result : goal.invariant_of-result
 invariant_of-result c = record {
   well_formed = same_well (with_processes c.args.inst.tables c.args.rows.items c.args.requirements.items)
       c.tables_with-tables.result c.tables_with-tables.ensures.lists c.requires;
-  small = small_tables c.tables_with-tables.result (record { each = c.numbers_in-capacities.ensures.small })
-      (record { each = c.numbers_in-safeties.ensures.small }) (record { each = c.numbers_in-move_costs.ensures.small })
-      (record { each = c.numbers_in-requirements.ensures.small });
+  small = small_tables c.tables_with-tables.result
+      (record { each = rw c.as_slice.ensures at c.small_numbers.ensures })
+      (record { each = rw c.as_slice-2.ensures at c.small_numbers-2.ensures })
+      (record { each = rw c.as_slice-3.ensures at c.small_numbers-3.ensures })
+      (record { each = rw c.as_slice-4.ensures at c.small_numbers-4.ensures });
 }

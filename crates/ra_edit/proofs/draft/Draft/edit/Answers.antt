@@ -80,11 +80,12 @@ follow-requires c =
           c.requires.fits c.requirements_of-asked.ensures.one_each;
     }
 
-pub edited-requires : goal.edited-requires
-edited-requires c =
+pub edit-requires : goal.edit-requires
+edit-requires c =
     let d = drafted c.self.inside.inst.now.tables c.self.inside.lists in
     record {
       sound = c.self.invariant.kept.sound;
+      room = c.self.invariant.room;
       free = sym c.barred.ensures ∙ c.in_default.is;
       width = next_width d c.args.self.now c.args.edits.now c.requirements_of-asked.result.now c.self.view_is
           c.requires.fits c.requirements_of-asked.ensures.one_each;
@@ -93,10 +94,10 @@ edited-requires c =
 pub invariant_of-self : goal.invariant_of-self
 invariant_of-self c =
     let d = drafted c.self.inside.inst.now.tables c.self.inside.lists in
-    let next = drafted c.self.inside.inst.now.tables c.in_ok-next-in-Fine.next in
+    let next = drafted c.self.inside.inst.now.tables c.edit.new.self in
     let free = ap (barred (length d.rows)) (sym c.edit-edit.ensures) ∙ sym c.barred.ensures ∙ c.in_default.is in
     let same : next ≡ edited d (edit_at c.args.edits.now c.args.i)
-    (row_of c.args.edits.now.width c.args.edits.now.requirements c.args.i) = c.in_ok-next-in-Fine.ensures
+    (row_of c.args.edits.now.width c.args.edits.now.requirements c.args.i) = c.edit.ensures.lists
     ∙ ap (λ e. edited d e c.requirements_of-asked.result.now) c.edit-edit.ensures
     ∙ ap (edited d (edit_at c.args.edits.now c.args.i)) c.requirements_of-asked.ensures.row in
     let width = ap length (sym c.requirements_of-asked.ensures.row) ∙ c.requirements_of-asked.ensures.one_each in
@@ -113,15 +114,16 @@ invariant_of-self c =
         parts_are = found.1;
       };
       loads_are = c.follow.ensures next made;
+      room = c.edit.ensures.room;
     }
 
-pub returns-in_ok-next-in-Fine-clause-reply : goal.returns-in_ok-next-in-Fine-clause-reply
-returns-in_ok-next-in-Fine-clause-reply c =
+pub returns-in-Fine-clause-reply : goal.returns-in-Fine-clause-reply
+returns-in-Fine-clause-reply c =
     let d = drafted c.self.inside.inst.now.tables c.self.inside.lists in
-    let next = drafted c.self.inside.inst.now.tables c.in_ok-next-in-Fine.next in
+    let next = drafted c.self.inside.inst.now.tables c.edit.new.self in
     let free = ap (barred (length d.rows)) (sym c.edit-edit.ensures) ∙ sym c.barred.ensures ∙ c.in_default.is in
     let same : next ≡ edited d (edit_at c.args.edits.now c.args.i)
-    (row_of c.args.edits.now.width c.args.edits.now.requirements c.args.i) = c.in_ok-next-in-Fine.ensures
+    (row_of c.args.edits.now.width c.args.edits.now.requirements c.args.i) = c.edit.ensures.lists
     ∙ ap (λ e. edited d e c.requirements_of-asked.result.now) c.edit-edit.ensures
     ∙ ap (edited d (edit_at c.args.edits.now c.args.i)) c.requirements_of-asked.ensures.row in
     let width = ap length (sym c.requirements_of-asked.ensures.row) ∙ c.requirements_of-asked.ensures.one_each in
@@ -133,13 +135,13 @@ returns-in_ok-next-in-Fine-clause-reply c =
     subst (λ (o : Drafted). Done c.in-Fine.parts.total ≡ edit_answer o c.args.edits.now c.args.i) c.self.view_is
     (answered_done d next c.args.edits.now c.args.i c.in-Fine.parts free same found.0 found.1)
 
-pub returns-in_ok-next-in-Fine-clause-after : goal.returns-in_ok-next-in-Fine-clause-after
-returns-in_ok-next-in-Fine-clause-after c =
+pub returns-in-Fine-clause-after : goal.returns-in-Fine-clause-after
+returns-in-Fine-clause-after c =
     let d = drafted c.self.inside.inst.now.tables c.self.inside.lists in
-    let next = drafted c.self.inside.inst.now.tables c.in_ok-next-in-Fine.next in
+    let next = drafted c.self.inside.inst.now.tables c.edit.new.self in
     let free = ap (barred (length d.rows)) (sym c.edit-edit.ensures) ∙ sym c.barred.ensures ∙ c.in_default.is in
     let same : next ≡ edited d (edit_at c.args.edits.now c.args.i)
-    (row_of c.args.edits.now.width c.args.edits.now.requirements c.args.i) = c.in_ok-next-in-Fine.ensures
+    (row_of c.args.edits.now.width c.args.edits.now.requirements c.args.i) = c.edit.ensures.lists
     ∙ ap (λ e. edited d e c.requirements_of-asked.result.now) c.edit-edit.ensures
     ∙ ap (edited d (edit_at c.args.edits.now c.args.i)) c.requirements_of-asked.ensures.row in
     let width = ap length (sym c.requirements_of-asked.ensures.row) ∙ c.requirements_of-asked.ensures.one_each in
