@@ -1,11 +1,10 @@
 -- Lists without an item, and tables without a row.
 use Rattle.std.proofs.Common.{◌≡◌, ◌≢◌, ℕ, ◌+◌, ◌-◌, ◌*◌, ◌<◌, ◌≤◌, List, ◌++◌, length, take, drop, set, get_or, refl}
-use Rattle.std.proofs.Common.{sym, ap, ◌∙◌, subst, ⊎_elim, arith, append_assoc, length-append, length-drop, length-set}
-use Rattle.std.proofs.Common.{get_or-set_same, get_or-set_other, add-zero, append-nil}
+use Rattle.std.proofs.Common.{sym, ap, ◌∙◌, subst, ⊎_elim, arith, length-append, length-drop, length-set}
+use Rattle.std.proofs.Common.{get_or-set_same, get_or-set_other}
 use Rattle.std.specs.List.{swap_remove}
-use Rattle.std.proofs.Math.Seq.{take-append-add, take-set-lt}
 use Rattle.std.proofs.lemmas.Bool.{cases_eq}
-use Rattle.std.proofs.lemmas.List.{take_all, take-set-le, length-take-le, get_or-take, get_or_read, get_or_default}
+use Rattle.std.proofs.lemmas.List.{take_all, length-take-le, get_or-take, get_or_default}
 use Rattle.ra_edit_read.specs.EditLists.{row_of}
 use Rattle.ra_edit_read.proofs.ListLaws.{row_within, row_length}
 use Rattle.ra_edit_read.proofs.FileLaws.{next_row}

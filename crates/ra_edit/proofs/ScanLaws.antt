@@ -1,10 +1,8 @@
 -- What is read of the lists of a draft.
 use Rattle.std.proofs.Common.{◌≡◌, ◌≢◌, ℕ, ◌+◌, ◌*◌, ◌^◌, ◌<◌, lit<, true, false, List, length, get_or, refl, sym, ap}
 use Rattle.std.proofs.Common.{◌∙◌, arith, eq-eqb, ne_eqb, Bool}
-use Rattle.std.proofs.lemmas.List.{get_or_read}
 use Rattle.ra_base.specs.Tables.{cell}
 use Rattle.ra_base.specs.declared.ids.Machine.{Machine}
-use Rattle.ra_base.proofs.Tables.{place_within, cell_is}
 use Rattle.ra_model.specs.declared.raw.ProcessRow.{ProcessRow}
 use Rattle.ra_model.specs.declared.raw.Tables.{Tables}
 use Rattle.ra_model.specs.Numbers.{resource_count, machine_count, process_count, resource_row, machine_row, service_row}
@@ -14,7 +12,6 @@ use Rattle.ra_model.specs.Numbers.{process_cost_of, target_of, balance_weight_of
 use Rattle.ra_model.specs.Numbers.{machine_weight_of}
 use Rattle.ra_model.specs.Limits.{Small}
 use Rattle.ra_model.specs.Assignments.{machine_at, tally}
-use Rattle.ra_model.specs.Usage.{use_share, use_of, transient_share, transient_of}
 use Rattle.ra_model.specs.Costs.{process_share}
 use Rattle.ra_model.specs.Services.{is_of, of_service, members_at, on_machine, in_location, in_neighbourhood}
 use Rattle.ra_edit.specs.declared.scanning.Spot.TheVariants.{OnMachine, InNeighbourhood, InLocation}
@@ -23,7 +20,7 @@ use Rattle.ra_edit.specs.Drafts.{Drafted, with_processes, instance_of}
 use Rattle.ra_edit.specs.Keeping.{drafted, tables_with, IsSound}
 use Rattle.ra_edit.specs.Spots.{is_there}
 use Rattle.ra_edit.proofs.SoundLaws.{few_of, AreFew}
-use Rattle.ra_edit.proofs.OneMoreLaws.{row_read, requirement_read}
+use Rattle.ra_edit.proofs.OneMoreLaws.{row_read}
 
 pub few : (i : Tables) (l : Lists) → IsSound (drafted i l) → AreFew (drafted i l)
 few i l sound = few_of (drafted i l) sound

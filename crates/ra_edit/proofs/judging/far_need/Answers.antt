@@ -1,5 +1,5 @@
 -- Where a process of the service comes, it is near; otherwise the count is that of before.
-use Rattle.std.proofs.Common.{◌≡◌, ◌+◌, ◌∙◌, sym, ap, arith, eq-eqb, ne_eqb}
+use Rattle.std.proofs.Common.{◌∙◌, sym, arith}
 use Rattle.ra_edit.specs.Keeping.{drafted}
 use Rattle.ra_edit.proofs.ScanLaws.{near_told}
 use Rattle.ra_edit.proofs.TestLaws.{need_far, need_near}

@@ -1,7 +1,5 @@
 -- The last one in its location leaves one location less.
-use Rattle.std.proofs.Common.{◌≡◌, ◌+◌, ◌∙◌, refl, sym, arith}
-use Rattle.ra_model.specs.Services.{locations_of}
-use Rattle.ra_edit.specs.Drafts.{instance_of}
+use Rattle.std.proofs.Common.{◌∙◌, refl, sym, arith}
 use Rattle.ra_edit.specs.Editing.{retired}
 use Rattle.ra_edit.specs.Keeping.{drafted}
 use Rattle.ra_edit.proofs.ScanLaws.{location_told}

@@ -1,7 +1,6 @@
 -- One resource after another.
-use Rattle.std.proofs.Common.{◌≡◌, ◌<◌, ◌∙◌, sym, ap, subst, arith}
+use Rattle.std.proofs.Common.{◌≡◌, ◌<◌, ◌∙◌, sym, ap, arith}
 use Rattle.ra_base.proofs.Searches.{first_none, first_more_none, first_found}
-use Rattle.ra_model.specs.declared.raw.Tables.{Tables}
 use Rattle.ra_model.specs.Numbers.{resource_count}
 use Rattle.ra_model.specs.Broken.{row_transient}
 use Rattle.ra_edit.specs.Drafts.{instance_of}

@@ -1,5 +1,5 @@
 -- One column after another grows.
-use Rattle.std.proofs.Common.{◌≡◌, ℕ, ◌+◌, ◌*◌, ◌<◌, length, slice_index, sym, ap₂, ◌∙◌, arith}
+use Rattle.std.proofs.Common.{ℕ, ◌+◌, ◌*◌, ◌<◌, length, slice_index, sym, ap₂, ◌∙◌, arith}
 use Rattle.std.proofs.lemmas.List.{get_or_read}
 use Rattle.ra_base.proofs.Tables.{cell_is}
 use Rattle.ra_edit.proofs.LoadLaws.{part_none, part_raised, part_all}

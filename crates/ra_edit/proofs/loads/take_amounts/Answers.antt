@@ -1,5 +1,5 @@
 -- One column after another shrinks.
-use Rattle.std.proofs.Common.{◌≡◌, ℕ, ◌+◌, ◌-◌, ◌*◌, ◌<◌, ◌≤◌, length, slice_index, sym, ◌∙◌, arith}
+use Rattle.std.proofs.Common.{ℕ, ◌+◌, ◌*◌, ◌<◌, ◌≤◌, length, slice_index, sym, ◌∙◌, arith}
 use Rattle.std.proofs.lemmas.List.{get_or_read}
 use Rattle.ra_base.proofs.Tables.{cell_is}
 use Rattle.ra_edit.proofs.LoadLaws.{part_none, part_lowered, part_all}

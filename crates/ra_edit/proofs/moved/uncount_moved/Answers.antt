@@ -1,5 +1,5 @@
 -- A moved process was one of those that are counted for its service.
-use Rattle.std.proofs.Common.{◌≡◌, ◌∙◌, sym, ◌-◌, ◌+◌, ◌<◌, false, true, eqb, length, get_or, refl, arith}
+use Rattle.std.proofs.Common.{◌≡◌, ◌∙◌, sym, ◌-◌, ◌<◌, false, true, eqb, length, refl, arith}
 use Rattle.std.proofs.lemmas.Bool.{not-true, not-false}
 use Rattle.std.proofs.lemmas.List.{get_or_read}
 use Rattle.ra_model.specs.Assignments.{machine_at}

@@ -1,5 +1,4 @@
 -- The row of the process is read.
-use Rattle.std.proofs.Common.{◌∙◌, ap, ap₂, ◌*◌, ◌+◌, arith}
 use Rattle.ra_edit.specs.Keeping.{drafted}
 use Rattle.ra_edit.proofs.ReadLaws.{row_of_process, asks_read}
 use Rattle.ra_edit.proofs.rows.requirements_of.Goals as goal

@@ -1,5 +1,5 @@
 -- One resource after another.
-use Rattle.std.proofs.Common.{◌≡◌, ◌+◌, slice_index, refl, ap, ◌∙◌, length, length-append, arith}
+use Rattle.std.proofs.Common.{◌≡◌, ◌+◌, slice_index, ap, ◌∙◌, length, length-append, arith}
 use Rattle.ra_edit.proofs.LoadLaws.{each_pushed}
 use Rattle.ra_edit.proofs.rows.row_without.Goals as goal
 

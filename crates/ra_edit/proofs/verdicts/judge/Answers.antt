@@ -1,5 +1,4 @@
 -- Each kind of edit is judged by itself.
-use Rattle.std.proofs.Common.{◌∙◌}
 use Rattle.std.proofs.lemmas.Result.{IfOk-weaker}
 use Rattle.ra_edit.proofs.SoundLaws.{free_retire, free_resize}
 use Rattle.ra_edit.proofs.verdicts.judge.Goals as goal

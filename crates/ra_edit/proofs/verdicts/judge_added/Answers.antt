@@ -1,5 +1,5 @@
 -- A process that has come: what it touches, or what it costs.
-use Rattle.std.proofs.Common.{◌∙◌, ◌*◌, length, refl, sym, ap₂, arith}
+use Rattle.std.proofs.Common.{◌∙◌, ◌*◌, length, sym, ap₂, arith}
 use Rattle.ra_edit.specs.Keeping.{drafted}
 use Rattle.ra_edit.proofs.VerdictLaws.{HasParts, parts_told, come_broken, come_parts, times_small}
 use Rattle.ra_edit.proofs.verdicts.judge_added.Goals as goal

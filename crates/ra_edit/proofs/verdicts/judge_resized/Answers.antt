@@ -1,5 +1,5 @@
 -- A process that requires something else: what it touches, or what it costs.
-use Rattle.std.proofs.Common.{◌∙◌, ◌<◌, true, eqb, ◌||◌, refl, sym, arith, eq-eqb}
+use Rattle.std.proofs.Common.{◌∙◌, ◌<◌, sym, arith, eq-eqb}
 use Rattle.std.proofs.lemmas.Bool.{or_left, or_right}
 use Rattle.ra_model.specs.Assignments.{machine_at}
 use Rattle.ra_model.specs.Numbers.{machine_count}

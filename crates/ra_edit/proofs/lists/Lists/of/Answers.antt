@@ -1,5 +1,4 @@
-use Rattle.std.proofs.Common.{◌≡◌, ◌*◌, length, ap, sym, ◌∙◌, arith}
-use Rattle.ra_edit.specs.Drafts.{draft_of}
+use Rattle.std.proofs.Common.{length, ap, ◌∙◌, arith}
 use Rattle.ra_edit.proofs.DraftLaws.{few_at_first}
 use Rattle.ra_edit.proofs.ListLaws.{rows_fit}
 use Rattle.ra_edit.proofs.lists.Lists.of.Goals as goal

@@ -1,5 +1,5 @@
 -- One process more.
-use Rattle.std.proofs.Common.{◌<◌, length, slice_index, sym, subst, arith}
+use Rattle.std.proofs.Common.{◌<◌, length, slice_index, sym, subst}
 use Rattle.ra_model.specs.declared.raw.Tables.{Tables}
 use Rattle.ra_model.specs.Numbers.{resource_count, machine_count}
 use Rattle.ra_edit.specs.Keeping.{drafted}

@@ -1,7 +1,6 @@
 -- The tables begin as zeros, and each process is counted.
-use Rattle.std.proofs.Common.{◌≡◌, ◌∙◌, ◌*◌, ap₂, length, arith}
+use Rattle.std.proofs.Common.{◌≡◌, ◌*◌, ap₂, length, arith}
 use Rattle.ra_edit.specs.Keeping.{drafted}
-use Rattle.ra_edit.specs.Loads.{HasCounted}
 use Rattle.ra_edit.proofs.LoadLaws.{counted_none}
 use Rattle.ra_edit.proofs.loads.Loads.of.Goals as goal
 

@@ -1,5 +1,5 @@
 -- One process less.
-use Rattle.std.proofs.Common.{◌<◌, length, slice_index, refl, sym, arith, eq-eqb}
+use Rattle.std.proofs.Common.{◌<◌, slice_index, refl, sym, arith, eq-eqb}
 use Rattle.std.proofs.lemmas.Bool.{or_left, or_right}
 use Rattle.ra_model.specs.Assignments.{machine_at}
 use Rattle.ra_model.specs.Numbers.{machine_count}

@@ -1,5 +1,5 @@
 -- What the process required is taken from the row of the machine, and what it requires now is added.
-use Rattle.std.proofs.Common.{◌∙◌, ◌<◌, ◌^◌, List, slice_index, refl, sym, ap, arith}
+use Rattle.std.proofs.Common.{◌∙◌, refl, sym, arith}
 use Rattle.ra_edit.specs.Editing.{retired}
 use Rattle.ra_edit.specs.Keeping.{drafted}
 use Rattle.ra_edit.proofs.LoadLaws.{transient_row_more, transient_less_small}

@@ -1,5 +1,5 @@
 -- The amounts are added to the row of the machine.
-use Rattle.std.proofs.Common.{◌∙◌, refl, sym, arith, eq-eqb}
+use Rattle.std.proofs.Common.{◌∙◌, refl, sym, arith}
 use Rattle.ra_edit.specs.Keeping.{drafted}
 use Rattle.ra_edit.proofs.LoadLaws.{use_row_more, use_row_small}
 use Rattle.ra_edit.proofs.loads.Loads.use_added.Goals as goal

@@ -1,5 +1,5 @@
 -- What the process required is taken from the row of the machine, and what it requires now is added.
-use Rattle.std.proofs.Common.{◌∙◌, ◌<◌, ◌^◌, List, slice_index, refl, sym, ap, arith}
+use Rattle.std.proofs.Common.{◌∙◌, List, refl, sym, ap, arith}
 use Rattle.ra_base.specs.declared.ids.Machine.{Machine}
 use Rattle.ra_model.specs.Assignments.{machine_at}
 use Rattle.ra_edit.specs.Editing.{retired}
