@@ -70,10 +70,7 @@ fn cost_below<L: Ledger>(
     if !has_room(world, mv, &required) {
         return None;
     }
-    let cost = cost_after_move(world, mv, &required);
-    if bound <= cost {
-        return None;
-    }
+    let cost = cost_after_move(world, mv, &required, bound)?;
     if !is_unbroken(world, mv, &required) {
         return None;
     }

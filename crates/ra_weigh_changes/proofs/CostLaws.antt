@@ -1,5 +1,6 @@
 -- The cost after a move: the cost now with what is added, less what is taken away.
-use Rattle.std.proofs.Common.{◌≡◌, ℕ, ◌+◌, ◌*◌, ◌<◌, List, length, get_or, Option, None, sym, ap, ap₂, ◌∙◌, arith}
+use Rattle.std.proofs.Common.{◌≡◌, ℕ, ◌+◌, ◌*◌, ◌<◌, ◌≤◌, List, length, get_or, Option, Some, None, refl, ap, ap₂, ◌∙◌}
+use Rattle.std.proofs.Common.{arith}
 use Rattle.std.specs.Prelude.{IfSome}
 use Rattle.ra_base.specs.Sums.{total, fresh, greatest}
 use Rattle.ra_base.specs.declared.costs.MovedCount.{MovedCount}
@@ -21,6 +22,7 @@ use Rattle.ra_moves.specs.Moving.{IsMove}
 use Rattle.ra_moves.specs.Weighing.{changed_count}
 use Rattle.ra_weigh_settle.specs.Settling.{AreMovedOf}
 use Rattle.ra_weigh_settle.proofs.MovedAfter.{count_changes, counts_apart, greatest_after_move}
+use Rattle.ra_weigh_changes.specs.Below.{IsIfBelow}
 use Rattle.ra_weigh_changes.specs.PlaceCosts.{row_cost, place_cost}
 use Rattle.ra_weigh_changes.specs.CountLists.{AreCountsOf}
 use Rattle.ra_weigh_changes.proofs.ChangeLaws.{rows_change, places_change}
@@ -88,3 +90,37 @@ cost_is i a0 a steps kept rows_added rows_taken places_added places_taken servic
     let rows = rows_change i a steps limits move in
     let places = places_change i a0 a steps move in
     omega arith
+
+-- without what the processes cost on the machines that they enter, the cost is no higher
+pub cost_least : (i : Tables) (a0 a : List Machine) (steps : List Step)
+    (kept rows_added rows_taken places_taken service_added service_taken bound : ℕ) → WellFormed i →
+    IsMove i a steps → kept ≡ objective i a0 a →
+    rows_added ≡ total (end_count steps) (fresh (end_in steps) (row_cost i (applied a steps))) →
+    rows_taken ≡ total (end_count steps) (fresh (end_in steps) (row_cost i a)) →
+    places_taken ≡ total (length steps) (gone (place_cost i a0) steps) →
+    service_added ≡ service_cost i a0 (applied a steps) → service_taken ≡ service_cost i a0 a →
+    bound + (rows_taken + service_taken + places_taken) ≤ kept + rows_added + service_added →
+    bound ≤ objective i a0 (applied a steps)
+cost_least i a0 a steps kept rows_added rows_taken places_taken service_added service_taken bound limits move now
+    rows_come rows_go places_go service_comes service_goes high =
+    omega (
+      arith,
+      high,
+      cost_is i a0 a steps kept rows_added rows_taken _ places_taken service_added service_taken limits move now
+          rows_come rows_go refl places_go service_comes service_goes,
+    )
+
+-- a cost below a bound, and one that isn't
+pub found_below : (bound cost said : ℕ) → said ≡ cost → said < bound → IsIfBelow bound cost (Some said)
+found_below bound cost said is low = record {
+  is = λ n same. let here : said ≡ n = cc in omega (arith, here, is);
+  low = λ n same. let here : said ≡ n = cc in omega (arith, here, low);
+  none = λ none. absurd (cc);
+}
+
+pub none_below : (bound cost : ℕ) → bound ≤ cost → IsIfBelow bound cost None
+none_below bound cost high = record {
+  is = λ n same. absurd (cc);
+  low = λ n same. absurd (cc);
+  none = λ none. high;
+}

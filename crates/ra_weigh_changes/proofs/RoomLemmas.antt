@@ -4,7 +4,7 @@ use Rattle.std.proofs.Common.{⊎_elim}
 use Rattle.std.proofs.lemmas.Bool.{cases_lt}
 use Rattle.ra_base.specs.declared.ids.Machine.{Machine}
 use Rattle.ra_model.specs.declared.raw.Tables.{Tables}
-use Rattle.ra_model.specs.Numbers.{resource_count, machine_count, capacity_of}
+use Rattle.ra_model.specs.Numbers.{resource_count, capacity_of}
 use Rattle.ra_model.specs.Usage.{use_of}
 use Rattle.ra_model.specs.Broken.{broken_capacity}
 use Rattle.ra_model.proofs.BrokenLemmas.{capacity_met}

@@ -3,31 +3,44 @@ ghost use Rattle.ra_model.specs.Costs.{service_cost, objective};
 ghost use Rattle.ra_moves.specs.Replacing.{applied};
 ghost use Rattle.ra_moves.specs.Moving.{IsMove};
 ghost use Rattle.ra_world.specs.Required.{AreRequired};
+ghost use Rattle.ra_weigh_changes.specs.Below.{IsIfBelow};
 ghost use Rattle.ra_world.specs.Worlds.{tables_of, start_of, here_of};
 
 use crate::amounts::Change;
 use crate::counts::counts_of;
 use crate::ends::change_at_ends;
-use crate::ways::change_of_ways;
+use crate::ways::{cost_entered, cost_left};
 use ra_moves::Move;
 use ra_world::World;
 
-/// The cost after a move, whatever it breaks, from what its processes require. The time grows with the number of
-/// resources alone, and no memory is taken.
-pub fn cost_after_move(world: &World<'_>, mv: &Move, required: &[u32; 60]) -> u128
+/// The cost after a move, whatever it breaks, if it is below a bound, from what its processes require. What they cost on
+/// the machines that they enter is found last, since most moves cost too much without it. The time grows with the number
+/// of resources alone, and no memory is taken.
+pub fn cost_after_move(
+    world: &World<'_>,
+    mv: &Move,
+    required: &[u32; 60],
+    bound: u128,
+) -> Option<u128>
     requires moves { IsMove (tables_of world.now) (here_of world.now) mv.now.steps }
     requires required { AreRequired (tables_of world.now) mv.now.steps
         (length mv.now.steps) required.now }
-    ensures { result ≡ objective (tables_of world.now) (start_of world.now)
-        (applied (here_of world.now) mv.now.steps) }
+    ensures { IsIfBelow bound (objective (tables_of world.now) (start_of world.now)
+        (applied (here_of world.now) mv.now.steps)) result }
 {
     let kept = world.parts().total;
     let ends = change_at_ends(world, mv, required);
-    let ways = change_of_ways(world, mv);
     let service = change_of_service(world, mv);
-    let added = kept + ends.added + ways.added + service.added;
-    let taken = ends.taken + ways.taken + service.taken;
-    added - taken
+    let added = kept + ends.added + service.added;
+    let taken = ends.taken + service.taken + cost_left(world, mv);
+    if bound.saturating_add(taken) <= added {
+        return None;
+    }
+    let cost = added + cost_entered(world, mv) - taken;
+    if cost >= bound {
+        return None;
+    }
+    Some(cost)
 }
 
 /// The service cost after the move, and that now.

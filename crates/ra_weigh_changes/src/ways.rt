@@ -12,10 +12,8 @@ use ra_model::Instance;
 use ra_moves::Move;
 use ra_world::{World, process_share, way_share};
 
-/// The change of process and machine cost together: what the processes of the move cost on the machines that they enter,
-/// and what they cost on those that they leave.
+/// The change of process and machine cost together.
 #[inline(always)]
-#[tactic(auto, using(ra_base::proofs::Sums::sums))]
 pub(crate) fn change_of_ways(world: &World<'_>, mv: &Move) -> Change
     requires { IsMove world.now.inst.now.tables world.now.kept.assignment.items mv.now.steps }
     ensures added { result.added ≡ total (length mv.now.steps)
@@ -25,15 +23,48 @@ pub(crate) fn change_of_ways(world: &World<'_>, mv: &Move) -> Change
     ensures added_few { result.added ≤ 2 ^ 110 }
     ensures taken_few { result.taken ≤ 2 ^ 110 }
 {
+    Change {
+        added: cost_entered(world, mv),
+        taken: cost_left(world, mv),
+    }
+}
+
+/// What the processes of the move cost on the machines that they enter: their process and machine cost.
+#[inline(always)]
+#[tactic(auto, using(ra_base::proofs::Sums::sums))]
+pub(crate) fn cost_entered(world: &World<'_>, mv: &Move) -> u128
+    requires { IsMove world.now.inst.now.tables world.now.kept.assignment.items mv.now.steps }
+    ensures value { result ≡ total (length mv.now.steps)
+        (come (place_cost world.now.inst.now.tables world.now.start.now.items) mv.now.steps) }
+    ensures few { result ≤ 2 ^ 110 }
+{
     let inst = world.instance();
     let start = world.initial();
-    let mut change = Change { added: 0, taken: 0 };
+    let mut cost = 0;
     for j in 0..mv.steps() {
         let step = mv.step(j);
-        change.added += place_cost(inst, start, step.process, step.to);
-        change.taken += place_cost(inst, start, step.process, step.from);
+        cost += place_cost(inst, start, step.process, step.to);
     }
-    change
+    cost
+}
+
+/// The same on the machines that they leave.
+#[inline(always)]
+#[tactic(auto, using(ra_base::proofs::Sums::sums))]
+pub(crate) fn cost_left(world: &World<'_>, mv: &Move) -> u128
+    requires { IsMove world.now.inst.now.tables world.now.kept.assignment.items mv.now.steps }
+    ensures value { result ≡ total (length mv.now.steps)
+        (gone (place_cost world.now.inst.now.tables world.now.start.now.items) mv.now.steps) }
+    ensures few { result ≤ 2 ^ 110 }
+{
+    let inst = world.instance();
+    let start = world.initial();
+    let mut cost = 0;
+    for j in 0..mv.steps() {
+        let step = mv.step(j);
+        cost += place_cost(inst, start, step.process, step.from);
+    }
+    cost
 }
 
 /// What a process on a machine adds to the process cost and to the machine cost.

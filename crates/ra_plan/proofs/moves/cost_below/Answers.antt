@@ -1,5 +1,5 @@
 -- Each test that fails says that there is no cost below the bound.
-use Rattle.std.proofs.Common.{sym, ◌∙◌, arith}
+use Rattle.std.proofs.Common.{refl, sym, ◌∙◌}
 use Rattle.ra_plan.proofs.Below.{none_below, some_below, unfit_below, room_free}
 use Rattle.ra_plan.proofs.Weighed.{flawed, flawless, flawless_move, processes_known}
 use Rattle.ra_plan.proofs.moves.cost_below.Goals as goal
@@ -14,11 +14,11 @@ has_room-requires-clause-moves g c = flawless_move _ _ _ c.requires.offered c.in
 pub has_room-requires-clause-required : goal.has_room-requires-clause-required
 has_room-requires-clause-required g c = rw c.instance.ensures at c.requirements.ensures.required
 
-pub cost_after_move-cost-requires-clause-moves : goal.cost_after_move-cost-requires-clause-moves
-cost_after_move-cost-requires-clause-moves g c = flawless_move _ _ _ c.requires.offered c.in_default.ensures
+pub cost_after_move-requires-clause-moves : goal.cost_after_move-requires-clause-moves
+cost_after_move-requires-clause-moves g c = flawless_move _ _ _ c.requires.offered c.in_default.ensures
 
-pub cost_after_move-cost-requires-clause-required : goal.cost_after_move-cost-requires-clause-required
-cost_after_move-cost-requires-clause-required g c = rw c.instance.ensures at c.requirements.ensures.required
+pub cost_after_move-requires-clause-required : goal.cost_after_move-requires-clause-required
+cost_after_move-requires-clause-required g c = rw c.instance.ensures at c.requirements.ensures.required
 
 pub is_unbroken-requires-clause-moves : goal.is_unbroken-requires-clause-moves
 is_unbroken-requires-clause-moves g c = flawless_move _ _ _ c.requires.offered c.in_default.ensures
@@ -34,16 +34,12 @@ returns-then-not-has_room-clause-below g c =
     unfit_below c.args.world.now c.args.mv.now.steps c.args.bound c.has_room.result c.has_room.ensures
     c.if-not-has_room.true (room_free _ _ _ _ (flawless_move _ _ _ c.requires.offered c.in_default.ensures))
 
-pub returns-then-bound-cost-clause-below : goal.returns-then-bound-cost-clause-below
-returns-then-bound-cost-clause-below g c =
-    none_below _ _ _ (λ none. omega (arith, c.if-bound-cost.true, c.cost_after_move-cost.ensures))
-
 pub returns-then-not-is_unbroken-clause-below : goal.returns-then-not-is_unbroken-clause-below
 returns-then-not-is_unbroken-clause-below g c =
     unfit_below c.args.world.now c.args.mv.now.steps c.args.bound c.is_unbroken.result c.is_unbroken.ensures
     c.if-not-is_unbroken.true (λ none. sym (flawless _ _ _ _ c.in_default.ensures) ∙ none)
 
 pub returns-clause-below : goal.returns-clause-below
-returns-clause-below g c = some_below c.args.world.now c.args.mv.now.steps c.args.bound c.cost_after_move-cost.result
+returns-clause-below g c = some_below c.args.world.now c.args.mv.now.steps c.args.bound c.in_ok-cost.cost
     (flawless _ _ _ _ c.in_default.ensures ∙ c.is_unbroken.ensures.0 c.if-not-is_unbroken.false)
-    c.cost_after_move-cost.ensures (omega (arith, c.if-bound-cost.false))
+    (c.in_ok-cost.ensures.is _ refl) (c.in_ok-cost.ensures.low _ refl)

@@ -1,5 +1,4 @@
-use Rattle.std.proofs.Common.{arith, ◌∙◌, refl, sym}
-use Rattle.ra_model.proofs.BoundLemmas.{service_under}
+use Rattle.std.proofs.Common.{arith, ◌∙◌, refl}
 use Rattle.ra_moves.specs.Replacing.{applied}
 use Rattle.ra_weigh_changes.proofs.CostLaws.{counts_of_cells, count_change, count_apart, greatest_then, greatest_now}
 use Rattle.ra_weigh_changes.proofs.CostLaws.{service_is}

@@ -3,7 +3,7 @@ use Rattle.std.proofs.Common.{◌≡◌, ap, arith}
 use Rattle.ra_base.specs.declared.costs.Parts.{Parts}
 use Rattle.ra_model.specs.Costs.{parts_of, objective}
 use Rattle.ra_model.proofs.BoundLemmas.{objective_under}
-use Rattle.ra_weigh_changes.proofs.CostLaws.{cost_is}
+use Rattle.ra_weigh_changes.proofs.CostLaws.{cost_is, cost_least, found_below, none_below}
 use Rattle.ra_weigh_changes.proofs.costs.cost_after_move.Goals as goal
 
 pub overflow_add-added : goal.overflow_add-added
@@ -32,12 +32,12 @@ overflow_add-added-2 c =
       objective_under world.inst.now.tables world.start.now.items world.kept.assignment.items
           world.inst.now.well_formed world.inst.now.small,
       c.change_at_ends-ends.ensures.added_few,
-      c.change_of_ways-ways.ensures.added_few,
+      c.change_of_service-service.ensures.added_few,
     )
 
-pub overflow_add-added-3 : goal.overflow_add-added-3
+pub overflow_add-cost : goal.overflow_add-cost
 unfolding parts_of
-overflow_add-added-3 c =
+overflow_add-cost c =
     let world = c.args.world.now in
     let kept : c.parts-kept.result.total ≡ objective world.inst.now.tables world.start.now.items
     world.kept.assignment.items = ap (λ (x : Parts). x.total) c.parts-kept.ensures in
@@ -47,25 +47,63 @@ overflow_add-added-3 c =
       objective_under world.inst.now.tables world.start.now.items world.kept.assignment.items
           world.inst.now.well_formed world.inst.now.small,
       c.change_at_ends-ends.ensures.added_few,
-      c.change_of_ways-ways.ensures.added_few,
       c.change_of_service-service.ensures.added_few,
+      c.cost_entered.ensures.few,
     )
 
-pub overflow_sub-result : goal.overflow_sub-result
+pub overflow_sub-cost : goal.overflow_sub-cost
 unfolding parts_of
-overflow_sub-result c =
+overflow_sub-cost c =
     let world = c.args.world.now in
     let kept : c.parts-kept.result.total ≡ objective world.inst.now.tables world.start.now.items
     world.kept.assignment.items = ap (λ (x : Parts). x.total) c.parts-kept.ensures in
     let ends = c.change_at_ends-ends.ensures in
-    let ways = c.change_of_ways-ways.ensures in
     let service = c.change_of_service-service.ensures in
     omega (
       arith,
       cost_is world.inst.now.tables world.start.now.items world.kept.assignment.items c.args.mv.now.steps _
-          _ _ _ _ _ _ world.inst.now.well_formed c.requires.moves kept ends.added ends.taken ways.added ways.taken
-          service.added service.taken,
+          _ _ _ _ _ _ world.inst.now.well_formed c.requires.moves kept ends.added ends.taken
+          c.cost_entered.ensures.value c.cost_left.ensures.value service.added service.taken,
     )
+
+pub returns-then-saturating_add-added : goal.returns-then-saturating_add-added
+unfolding parts_of
+returns-then-saturating_add-added c =
+    let world = c.args.world.now in
+    let kept : c.parts-kept.result.total ≡ objective world.inst.now.tables world.start.now.items
+    world.kept.assignment.items = ap (λ (x : Parts). x.total) c.parts-kept.ensures in
+    let ends = c.change_at_ends-ends.ensures in
+    let service = c.change_of_service-service.ensures in
+    let small = objective_under world.inst.now.tables world.start.now.items world.kept.assignment.items
+    world.inst.now.well_formed world.inst.now.small in
+    none_below _ _
+    (cost_least world.inst.now.tables world.start.now.items world.kept.assignment.items c.args.mv.now.steps
+    c.parts-kept.result.total _ _ _ _ _ c.args.bound world.inst.now.well_formed c.requires.moves kept ends.added
+    ends.taken c.cost_left.ensures.value service.added service.taken (omega (
+      arith,
+      kept,
+      small,
+      ends.added_few,
+      service.added_few,
+      c.saturating_add.ensures,
+      c.if-saturating_add-added.true,
+    )))
+
+pub returns-then-cost-bound : goal.returns-then-cost-bound
+unfolding parts_of
+returns-then-cost-bound c =
+    let world = c.args.world.now in
+    let kept : c.parts-kept.result.total ≡ objective world.inst.now.tables world.start.now.items
+    world.kept.assignment.items = ap (λ (x : Parts). x.total) c.parts-kept.ensures in
+    let ends = c.change_at_ends-ends.ensures in
+    let service = c.change_of_service-service.ensures in
+    none_below _ _ (omega (
+      arith,
+      c.if-cost-bound.true,
+      cost_is world.inst.now.tables world.start.now.items world.kept.assignment.items c.args.mv.now.steps _
+          _ _ _ _ _ _ world.inst.now.well_formed c.requires.moves kept ends.added ends.taken
+          c.cost_entered.ensures.value c.cost_left.ensures.value service.added service.taken,
+    ))
 
 pub returns : goal.returns
 unfolding parts_of
@@ -74,11 +112,10 @@ returns c =
     let kept : c.parts-kept.result.total ≡ objective world.inst.now.tables world.start.now.items
     world.kept.assignment.items = ap (λ (x : Parts). x.total) c.parts-kept.ensures in
     let ends = c.change_at_ends-ends.ensures in
-    let ways = c.change_of_ways-ways.ensures in
     let service = c.change_of_service-service.ensures in
-    omega (
+    found_below _ _ _ (omega (
       arith,
       cost_is world.inst.now.tables world.start.now.items world.kept.assignment.items c.args.mv.now.steps _
-          _ _ _ _ _ _ world.inst.now.well_formed c.requires.moves kept ends.added ends.taken ways.added ways.taken
-          service.added service.taken,
-    )
+          _ _ _ _ _ _ world.inst.now.well_formed c.requires.moves kept ends.added ends.taken
+          c.cost_entered.ensures.value c.cost_left.ensures.value service.added service.taken,
+    )) (omega (arith, c.if-cost-bound.false))

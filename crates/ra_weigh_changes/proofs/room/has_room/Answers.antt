@@ -1,4 +1,4 @@
-use Rattle.std.proofs.Common.{◌≡◌, length, sym, arith}
+use Rattle.std.proofs.Common.{◌≡◌, length, arith}
 use Rattle.std.proofs.lemmas.Bool.{both_ways}
 use Rattle.ra_moves.specs.Replacing.{applied}
 use Rattle.ra_weigh_changes.proofs.MoveLemmas.{to_known, to_read}

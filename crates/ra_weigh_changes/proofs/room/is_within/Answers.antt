@@ -1,4 +1,4 @@
-use Rattle.std.proofs.Common.{◌≡◌, ◌∙◌, get_or, arith}
+use Rattle.std.proofs.Common.{◌∙◌, get_or, arith}
 use Rattle.ra_model.specs.Numbers.{resource_count}
 use Rattle.ra_weigh_changes.proofs.RoomLemmas.{told_true, told_false, within_none, within_more, not_within, within_all}
 use Rattle.ra_weigh_changes.proofs.room.is_within.Goals as goal
