@@ -5,7 +5,8 @@ use Rattle.ra_plan.proofs.planning.weighing.Goals as goal
 
 pub requirements-requires : goal.requirements-requires
 requirements-requires g c =
-    rw c.instance.ensures (processes_known _ _ _ (move_of _ _ _ _ c.requires.offered (c.requires.free c.if-not-free.false)))
+    rw c.instance.ensures
+    (processes_known _ _ _ (move_of _ _ _ _ c.requires.offered (c.requires.free c.if-not-free.false)))
 
 pub changed_by-requires-clause-moves : goal.changed_by-requires-clause-moves
 changed_by-requires-clause-moves g c = move_of _ _ _ _ c.requires.offered (c.requires.free c.if-not-free.false)

@@ -16,7 +16,8 @@ loop-number-preserved c k l =
     let at : n + j ≡ k = omega arith in
     let place : c.args.start + n + j ≡ c.args.start + k = omega arith in
     let found : IsSumOrLarge c.args.limit (get_or c.block.result j 0) (f k) =
-    subst (λ p. IsSumOrLarge c.args.limit (get_or c.block.result j 0) (lacking c.args.rows.now c.args.terms.now p)) place
+    subst (λ p. IsSumOrLarge c.args.limit (get_or c.block.result j 0) (lacking c.args.rows.now c.args.terms.now p))
+    place
     (c.block.ensures j low) in
     subst (λ p. IsSumOrLarge c.args.limit (get_or c.store.new.list p 0) (f k)) at
     (subst (λ x. IsSumOrLarge c.args.limit x (f k)) (sym (c.store.ensures.there j low)) found))

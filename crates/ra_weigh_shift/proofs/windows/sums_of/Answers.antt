@@ -36,6 +36,6 @@ returns c = λ p are home.
     let these = (rw c.instance-inst.ensures at c.find_terms.ensures.terms) p are c.if-not-find_terms.false in
     let have = rw c.instance-inst.ensures at c.with_ways.ensures in
     IfSome_then c.with_ways.result (rw home at have)
-    (λ marks with. near_sums w p c.args.first c.args.limit marks table c.add_up.new.sums c.with_ways.new.sums terms small
-    (window_lacks w p c.args.first table terms c.filter_rows.ensures these small c.requires.first)
+    (λ marks with. near_sums w p c.args.first c.args.limit marks table c.add_up.new.sums c.with_ways.new.sums terms
+    small (window_lacks w p c.args.first table terms c.filter_rows.ensures these small c.requires.first)
     (rw c.as_slice.ensures.value at c.add_up.ensures) with)

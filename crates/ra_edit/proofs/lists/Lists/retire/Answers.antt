@@ -32,7 +32,8 @@ returns-clause-lists c =
     let few = few_of (drafted c.args.inst.now.tables c.args.self.now) c.requires.sound in
     let size : length c.args.self.now.requirements.items ≡ c.len-last.result * c.resources-width.result =
     cc (few.table, c.len-last.ensures.value, c.resources-width.ensures) in
-    retired_is (drafted c.args.inst.now.tables c.args.self.now) c.args.process c.resources-width.result c.len-last.result
+    retired_is (drafted c.args.inst.now.tables c.args.self.now) c.args.process c.resources-width.result
+    c.len-last.result
     _ _ _ _ (c.swap_remove.ensures.items (process_of (record { 0 = 0 }) 0))
     (dropped_is c.resources-width.result c.len-last.result c.args.process _ _ size
     (omega (arith, c.requires.process, c.len-last.ensures.value)) c.swap_remove_part.ensures.items)
