@@ -20,7 +20,7 @@ REPAIR_TRIES = 10_000
 class Command:
     """A row of the table. `beside` is the row by whose time its own is divided. If it makes proposals, the time is by
     the clock, without that of `idle`: the same words with no proposal. `status` is the one that it ends with. An `own` row is
-    measured of the program alone, since others needn't have its command."""
+    measured of another program only if that has its command."""
 
     def __init__(self, name, instance, words, beside=None, proposals=0, idle=None, status=0, own=False):
         self.name, self.instance, self.words = name, instance, words
@@ -48,6 +48,11 @@ def commands_of(folder):
     for kind in ("add", "retire", "resize"):
         yield Command(f"edit, 300 that {kind}", "3000", ["edit", model, initial, initial, *files("3000", kind)], check,
                       own=True)
+    for shape, kind, name in (("1000", "mixed", "10,000 of all kinds"), ("5000", "add", "300 that add")):
+        model, initial = files(shape, "model", "initial")
+        check = Command("check of the start", shape, ["check", model, initial, initial])
+        yield check
+        yield Command(f"edit, {name}", shape, ["edit", model, initial, initial, *files(shape, kind)], check, own=True)
     of_four = None
     for shape in ("repair-4", "repair-12000"):
         tries = lambda budget: ["repair", *files(shape, "model", "initial"), f"7:{budget}"]
@@ -73,6 +78,12 @@ def run_once(folder, words, status=0):
     return tuple(map(float, ran.stdout.split()))
 
 
+def has(folder, program, command):
+    """Whether a program ends a command with its status. Another one needn't know the command."""
+    words = [os.path.join(folder, "once"), program, *command.words]
+    return subprocess.run(words, stdout=subprocess.DEVNULL, stderr=subprocess.DEVNULL).returncode == command.status
+
+
 def time_of(folder, program, command):
     """The seconds that count for a command, its seconds of processor time, and its peak."""
     if command.words is None:
@@ -94,7 +105,9 @@ def main():
         sys.exit(2)
     folder, *programs = sys.argv[1:]
     commands = list(commands_of(folder))
-    runs = {(command, program): [] for command in commands for program in (programs[:1] if command.own else programs)}
+    first = programs[0]
+    runs = {(command, program): [] for command in commands for program in programs
+            if program == first or not command.own or has(folder, program, command)}
     for _ in range(int(ROUNDS)):
         for (command, program), times in runs.items():
             times.append(time_of(folder, program, command))
@@ -104,13 +117,13 @@ def main():
     print("| command | instance | processor | MB | beside | proposals a second |" + " other | MB of the other |" * (len(programs) - 1))
     print("|" + "---|" * (6 + 2 * (len(programs) - 1)))
     for command in commands:
-        own, *others = [runs.get((command, program)) for program in programs]
+        own, *beside = [runs.get((command, program)) for program in programs]
         ratio = lambda times: f"{median(a[0] / max(b[0], 0.001) for a, b in zip(own, times)):.2f}"
         mega = lambda times: f"{max(peak for _, _, peak in times) / 1024:.1f}"
         rate = f"{command.proposals / median(net for net, _, _ in own):,.0f}" if command.proposals else ""
         cells = [command.name, command.instance, f"{median(processor for _, processor, _ in own):.3f}", mega(own),
-                 ratio(runs[command.beside, programs[0]]) if command.beside else "", rate]
-        for times in others:
+                 ratio(runs[command.beside, first]) if command.beside else "", rate]
+        for times in beside:
             cells += [ratio(times), mega(times)] if command.words and times else ["", ""]
         print("| " + " | ".join(cells) + " |")
 
