@@ -11,12 +11,14 @@ use Rattle.ra_moves.specs.declared.verdicts.Verdict.{Verdict}
 use Rattle.ra_moves.specs.declared.verdicts.Verdict.TheVariants.{Done, Refused}
 use Rattle.ra_moves.specs.declared.verdicts.Weighed.{Weighed}
 use Rattle.ra_moves.specs.MoveSteps.{MoveSteps}
+use Rattle.ra_moves.specs.Steps.{process_in, from_in, to_in}
 use Rattle.ra_moves.specs.Judging.{judge}
 use Rattle.ra_cells.specs.MovedCounts.{MovedCounts}
 use Rattle.ra_moves.specs.Moving.{IsOffered}
 use Rattle.ra_moves.specs.Weighing.{weighed_of}
 use Rattle.ra_weigh_settle.specs.Settling.{IsSettling}
 use Rattle.ra_weigh_settle.proofs.Settles.{changes}
+use Rattle.ra_guards.specs.Guards.{AreWithin}
 use Rattle.ra_guards.specs.Kept.{IsTableOf}
 use Rattle.ra_journal.specs.declared.book.Book.{Book}
 use Rattle.ra_journal.specs.declared.entries.Entry.{Entry}
@@ -26,8 +28,9 @@ use Rattle.ra_journal.specs.Legal.{Legal}
 use Rattle.ra_journal.specs.Committing.{next_number, newer_since, IsCommit}
 use Rattle.ra_journal.specs.Keeping.{IsStart, IsKept}
 use Rattle.ra_journal.specs.Packing.{IsSmall}
+use Rattle.ra_journal.specs.SmallSteps.{AreSmallSteps}
 use Rattle.ra_journal.specs.Recording.{AreChangesOf, AreChangedBy, AreTouched, IsTakenIn}
-use Rattle.ra_journal.proofs.EndLemmas.{planned_at_end, next_is_legal}
+use Rattle.ra_journal.proofs.EndLemmas.{planned_within, planned_at_end, next_is_legal}
 use Rattle.ra_journal.proofs.KeepingLemmas.{IsNext}
 use Rattle.ra_journal.proofs.RoomLemmas.{AreNumbered, entries_within, entries_few, entries_fewer, proposals_few}
 use Rattle.ra_journal.proofs.RoomLemmas.{budgets_few}
@@ -59,9 +62,21 @@ made_few i a0 l h w legal exists =
     omega (arith, entries_within l h (length h) w (numbered i a0 l h legal), budgets_few l w exists)
 
 -- the next entry can be packed
-pub small_next : (i : Tables) (a0 : List Machine) (l : Lots) (book : Book) (plan : Plan) (e : Entry) →
-    IsKept i a0 l book → IsCommit i a0 l book.entries.items e.worker plan → e.k ≡ plan.k → e.q ≡ plan.q → IsSmall e
-small_next i a0 l book plan e kept commit number place = record {
+
+small_steps : (i : Tables) (steps : List Step) → WellFormed i → AreWithin i steps → AreSmallSteps steps
+unfolding process_in from_in to_in
+small_steps i steps limits within = record {
+  each = λ j before. record {
+    process = omega (arith, within.process j before, limits.few_processes);
+    from = omega (arith, within.from j before, limits.few_machines);
+    to = omega (arith, within.to j before, limits.few_machines);
+  };
+}
+
+pub small_next : (i : Tables) (a0 : List Machine) (l : Lots) (book : Book) (plan : Plan) (e : Entry) → IsStart i a0 →
+    IsKept i a0 l book → IsCommit i a0 l book.entries.items e.worker plan → e.k ≡ plan.k → e.q ≡ plan.q →
+    e.mv ≡ plan.mv → IsSmall e
+small_next i a0 l book plan e start kept commit number place mv = record {
   worker = omega (arith, worker_below l e.worker commit.worker);
   number = omega (arith, number, commit.within, budgets_few l e.worker commit.worker);
   place = omega (
@@ -72,6 +87,9 @@ small_next i a0 l book plan e kept commit number place = record {
         (numbered i a0 l book.entries.items kept.legal),
     proposals_few l,
   );
+  steps = small_steps i e.mv.steps start.limits
+      (subst (λ (m : MoveSteps). AreWithin i m.steps) (sym mv)
+      (planned_within i a0 l book.entries.items e.worker plan start kept.legal commit));
 }
 
 -- the moved counts of a weighing are changes of those before it

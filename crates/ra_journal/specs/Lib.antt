@@ -8,5 +8,6 @@ pub mod Laws
 pub mod Legal
 pub mod Packing
 pub mod Recording
+pub mod SmallSteps
 pub mod Solo
 pub mod States

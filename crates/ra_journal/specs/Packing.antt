@@ -11,12 +11,15 @@ use Rattle.ra_journal.specs.declared.entries.Entry.{Entry}
 use Rattle.ra_journal.specs.declared.outcomes.Outcome.{Outcome}
 use Rattle.ra_journal.specs.declared.outcomes.Outcome.TheVariants as outcome
 use Rattle.ra_journal.specs.declared.packed.Packed.{Packed}
+use Rattle.ra_journal.specs.SmallSteps.{AreSmallSteps}
 
--- an entry that can be packed: its worker is below 256, its number and its place are below 2 ^ 32
+-- an entry that can be packed: its worker is below 256, its number and its place are below 2 ^ 32, and the processes
+-- and the machines of its steps are below 2 ^ 16
 pub record IsSmall (e : Entry) : Type 0 where
   pub worker : e.worker < 256
   pub number : e.k < 2 ^ 32
   pub place : e.q < 2 ^ 32
+  pub steps : AreSmallSteps e.mv.steps
 
 -- the verdict that an outcome tells
 unfoldable pub verdict_in : Outcome → Verdict

@@ -6,12 +6,14 @@ mod allowances;
 mod batch;
 mod book;
 mod entries;
+mod halved;
 mod journal;
 mod listing;
 mod outcomes;
 mod packed;
 mod recording;
 mod replies;
+mod small_step;
 mod states;
 
 pub use allowances::allowed;

@@ -10,7 +10,7 @@ use ra_base::{Fixed, NoMemory};
 use std::alloc::Global;
 use std::marker::Model;
 
-/// A list of entries with a room that is reserved once, in which each takes 96 bytes. Contracts see the list and the room.
+/// A list of entries with a room that is reserved once, in which each takes 72 bytes. Contracts see the list and the room.
 #[derive(Drop)]
 pub struct Entries {
     packed: Fixed<Packed>,

@@ -2,23 +2,25 @@ ghost use Rattle.std.specs.Prelude.{◌≡◌};
 ghost use Rattle.ra_moves.specs.declared.verdicts.Verdict.TheVariants.{Refused};
 ghost use Rattle.ra_journal.specs.Packing.{verdict_in};
 
+use crate::halved::{Halved, Quartered};
 use ra_base::{Cause, Machine, Process, Resource, Service};
 use ra_moves::Verdict;
 
-/// What became of a proposal: a verdict whose causes stand beside Done, which takes 48 bytes, and a verdict 64.
+/// What became of a proposal: a verdict whose causes stand beside Done and whose long numbers stand in pieces. So it takes
+/// 44 bytes and is aligned to four, and a verdict takes 64.
 #[derive(Clone, Copy)]
 pub(crate) enum Outcome {
     /// It is done, and the cost is then this.
-    Done(u128),
+    Done(Quartered),
     /// It is refused; the causes with their numbers are those of `Cause`, in the same order.
     Repeat(Process),
     Same(Process),
-    Capacity(Machine, Resource, u64, u32),
-    Transient(Machine, Resource, u64, u32),
+    Capacity(Machine, Resource, Halved, u32),
+    Transient(Machine, Resource, Halved, u32),
     Conflict(Service, Machine),
     Spread(Service, u32, u32),
     Dependency(Service, Service, u32),
-    Rise(u64, u128, u128),
+    Rise(Halved, Quartered, Quartered),
     Closed(Process, Machine),
 }
 
@@ -28,7 +30,7 @@ pub(crate) fn outcome_of(verdict: &Verdict) -> Outcome
     ensures { verdict_in result ≡ verdict.now }
 {
     match *verdict {
-        Verdict::Done { cost } => Outcome::Done(cost),
+        Verdict::Done { cost } => Outcome::Done(Quartered::of(cost)),
         Verdict::Refused { cause } => refusal_for(&cause),
     }
 }
@@ -46,13 +48,13 @@ fn refusal_for(cause: &Cause) -> Outcome
             resource,
             used,
             cap,
-        } => Outcome::Capacity(machine, resource, used, cap),
+        } => Outcome::Capacity(machine, resource, Halved::of(used), cap),
         Cause::Transient {
             machine,
             resource,
             used,
             cap,
-        } => Outcome::Transient(machine, resource, used, cap),
+        } => Outcome::Transient(machine, resource, Halved::of(used), cap),
         Cause::Conflict { service, machine } => Outcome::Conflict(service, machine),
         Cause::Spread {
             service,
@@ -68,7 +70,11 @@ fn refusal_for(cause: &Cause) -> Outcome
             allowed,
             before,
             after,
-        } => Outcome::Rise(allowed, before, after),
+        } => Outcome::Rise(
+            Halved::of(allowed),
+            Quartered::of(before),
+            Quartered::of(after),
+        ),
         Cause::Closed { process, machine } => Outcome::Closed(process, machine),
     }
 }
@@ -79,19 +85,23 @@ pub(crate) fn verdict_in(outcome: &Outcome) -> Verdict
     ensures { result ≡ verdict_in outcome.now }
 {
     let cause = match *outcome {
-        Outcome::Done(cost) => return Verdict::Done { cost },
+        Outcome::Done(cost) => {
+            return Verdict::Done {
+                cost: cost.number(),
+            };
+        }
         Outcome::Repeat(process) => Cause::Repeat { process },
         Outcome::Same(process) => Cause::Same { process },
         Outcome::Capacity(machine, resource, used, cap) => Cause::Capacity {
             machine,
             resource,
-            used,
+            used: used.number(),
             cap,
         },
         Outcome::Transient(machine, resource, used, cap) => Cause::Transient {
             machine,
             resource,
-            used,
+            used: used.number(),
             cap,
         },
         Outcome::Conflict(service, machine) => Cause::Conflict { service, machine },
@@ -106,9 +116,9 @@ pub(crate) fn verdict_in(outcome: &Outcome) -> Verdict
             neighbourhood,
         },
         Outcome::Rise(allowed, before, after) => Cause::Rise {
-            allowed,
-            before,
-            after,
+            allowed: allowed.number(),
+            before: before.number(),
+            after: after.number(),
         },
         Outcome::Closed(process, machine) => Cause::Closed { process, machine },
     };

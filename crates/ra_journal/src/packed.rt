@@ -1,26 +1,28 @@
-ghost use Rattle.std.specs.Prelude.{◌≡◌};
+ghost use Rattle.std.specs.Prelude.{◌≡◌, ◌<◌, length};
+ghost use Rattle.ra_moves.specs.Steps.{step_at};
 ghost use Rattle.ra_journal.specs.Packing.{IsSmall, unpacked};
 
 use crate::entries::Entry;
 use crate::outcomes::{Outcome, outcome_of, verdict_in};
-use ra_moves::{Move, MoveKind, Step};
+use crate::small_step::SmallStep;
+use ra_moves::{Move, MoveKind};
 use std::mem::size_of;
 
-/// An entry in 96 bytes: the worker in one, its numbers in four each, and the move as its kind and three steps, of which a
-/// shorter move uses the first ones.
+/// An entry in 72 bytes: the worker in one, its numbers in four each, and the move as its kind and three steps in six
+/// each, of which a shorter move uses the first ones. Nothing is aligned to more than four bytes, and there are no gaps.
 #[derive(Clone, Copy)]
 pub(crate) struct Packed {
     outcome: Outcome,
-    worker: u8,
-    kind: MoveKind,
     k: u32,
     q: u32,
-    first: Step,
-    second: Step,
-    third: Step,
+    first: SmallStep,
+    second: SmallStep,
+    third: SmallStep,
+    worker: u8,
+    kind: MoveKind,
 }
 
-const _: () = prove!(size_of::<Packed>() == 96);
+const _: () = prove!(size_of::<Packed>() == 72);
 
 /// Packs an entry.
 #[tactic(auto, using(crate::proofs::PackingLemmas::packed_back))]
@@ -31,14 +33,23 @@ pub(crate) fn pack(entry: &Entry) -> Packed
     let last = entry.mv.steps() - 1;
     Packed {
         outcome: outcome_of(&entry.verdict),
-        worker: entry.worker as u8,
-        kind: entry.mv.kind(),
         k: entry.k as u32,
         q: entry.q as u32,
-        first: entry.mv.step(0),
-        second: entry.mv.step(last.min(1)),
-        third: entry.mv.step(last),
+        first: small_step(entry, 0),
+        second: small_step(entry, last.min(1)),
+        third: small_step(entry, last),
+        worker: entry.worker as u8,
+        kind: entry.mv.kind(),
     }
+}
+
+/// A step of an entry, counted from 0, in six bytes.
+fn small_step(entry: &Entry, i: u32) -> SmallStep
+    requires small { IsSmall entry.now }
+    requires exists { i < length entry.now.mv.steps }
+    ensures { result ≡ step_at entry.now.mv.steps i }
+{
+    SmallStep::of(&entry.mv.step(i))
 }
 
 /// The entry that was packed.
@@ -62,8 +73,12 @@ fn move_in(packed: &Packed) -> Move
     ensures { result ≡ (unpacked packed.now).mv }
 {
     match packed.kind {
-        MoveKind::Shift => Move::shift(packed.first),
-        MoveKind::Swap => Move::swap(packed.first, packed.second),
-        MoveKind::Chain => Move::chain(packed.first, packed.second, packed.third),
+        MoveKind::Shift => Move::shift(packed.first.step()),
+        MoveKind::Swap => Move::swap(packed.first.step(), packed.second.step()),
+        MoveKind::Chain => Move::chain(
+            packed.first.step(),
+            packed.second.step(),
+            packed.third.step(),
+        ),
     }
 }

@@ -23,8 +23,8 @@ add-requires-clause-small c =
       mv = plan.mv;
       verdict = c.judge_now-verdict.result;
     } in
-    small_next c.args.inst.now.tables c.args.a0.now.items c.args.lots.now c.args.book.now plan e c.requires.kept
-    c.requires.next.commit refl refl
+    small_next c.args.inst.now.tables c.args.a0.now.items c.args.lots.now c.args.book.now plan e c.requires.start
+    c.requires.kept c.requires.next.commit refl refl refl
 
 pub add-requires-clause-there : goal.add-requires-clause-there
 add-requires-clause-there c =
