@@ -6,8 +6,8 @@ use crate::halved::{Halved, Quartered};
 use ra_base::{Cause, Machine, Process, Resource, Service};
 use ra_moves::Verdict;
 
-/// What became of a proposal: a verdict whose causes stand beside Done and whose long numbers stand in pieces. So it takes
-/// 44 bytes and is aligned to four, and a verdict takes 64.
+/// What became of a proposal: a verdict whose causes stand beside Done and whose long numbers stand in pieces. So it
+/// takes 44 bytes and is aligned to four, and a verdict takes 64 and is aligned to 16.
 #[derive(Clone, Copy)]
 pub(crate) enum Outcome {
     /// It is done, and the cost is then this.
