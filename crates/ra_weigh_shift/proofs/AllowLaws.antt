@@ -61,7 +61,7 @@ apart_from a p to none same =
     (cause_none _ _ (first_none_at 0 1 (same_test (leaving a p to ∷ [])) (omega arith) none))
     (eq-eqb (machine_at a p) to same)
 
-same_none : (a : List Machine) (p to : ℕ) → machine_at a p ≢ to → same_of (leaving a p to ∷ []) ≡ None
+pub same_none : (a : List Machine) (p to : ℕ) → machine_at a p ≢ to → same_of (leaving a p to ∷ []) ≡ None
 unfolding same_of same_test first or_else from_in to_in step_at leaving
 same_none a p to apart = cause_free _ _ (ne_eqb (machine_at a p) to apart)
 

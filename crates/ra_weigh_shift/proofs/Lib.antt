@@ -5,6 +5,7 @@ pub mod SpreadLaws
 pub mod AllowLaws
 pub mod ReadLaws
 pub mod ChangeLaws
+mod FindingLaws
 mod FilterLaws
 mod FilterReads
 pub mod TermLaws

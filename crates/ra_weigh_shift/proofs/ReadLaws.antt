@@ -14,7 +14,7 @@ use Rattle.ra_model.specs.Numbers.{resource_count, service_count, process_count,
 use Rattle.ra_model.specs.Numbers.{requirement_of, location_of, neighbourhood_of, dependency_count, need_of}
 use Rattle.ra_model.specs.Limits.{WellFormed, Small}
 use Rattle.ra_model.specs.Assignments.{machine_at}
-use Rattle.ra_model.specs.Usage.{use_share, use_of}
+use Rattle.ra_model.specs.Usage.{use_share, use_of, transient_of}
 use Rattle.ra_model.specs.Services.{in_location, in_neighbourhood, locations_of}
 use Rattle.ra_model.specs.Relations.{depends}
 use Rattle.ra_model.proofs.TallyLemmas.{tally_term}
@@ -43,6 +43,12 @@ pub used_with : (i j : Tables) (a : List Machine) (p to r : ℕ) (used required 
 unfolding use_with
 used_with i j a p to r used required same row are within =
     ap₂ (λ x y. x + y) ((rw same at row).each r within) (are.each r within)
+
+pub between_with : (i j : Tables) (a0 b0 a : List Machine) (p to r : ℕ) (between required : List ℕ) → j ≡ i → b0 ≡ a0 →
+    IsTransientRow j b0 a to between → AreRequired i p required → r < resource_count i →
+    slice_index between r + slice_index required r ≡ transient_of i a0 a to r + requirement_of i p r
+between_with i j a0 b0 a p to r between required same start row are within =
+    ap₂ (λ x y. x + y) ((rw (same, start) at row).each r within) (are.each r within)
 
 pub used_without : (i j : Tables) (a : List Machine) (p from r : ℕ) (used required : List ℕ) → j ≡ i →
     IsUsageRow j a from used → AreRequired i p required → from ≡ machine_at a p → r < resource_count i →

@@ -55,7 +55,7 @@ use_left i a0 a p to r h =
       use_here i (machine_at a p) r p (machine_at a p) refl,
     )
 
-use_other : (i : Tables) (a0 a : List Machine) (p to m r : ℕ) → IsStart i a0 a p to → m ≢ to →
+pub use_other : (i : Tables) (a0 a : List Machine) (p to m r : ℕ) → IsStart i a0 a p to → m ≢ to →
     use_of i (shifted a p to) m r ≤ use_of i a m r
 use_other i a0 a p to m r h apart =
     omega (arith, use_set i a p (record { 0 = to }) m r h.fits h.known, use_elsewhere i m r p to (λ e. apart (sym e)))
@@ -77,7 +77,7 @@ unfolding transient_share
 between_elsewhere i a0 m r p at away apart =
     cond-false _ _ _ (or_from (eqb (machine_at a0 p) m) (eqb at m) (ne_eqb _ m away) (ne_eqb at m apart))
 
-between_entered : (i : Tables) (a0 a : List Machine) (p to r : ℕ) → IsStart i a0 a p to → machine_at a0 p ≢ to →
+pub between_entered : (i : Tables) (a0 a : List Machine) (p to r : ℕ) → IsStart i a0 a p to → machine_at a0 p ≢ to →
     transient_of i a0 (shifted a p to) to r ≡ transient_of i a0 a to r + requirement_of i p r
 between_entered i a0 a p to r h away =
     omega (
@@ -105,7 +105,7 @@ between_less i a0 a p to m r apart = ⊎_elim
     (λ (away : machine_at a0 p ≢ m). omega (arith, between_elsewhere i a0 m r p to away apart))
     (cases_eq (machine_at a0 p) m)
 
-between_other : (i : Tables) (a0 a : List Machine) (p to m r : ℕ) → IsStart i a0 a p to → m ≢ to →
+pub between_other : (i : Tables) (a0 a : List Machine) (p to m r : ℕ) → IsStart i a0 a p to → m ≢ to →
     transient_of i a0 (shifted a p to) m r ≤ transient_of i a0 a m r
 between_other i a0 a p to m r h apart =
     omega (

@@ -135,21 +135,28 @@ spread_is i a p to small fits within = ⊎_elim
     omega (arith, goes, there, some_location i a p small within))
     (cases_eq (location_of i (machine_at a p)) (location_of i to))
 
--- enough locations are left, whatever the machine
-pub keeps_anyway : (i : Tables) (a : List Machine) (p to least without : ℕ) → Small i → IsAssignment i a →
-    p < process_count i → least ≡ spread_of i (service_of i p) → without ≡ locations_without i a p → least ≤ without →
+-- more locations than are wanted are left, whatever the machine
+pub keeps_anyway : (i : Tables) (a : List Machine) (p to least : ℕ) → Small i → IsAssignment i a →
+    p < process_count i → least ≡ spread_of i (service_of i p) → least < locations_of i a (service_of i p) →
     spread_of i (service_of i p) ≤ locations_of i (shifted a p to) (service_of i p)
-keeps_anyway i a p to least without small fits within least_is without_is enough =
-    omega (arith, least_is, without_is, enough, spread_is i a p to small fits within)
+unfolding locations_without
+keeps_anyway i a p to least small fits within least_is more =
+    omega (
+      arith,
+      least_is,
+      more,
+      spread_is i a p to small fits within,
+      one_if_le (eqb (in_location i a (service_of i p) (location_of i (machine_at a p))) 1),
+    )
 
 -- or with the location of the machine
-pub keeps_with : (i : Tables) (a : List Machine) (p to s least without home label own held comes : ℕ) → Small i →
-    IsAssignment i a → p < process_count i → s ≡ service_of i p → least ≡ spread_of i (service_of i p) →
-    without ≡ locations_without i a p → home ≡ location_of i (machine_at a p) → label ≡ location_of i to →
-    own ≡ one_if (eqb home label) → held ≡ in_location i a s label → comes ≡ one_if (eqb held own) →
+pub keeps_with : (i : Tables) (a : List Machine) (p to s without home label own held comes : ℕ) → Small i →
+    IsAssignment i a → p < process_count i → s ≡ service_of i p → without ≡ locations_without i a p →
+    home ≡ location_of i (machine_at a p) → label ≡ location_of i to → own ≡ one_if (eqb home label) →
+    held ≡ in_location i a s label → comes ≡ one_if (eqb held own) →
     without + comes ≡ locations_of i (shifted a p to) (service_of i p)
-keeps_with i a p to s least without home label own held comes small fits within s_is least_is without_is home_is
-    label_is own_is held_is comes_is =
+keeps_with i a p to s without home label own held comes small fits within s_is without_is home_is label_is own_is
+    held_is comes_is =
     let own_there : own ≡ one_if (eqb (location_of i (machine_at a p)) (location_of i to)) = own_is
     ∙ ap₂ (λ x y. one_if (eqb x y)) home_is label_is in
     let held_there : held ≡ in_location i a (service_of i p) (location_of i to) = held_is

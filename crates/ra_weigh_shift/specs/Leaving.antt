@@ -3,8 +3,7 @@ use Rattle.std.specs.Prelude.{ℕ, ◌+◌}
 use Rattle.ra_model.specs.Numbers.{service_of, location_of, neighbourhood_of, spread_of}
 use Rattle.ra_model.specs.Assignments.{machine_at}
 use Rattle.ra_world.specs.declared.world.World.{World}
-use Rattle.ra_weigh_shift.specs.Conditions.{MayLeave}
-use Rattle.ra_weigh_shift.specs.Sharing.{use_without, row_cost, cost_of, way_cost, locations_without}
+use Rattle.ra_weigh_shift.specs.Sharing.{use_without, row_cost, cost_of, way_cost}
 
 -- its machine
 abbrev pub machine_left : World → ℕ → ℕ
@@ -17,16 +16,9 @@ location_left w p = location_of w.inst.now.tables (machine_left w p)
 abbrev pub neighbourhood_left : World → ℕ → ℕ
 neighbourhood_left w p = neighbourhood_of w.inst.now.tables (machine_left w p)
 
--- in how many locations there is another process of its service, and in how many there have to be some
-abbrev pub spread_left : World → ℕ → ℕ
-spread_left w p = locations_without w.inst.now.tables w.kept.assignment.items p
-
+-- in how many locations there have to be processes of its service
 abbrev pub spread_wanted : World → ℕ → ℕ
 spread_wanted w p = spread_of w.inst.now.tables (service_of w.inst.now.tables p)
-
--- it may leave its neighbourhood
-abbrev pub MayGo : World → ℕ → Type 0
-MayGo w p = MayLeave w.inst.now.tables w.kept.assignment.items p
 
 -- the load and balance cost of its machine without it
 abbrev pub cost_left : World → ℕ → ℕ

@@ -4,9 +4,12 @@
 
 mod costs;
 mod filter;
+mod finding;
 mod reads;
 mod shift;
 mod terms;
+mod weighed;
 mod windows;
 
+pub use finding::Finding;
 pub use shift::Shift;

@@ -9,7 +9,7 @@ ghost use Rattle.ra_weigh_shift.specs.Arriving.{BreaksNothing, cost_after, cost_
 ghost use Rattle.ra_weigh_shift.specs.Lanes.{AreMarked};
 ghost use Rattle.ra_world.specs.Worlds.{tables_of, start_of};
 ghost use Rattle.ra_weigh_shift.specs.Conditions.{shifted, HasRoom, HasRoomBetween, FindsNeeds, MayLeave};
-ghost use Rattle.ra_weigh_shift.specs.Leaving.{machine_left, location_left, neighbourhood_left, spread_left, spread_wanted, MayGo, cost_left, cost_before};
+ghost use Rattle.ra_weigh_shift.specs.Leaving.{machine_left, location_left, neighbourhood_left, spread_wanted, cost_left, cost_before};
 ghost use Rattle.ra_weigh_shift.specs.Sharing.{AreRequired, cost_of, way_cost};
 
 use crate::costs::{cost_with, cost_without, way_cost};
@@ -23,27 +23,24 @@ use std::sync::ledger::Ledger;
 /// A process that may be shifted, with all that is the same for each machine to which it might go.
 #[derive(Drop)]
 pub struct Shift<'w, 'a> {
-    world: &'w World<'a>,
-    process: Process,
+    pub(crate) world: &'w World<'a>,
+    pub(crate) process: Process,
     /// The machine that it would leave.
-    from: Machine,
+    pub(crate) from: Machine,
     /// Its initial machine.
-    home: Machine,
-    service: Service,
+    pub(crate) home: Machine,
+    pub(crate) service: Service,
     /// What it requires of each resource, and zeros behind.
-    required: [u32; 20],
+    pub(crate) required: [u32; 20],
     /// The labels of the location and of the neighbourhood that it would leave.
     location: u32,
     neighbourhood: u32,
-    /// In how many locations there is another process of its service, and in how many there have to be some.
-    spread_without: u32,
-    spread_min: u32,
-    /// Whether it may leave its neighbourhood.
-    may_leave: bool,
+    /// In how many locations there have to be processes of its service.
+    pub(crate) spread_min: u32,
     /// The load and balance cost of the machine that it would leave, once it has.
-    without: u128,
+    pub(crate) without: u128,
     /// The same while it stays, and what its own way costs so far.
-    before: u128,
+    pub(crate) before: u128,
     /// The cost, and the service cost in it.
     kept: u128,
     service_cost: u128,
@@ -57,11 +54,7 @@ pub struct Shift<'w, 'a> {
     ghost required_are: { AreRequired world.now.inst.now.tables process.0 required },
     ghost location_is: { location ≡ location_left world.now process.0 },
     ghost neighbourhood_is: { neighbourhood ≡ neighbourhood_left world.now process.0 },
-    ghost spread_is: { spread_without ≡ spread_left world.now process.0 },
-    ghost spread_few: { spread_without ≤ 50000 },
     ghost wants_is: { spread_min ≡ spread_wanted world.now process.0 },
-    ghost may: { may_leave ≡ true → MayGo world.now process.0 },
-    ghost may_not: { may_leave ≡ false → MayGo world.now process.0 → ⊥ },
     ghost without_is: { without ≡ cost_left world.now process.0 },
     ghost without_small: { without ≤ 30 * 2 ^ 96 },
     ghost before_is: { before ≡ cost_before world.now process.0 },
@@ -95,8 +88,6 @@ impl<'w, 'a> Shift<'w, 'a> {
         let required = required_of(inst, process, steps);
         let location = inst.location(from);
         let neighbourhood = inst.neighbourhood(from);
-        let spread_without = spread_without(world, process, service, location);
-        let may_leave = may_leave(world, process, service, neighbourhood);
         let without = cost_without(world, process, &required, from);
         let before = cost_before(world, process, home, from);
         let parts = world.parts();
@@ -110,9 +101,7 @@ impl<'w, 'a> Shift<'w, 'a> {
             required,
             location,
             neighbourhood,
-            spread_without,
             spread_min: inst.spread_min(service),
-            may_leave,
             without,
             before,
             kept: parts.total,
@@ -124,7 +113,7 @@ impl<'w, 'a> Shift<'w, 'a> {
 
     /// Whether the shift to a machine breaks nothing.
     #[inline(always)]
-    pub fn fits(&self, to: Machine) -> bool
+    fn fits(&self, to: Machine) -> bool
         requires { to.0 < machine_count self.now.world.now.inst.now.tables }
         ensures { (result ≡ true) ↔ (broken_by self.now.world.now.inst.now.tables
             self.now.world.now.start.now.items self.now.world.now.kept.assignment.items
@@ -304,7 +293,7 @@ impl<'w, 'a> Shift<'w, 'a> {
 
     /// Whether a machine is open, or is the initial one of the process.
     #[inline(always)]
-    fn is_admitted(&self, to: Machine) -> bool
+    pub(crate) fn is_admitted(&self, to: Machine) -> bool
         requires { to.0 < machine_count self.now.world.now.inst.now.tables }
         ensures { (result ≡ true) ↔ (closed_at self.now.world.now.inst.now.tables to.0 ≡ true →
             machine_at self.now.world.now.start.now.items self.now.process.0 ≡ to.0) }
@@ -358,7 +347,7 @@ impl<'w, 'a> Shift<'w, 'a> {
 
     /// Whether an amount of a transient resource is above what a machine has.
     #[inline(always)]
-    fn is_too_much(&self, to: Machine, r: Resource, wanted: u64) -> bool
+    pub(crate) fn is_too_much(&self, to: Machine, r: Resource, wanted: u64) -> bool
         requires machine { to.0 < machine_count self.now.world.now.inst.now.tables }
         requires resource { r.0 < resource_count self.now.world.now.inst.now.tables }
         ensures { (result ≡ true) ↔ ((transient_at self.now.world.now.inst.now.tables r.0 ≡ true)
@@ -373,7 +362,7 @@ impl<'w, 'a> Shift<'w, 'a> {
 
     /// Whether no process of the service is on a machine.
     #[inline(always)]
-    fn is_alone(&self, to: Machine) -> bool
+    pub(crate) fn is_alone(&self, to: Machine) -> bool
         ensures { (result ≡ true) ↔ (on_machine self.now.world.now.inst.now.tables
             self.now.world.now.kept.assignment.items
             (service_of self.now.world.now.inst.now.tables self.now.process.0) to.0 ≡ 0) }
@@ -383,7 +372,7 @@ impl<'w, 'a> Shift<'w, 'a> {
 
     /// Whether the service is then in as many locations as it has to be.
     #[inline(always)]
-    fn keeps_spread(&self, to: Machine) -> bool
+    pub(crate) fn keeps_spread(&self, to: Machine) -> bool
         requires { to.0 < machine_count self.now.world.now.inst.now.tables }
         ensures { (result ≡ true) ↔ (spread_of self.now.world.now.inst.now.tables
             (service_of self.now.world.now.inst.now.tables self.now.process.0)
@@ -391,18 +380,29 @@ impl<'w, 'a> Shift<'w, 'a> {
             (shifted self.now.world.now.kept.assignment.items self.now.process.0 to.0)
             (service_of self.now.world.now.inst.now.tables self.now.process.0)) }
     {
-        if self.spread_min <= self.spread_without {
+        if self.spread_min < self.world.cells().locations(self.service) {
             return true;
         }
+        self.spread_min <= self.locations_with(to)
+    }
+
+    /// In how many locations the service is then.
+    pub(crate) fn locations_with(&self, to: Machine) -> u32
+        requires { to.0 < machine_count self.now.world.now.inst.now.tables }
+        ensures { result ≡ locations_of self.now.world.now.inst.now.tables
+            (shifted self.now.world.now.kept.assignment.items self.now.process.0 to.0)
+            (service_of self.now.world.now.inst.now.tables self.now.process.0) }
+    {
+        let without = spread_without(self.world, self.process, self.service, self.location);
         let label = self.world.instance().location(to);
         let own = one_when(self.location == label);
         let comes = self.world.cells().in_location(self.service, label) == own;
-        self.spread_min <= self.spread_without + one_when(comes)
+        without + one_when(comes)
     }
 
     /// Whether no service stays behind that depends on the process.
     #[inline(always)]
-    fn keeps_dependants(&self, to: Machine) -> bool
+    pub(crate) fn keeps_dependants(&self, to: Machine) -> bool
         requires { to.0 < machine_count self.now.world.now.inst.now.tables }
         ensures { (result ≡ true) ↔ (neighbourhood_of self.now.world.now.inst.now.tables
             (machine_at self.now.world.now.kept.assignment.items self.now.process.0)
@@ -410,15 +410,15 @@ impl<'w, 'a> Shift<'w, 'a> {
             MayLeave self.now.world.now.inst.now.tables
             self.now.world.now.kept.assignment.items self.now.process.0) }
     {
-        if self.may_leave {
+        if self.world.instance().neighbourhood(to) == self.neighbourhood {
             return true;
         }
-        self.world.instance().neighbourhood(to) == self.neighbourhood
+        may_leave(self.world, self.process, self.service, self.neighbourhood)
     }
 
     /// Whether what the service needs is in the neighbourhood of a machine.
     #[inline(always)]
-    fn finds_needs(&self, to: Machine) -> bool
+    pub(crate) fn finds_needs(&self, to: Machine) -> bool
         requires { to.0 < machine_count self.now.world.now.inst.now.tables }
         ensures { (result ≡ true) ↔ FindsNeeds self.now.world.now.inst.now.tables
             self.now.world.now.kept.assignment.items self.now.process.0 to.0 }
@@ -453,7 +453,7 @@ impl<'w, 'a> Shift<'w, 'a> {
     }
 
     /// The moved count of the service after it.
-    fn moved(&self, to: Machine) -> u32
+    pub(crate) fn moved(&self, to: Machine) -> u32
         ensures value { result ≡ moved_of self.now.world.now.inst.now.tables
             self.now.world.now.start.now.items
             (shifted self.now.world.now.kept.assignment.items self.now.process.0 to.0)

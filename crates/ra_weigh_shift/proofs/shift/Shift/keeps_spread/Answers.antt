@@ -1,32 +1,25 @@
--- The locations without the process, and that of the machine where it comes as the first.
+-- More locations than are wanted are enough, since a process leaves at most one of them.
 use Rattle.std.proofs.Common.{◌∙◌, ap, refl, arith}
 use Rattle.std.proofs.lemmas.Bool.{leb-true, le-leb}
-use Rattle.ra_model.specs.Numbers.{location_of}
-use Rattle.ra_model.specs.declared.numbers.Instance.{Instance}
-use Rattle.ra_weigh_shift.proofs.SpreadLaws.{keeps_anyway, keeps_with}
+use Rattle.ra_model.specs.Services.{locations_of}
+use Rattle.ra_weigh_shift.proofs.SpreadLaws.{keeps_anyway}
 use Rattle.ra_weigh_shift.proofs.shift.Shift.keeps_spread.Goals as goal
 
-pub returns-then-self : goal.returns-then-self
-returns-then-self c =
+pub returns-then-self-locations : goal.returns-then-self-locations
+returns-then-self-locations c =
     let shift = c.args.self.now in
-    let w = shift.world.now in (
+    let w = shift.world.now in
+    let all = c.locations.ensures.count _ _ _ c.cells.ensures.stand
+    ∙ ap (locations_of w.inst.now.tables w.kept.assignment.items) shift.service_is in (
       λ _. keeps_anyway w.inst.now.tables w.kept.assignment.items shift.process.0 c.args.to.0 shift.spread_min
-          shift.spread_without w.inst.now.small w.keeps.stand.fits shift.process_known shift.wants_is shift.spread_is
-          c.if-self.true,
+          w.inst.now.small w.keeps.stand.fits shift.process_known shift.wants_is
+          (omega (arith, c.if-self-locations.true, all)),
       λ _. refl,
     )
 
 pub returns : goal.returns
 returns c =
-    let shift = c.args.self.now in
-    let w = shift.world.now in
-    let label = c.location-label.ensures ∙ ap (λ (j : Instance). location_of j.tables c.args.to.0) c.instance.ensures in
-    let all = keeps_with w.inst.now.tables w.kept.assignment.items shift.process.0 c.args.to.0 shift.service.0
-    shift.spread_min shift.spread_without shift.location c.location-label.result c.one_when-own.result
-    c.in_location.result c.one_when.result w.inst.now.small w.keeps.stand.fits shift.process_known shift.service_is
-    shift.wants_is shift.spread_is shift.location_is label c.one_when-own.ensures.value
-    (c.in_location.ensures.count _ _ _ c.cells.ensures.stand) c.one_when.ensures.value in (
-      λ test. omega (arith, leb-true _ _ test, all, shift.wants_is),
-      λ enough.
-          le-leb _ _ (omega (arith, enough, all, shift.wants_is)),
+    let shift = c.args.self.now in (
+      λ test. omega (arith, leb-true _ _ test, c.locations_with.ensures, shift.wants_is),
+      λ enough. le-leb _ _ (omega (arith, enough, c.locations_with.ensures, shift.wants_is)),
     )

@@ -74,12 +74,8 @@ invariant_of-result g c =
       neighbourhood_is = c.neighbourhood-neighbourhood.ensures
           ∙ ap (λ (j : Instance). neighbourhood_of j.tables c.machine_of-from.result.0) c.instance-inst.ensures
           ∙ ap (neighbourhood_of w.inst.now.tables) from;
-      spread_is = c.spread_without-spread_without.ensures.value;
-      spread_few = c.spread_without-spread_without.ensures.few;
       wants_is = c.spread_min.ensures ∙ ap (λ (j : Instance). spread_of j.tables c.service_of-service.result.0)
           c.instance-inst.ensures ∙ ap (spread_of w.inst.now.tables) service;
-      may = c.may_leave-may_leave.ensures.may;
-      may_not = c.may_leave-may_leave.ensures.may_not;
       without_is = c.cost_without-without.ensures.value
           ∙ ap (λ m. row_cost w.inst.now.tables m (use_without w.inst.now.tables a p)) from;
       without_small = c.cost_without-without.ensures.bound;
