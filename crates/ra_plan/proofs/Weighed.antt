@@ -22,8 +22,13 @@ use Rattle.ra_moves.specs.Options.{leaving}
 use Rattle.ra_moves.specs.Steps.{process_in, step_at, to_in}
 use Rattle.ra_moves.specs.Moving.{IsMove, IsOffered}
 use Rattle.ra_moves.specs.Weighing.{weighed_of}
+use Rattle.ra_weigh_shift.specs.Finding.{IsFinding, cause_of}
+use Rattle.ra_weigh_shift.specs.declared.finding.Finding.TheVariants.{Broken, Unbroken}
 use Rattle.ra_weigh_shift.proofs.AllowLaws.{no_repeat}
+use Rattle.ra_world.specs.Worlds.{here_of}
+use Rattle.ra_world.specs.declared.world.World.{World}
 use Rattle.ra_weigh_settle.specs.Settling.{AreMovedOf, IsSettling, HasSettling}
+use Rattle.ra_plan.specs.Deciding.{IsShiftOf}
 use Rattle.ra_plan.specs.Weighings.{IsWeighing}
 
 -- the counts that cells keep are the moved counts of their assignment
@@ -100,3 +105,19 @@ one_reaches i a p to steps offered one =
 pub processes_known : (i : Tables) (a : List Machine) (steps : List Step) → IsMove i a steps → (j : ℕ) →
     j < length steps → process_in steps j < process_count i
 processes_known i a steps move j within = omega (arith, move.stands.known j within, move.fits.one_each)
+
+-- what is so of a shift of a world is so of the move that is this shift
+pub shift_same : {X : Type 0} (f : World → List Step → X) (w v : World) (p to : ℕ) (steps : List Step) → v ≡ w →
+    IsShiftOf w p steps → (step_at steps 0).to.0 ≡ to → f v (leaving (here_of v) p to ∷ []) ≡ f w steps
+shift_same f w v p to steps same is to_is =
+    ap (λ (u : World). f u (leaving (here_of u) p to ∷ [])) same
+    ∙ ap (f w) (ap (λ (t : ℕ). leaving (here_of w) p t ∷ []) (sym to_is) ∙ sym is)
+
+-- what is found
+pub cause_found : (w : World) (p to : ℕ) (cause : Cause) → IsFinding w p to (Broken cause) → cause_of w p to ≡ Some cause
+unfolding IsFinding
+cause_found w p to cause found = found
+
+pub unbroken_found : (w : World) (p to : ℕ) → IsFinding w p to Unbroken → cause_of w p to ≡ None
+unfolding IsFinding
+unbroken_found w p to found = found

@@ -12,11 +12,11 @@ use crate::best::Best;
 use crate::moves::best_move;
 use crate::shifts::best_shift;
 use crate::verdicts::verdict;
-use crate::weighing::weigh;
+use crate::weighing::{bare, weigh};
 use ra_base::{Drawing, Steps};
 use ra_moves::{Move, MoveKind, Plan, Weighed, resolve};
 use ra_weigh_changes::changed_by;
-use ra_weigh_shift::Shift;
+use ra_weigh_shift::{Finding, Shift};
 use ra_world::{World, requirements};
 use std::sync::ledger::Ledger;
 
@@ -160,7 +160,7 @@ fn move_of(world: &World<'_>, first: &Move, words: &[u64; 8], drawing: Drawing, 
 }
 
 /// The weighing of the shift that is planned: of the best option, or of option 0 if none is done. What is known of the
-/// process tells soonest whether option 0 breaks nothing.
+/// process tells it soonest, but for the cause of a broken dependency or of a closed machine.
 fn shift_weighing<L: Ledger>(
     world: &World<'_>,
     shift: &Shift<'_, '_>,
@@ -175,8 +175,15 @@ fn shift_weighing<L: Ledger>(
     ensures value { result ≡ weighed_at world.now mv.now.steps }
     ensures counted { steps.new ≤ steps.old + 6 * resource_count (tables_of world.now) }
 {
-    let free = best.cost.is_some() || shift.fits(mv.step(0).to);
-    weighing(world, free, mv, steps)
+    let to = mv.step(0).to;
+    if best.cost.is_some() {
+        return shift.weighed(to);
+    }
+    match shift.find(to) {
+        Finding::Broken(cause) => bare(cause),
+        Finding::Unbroken => shift.weighed(to),
+        Finding::BrokenElsewhere => weigh(world, mv, steps),
+    }
 }
 
 /// The weighing of a move of which it is known that it breaks nothing, or of any other.

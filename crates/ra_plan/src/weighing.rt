@@ -32,7 +32,7 @@ pub fn weigh<L: Ledger>(world: &World<'_>, mv: &Move, steps: &mut Steps<L>) -> W
 }
 
 /// The weighing of a move that is refused for a cause.
-fn bare(cause: Cause) -> Weighed
+pub(crate) fn bare(cause: Cause) -> Weighed
     ensures { result ≡
         record { broken = Some cause; local = pos 0; first = None; second = None; third = None } }
 {
