@@ -89,8 +89,22 @@ fn machine_of(words: &[u64; 8], machines: u32, drawing: Drawing, option: u32) ->
         Drawing::One => rest(words[2 + option as usize], machines),
         Drawing::Two => {
             let first = rest(words[2], machines);
-            rest(first.0 as u64 + option as u64, machines)
+            after(first, option, machines)
         }
+    }
+}
+
+/// The machine so many places after another one, of machines in a ring.
+fn after(first: Machine, places: u32, machines: u32) -> Machine
+    requires first { first.0 < machines }
+    requires places { places < machines }
+    ensures { result.0 ≡ (first.0 + places) % machines }
+{
+    let left = machines - places;
+    if first.0 < left {
+        Machine(first.0 + places)
+    } else {
+        Machine(first.0 - left)
     }
 }
 
