@@ -1,5 +1,5 @@
 -- A guard that was held round a turn is given back.
-use Rattle.std.proofs.Common.{◌≡◌, ℕ, ◌+◌, ◌<◌, ◌≤◌, true, List, [], ◌∷◌, ◌++◌, length, drop, All, Contains, Option}
+use Rattle.std.proofs.Common.{◌≡◌, ℕ, ◌<◌, ◌≤◌, true, List, [], ◌∷◌, ◌++◌, length, drop, All, Contains, Option}
 use Rattle.std.proofs.Common.{Some, None, IfSome, IfNone, refl, ap, ap₂, sym, subst, ◌∙◌, ⊎_elim, arith}
 use mathlib.Core.List.{IsPrefix}
 use Rattle.ra_base.specs.declared.ids.Guard.{Guard}
@@ -18,6 +18,7 @@ use Rattle.ra_shared.specs.declared.books.Book.{Book}
 use Rattle.ra_shared.specs.declared.books.Opening.{Opening}
 use Rattle.ra_shared.specs.declared.shared.Shared.{Shared}
 use Rattle.ra_shared.specs.Books.{entry_touches, committed_in, KnowsOwn, IsCommitOf, IsLegalSeen}
+use Rattle.ra_shared.specs.Copies.{CopiesUnlessOwn}
 use Rattle.ra_shared.specs.Holding.{then_version, IsHandedIn, IsHeldUp}
 use Rattle.ra_shared.specs.Numbers.{number_of}
 use Rattle.ra_shared.specs.Shares.{start_of, IsCommitted}
@@ -42,21 +43,22 @@ none_version : (v n : ℕ) → then_version None v n ≡ v
 unfolding then_version
 none_version v n = refl
 
-module _ {g : Ghosts Book Entry Opening} (s : Shared) (plan : Plan) (p q r n : Pass Book Entry Opening g) where
+module _ {g : Ghosts Book Entry Opening} (s : Shared) (plan : Plan) (p q r n : Pass Book Entry Opening g)
+    (old new : List Entry) where
   -- after the turn the guards are those before it
-  pub grips_back : (reply : Option Reply) → IfSome reply (IsHandedIn s plan q r) → IfNone reply (IsHeldUp s plan q r) →
-      grips_of r ≡ grips_of q
+  pub grips_back : (reply : Option Reply) → IfSome reply (IsHandedIn s plan q r old new) →
+      IfNone reply (IsHeldUp s plan q r old new) → grips_of r ≡ grips_of q
   grips_back (Some reply) done none = done.grips
   grips_back None done none = none.grips
 
-  pub ready_back : (reply : Option Reply) → IfSome reply (IsHandedIn s plan q r) → IfNone reply (IsHeldUp s plan q r) →
-      IsPassOf s.turn r
+  pub ready_back : (reply : Option Reply) → IfSome reply (IsHandedIn s plan q r old new) →
+      IfNone reply (IsHeldUp s plan q r old new) → IsPassOf s.turn r
   ready_back (Some reply) done none = done.ready.0
   ready_back None done none = none.ready.0
 
   pub longer_back : (reply : Option Reply) → KnowsOwn q.number (seen_by q) (made_by q) →
-      IsCommitOf (start_of s) (seen_by q) q.number plan → IfSome reply (IsHandedIn s plan q r) →
-      IfNone reply (IsHeldUp s plan q r) → length (seen_by q) ≤ length (seen_by r)
+      IsCommitOf (start_of s) (seen_by q) q.number plan → IfSome reply (IsHandedIn s plan q r old new) →
+      IfNone reply (IsHeldUp s plan q r old new) → length (seen_by q) ≤ length (seen_by r)
   longer_back (Some reply) own commit done none =
       prefix_length (seen_by q) (seen_by r)
       (prefix_then (start_of s) q.number plan (seen_by q) (made_by q) (seen_by r) (made_by r) reply own commit
@@ -69,7 +71,7 @@ module _ {g : Ghosts Book Entry Opening} (s : Shared) (plan : Plan) (p q r n : P
       → (reply : Option Reply) (S : Type 0) → IfSome reply (λ _. S) →
       (S → OnlyBy (touching entry_touches (start_of s) (number_of (start_of s).inst.tables x))
       (λ (e : Entry). e.worker) r.number (seen_by r) v)
-      → IfSome reply (IsHandedIn s plan q r) → IfNone reply (IsHeldUp s plan q r) →
+      → IfSome reply (IsHandedIn s plan q r old new) → IfNone reply (IsHeldUp s plan q r old new) →
       KnowsOwn q.number (seen_by q) (made_by q) → IsCommitOf (start_of s) (seen_by q) q.number plan →
       v ≤ length (seen_by q)
       → IsVersion (touching entry_touches (start_of s) (number_of (start_of s).inst.tables x)) (seen_by q) v
@@ -110,8 +112,8 @@ module _ {g : Ghosts Book Entry Opening} (s : Shared) (plan : Plan) (p q r n : P
       made = still.1 ∙ (d.made ∙ ap₂ (λ (ms xs : List Entry). ms ++ drop (length d.history) xs) knows.1 (sym still.0));
     }
 
-    pub handed_back : (reply : Option Reply) → IfSome reply (IsHandedIn s plan q r) →
-        IfSome reply (IsHandedIn s plan p n)
+    pub handed_back : (reply : Option Reply) → IfSome reply (IsHandedIn s plan q r old new) →
+        IfSome reply (IsHandedIn s plan p n old new)
     handed_back (Some reply) h = record {
       ready = (still_of h.ready.0, idle);
       number = back.2 ∙ (h.number ∙ same.2);
@@ -119,10 +121,12 @@ module _ {g : Ghosts Book Entry Opening} (s : Shared) (plan : Plan) (p q r n : P
       grips = regained h.grips;
       legal = subst (IsLegalSeen (start_of s)) (sym still.0) h.legal;
       committed = moved reply h.committed;
+      copied = subst (λ (xs : List Entry). CopiesUnlessOwn plan.q xs old new reply) (sym still.0) h.copied;
     }
     handed_back None h = h
 
-    pub held_back : (reply : Option Reply) → IfNone reply (IsHeldUp s plan q r) → IfNone reply (IsHeldUp s plan p n)
+    pub held_back : (reply : Option Reply) → IfNone reply (IsHeldUp s plan q r old new) →
+        IfNone reply (IsHeldUp s plan p n old new)
     held_back (Some reply) h = h
     held_back None h = record {
       ready = (still_of h.ready.0, idle);
@@ -138,4 +142,5 @@ module _ {g : Ghosts Book Entry Opening} (s : Shared) (plan : Plan) (p q r n : P
             Contains ks (grip (number_of (start_of s).inst.tables h.newer.guard) h.newer.version))
             (sym news) h.newer.told;
       };
+      kept = h.kept;
     }

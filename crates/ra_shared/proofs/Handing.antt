@@ -1,5 +1,5 @@
 -- What a turn in which a worker hands in its plan leaves.
-use Rattle.std.proofs.Common.{◌≡◌, ◌⊎◌, ℕ, ◌+◌, ◌-◌, ◌<◌, ◌≤◌, ◌&&◌, cond, ltb, Bool, true, false, List, [], ◌∷◌, ◌++◌}
+use Rattle.std.proofs.Common.{◌≡◌, ◌⊎◌, ℕ, ◌-◌, ◌<◌, ◌≤◌, ◌&&◌, cond, ltb, Bool, true, false, List, [], ◌∷◌, ◌++◌}
 use Rattle.std.proofs.Common.{length, drop, slice_get, Option, Some, None, refl, ap, sym, subst, ◌∙◌, ⊎_elim, inl, inr}
 use Rattle.std.proofs.Common.{lt-ltb, le-ltb, arith}
 use Rattle.std.proofs.Math.Seq.{drop-append_seam, drop-length}

@@ -1,10 +1,10 @@
 -- Passes between two calls.
-use Rattle.std.proofs.Common.{◌≡◌, ℕ, List, [], ap, sym, subst, ◌∙◌, arith}
+use Rattle.std.proofs.Common.{ℕ, [], ap, sym, subst, ◌∙◌, arith}
 use Rattle.ra_journal.specs.declared.entries.Entry.{Entry}
 use Rattle.ra_turn.specs.declared.pass.Pass.{Pass}
 use Rattle.ra_turn.specs.declared.story.Story.{Ghosts}
 use Rattle.ra_turn.specs.Notes.{by}
-use Rattle.ra_turn.specs.Passes.{seen_by, IsFresh, IsPassOf, IsSamePass}
+use Rattle.ra_turn.specs.Passes.{IsFresh}
 use Rattle.ra_shared.specs.declared.books.Book.{Book}
 use Rattle.ra_shared.specs.declared.books.Opening.{Opening}
 use Rattle.ra_shared.specs.declared.shared.Shared.{Shared}

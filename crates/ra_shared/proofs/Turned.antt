@@ -1,6 +1,7 @@
 -- A turn in which a worker hands in its plan, from what the lock tells of it.
-use Rattle.std.proofs.Common.{◌≡◌, ℕ, ◌-◌, ◌<◌, true, None, Some, List, ◌++◌, length, drop, slice_get, ap, ap₂, sym}
-use Rattle.std.proofs.Common.{subst, ◌∙◌, arith}
+use Rattle.std.proofs.Common.{◌≡◌, ℕ, ◌-◌, ◌<◌, ◌≤◌, true, Some, List, ◌++◌, length, drop, ap, ap₂}
+use Rattle.std.proofs.Common.{sym, subst, ◌∙◌, ⊎_elim, arith}
+use Rattle.std.proofs.lemmas.List.{length_push}
 use Rattle.std.proofs.lemmas.Option.{slice_get_within}
 use mathlib.Core.List.{IsPrefix}
 use Rattle.ra_base.specs.declared.causes.Cause.{Cause}
@@ -12,14 +13,14 @@ use Rattle.ra_journal.specs.declared.replies.Reply.{Reply}
 use Rattle.ra_journal.specs.Committing.{AreHeld}
 use Rattle.ra_journal.proofs.EndLemmas.{planned_within}
 use Rattle.ra_turn.specs.declared.sight.Grip.{Grip}
-use Rattle.ra_turn.specs.Notes.{by, grip, touching, TouchedAt, IsNews, ShutBy}
+use Rattle.ra_turn.specs.Notes.{grip, touching, TouchedAt, IsNews, ShutBy}
 use Rattle.ra_shared.specs.declared.books.Opening.{Opening}
 use Rattle.ra_shared.specs.Books.{entry_touches, committed_in, KnowsOwn, IsCommitOf, IsLegalSeen, IsStartOf}
 use Rattle.ra_shared.specs.Holding.{HoldsWrites}
 use Rattle.ra_shared.specs.Numbers.{number_of}
 use Rattle.ra_shared.specs.Shares.{IsCommitted}
 use Rattle.ra_shared.proofs.Gripping.{written_known, are_held, newer_there}
-use Rattle.ra_shared.proofs.Handing.{MayGive, may_give, may_give_refused, only_stale}
+use Rattle.ra_shared.proofs.Handing.{MayGive, answered, may_give, may_give_refused, only_stale}
 use Rattle.ra_shared.proofs.Own.{later_commit}
 
 -- the worker w, which had seen and made these entries, finds the history h in its turn
@@ -109,6 +110,17 @@ turned_stale o p w u h found xs plan g version opened worker here start legal co
     none)
     (is ∙ ap₂ (λ (x : Opening) (n : ℕ). (committed_in x h n plan.q).journal) opened worker)
     ∙ sym here
+
+-- the place of the plan is one of what the journal became
+pub turned_place : (o p : Opening) (w u : ℕ) (h xs : List Entry) (plan : Plan) → p ≡ o → u ≡ w → IsCommitOf o h w plan →
+    xs ≡ (committed_in p h u plan.q).journal → plan.q ≤ length xs
+turned_place o p w u h xs plan opened worker commit is =
+    let now : xs ≡ (committed_in o h w plan.q).journal =
+    is ∙ ap₂ (λ (x : Opening) (n : ℕ). (committed_in x h n plan.q).journal) opened worker in
+    ⊎_elim
+    (λ stale. omega (arith, commit.place, ap length (now ∙ stale.1.journal)))
+    (λ more. omega (arith, commit.place, ap length (now ∙ more.1.journal), length_push h more.0))
+    (answered o h w plan commit)
 
 -- what the turn was
 pub turned_committed : (o p : Opening) (w u q : ℕ) (seen mine h found own xs seen' mine' : List Entry) (reply : Reply) →

@@ -1,5 +1,5 @@
 -- How a worker hands in a plan: it holds the write guards of its move, takes its turn, and gives them back.
-use Rattle.std.specs.Prelude.{◌≡◌, ◌⊎◌, ℕ, ◌+◌, ◌<◌, ◌≤◌, true, List, [], length, All, Contains, Option, Some, None}
+use Rattle.std.specs.Prelude.{◌≡◌, ◌⊎◌, ℕ, ◌+◌, ◌<◌, ◌≤◌, true, List, length, All, Contains, Option, Some, None}
 use Rattle.ra_base.specs.declared.causes.Cause.{Cause}
 use Rattle.ra_base.specs.declared.ids.Guard.{Guard}
 use Rattle.ra_model.specs.declared.raw.Tables.{Tables}
@@ -19,7 +19,8 @@ use Rattle.ra_turn.specs.Passes.{seen_by, made_by, grips_of, IsReady, KnowsSame,
 use Rattle.ra_shared.specs.declared.books.Book.{Book}
 use Rattle.ra_shared.specs.declared.books.Opening.{Opening}
 use Rattle.ra_shared.specs.declared.shared.Shared.{Shared}
-use Rattle.ra_shared.specs.Books.{IsCommitOf, KnowsOwn, IsLegalSeen}
+use Rattle.ra_shared.specs.Books.{IsCommitOf, IsLegalSeen}
+use Rattle.ra_shared.specs.Copies.{CopiesUnlessOwn}
 use Rattle.ra_shared.specs.Numbers.{number_of}
 use Rattle.ra_shared.specs.Shares.{start_of, IsCommitted}
 
@@ -55,9 +56,10 @@ module _ {g : Ghosts Book Entry Opening} where
     pub legal : IsLegalSeen (start_of s) (seen_by p)
     pub commit : IsCommitOf (start_of s) (seen_by p) p.number plan
 
-  -- the pass p, now q, has handed in the plan in one turn, and holds what it held
-  pub record IsHandedIn (s : Shared) (plan : Plan) (p q : Pass Book Entry Opening g) (reply : Reply)
-      : Type 0 where
+  -- the pass p, now q, has handed in the plan in one turn, and holds what it held; that turn has copied what the batch,
+  -- which was old, is now
+  pub record IsHandedIn (s : Shared) (plan : Plan) (p q : Pass Book Entry Opening g)
+      (old new : List Entry) (reply : Reply) : Type 0 where
     pub ready : IsReady s.turn q
     pub number : q.number ≡ p.number
     pub left : q.left + 1 ≡ p.left
@@ -66,6 +68,7 @@ module _ {g : Ghosts Book Entry Opening} where
     pub committed :
         IsCommitted (start_of s) p.number plan.q (seen_by p) (made_by p) (seen_by q) (made_by q)
         reply
+    pub copied : CopiesUnlessOwn plan.q (seen_by q) old new reply
 
   -- The next turn of the pass shows an entry at place plan.q or later that touched a write guard of the plan's move
   pub record IsNewer (i : Tables) (plan : Plan) (p : Pass Book Entry Opening g) : Type 0 where
@@ -87,10 +90,12 @@ module _ {g : Ghosts Book Entry Opening} where
       AreWrites i plan.mv.steps guards × HoldsWrites i plan.mv.steps plan.q (grips_of p)
   KnowsGuards i plan p None = NeedsNoGuard i plan p
 
-  -- the pass p, now q, was told so; it holds what it held, and has seen and made nothing
-  pub record IsHeldUp (s : Shared) (plan : Plan) (p q : Pass Book Entry Opening g) : Type 0 where
+  -- the pass p, now q, was told so; it holds what it held, and has seen and made nothing, and the batch is as it was
+  pub record IsHeldUp (s : Shared) (plan : Plan) (p q : Pass Book Entry Opening g)
+      (old new : List Entry) : Type 0 where
     pub ready : IsReady s.turn q
     pub number : q.number ≡ p.number
     pub same : KnowsSame p q
     pub grips : grips_of q ≡ grips_of p
     pub newer : IsNewer (start_of s).inst.tables plan q
+    pub kept : new ≡ old

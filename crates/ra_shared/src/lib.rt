@@ -3,6 +3,7 @@
 #![tactic(auto)]
 
 mod books;
+mod copying;
 mod labour;
 mod numbering;
 mod shared;

@@ -5,6 +5,7 @@ ghost use Rattle.ra_shared.specs.Books.{opened_by, IsStartOf};
 ghost use Rattle.ra_shared.specs.Numbers.{guard_count};
 
 use crate::books::{Book, WorkerPass};
+use crate::copying::copy_unless_own;
 use crate::numbering::{FIRST_NUMBER, number_of, then_version};
 use ra_base::NoMemory;
 use ra_guards::{WriteGuards, writes};
@@ -40,6 +41,7 @@ impl<'a> Shared<'a> {
     ghost use Rattle.ra_journal.specs.Entries.{worker_count};
     ghost use Rattle.ra_journal.specs.Journals.{lots_in, entries_in};
     ghost use Rattle.ra_shared.specs.Books.{opening_of_journal, IsCommitOf};
+    ghost use Rattle.ra_shared.specs.Copies.{CopiesUnlessOwn};
     ghost use Rattle.ra_shared.specs.Holding.{HoldsFirst, MayHandIn, IsHandedIn, KnowsGuards, IsHeldUp};
     ghost use Rattle.ra_shared.specs.Shares.{start_of, worker_of, turns_left, ShutsOut, HasTakenTurn, IsAtRest, IsNew, IsLast, IsCommitted};
 
@@ -89,8 +91,15 @@ impl<'a> Shared<'a> {
 
     /// Hands in a plan in one turn: the worker's next proposal is recorded, judged at the state after all entries,
     /// unless a guard of its move was touched since it was planned. It holds the write guards of the move meanwhile.
-    /// For a plan whose move breaks a constraint it holds none, since its entry touches nothing.
-    pub fn commit<R: Wait>(&self, rt: &R, pass: &mut WorkerPass<'a>, plan: &Plan) -> Reply
+    /// For a plan whose move breaks a constraint it holds none, since its entry touches nothing. The same turn fills
+    /// the batch with the entries from the plan's place on, unless the plan was recorded just there.
+    pub fn commit<R: Wait>(
+        &self,
+        rt: &R,
+        pass: &mut WorkerPass<'a>,
+        plan: &Plan,
+        batch: &mut Batch,
+    ) -> Reply
         requires rest { IsAtRest self.now pass.old }
         requires left { 0 < turns_left pass.old }
         requires commit { IsCommitOf (start_of self.now) (seen_by pass.old) (worker_of pass.old)
@@ -100,14 +109,15 @@ impl<'a> Shared<'a> {
         ensures seen { IsPrefix (seen_by pass.old) (seen_by pass.new) }
         ensures committed { IsCommitted (start_of self.now) (worker_of pass.old) plan.now.q
             (seen_by pass.old) (made_by pass.old) (seen_by pass.new) (made_by pass.new) result }
+        ensures batch { CopiesUnlessOwn plan.now.q (seen_by pass.new) batch.old batch.new result }
     {
         if plan.weighed.broken.is_some() {
-            return self.commit_once(rt, pass, plan, None);
+            return self.commit_once(rt, pass, plan, None, batch);
         }
         let guards = writes(self.topo, self.inst, &plan.mv);
-        match self.commit_from(rt, pass, plan, &guards, 0) {
+        match self.commit_from(rt, pass, plan, &guards, 0, batch) {
             Some(reply) => reply,
-            None => self.commit_once(rt, pass, plan, None),
+            None => self.commit_once(rt, pass, plan, None, batch),
         }
     }
 
@@ -120,46 +130,52 @@ impl<'a> Shared<'a> {
         plan: &Plan,
         guards: &WriteGuards,
         k: u32,
+        batch: &mut Batch,
     ) -> Option<Reply>
         requires may { MayHandIn self.now plan.now pass.old }
         requires guards { AreWrites (start_of self.now).inst.tables plan.now.mv.steps guards.now }
         requires held { HoldsFirst (start_of self.now).inst.tables guards.now plan.now.q k
             (grips_of pass.old) }
         requires place { k ≤ length guards.now }
-        ensures some { IfSome result (IsHandedIn self.now plan.now pass.old pass.new) }
+        ensures some { IfSome result
+            (IsHandedIn self.now plan.now pass.old pass.new batch.old batch.new) }
         ensures shut { IfSome result (λ _. ShutsOut self.now pass.new) }
-        ensures none { IfNone result (IsHeldUp self.now plan.now pass.old pass.new) }
+        ensures none { IfNone result
+            (IsHeldUp self.now plan.now pass.old pass.new batch.old batch.new) }
     {
         if k == guards.len() {
-            return Some(self.commit_once(rt, pass, plan, Some(guards)));
+            return Some(self.commit_once(rt, pass, plan, Some(guards), batch));
         }
         let guard = number_of(self.inst, guards.guard(k));
         let Hold::Held { version } = self.turn.hold(rt, pass, guard, plan.q) else {
             return None;
         };
-        let reply = self.commit_from(rt, pass, plan, guards, k + 1);
+        let reply = self.commit_from(rt, pass, plan, guards, k + 1, batch);
         let now = then_version(&reply, version, pass.seen());
         self.turn.release(pass, guard, now);
         reply
     }
 
-    /// Hands the plan in, in one turn. The guards are the write guards of its move, if the pass holds them.
+    /// Hands the plan in, in one turn, and copies for the worker in it. The guards are the write guards of its move, if
+    /// the pass holds them.
     fn commit_once<R: Wait>(
         &self,
         rt: &R,
         pass: &mut WorkerPass<'a>,
         plan: &Plan,
         guards: Option<&WriteGuards>,
+        batch: &mut Batch,
     ) -> Reply
         requires may { MayHandIn self.now plan.now pass.old }
         requires guards { KnowsGuards (start_of self.now).inst.tables plan.now pass.old
             (option_copied guards) }
-        ensures done { IsHandedIn self.now plan.now pass.old pass.new result }
+        ensures done { IsHandedIn self.now plan.now pass.old pass.new batch.old batch.new result }
         ensures shut { ShutsOut self.now pass.new }
     {
         let worker = pass.number();
         let mut held = self.turn.take(rt, pass);
         let reply = held.value.journal.commit_with(worker, plan, guards);
+        copy_unless_own(&held.value.journal, plan.q, &reply, batch);
         self.turn.give(pass, held);
         reply
     }

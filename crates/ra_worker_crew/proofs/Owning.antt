@@ -1,7 +1,6 @@
 -- A worker whose plan was recorded at its replica's place knows that entry.
-use Rattle.std.proofs.Common.{◌≡◌, ℕ, ◌+◌, ◌<◌, ◌≤◌, List, [], ◌∷◌, length, refl, sym, ap, ◌∙◌, subst, arith}
-use mathlib.Core.List.{IsPrefix}
-use Rattle.ra_draws.specs.declared.budgets.Lots.{Lots}
+use Rattle.std.proofs.Common.{◌≡◌, ℕ, ◌+◌, ◌<◌, Bool, false, cond, List, [], ◌∷◌, length, refl, sym, ap, ◌∙◌}
+use Rattle.std.proofs.Common.{arith}
 use Rattle.ra_moves.specs.declared.verdicts.Plan.{Plan}
 use Rattle.ra_moves.specs.declared.verdicts.Verdict.{Verdict}
 use Rattle.ra_journal.specs.declared.entries.Entry.{Entry}
@@ -11,13 +10,14 @@ use Rattle.ra_journal.specs.Batches.{batch_from}
 use Rattle.ra_journal.specs.Entries.{entry_at, budget}
 use Rattle.ra_turn.specs.Passes.{seen_by, made_by}
 use Rattle.ra_shared.specs.declared.shared.Shared.{Shared}
+use Rattle.ra_shared.specs.Copies.{is_recorded_at, CopiesUnlessOwn}
 use Rattle.ra_shared.specs.Laws.{IsRecorded}
 use Rattle.ra_shared.specs.Shares.{start_of, IsCommitted}
 use Rattle.ra_shared.proofs.Handing.{recorded_stands}
 use Rattle.ra_worker.proofs.TurnLemmas.{batch_long, batch_entry}
 use Rattle.ra_worker.specs.Replicas.{IsNextPlan}
 use Rattle.ra_worker_crew.specs.declared.worker.Worker.{Worker}
-use Rattle.ra_worker_crew.specs.Working.{IsAtWork, IsOwnNext, IsBehind, HasOwn, HasTurned, entry_of, shown_in}
+use Rattle.ra_worker_crew.specs.Working.{IsAtWork, IsOwnNext, HasNext, IsBehind, HasOwn, entry_of, shown_in}
 use Rattle.ra_worker_crew.proofs.Steps.{next_commit}
 
 one_left : (xs : List Entry) (e : Entry) → length xs ≡ 1 → entry_at xs 0 ≡ e → xs ≡ e ∷ []
@@ -67,7 +67,13 @@ shown_at reply j verdict place is here = ap shown_in is ∙ here
 pub behind_same : (w after : Worker) (shown : ℕ) → IsBehind shown w → after.pass ≡ w.pass → IsBehind shown after
 behind_same w after shown behind same = record { within = rw same behind.within; own = rw same behind.own }
 
--- it took no turn for that
-pub turned_own : (w after : Worker) → after.pass ≡ w.pass → after.replica.place ≡ w.replica.place + 1 →
-    HasTurned w after
-turned_own w after same place = rw same (record { number = refl; turns = omega (arith, place); fewer = omega arith })
+-- if its plan isn't the entry at its replica's place, the commit has copied what comes next
+pub copied_next : (w : Worker) (q place : ℕ) (old : List Entry) (reply : Reply) →
+    CopiesUnlessOwn q (seen_by w.pass) old w.batch reply → q ≡ w.replica.place → place ≡ w.replica.place →
+    is_recorded_at reply place ≡ false → HasNext w
+copied_next w q place old reply copied made here other =
+    let free : is_recorded_at reply q ≡ false = ap (is_recorded_at reply) (made ∙ sym here) ∙ other in
+    record {
+      next = copied ∙ (ap (λ (b : Bool). cond b old (batch_from (seen_by w.pass) q)) free
+          ∙ ap (batch_from (seen_by w.pass)) made);
+    }

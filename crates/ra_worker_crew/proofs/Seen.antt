@@ -1,6 +1,6 @@
 -- What a longer history keeps, and how many entries of it are a worker's own.
-use Rattle.std.proofs.Common.{◌≡◌, ℕ, zero, suc, ◌+◌, ◌<◌, ◌≤◌, Bool, true, false, cond, eqb, List, [], ◌∷◌, ◌++◌}
-use Rattle.std.proofs.Common.{length, refl, sym, ap, ◌∙◌, subst, arith}
+use Rattle.std.proofs.Common.{◌≡◌, ℕ, ◌+◌, ◌≤◌, Bool, true, false, cond, eqb, List, [], ◌∷◌}
+use Rattle.std.proofs.Common.{length, sym, ap, ◌∙◌, subst, arith}
 use Rattle.std.proofs.lemmas.List.{length-append, get_or_append_left}
 use mathlib.Core.List.{IsPrefix}
 use Rattle.ra_base.specs.Sums.{one_if}
@@ -13,7 +13,7 @@ use Rattle.ra_journal.specs.declared.entries.Entry.{Entry}
 use Rattle.ra_journal.specs.Entries.{entry_at, entries_of, proposal_count}
 use Rattle.ra_journal.specs.Legal.{Legal}
 use Rattle.ra_journal.proofs.Places.{SameBelow, same_fewer, same_state, same_entries_of}
-use Rattle.ra_journal.proofs.RoomLemmas.{AreNumbered, entries_few}
+use Rattle.ra_journal.proofs.RoomLemmas.{entries_few}
 use Rattle.ra_turn.specs.Notes.{by}
 use Rattle.ra_shared.specs.Books.{KnowsOwn}
 use Rattle.ra_worker.specs.declared.replica.Replica.{Replica}

@@ -1,5 +1,5 @@
 -- One step of a worker after another: it hands in its next plan, and catches up.
-use Rattle.std.proofs.Common.{◌≡◌, ℕ, ◌+◌, ◌-◌, ◌*◌, ◌<◌, ◌≤◌, min, false, ◌||◌, List, length, refl, sym, ap, ◌∙◌}
+use Rattle.std.proofs.Common.{◌≡◌, ℕ, ◌+◌, ◌*◌, ◌<◌, ◌≤◌, false, List, length, refl, sym, ap, ◌∙◌}
 use Rattle.std.proofs.Common.{subst, le-ltb, arith}
 use Rattle.std.proofs.lemmas.Bool.{or_from, lt-leb}
 use mathlib.Core.List.{IsPrefix}
@@ -10,8 +10,7 @@ use Rattle.ra_journal.specs.declared.replies.Reply.{Reply}
 use Rattle.ra_journal.specs.declared.replies.Reply.TheVariants.{Recorded, Stale}
 use Rattle.ra_journal.specs.Batches.{batch_from}
 use Rattle.ra_journal.specs.Committing.{next_number, IsCommit}
-use Rattle.ra_journal.specs.Entries.{entry_at, entries_of, budget, proposal_count, worker_count}
-use Rattle.ra_journal.specs.Legal.{Legal}
+use Rattle.ra_journal.specs.Entries.{entries_of, budget, proposal_count, worker_count}
 use Rattle.ra_journal.proofs.RoomLemmas.{AreNumbered, entries_fewer}
 use Rattle.ra_turn.specs.Passes.{seen_by, made_by}
 use Rattle.ra_shared.specs.declared.books.Opening.{Opening}
@@ -22,7 +21,7 @@ use Rattle.ra_shared.specs.Shares.{start_of, IsCommitted, IsAtRest}
 use Rattle.ra_shared.proofs.Handing.{recorded_stands, stale_stands}
 use Rattle.ra_worker.specs.declared.replica.Replica.{Replica}
 use Rattle.ra_worker.specs.Skipping.{has_used, is_behind, is_skipped}
-use Rattle.ra_worker.specs.Replicas.{IsNextPlan, IsAt, AreNext, AreTold, HasTaken}
+use Rattle.ra_worker.specs.Replicas.{IsNextPlan, AreTold, HasTaken}
 use Rattle.ra_worker.proofs.TurnLemmas.{may_commit, batch_next, batch_long, taken_at}
 use Rattle.ra_worker_crew.specs.declared.worker.Worker.{Worker}
 use Rattle.ra_worker_crew.specs.Working.{IsAtWork, HasOwn, HasRoom, IsBehind, HasTurned, HasMoved, shown_in}
@@ -230,21 +229,25 @@ turned_more first w w' turned number turn place = record {
 pub turned_none : (w : Worker) → HasTurned w w
 turned_none w = record { number = refl; turns = omega arith; fewer = omega arith }
 
--- after it has handed in a plan, there are as many turns to spare as there were but one
-pub room_handed : (s : Shared) (w w' : Worker) → HasRoom s 1 w → w'.replica ≡ w.replica →
-    w'.pass.left + 1 ≡ w.pass.left → HasRoom s 0 w'
-room_handed s w w' room same turn = record {
-  turns = omega (arith, room.turns, turn, ap (λ (r : Replica). r.place) same);
+-- it has handed in a plan, and its replica has taken in what that turn showed
+pub moved_taken : (w w' taken : Worker) → w'.replica ≡ w.replica → w'.pass.number ≡ w.pass.number →
+    w'.pass.left + 1 ≡ w.pass.left → taken.pass ≡ w'.pass → w'.replica.place < taken.replica.place → HasMoved w taken
+moved_taken w w' taken same number turn kept place = rw kept (record {
+  number = number;
+  turns = omega (arith, turn, place, ap (λ (r : Replica). r.place) same);
+  fewer = omega (arith, turn);
+})
+
+pub moved_then : (w taken after : Worker) → HasMoved w taken → HasTurned taken after → HasMoved w after
+moved_then w taken after moved turned = record {
+  number = turned.number ∙ moved.number;
+  turns = omega (arith, moved.turns, turned.turns);
+  fewer = omega (arith, moved.fewer, turned.fewer);
 }
 
-pub moved_past : (w w' after : Worker) (shown : ℕ) → w'.replica ≡ w.replica → w'.pass.number ≡ w.pass.number →
-    w'.pass.left + 1 ≡ w.pass.left → HasTurned w' after → w.replica.place ≤ shown → shown < after.replica.place →
-    HasMoved w after
-moved_past w w' after shown same number turn turned before past = record {
-  number = turned.number ∙ number;
-  turns = omega (arith, turned.turns, turn, ap (λ (r : Replica). r.place) same);
-  fewer = omega (arith, turned.fewer, turn);
-}
+-- so there are as many turns to spare as there were
+pub room_moved : (s : Shared) (w taken : Worker) → HasRoom s 1 w → HasMoved w taken → HasRoom s 0 taken
+room_moved s w taken room moved = record { turns = omega (arith, room.turns, moved.turns) }
 
 -- a worker with some budget left hasn't seen all proposals of the run
 pub place_fewer : (s : Shared) (w : Worker) → IsAtWork s w → HasOwn w →

@@ -1,5 +1,5 @@
 -- A worker while it runs: its replica follows what its pass has seen of the journal.
-use Rattle.std.specs.Prelude.{◌≡◌, ℕ, ◌+◌, ◌*◌, ◌<◌, ◌≤◌, List, [], ◌∷◌, length}
+use Rattle.std.specs.Prelude.{◌≡◌, ℕ, ◌+◌, ◌<◌, ◌≤◌, [], ◌∷◌, length}
 use Rattle.ra_moves.specs.declared.verdicts.Plan.{Plan}
 use Rattle.ra_moves.specs.declared.verdicts.Verdict.{Verdict}
 use Rattle.ra_journal.specs.Batches.{batch_from}
@@ -41,17 +41,20 @@ pub record HasTurned (before after : Worker) : Type 0 where
   pub turns : before.pass.left + before.replica.place ≤ after.pass.left + after.replica.place
   pub fewer : after.pass.left ≤ before.pass.left
 
--- of the same worker: it has taken a turn, and twice as many turns at most as its place was brought on
+-- of the same worker: it has taken a turn, and as many turns at most as its place was brought on
 pub record HasMoved (before after : Worker) : Type 0 where
   pub number : after.pass.number ≡ before.pass.number
-  pub turns :
-      before.pass.left + 2 * before.replica.place ≤ after.pass.left + 2 * after.replica.place
+  pub turns : before.pass.left + before.replica.place ≤ after.pass.left + after.replica.place
   pub fewer : after.pass.left < before.pass.left
 
 -- the entry of a worker's plan with a verdict
 abbrev pub entry_of : ℕ → Plan → Verdict → Entry
 entry_of worker plan verdict =
     record { worker = worker; k = plan.k; q = plan.q; mv = plan.mv; verdict = verdict }
+
+-- its batch is what it has seen and not taken in, at most 1,024 entries
+pub record HasNext (w : Worker) : Type 0 where
+  pub next : w.batch ≡ batch_from (seen_by w.pass) w.replica.place
 
 -- what it has seen and not taken in is one entry: its own, of this plan
 pub record IsOwnNext (w : Worker) (plan : Plan) (verdict : Verdict) : Type 0 where

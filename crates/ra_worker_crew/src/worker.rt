@@ -1,10 +1,11 @@
-ghost use Rattle.std.specs.Prelude.{◌≡◌, ◌+◌, ◌*◌, ◌<◌, true, false, [], ◌∷◌, length, IfOk, IfSome};
+ghost use Rattle.std.specs.Prelude.{◌≡◌, ◌+◌, ◌*◌, ◌<◌, true, false, [], ◌∷◌, length, IfOk, IfSome, IfNone};
 ghost use mathlib.Core.List.{IsPrefix};
 ghost use Rattle.ra_journal.specs.declared.replies.Reply.TheVariants.{Recorded};
 ghost use Rattle.ra_journal.specs.Entries.{budget};
 ghost use Rattle.ra_turn.specs.Passes.{seen_by, made_by};
+ghost use Rattle.ra_shared.specs.Copies.{is_recorded_at};
 ghost use Rattle.ra_worker.specs.Replicas.{IsNextPlan, AreTold, HasTaken};
-ghost use Rattle.ra_worker_crew.specs.Working.{IsAtWork, IsOwnNext, HasOwn, HasRoom, IsBehind, HasMoved, HasTurned, shown_in};
+ghost use Rattle.ra_worker_crew.specs.Working.{IsAtWork, IsOwnNext, HasNext, HasOwn, HasRoom, IsBehind, HasMoved, HasTurned, shown_in};
 
 use ra_base::{NoMemory, Steps};
 use ra_journal::{Batch, Entry, Reply};
@@ -84,9 +85,9 @@ impl<'a> Worker<'a> {
         offer::<Brand>(&self.replica, Blank::new(1))
     }
 
-    /// Hands in a plan of its next proposal. If the plan was recorded at the replica's place, the worker knows that entry
-    /// and takes it in. Else it catches up past the entry that the answer shows: its own, or the one that made the plan
-    /// stale.
+    /// Hands in a plan of its next proposal. If the plan was recorded at the replica's place, the worker knows that
+    /// entry and takes it in. Else it takes in what the commit copied, and catches up past the entry that the answer
+    /// shows: its own, or the one that made the plan stale.
     pub(crate) fn hand_in<R: Wait>(&mut self, rt: &R, shared: &Shared<'a>, plan: &Plan)
         requires work { IsAtWork shared.now self.old }
         requires own { HasOwn self.old }
@@ -98,10 +99,13 @@ impl<'a> Worker<'a> {
         ensures own { HasOwn self.new }
         ensures moved { HasMoved self.old self.new }
     {
-        let reply = shared.commit(rt, &mut self.pass, plan);
+        let reply = shared.commit(rt, &mut self.pass, plan, &mut self.batch);
         match recorded_at(&reply, self.replica.place()) {
             Some(verdict) => self.take_own(shared, plan, verdict),
-            None => self.catch_up_past(rt, shared, shown_by(&reply)),
+            None => {
+                self.take_copied(shared);
+                self.catch_up_past(rt, shared, shown_by(&reply));
+            }
         }
     }
 
@@ -121,6 +125,18 @@ impl<'a> Worker<'a> {
             verdict,
         };
         take_one::<Brand>(&mut self.replica, &entry, Blank::new(1));
+    }
+
+    /// Takes in the entries that a turn copied into its batch. There is at least one that it hasn't taken in.
+    fn take_copied(&mut self, _shared: &Shared<'a>)
+        requires work { IsAtWork _shared.now self.old }
+        requires next { HasNext self.old }
+        requires more { self.old.replica.place < length (seen_by self.old.pass) }
+        ensures work { IsAtWork _shared.now self.new }
+        ensures pass { self.new.pass ≡ self.old.pass }
+        ensures place { self.old.replica.place < self.new.replica.place }
+    {
+        take_in::<Brand>(&mut self.replica, &self.batch, Blank::new(1));
     }
 
     /// Catches up past an entry that it has seen, if all that it has made stands at that place or before.
@@ -152,7 +168,7 @@ impl<'a> Worker<'a> {
     {
         let place = self.replica.place();
         shared.catch_up(rt, &mut self.pass, place, &mut self.batch);
-        take_in::<Brand>(&mut self.replica, &self.batch, Blank::new(1));
+        self.take_copied(shared);
     }
 }
 
@@ -168,8 +184,10 @@ fn shown_by(reply: &Reply) -> u64
 }
 
 /// The verdict, if an answer says that the plan was recorded at this place.
+#[tactic(auto, unfolding(ra_shared::specs::Copies::is_recorded_at))]
 fn recorded_at(reply: &Reply, place: u64) -> Option<Verdict>
-    ensures { IfSome result (λ verdict. reply.now ≡ Recorded place verdict) }
+    ensures some { IfSome result (λ verdict. reply.now ≡ Recorded place verdict) }
+    ensures none { IfNone result (is_recorded_at reply.now place ≡ false) }
 {
     match reply {
         Reply::Recorded { at, verdict } if *at == place => Some(*verdict),

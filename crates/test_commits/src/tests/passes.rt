@@ -26,10 +26,12 @@ use std::sync::Wait;
 use std::sync::ledger::Blank;
 use test_samples::{assignment, sample, two_lots};
 
-/// What both workers are answered, how many entries each has then seen, and what the second is told of them.
+/// What both workers are answered, what each commit copies for its worker, how many entries each has then seen, and
+/// what the second is told of them.
 #[derive(Clone, Copy, Debug, PartialEq, Eq)]
 struct Answers {
     replies: [Reply; 2],
+    copied: [Option<Entry>; 2],
     seen: [u64; 2],
     told: u64,
     entry: Option<Entry>,
@@ -61,6 +63,7 @@ fn commit_first<'a, R: Abort + Wait>(
     pass: &mut WorkerPass<'a>,
     worker: u32,
     plan: &Plan,
+    batch: &mut Batch,
 ) -> Reply
     requires lots { lots.now ≡ (start_of shared.now).lots }
     requires new { IsNew shared.now worker pass.old }
@@ -71,7 +74,7 @@ fn commit_first<'a, R: Abort + Wait>(
     ensures left { 0 < pass.new.left }
 {
     assert!(rt; lots.lot(worker).budget > 0);
-    shared.commit(rt, pass, plan)
+    shared.commit(rt, pass, plan, batch)
 }
 
 /// The entry of a batch of one.
@@ -105,12 +108,15 @@ fn take_turns<'a, R: Abort + Wait>(
     ensures second { IsLast shared.now 1 second.new }
 {
     let mut batch = Batch::make(alloc).expect(rt, "no memory");
-    let one = commit_first(rt, shared, lots, first, 0, &plans.0);
-    let two = commit_first(rt, shared, lots, second, 1, &plans.1);
+    let one = commit_first(rt, shared, lots, first, 0, &plans.0, &mut batch);
+    let own = lone_entry(&batch);
+    let two = commit_first(rt, shared, lots, second, 1, &plans.1, &mut batch);
+    let other = lone_entry(&batch);
     let seen = [first.seen(), second.seen()];
     let told = shared.catch_up(rt, second, 0, &mut batch);
     Answers {
         replies: [one, two],
+        copied: [own, other],
         seen,
         told,
         entry: lone_entry(&batch),
@@ -186,11 +192,13 @@ pub(super) fn away() -> Entry {
     }
 }
 
-/// What worker 1 is answered shows it the entry that made its plan stale, and nothing else is recorded.
+/// What worker 1 is answered shows it the entry that made its plan stale, and its commit has copied it; nothing else is
+/// recorded. Worker 0 is copied nothing, since its plan is the entry at its own place.
 fn a_stale_pass_sees_the_entry<R: Abort + Wait>(rt: &R, alloc: Global, inst: &Instance) {
     let (answers, entries) = answers_on_sample(rt, alloc, inst);
     let wanted = Answers {
         replies: [done(0, 3510), stale(Guard::Machine(Machine(2)))],
+        copied: [None, Some(away())],
         seen: [1, 1],
         told: 1,
         entry: Some(away()),

@@ -1,5 +1,4 @@
-use Rattle.std.proofs.Common.{◌≡◌, Result, Ok, Err, IfOk, sym, ap, ◌∙◌, subst}
-use Rattle.ra_worker.specs.declared.replica.Replica.{Replica}
+use Rattle.std.proofs.Common.{◌≡◌, Result, Ok, Err, IfOk, sym, ◌∙◌, subst}
 use Rattle.ra_worker.specs.Replicas.{IsAt}
 use Rattle.ra_worker_crew.specs.declared.worker.Worker.{Worker}
 use Rattle.ra_worker_crew.specs.Crews.{IsFresh}

@@ -6,6 +6,7 @@ use Rattle.ra_journal.specs.declared.entries.Entry.{Entry}
 use Rattle.ra_journal.proofs.EndLemmas.{planned_within}
 use Rattle.ra_shared.specs.declared.books.Opening.{Opening}
 use Rattle.ra_shared.specs.Books.{KnowsOwn, IsCommitOf}
+use Rattle.ra_shared.specs.Copies.{CopiesUnlessOwn}
 use Rattle.ra_shared.specs.Shares.{start_of}
 use Rattle.ra_shared.proofs.Back.{prefix_then}
 use Rattle.ra_shared.proofs.shared.Shared.commit.Goals as goal
@@ -51,3 +52,10 @@ returns-then-is_some-clause-seen g c =
     prefix_then (start_of c.args.self.now) p.number c.args.plan.now p.seat.me.0.own.seen p.seat.me.0.own.mine
     r.seat.me.0.own.seen r.seat.me.0.own.mine c.commit_once.result c.requires.rest.own c.requires.commit
     c.commit_once.ensures.done.committed
+
+pub returns-in-None-clause-batch : goal.returns-in-None-clause-batch
+returns-in-None-clause-batch g c =
+    let r = c.commit_once-in-None.new.pass in
+    subst (λ (xs : List Entry). CopiesUnlessOwn c.args.plan.now.q r.seat.me.0.own.seen xs
+    c.commit_once-in-None.new.batch c.commit_once-in-None.result) c.in-None.ensures.none.kept
+    c.commit_once-in-None.ensures.done.copied

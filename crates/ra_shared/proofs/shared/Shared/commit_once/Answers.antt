@@ -1,17 +1,19 @@
-use Rattle.std.proofs.Common.{◌≡◌, inl, ⊎_elim, refl, ap, sym, ◌∙◌, subst, Contains, List, option_copied, arith}
-use Rattle.ra_base.specs.declared.ids.Guard.{Guard}
+use Rattle.std.proofs.Common.{◌≡◌, ◌≤◌, length, inl, ⊎_elim, refl, ap, sym, ◌∙◌, subst, Contains, List}
+use Rattle.std.proofs.Common.{option_copied, arith}
 use Rattle.ra_guards.specs.Order.{AreWrites}
+use Rattle.ra_journal.specs.declared.entries.Entry.{Entry}
 use Rattle.ra_journal.specs.declared.journal.Journal.{Journal}
 use Rattle.ra_journal.specs.Journals.{HasHeld}
 use Rattle.ra_turn.specs.declared.sight.Grip.{Grip}
 use Rattle.ra_turn.specs.Notes.{grip}
 use Rattle.ra_shared.specs.declared.books.Opening.{Opening}
 use Rattle.ra_shared.specs.Books.{opening_of_journal}
+use Rattle.ra_shared.specs.Copies.{CopiesUnlessOwn}
 use Rattle.ra_shared.specs.Numbers.{number_of}
 use Rattle.ra_shared.specs.Shares.{start_of}
 use Rattle.ra_shared.proofs.Known.{by_guards, of_given}
 use Rattle.ra_shared.proofs.Turned.{IsTurned, turned_by, turned_commit, turned_held, turned_gives, turned_refused}
-use Rattle.ra_shared.proofs.Turned.{turned_stale, turned_committed, legal_now}
+use Rattle.ra_shared.proofs.Turned.{turned_stale, turned_place, turned_committed, legal_now}
 use Rattle.ra_shared.proofs.shared.Shared.commit_once.Goals as goal
 
 pub commit_with-reply-requires-clause-commit : goal.commit_with-reply-requires-clause-commit
@@ -58,6 +60,29 @@ commit_with-reply-requires-clause-held g c =
           c.args.plan.now p.seat.me.0.grips q.seat.me.0.grips opened took.pass.1.2 seen took.guards.0.0 j.start
           j.kept.legal commit holds took.guards.1;
     })
+
+pub copy_unless_own-requires : goal.copy_unless_own-requires
+copy_unless_own-requires g c =
+    let o : Opening = start_of c.args.self.now in
+    let j : Journal = c.deref_mut.result.now in
+    let p = c.args.pass.now in
+    let q = c.take-held.new.pass in
+    let took = c.take-held.ensures in
+    let opened : opening_of_journal j ≡ o = ap (λ (x : Journal). opening_of_journal x) c.deref_mut.ensures.value
+    ∙ took.opening in
+    let seen : q.seat.me.0.own.seen ≡ j.book.entries.items = took.seen.0
+    ∙ ap (λ (x : Journal). x.book.entries.items) (sym c.deref_mut.ensures.value) in
+    let may = c.requires.may in
+    let turned : IsTurned p.number p.seat.me.0.own.seen p.seat.me.0.own.mine j.book.entries.items =
+    turned_by p.seat.me.0.own.number p.number q.number p.seat.me.0.own.seen p.seat.me.0.own.mine j.book.entries.items
+    q.seat.me.0.own.seen q.seat.me.0.own.mine took.seen.1 seen p.owned p.numbered took.pass.1.2 took.made.1
+    took.made.0 in
+    let commit = turned_commit o o p.number p.number p.seat.me.0.own.seen p.seat.me.0.own.mine j.book.entries.items
+    c.args.plan.now refl refl turned may.commit in
+    subst (λ (x : Journal). c.args.plan.now.q ≤ length x.book.entries.items) (sym c.deref.ensures)
+    (turned_place o (opening_of_journal j) p.number c.number-worker.result j.book.entries.items
+    c.commit_with-reply.new.self.book.entries.items c.args.plan.now opened c.number-worker.ensures commit
+    c.commit_with-reply.ensures.journal)
 
 pub give-requires-clause-notes : goal.give-requires-clause-notes
 give-requires-clause-notes g c =
@@ -132,4 +157,7 @@ returns-clause-done g c =
           c.give.new.pass.seat.me.0.own.seen c.give.new.pass.seat.me.0.own.mine c.commit_with-reply.result opened
           c.number-worker.ensures turned j.kept.legal seen took.made.0 gave.seen gave.made
           c.commit_with-reply.ensures.journal c.commit_with-reply.ensures.reply;
+      copied = subst (λ (xs : List Entry). CopiesUnlessOwn c.args.plan.now.q xs c.args.batch.now
+          c.copy_unless_own.new.batch c.commit_with-reply.result)
+          (ap (λ (x : Journal). x.book.entries.items) c.deref.ensures ∙ sym gave.seen) c.copy_unless_own.ensures;
     }

@@ -1,7 +1,5 @@
-use Rattle.std.proofs.Common.{◌≡◌, List, length, map, sym, ap, ◌∙◌, subst}
+use Rattle.std.proofs.Common.{length, ap, ◌∙◌}
 use Rattle.std.proofs.lemmas.List.{length-map}
-use Rattle.ra_turn.specs.Passes.{EachAt}
-use Rattle.ra_shared.specs.Shares.{IsLast}
 use Rattle.ra_worker_crew.specs.declared.worker.Worker.{Worker}
 use Rattle.ra_worker_crew.proofs.Runs.{all_last, all_whole}
 use Rattle.ra_worker_crew.proofs.crew.Crew.run.Goals as goal

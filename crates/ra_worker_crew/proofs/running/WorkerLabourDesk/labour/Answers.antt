@@ -1,4 +1,4 @@
-use Rattle.std.proofs.Common.{◌≡◌, ◌+◌, ◌*◌, ◌<◌, ◌≤◌, refl, ◌∙◌, arith}
+use Rattle.std.proofs.Common.{refl, ◌∙◌, arith}
 use Rattle.ra_worker_crew.proofs.Steps.{room_left}
 use Rattle.ra_worker_crew.proofs.Runs.{has_run}
 use Rattle.ra_worker_crew.proofs.running.WorkerLabourDesk.labour.Goals as goal
@@ -22,7 +22,12 @@ proposals-preserved g c = record {
   work = c.hand_in.ensures.work;
   own = c.hand_in.ensures.own;
   number = c.hand_in.ensures.moved.number ∙ c.proposals.invariant.number;
-  turns = omega (arith, c.hand_in.ensures.moved.turns, c.proposals.invariant.turns);
+  turns = omega (
+    arith,
+    c.hand_in.ensures.moved.turns,
+    c.hand_in.ensures.moved.fewer,
+    c.proposals.invariant.turns,
+  );
 }
 
 pub proposals-smaller : goal.proposals-smaller

@@ -1,4 +1,4 @@
-use Rattle.std.proofs.Common.{◌≡◌, ◌<◌, ◌≤◌, arith}
+use Rattle.std.proofs.Common.{arith}
 use Rattle.ra_worker_crew.proofs.Steps.{behind_later, own_past, turn_left, turned_none, turned_more}
 use Rattle.ra_worker_crew.proofs.worker.Worker.catch_up_past.Goals as goal
 
