@@ -20,3 +20,5 @@ pub mod VerdictLaws
 pub mod LoadLaws
 pub mod TouchLaws
 pub mod ReadLaws
+pub mod CountLaws
+pub mod MemberLaws

@@ -5,16 +5,16 @@ use Rattle.ra_base.specs.Tables.{cell}
 use Rattle.ra_base.specs.declared.ids.Machine.{Machine}
 use Rattle.ra_model.specs.declared.raw.ProcessRow.{ProcessRow}
 use Rattle.ra_model.specs.declared.raw.Tables.{Tables}
-use Rattle.ra_model.specs.Numbers.{resource_count, machine_count, process_count, resource_row, machine_row, service_row}
+use Rattle.ra_model.specs.Numbers.{resource_count, machine_count, resource_row, machine_row, service_row}
 use Rattle.ra_model.specs.Numbers.{process_row, balance_row, service_of, requirement_of, location_of, neighbourhood_of}
 use Rattle.ra_model.specs.Numbers.{load_weight_of, capacity_of, safety_of, way_cost_of, spread_of, dependency_end}
 use Rattle.ra_model.specs.Numbers.{process_cost_of, target_of, balance_weight_of, process_weight_of, service_weight_of}
 use Rattle.ra_model.specs.Numbers.{machine_weight_of}
 use Rattle.ra_model.specs.Limits.{Small}
-use Rattle.ra_model.specs.Assignments.{machine_at, tally}
+use Rattle.ra_model.specs.Assignments.{machine_at}
 use Rattle.ra_model.specs.Costs.{process_share}
 use Rattle.ra_model.specs.Services.{is_of, of_service, members_at, on_machine, in_location, in_neighbourhood}
-use Rattle.ra_edit.specs.declared.scanning.Spot.TheVariants.{OnMachine, InNeighbourhood, InLocation}
+use Rattle.ra_edit.specs.declared.members.Spot.TheVariants.{OnMachine, InNeighbourhood, InLocation}
 use Rattle.ra_edit.specs.declared.lists.Lists.{Lists}
 use Rattle.ra_edit.specs.Drafts.{Drafted, with_processes, instance_of}
 use Rattle.ra_edit.specs.Keeping.{drafted, tables_with, IsSound}
@@ -36,14 +36,6 @@ pub cost_told : (i : Tables) (l : Lists) (p : ℕ) (row : ProcessRow) → p < le
 unfolding process_cost_of
 cost_told i l p row p_in read =
     ap (λ (x : ProcessRow). x.move_cost) (read ∙ sym (row_read i l.rows.items l.requirements.items p row p_in))
-
--- sums over the processes are those of the definitions
-
-pub members_told : (i : Tables) (l : Lists) (s : ℕ) (test : ℕ → ℕ → Bool) (n x : ℕ) → n ≡ length l.rows.items →
-    x ≡ tally n (of_service (tables_with i l) s test) l.current.items →
-    x ≡ members_at (tables_with i l) l.current.items s test
-unfolding members_at process_count with_processes
-members_told i l s test n x all is = is ∙ ap (λ k. tally k (of_service (tables_with i l) s test) l.current.items) all
 
 -- shares
 

@@ -398,7 +398,7 @@ way_with : (i : Tables) (rows : List ProcessRow) (t u : List ℕ) (a0 a : List M
 unfolding with_processes machine_cost tally way_share way_cost_of process_count machine_count machine_weight_of
 way_with i rows t u a0 a = refl
 
-renamed : (f : Tables → List Machine → List Machine → ℕ) (d e : Drafted) →
+pub renamed : (f : Tables → List Machine → List Machine → ℕ) (d e : Drafted) →
     ((i : Tables) (rows : List ProcessRow) (t u : List ℕ) (a0 a : List Machine) →
     f (with_processes i rows t) a0 a ≡ f (with_processes i rows u) a0 a) → e.origin ≡ d.origin → e.rows ≡ d.rows →
     e.initial ≡ d.initial → e.current ≡ d.current → f (instance_of d) d.initial d.current ≡

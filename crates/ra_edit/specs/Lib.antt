@@ -12,3 +12,5 @@ pub mod Locality
 pub mod Kinds
 pub mod Leaving
 pub mod Loads
+pub mod Counts
+pub mod Members

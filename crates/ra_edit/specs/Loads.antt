@@ -10,8 +10,10 @@ use Rattle.ra_check.specs.Made.{IsGrid}
 use Rattle.ra_check.specs.Stands.{IsTally}
 use Rattle.ra_edit.specs.declared.lists.Lists.{Lists}
 use Rattle.ra_edit.specs.declared.loads.Loads.{Loads}
+use Rattle.ra_edit.specs.declared.members.Members.{Members}
 use Rattle.ra_edit.specs.Drafts.{Drafted, instance_of}
 use Rattle.ra_edit.specs.Keeping.{drafted, HasRoom, IsKept}
+use Rattle.ra_edit.specs.Members.{AreMembersOf}
 
 -- one table has more than another: an amount of each resource at machine `at`
 pub record HasMoreAt (width at : ℕ) (amount : ℕ → ℕ) (low high : List ℕ) : Type 0 where
@@ -60,8 +62,10 @@ pub record IsTransientRow (d : Drafted) (m : ℕ) (row : List ℕ) : Type 0 wher
 abbrev pub IsThere : Drafted → ℕ → ℕ → Type 0
 IsThere d p m = ((machine_at d.initial p == m) || (machine_at d.current p == m)) ≡ true
 
--- what a draft holds: its lists, the cost of the current one, and what the processes use
-pub record IsHeld (i : Tables) (lists : Lists) (loads : Loads) (parts : Parts) : Type 0 where
+-- what a draft holds: its lists, the cost of the current one, what the processes use, and where they are by service
+pub record IsHeld (i : Tables) (lists : Lists) (loads : Loads) (members : Members) (parts : Parts)
+    : Type 0 where
   pub kept : IsKept (drafted i lists) parts
   pub loads_are : AreLoadsOf (drafted i lists) loads
+  pub members_are : AreMembersOf (drafted i lists) members
   pub room : HasRoom i lists

@@ -2,8 +2,8 @@
 use Rattle.std.specs.Prelude.{ℕ, Bool, ◌==◌}
 use Rattle.ra_model.specs.declared.raw.Tables.{Tables}
 use Rattle.ra_model.specs.Numbers.{neighbourhood_of, location_of}
-use Rattle.ra_edit.specs.declared.scanning.Spot.{Spot}
-use Rattle.ra_edit.specs.declared.scanning.Spot.TheVariants.{OnMachine, InNeighbourhood, InLocation}
+use Rattle.ra_edit.specs.declared.members.Spot.{Spot}
+use Rattle.ra_edit.specs.declared.members.Spot.TheVariants.{OnMachine, InNeighbourhood, InLocation}
 
 -- whether a process on machine `at` is there
 abbrev pub is_there : Tables → Spot → ℕ → ℕ → Bool

@@ -15,6 +15,7 @@ use crate::building::build;
 use crate::edited::{Edited, Left};
 use crate::lists::{Lists, MOST_PROCESSES};
 use crate::loads::Loads;
+use crate::members::Members;
 use crate::replies::EditReply;
 use crate::scanning::small;
 use crate::verdicts::{Judged, judge};
@@ -32,6 +33,7 @@ pub struct Draft<'a> {
     inst: &'a Instance,
     lists: Lists,
     loads: Loads,
+    members: Members,
     parts: Parts,
 }
 
@@ -44,7 +46,7 @@ impl<'a> Model for Draft<'a> {
 
     ghost view = { λ d. drafted d.inst.now.tables d.lists };
 
-    ghost invariant = { λ d. IsHeld d.inst.now.tables d.lists d.loads d.parts };
+    ghost invariant = { λ d. IsHeld d.inst.now.tables d.lists d.loads d.members d.parts };
 }
 
 impl<'a> Draft<'a> {
@@ -68,10 +70,12 @@ impl<'a> Draft<'a> {
     {
         let lists = Lists::of(alloc, inst, a0, a)?;
         let loads = Loads::of(alloc, inst, &lists)?;
+        let members = Members::of(alloc, inst, &lists)?;
         Ok(Draft {
             inst,
             lists,
             loads,
+            members,
             parts: start,
         })
     }
@@ -99,12 +103,14 @@ impl<'a> Draft<'a> {
             self.inst,
             &self.lists,
             &self.loads,
+            &self.members,
             self.parts,
             edit,
             asked,
         )? {
             Judged::Refused(cause) => Ok(EditReply::Broken { cause }),
             Judged::Fine(parts) => {
+                self.members.follow(self.inst, &self.lists, edit)?;
                 self.loads.follow(self.inst, &self.lists, edit, asked);
                 self.lists.edit(self.inst, edit, asked);
                 self.parts = parts;
@@ -141,6 +147,7 @@ impl<'a> Draft<'a> {
             inst,
             lists,
             loads: _,
+            members: _,
             parts: _,
         } = self;
         small(inst, &lists);
@@ -170,6 +177,7 @@ impl<'a> Draft<'a> {
             inst,
             lists,
             loads: _,
+            members: _,
             parts: _,
         } = self;
         small(inst, &lists);

@@ -10,12 +10,13 @@ ghost use Rattle.ra_model.specs.Services.{locations_of};
 ghost use Rattle.ra_edit.specs.Keeping.{drafted, tables_with, IsSound};
 ghost use Rattle.ra_edit.specs.Drafts.{Drafted, instance_of};
 ghost use Rattle.ra_edit.specs.Kinds.{HasCome, HasGone, IsLeft};
+ghost use Rattle.ra_edit.specs.Members.{AreMembersOf};
 ghost use Rattle.ra_edit.specs.Loads.{IsUseRow, IsTransientRow};
 ghost use Rattle.ra_edit.specs.Touched.{far_from, added_breaks, left_alone, left_by, retired_breaks, resized_breaks};
 
 use crate::lists::Lists;
 use crate::locations::locations;
-use crate::scanning::{Spot, members};
+use crate::members::{Members, Spot};
 use ra_base::{Cause, Machine, NoMemory, Process, Resource, Service};
 use ra_model::Instance;
 use std::alloc::Global;
@@ -23,19 +24,18 @@ use std::alloc::Global;
 /// What a process more breaks, which stands on its initial machine, with which this much is used there.
 pub(crate) fn added_breaks(
     inst: &Instance,
-    lists: &Lists,
+    members: &Members,
     s: Service,
     m: Machine,
     used: &[u64],
     between: &[u64],
 ) -> Option<Cause>
-    requires sound { IsSound (drafted inst.now.tables lists.now) }
     requires service { s.0 < service_count inst.now.tables }
     requires machine { m.0 < machine_count inst.now.tables }
     requires used { length used.now ≡ resource_count inst.now.tables }
     requires between { length between.now ≡ resource_count inst.now.tables }
-    ensures { (e : Drafted) → HasCome (drafted inst.now.tables lists.now) e s.0 m.0 →
-        IsUseRow e m.0 used.now → IsTransientRow e m.0 between.now →
+    ensures { (d e : Drafted) → d.origin ≡ inst.now.tables → AreMembersOf d members.now →
+        HasCome d e s.0 m.0 → IsUseRow e m.0 used.now → IsTransientRow e m.0 between.now →
         result ≡ added_breaks (instance_of e) e.initial e.current s.0 m.0 }
 {
     if let Some(cause) = row_capacity(inst, m, used) {
@@ -44,10 +44,10 @@ pub(crate) fn added_breaks(
     if let Some(cause) = row_transient(inst, m, between) {
         return Some(cause);
     }
-    if let Some(cause) = conflict_test(inst, lists, s, m) {
+    if let Some(cause) = conflict_test(members, s, m) {
         return Some(cause);
     }
-    far_needs(inst, lists, s, m)
+    far_needs(inst, members, s, m)
 }
 
 /// What a process less breaks, which is one of a service and on a machine.
@@ -55,11 +55,13 @@ pub(crate) fn retired_breaks(
     alloc: Global,
     inst: &Instance,
     lists: &Lists,
+    members: &Members,
     p: Process,
     s: Service,
     at: Machine,
 ) -> Result<Option<Cause>, NoMemory>
     requires sound { IsSound (drafted inst.now.tables lists.now) }
+    requires members { AreMembersOf (drafted inst.now.tables lists.now) members.now }
     requires service { s.0 < service_count inst.now.tables }
     requires process { p.0 < length lists.now.rows.items }
     requires machine { at.0 < machine_count inst.now.tables }
@@ -69,10 +71,10 @@ pub(crate) fn retired_breaks(
         HasGone (drafted inst.now.tables lists.now) e p.0 → cause ≡
         retired_breaks (instance_of e) e.current s.0 (neighbourhood_of inst.now.tables at.0)) }
 {
-    if let Some(cause) = spread_test(alloc, inst, lists, p, s, at)? {
+    if let Some(cause) = spread_test(alloc, inst, lists, members, p, s, at)? {
         return Ok(Some(cause));
     }
-    Ok(first_left(inst, lists, p, s, at))
+    Ok(first_left(inst, lists, members, p, s, at))
 }
 
 /// What other requirements of a process break, with which this much is used of its machine, and in between of that and
@@ -216,12 +218,11 @@ fn over_capacity(inst: &Instance, m: Machine, r: Resource, used: u64) -> Option<
 }
 
 /// One process of a service on a machine, beside one that comes there.
-fn conflict_test(inst: &Instance, lists: &Lists, s: Service, m: Machine) -> Option<Cause>
-    requires sound { IsSound (drafted inst.now.tables lists.now) }
-    ensures { (e : Drafted) → HasCome (drafted inst.now.tables lists.now) e s.0 m.0 →
+fn conflict_test(members: &Members, s: Service, m: Machine) -> Option<Cause>
+    ensures { (d e : Drafted) → AreMembersOf d members.now → HasCome d e s.0 m.0 →
         result ≡ conflict_test (instance_of e) e.current s.0 m.0 }
 {
-    let count = members(inst, lists, s, Spot::OnMachine(m));
+    let count = members.at(s, Spot::OnMachine(m));
     if 0 < count {
         Some(Cause::Conflict {
             service: s,
@@ -233,18 +234,17 @@ fn conflict_test(inst: &Instance, lists: &Lists, s: Service, m: Machine) -> Opti
 }
 
 /// The first dependency of a service that no process is near to on a machine, where one of the service comes.
-fn far_needs(inst: &Instance, lists: &Lists, s: Service, m: Machine) -> Option<Cause>
-    requires sound { IsSound (drafted inst.now.tables lists.now) }
+fn far_needs(inst: &Instance, members: &Members, s: Service, m: Machine) -> Option<Cause>
     requires service { s.0 < service_count inst.now.tables }
     requires machine { m.0 < machine_count inst.now.tables }
-    ensures { (e : Drafted) → HasCome (drafted inst.now.tables lists.now) e s.0 m.0 →
-        result ≡ first (dependency_count (instance_of e) s.0) (far_from (instance_of e) e.current s.0
-        (neighbourhood_of (instance_of e) m.0)) }
+    ensures { (d e : Drafted) → d.origin ≡ inst.now.tables → AreMembersOf d members.now →
+        HasCome d e s.0 m.0 → result ≡ first (dependency_count (instance_of e) s.0)
+        (far_from (instance_of e) e.current s.0 (neighbourhood_of (instance_of e) m.0)) }
 {
     let label = inst.neighbourhood(m);
     let needs = inst.depends(s);
     for k in 0..needs.len() {
-        if let Some(cause) = far_need(inst, lists, s, needs[k], label) {
+        if let Some(cause) = far_need(members, s, needs[k], label) {
             return Some(cause);
         }
     }
@@ -252,16 +252,15 @@ fn far_needs(inst: &Instance, lists: &Lists, s: Service, m: Machine) -> Option<C
 }
 
 /// A service that has no process in a neighbourhood where it is needed, and where one of another service comes.
-fn far_need(inst: &Instance, lists: &Lists, s: Service, need: Service, label: u32) -> Option<Cause>
-    requires { IsSound (drafted inst.now.tables lists.now) }
-    ensures { (e : Drafted) (m k : ℕ) → HasCome (drafted inst.now.tables lists.now) e s.0 m →
-        label ≡ neighbourhood_of inst.now.tables m → need.0 ≡ need_of (instance_of e) s.0 k →
+fn far_need(members: &Members, s: Service, need: Service, label: u32) -> Option<Cause>
+    ensures { (d e : Drafted) (m k : ℕ) → AreMembersOf d members.now → HasCome d e s.0 m →
+        label ≡ neighbourhood_of d.origin m → need.0 ≡ need_of (instance_of e) s.0 k →
         result ≡ far_from (instance_of e) e.current s.0 label k }
 {
     if need.0 == s.0 {
         return None;
     }
-    if members(inst, lists, need, Spot::InNeighbourhood(label)) == 0 {
+    if members.at(need, Spot::InNeighbourhood(label)) == 0 {
         Some(Cause::Dependency {
             service: s,
             needs: need,
@@ -277,11 +276,13 @@ fn spread_test(
     alloc: Global,
     inst: &Instance,
     lists: &Lists,
+    members: &Members,
     p: Process,
     s: Service,
     at: Machine,
 ) -> Result<Option<Cause>, NoMemory>
     requires sound { IsSound (drafted inst.now.tables lists.now) }
+    requires members { AreMembersOf (drafted inst.now.tables lists.now) members.now }
     requires service { s.0 < service_count inst.now.tables }
     requires process { p.0 < length lists.now.rows.items }
     requires machine { at.0 < machine_count inst.now.tables }
@@ -291,7 +292,7 @@ fn spread_test(
         HasGone (drafted inst.now.tables lists.now) e p.0 → cause ≡
         spread_test (instance_of e) e.current s.0) }
 {
-    let has = locations_without(alloc, inst, lists, p, s, at)?;
+    let has = locations_without(alloc, inst, lists, members, p, s, at)?;
     let wants = inst.spread_min(s);
     if has < wants {
         Ok(Some(Cause::Spread {
@@ -309,11 +310,13 @@ fn locations_without(
     alloc: Global,
     inst: &Instance,
     lists: &Lists,
+    members: &Members,
     p: Process,
     s: Service,
     at: Machine,
 ) -> Result<u32, NoMemory>
     requires sound { IsSound (drafted inst.now.tables lists.now) }
+    requires members { AreMembersOf (drafted inst.now.tables lists.now) members.now }
     requires process { p.0 < length lists.now.rows.items }
     requires machine { at.0 < machine_count inst.now.tables }
     requires mine { s.0 ≡ service_of (tables_with inst.now.tables lists.now) p.0 }
@@ -323,7 +326,7 @@ fn locations_without(
         locations_of (instance_of e) e.current s.0) }
 {
     let has = locations(alloc, inst, lists, s)?;
-    if members(inst, lists, s, Spot::InLocation(inst.location(at))) == 1 {
+    if members.at(s, Spot::InLocation(inst.location(at))) == 1 {
         Ok(has - 1)
     } else {
         Ok(has)
@@ -331,8 +334,15 @@ fn locations_without(
 }
 
 /// The first service in a neighbourhood that depends on a service of which no process is left there without one.
-fn first_left(inst: &Instance, lists: &Lists, p: Process, s: Service, at: Machine) -> Option<Cause>
-    requires sound { IsSound (drafted inst.now.tables lists.now) }
+fn first_left(
+    inst: &Instance,
+    lists: &Lists,
+    members: &Members,
+    p: Process,
+    s: Service,
+    at: Machine,
+) -> Option<Cause>
+    requires members { AreMembersOf (drafted inst.now.tables lists.now) members.now }
     requires machine { at.0 < machine_count inst.now.tables }
     requires mine { s.0 ≡ service_of (tables_with inst.now.tables lists.now) p.0 }
     requires here { at.0 ≡ machine_at lists.now.current.items p.0 }
@@ -341,11 +351,11 @@ fn first_left(inst: &Instance, lists: &Lists, p: Process, s: Service, at: Machin
         (neighbourhood_of inst.now.tables at.0)) }
 {
     let label = inst.neighbourhood(at);
-    if 1 < members(inst, lists, s, Spot::InNeighbourhood(label)) {
+    if 1 < members.at(s, Spot::InNeighbourhood(label)) {
         return None;
     }
     for u in 0..inst.services() {
-        if let Some(cause) = left_by(inst, lists, s, label, Service(u)) {
+        if let Some(cause) = left_by(inst, members, s, label, Service(u)) {
             return Some(cause);
         }
     }
@@ -353,29 +363,27 @@ fn first_left(inst: &Instance, lists: &Lists, p: Process, s: Service, at: Machin
 }
 
 /// A service in a neighbourhood, if it depends on one of which no process is left there.
-fn left_by(inst: &Instance, lists: &Lists, s: Service, label: u32, u: Service) -> Option<Cause>
-    requires sound { IsSound (drafted inst.now.tables lists.now) }
-    requires there { u.0 < service_count inst.now.tables }
-    ensures { (e : Drafted) → IsLeft (drafted inst.now.tables lists.now) e s.0 label →
-        result ≡ left_by (instance_of e) e.current s.0 label u.0 }
+fn left_by(inst: &Instance, members: &Members, s: Service, label: u32, u: Service) -> Option<Cause>
+    requires { u.0 < service_count inst.now.tables }
+    ensures { (d e : Drafted) → d.origin ≡ inst.now.tables → AreMembersOf d members.now →
+        IsLeft d e s.0 label → result ≡ left_by (instance_of e) e.current s.0 label u.0 }
 {
     if depends(inst, u, s) {
-        left_alone(inst, lists, s, label, u)
+        left_alone(members, s, label, u)
     } else {
         None
     }
 }
 
 /// A service in a neighbourhood where no process is left of one that it depends on.
-fn left_alone(inst: &Instance, lists: &Lists, s: Service, label: u32, u: Service) -> Option<Cause>
-    requires sound { IsSound (drafted inst.now.tables lists.now) }
-    ensures { (e : Drafted) → IsLeft (drafted inst.now.tables lists.now) e s.0 label →
+fn left_alone(members: &Members, s: Service, label: u32, u: Service) -> Option<Cause>
+    ensures { (d e : Drafted) → AreMembersOf d members.now → IsLeft d e s.0 label →
         result ≡ left_alone (instance_of e) e.current s.0 label u.0 }
 {
     if u.0 == s.0 {
         return None;
     }
-    if 0 < members(inst, lists, u, Spot::InNeighbourhood(label)) {
+    if 0 < members.at(u, Spot::InNeighbourhood(label)) {
         Some(Cause::Dependency {
             service: u,
             needs: s,

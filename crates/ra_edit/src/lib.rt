@@ -5,6 +5,7 @@
 mod base;
 mod building;
 mod costs;
+mod counts;
 mod draft;
 mod edited;
 mod growing;
@@ -13,6 +14,7 @@ mod laws;
 mod lists;
 mod loads;
 mod locations;
+mod members;
 mod moved;
 mod replies;
 mod rows;

@@ -9,11 +9,13 @@ ghost use Rattle.ra_edit.specs.Keeping.{drafted, IsKept, IsJudged};
 ghost use Rattle.ra_edit.specs.Replies.{barred};
 ghost use Rattle.ra_edit.specs.Kinds.{Asks, HasCome, HasGone, HasOther, IsEdited};
 ghost use Rattle.ra_edit.specs.Loads.{AreLoadsOf};
+ghost use Rattle.ra_edit.specs.Members.{AreMembersOf};
 
 use crate::costs::{costs_with, moved_share, summed, way_share};
 use crate::judging::{added_breaks, resized_breaks, retired_breaks};
 use crate::lists::{Lists, machine_of};
 use crate::loads::Loads;
+use crate::members::Members;
 use crate::moved::service_cost_without;
 use crate::scanning::{service_of, small};
 use ra_base::{Cause, Machine, NoMemory, Parts, Process, Service};
@@ -35,12 +37,14 @@ pub(crate) fn judge(
     inst: &Instance,
     lists: &Lists,
     loads: &Loads,
+    members: &Members,
     cost: Parts,
     edit: Edit,
     asked: &[u32],
 ) -> Result<Judged, NoMemory>
     requires kept { IsKept (drafted inst.now.tables lists.now) cost }
     requires loads { AreLoadsOf (drafted inst.now.tables lists.now) loads.now }
+    requires members { AreMembersOf (drafted inst.now.tables lists.now) members.now }
     requires free { barred (length lists.now.rows.items) edit ≡ None }
     requires fits { FitsInstance inst.now.tables edit }
     requires asked { length asked.now ≡ resource_count inst.now.tables }
@@ -52,9 +56,11 @@ pub(crate) fn judge(
             service,
             machine,
             ..
-        } => judge_added(alloc, inst, lists, loads, cost, service, machine, asked),
+        } => judge_added(
+            alloc, inst, lists, loads, members, cost, service, machine, asked,
+        ),
         Edit::Retire { process } => {
-            judge_retired(alloc, inst, lists, loads, cost, Process(process))
+            judge_retired(alloc, inst, lists, loads, members, cost, Process(process))
         }
         Edit::Resize { process } => {
             judge_resized(alloc, inst, lists, loads, cost, Process(process), asked)
@@ -68,6 +74,7 @@ fn judge_added(
     inst: &Instance,
     lists: &Lists,
     loads: &Loads,
+    members: &Members,
     cost: Parts,
     s: Service,
     m: Machine,
@@ -75,6 +82,7 @@ fn judge_added(
 ) -> Result<Judged, NoMemory>
     requires kept { IsKept (drafted inst.now.tables lists.now) cost }
     requires loads { AreLoadsOf (drafted inst.now.tables lists.now) loads.now }
+    requires members { AreMembersOf (drafted inst.now.tables lists.now) members.now }
     requires service { s.0 < service_count inst.now.tables }
     requires machine { m.0 < machine_count inst.now.tables }
     requires asked { length asked.now ≡ resource_count inst.now.tables }
@@ -85,7 +93,7 @@ fn judge_added(
     small(inst, lists);
     let used = loads.use_added(alloc, inst, lists, m, asked)?;
     let between = loads.transient_added(alloc, inst, lists, m, asked)?;
-    if let Some(cause) = added_breaks(inst, lists, s, m, used.as_slice(), between.as_slice()) {
+    if let Some(cause) = added_breaks(inst, members, s, m, used.as_slice(), between.as_slice()) {
         return Ok(Judged::Refused(cause));
     }
     let costs = costs_with(inst, lists, loads, cost, m, used.as_slice());
@@ -151,18 +159,20 @@ fn judge_retired(
     inst: &Instance,
     lists: &Lists,
     loads: &Loads,
+    members: &Members,
     cost: Parts,
     p: Process,
 ) -> Result<Judged, NoMemory>
     requires kept { IsKept (drafted inst.now.tables lists.now) cost }
     requires loads { AreLoadsOf (drafted inst.now.tables lists.now) loads.now }
+    requires members { AreMembersOf (drafted inst.now.tables lists.now) members.now }
     requires process { p.0 < length lists.now.rows.items }
     ensures { IfOk result (λ judged. (e : Drafted) →
         HasGone (drafted inst.now.tables lists.now) e p.0 → IsJudged e judged) }
 {
     let s = service_of(inst, lists, p);
     let here = machine_of(&lists.current, p);
-    if let Some(cause) = retired_breaks(alloc, inst, lists, p, s, here)? {
+    if let Some(cause) = retired_breaks(alloc, inst, lists, members, p, s, here)? {
         return Ok(Judged::Refused(cause));
     }
     let parts = parts_without(alloc, inst, lists, loads, cost, p, here)?;

@@ -10,23 +10,26 @@ use Rattle.ra_edit.proofs.judging.locations_without.Goals as goal
 pub overflow_sub-result : goal.overflow_sub-result
 overflow_sub-result c =
     let d = drafted c.args.inst.now.tables c.args.lists.now in
-    let told = location_told d d.current c.args.s.0 c.location.result c.members.result c.members.ensures.value in
+    let told = location_told d d.current c.args.s.0 c.location.result c.at.result
+    (c.at.ensures.members d c.requires.members) in
     let less = gone_last d (retired d c.args.p.0) c.args.p.0 c.args.s.0 c.args.at.0 c.location.result
     (has_gone d (retired d c.args.p.0) c.args.p.0 c.requires.sound c.requires.process refl) c.requires.mine
-    c.requires.here c.location.ensures (omega arith) (sym told ∙ c.if-members-eq1.true) in
+    c.requires.here c.location.ensures (omega arith) (sym told ∙ c.if-at-eq1.true) in
     omega (arith, less, c.in_ok-has.ensures)
 
-pub returns-then-members-eq1 : goal.returns-then-members-eq1
-returns-then-members-eq1 c = λ e gone.
+pub returns-then-at-eq1 : goal.returns-then-at-eq1
+returns-then-at-eq1 c = λ e gone.
     let d = drafted c.args.inst.now.tables c.args.lists.now in
-    let told = location_told d d.current c.args.s.0 c.location.result c.members.result c.members.ensures.value in
+    let told = location_told d d.current c.args.s.0 c.location.result c.at.result
+    (c.at.ensures.members d c.requires.members) in
     let less = gone_last d e c.args.p.0 c.args.s.0 c.args.at.0 c.location.result gone c.requires.mine c.requires.here
-    c.location.ensures (omega arith) (sym told ∙ c.if-members-eq1.true) in
+    c.location.ensures (omega arith) (sym told ∙ c.if-at-eq1.true) in
     omega (arith, less, c.in_ok-has.ensures)
 
-pub returns-else-members-eq1 : goal.returns-else-members-eq1
-returns-else-members-eq1 c = λ e gone.
+pub returns-else-at-eq1 : goal.returns-else-at-eq1
+returns-else-at-eq1 c = λ e gone.
     let d = drafted c.args.inst.now.tables c.args.lists.now in
-    let told = location_told d d.current c.args.s.0 c.location.result c.members.result c.members.ensures.value in
+    let told = location_told d d.current c.args.s.0 c.location.result c.at.result
+    (c.at.ensures.members d c.requires.members) in
     c.in_ok-has.ensures ∙ gone_other d e c.args.p.0 c.args.s.0 c.args.at.0 c.location.result gone c.requires.mine
-    c.requires.here c.location.ensures (omega arith) (λ one. c.if-members-eq1.false (told ∙ one))
+    c.requires.here c.location.ensures (omega arith) (λ one. c.if-at-eq1.false (told ∙ one))

@@ -9,6 +9,7 @@ judge_added-requires c =
     record {
       kept = c.requires.kept;
       loads = c.requires.loads;
+      members = c.requires.members;
       service = fits.0;
       machine = fits.1;
       asked = c.requires.asked;
@@ -18,6 +19,7 @@ pub judge_retired-requires : goal.judge_retired-requires
 judge_retired-requires c = record {
   kept = c.requires.kept;
   loads = c.requires.loads;
+  members = c.requires.members;
   process = (free_retire _ _ (rw c.in-Retire.is at c.requires.free)).0;
 }
 

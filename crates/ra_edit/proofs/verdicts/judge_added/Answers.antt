@@ -1,5 +1,5 @@
 -- A process that has come: what it touches, or what it costs.
-use Rattle.std.proofs.Common.{◌∙◌, ◌*◌, length, sym, ap₂, arith}
+use Rattle.std.proofs.Common.{◌∙◌, ◌*◌, length, refl, sym, ap₂, arith}
 use Rattle.ra_edit.specs.Keeping.{drafted}
 use Rattle.ra_edit.proofs.VerdictLaws.{HasParts, parts_told, come_broken, come_parts, times_small}
 use Rattle.ra_edit.proofs.verdicts.judge_added.Goals as goal
@@ -22,7 +22,6 @@ transient_added-requires c = record {
 
 pub added_breaks-requires : goal.added_breaks-requires
 added_breaks-requires c = record {
-  sound = c.requires.kept.sound;
   service = c.requires.service;
   machine = c.requires.machine;
   used = rw c.as_slice.ensures c.in_ok-used.ensures.one_each;
@@ -31,10 +30,11 @@ added_breaks-requires c = record {
 
 pub returns-in-Some : goal.returns-in-Some
 returns-in-Some c = λ e come asks.
+    let d = drafted c.args.inst.now.tables c.args.lists.now in
     let n = length c.args.lists.now.rows.items in
-    come_broken (drafted c.args.inst.now.tables c.args.lists.now) e c.args.cost c.args.s.0 c.args.m.0 c.requires.kept
-    come
-    ∙ sym (c.added_breaks.ensures e come (rw c.as_slice.ensures (c.in_ok-used.ensures.row e n come.more come.here asks))
+    come_broken d e c.args.cost c.args.s.0 c.args.m.0 c.requires.kept come
+    ∙ sym (c.added_breaks.ensures d e refl c.requires.members come
+    (rw c.as_slice.ensures (c.in_ok-used.ensures.row e n come.more come.here asks))
     (rw c.as_slice-2.ensures (c.in_ok-between.ensures.row e n come.more come.here asks)))
     ∙ c.in-Some.is
 
@@ -82,7 +82,7 @@ returns c = λ e come asks.
     let costs = c.costs_with-costs.ensures.costs e come.more.origin
     (rw c.as_slice-3.ensures (c.in_ok-used.ensures.row e n come.more come.here asks)) in (
       come_broken d e c.args.cost c.args.s.0 c.args.m.0 c.requires.kept come
-          ∙ sym (c.added_breaks.ensures e come
+          ∙ sym (c.added_breaks.ensures d e refl c.requires.members come
           (rw c.as_slice.ensures (c.in_ok-used.ensures.row e n come.more come.here asks))
           (rw c.as_slice-2.ensures (c.in_ok-between.ensures.row e n come.more come.here asks)))
           ∙ c.in_default.is,

@@ -15,6 +15,7 @@ retired_breaks-requires c =
     let d = drafted c.args.inst.now.tables c.args.lists.now in
     record {
       sound = c.requires.kept.sound;
+      members = c.requires.members;
       service =
           omega (arith, c.service_of-s.ensures, service_there d c.args.p.0 c.requires.kept.sound c.requires.process);
       process = c.requires.process;

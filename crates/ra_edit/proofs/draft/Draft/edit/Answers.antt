@@ -30,6 +30,7 @@ judge-requires c =
     record {
       kept = c.self.invariant.kept;
       loads = c.self.invariant.loads_are;
+      members = c.self.invariant.members_are;
       free = sym c.barred.ensures ∙ c.in_default.is;
       fits = next_fits d c.args.self.now c.args.edits.now c.args.i c.edit-edit.result c.self.view_is c.requires.fits
           c.requires.edit c.edit-edit.ensures;
@@ -72,6 +73,17 @@ follow-requires c =
     let d = drafted c.self.inside.inst.now.tables c.self.inside.lists in
     record {
       sound = c.self.invariant.kept.sound;
+      members = c.self.invariant.members_are;
+      free = sym c.barred.ensures ∙ c.in_default.is;
+      fits = next_fits d c.args.self.now c.args.edits.now c.args.i c.edit-edit.result c.self.view_is c.requires.fits
+          c.requires.edit c.edit-edit.ensures;
+    }
+
+pub follow-requires-in-Fine : goal.follow-requires-in-Fine
+follow-requires-in-Fine c =
+    let d = drafted c.self.inside.inst.now.tables c.self.inside.lists in
+    record {
+      sound = c.self.invariant.kept.sound;
       loads = c.self.invariant.loads_are;
       free = sym c.barred.ensures ∙ c.in_default.is;
       fits = next_fits d c.args.self.now c.args.edits.now c.args.i c.edit-edit.result c.self.view_is c.requires.fits
@@ -91,8 +103,17 @@ edit-requires c =
           c.requires.fits c.requirements_of-asked.ensures.one_each;
     }
 
+-- no memory for what is counted: nothing is changed
 pub invariant_of-self : goal.invariant_of-self
-invariant_of-self c =
+invariant_of-self c = record {
+  kept = c.self.invariant.kept;
+  loads_are = c.self.invariant.loads_are;
+  members_are = c.in_err-follow-in-Fine.ensures.memory;
+  room = c.self.invariant.room;
+}
+
+pub invariant_of-self-in-Fine : goal.invariant_of-self-in-Fine
+invariant_of-self-in-Fine c =
     let d = drafted c.self.inside.inst.now.tables c.self.inside.lists in
     let next = drafted c.self.inside.inst.now.tables c.edit.new.self in
     let free = ap (barred (length d.rows)) (sym c.edit-edit.ensures) ∙ sym c.barred.ensures ∙ c.in_default.is in
@@ -113,12 +134,13 @@ invariant_of-self c =
         unbroken = found.0;
         parts_are = found.1;
       };
-      loads_are = c.follow.ensures next made;
+      loads_are = c.follow-in-Fine.ensures next made;
+      members_are = c.in_ok-follow-in-Fine.ensures.after next c.requirements_of-asked.result.now made;
       room = c.edit.ensures.room;
     }
 
-pub returns-in-Fine-clause-reply : goal.returns-in-Fine-clause-reply
-returns-in-Fine-clause-reply c =
+pub returns-in_ok-follow-in-Fine-clause-reply : goal.returns-in_ok-follow-in-Fine-clause-reply
+returns-in_ok-follow-in-Fine-clause-reply c =
     let d = drafted c.self.inside.inst.now.tables c.self.inside.lists in
     let next = drafted c.self.inside.inst.now.tables c.edit.new.self in
     let free = ap (barred (length d.rows)) (sym c.edit-edit.ensures) ∙ sym c.barred.ensures ∙ c.in_default.is in
@@ -135,8 +157,8 @@ returns-in-Fine-clause-reply c =
     subst (λ (o : Drafted). Done c.in-Fine.parts.total ≡ edit_answer o c.args.edits.now c.args.i) c.self.view_is
     (answered_done d next c.args.edits.now c.args.i c.in-Fine.parts free same found.0 found.1)
 
-pub returns-in-Fine-clause-after : goal.returns-in-Fine-clause-after
-returns-in-Fine-clause-after c =
+pub returns-in_ok-follow-in-Fine-clause-after : goal.returns-in_ok-follow-in-Fine-clause-after
+returns-in_ok-follow-in-Fine-clause-after c =
     let d = drafted c.self.inside.inst.now.tables c.self.inside.lists in
     let next = drafted c.self.inside.inst.now.tables c.edit.new.self in
     let free = ap (barred (length d.rows)) (sym c.edit-edit.ensures) ∙ sym c.barred.ensures ∙ c.in_default.is in

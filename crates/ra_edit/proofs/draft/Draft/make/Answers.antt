@@ -7,11 +7,18 @@ of-requires-2 c =
     c.in_ok-lists.ensures.lists c.args.inst.now.well_formed c.requires.a0_fits c.requires.fits c.requires.unbroken
     c.requires.parts).sound
 
+pub of-requires-3 : goal.of-requires-3
+of-requires-3 c =
+    (made_kept _ c.args.inst.now.tables c.args.a0.now.items c.args.a.now.items c.args.start
+    c.in_ok-lists.ensures.lists c.args.inst.now.well_formed c.requires.a0_fits c.requires.fits c.requires.unbroken
+    c.requires.parts).sound
+
 pub invariant_of-result : goal.invariant_of-result
 invariant_of-result c = record {
   kept = made_kept _ c.args.inst.now.tables c.args.a0.now.items c.args.a.now.items c.args.start
       c.in_ok-lists.ensures.lists c.args.inst.now.well_formed c.requires.a0_fits c.requires.fits c.requires.unbroken
       c.requires.parts;
   loads_are = c.in_ok-loads.ensures;
+  members_are = c.in_ok-members.ensures;
   room = c.in_ok-lists.ensures.room;
 }

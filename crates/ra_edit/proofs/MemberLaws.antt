@@ -1,0 +1,159 @@
+-- What is kept of the members of the services, as processes come and go.
+use Rattle.std.proofs.Common.{◌≡◌, ℕ, ◌+◌, ◌<◌, ◌≤◌, Bool, true, false, eqb, ◌&&◌, List, refl, sym, ap, ap₂, ◌∙◌}
+use Rattle.std.proofs.Common.{arith, eq-eqb}
+use Rattle.ra_base.specs.Sums.{one_if}
+use Rattle.ra_base.specs.declared.ids.Machine.{Machine}
+use Rattle.ra_base.proofs.Sums.{total_none, total_bound, total_more}
+use Rattle.ra_model.specs.declared.raw.ProcessRow.{ProcessRow}
+use Rattle.ra_model.specs.declared.raw.Tables.{Tables}
+use Rattle.ra_model.specs.Numbers.{process_count, process_row, service_of}
+use Rattle.ra_model.specs.Assignments.{machine_at, tally}
+use Rattle.ra_model.specs.Services.{is_of, of_service, members_at}
+use Rattle.ra_edit.specs.declared.members.Members.{Members}
+use Rattle.ra_edit.specs.declared.members.Spot.{Spot}
+use Rattle.ra_edit.specs.declared.members.Spot.TheVariants.{OnMachine, InNeighbourhood, InLocation}
+use Rattle.ra_edit.specs.Counts.{count_in}
+use Rattle.ra_edit.specs.Drafts.{Drafted, with_processes, instance_of}
+use Rattle.ra_edit.specs.Kinds.{HasOther}
+use Rattle.ra_edit.specs.Members.{members_in, HasMembers, AreMembersOf, HasMember, AreSameIn, AreFewIn}
+use Rattle.ra_edit.specs.OneMore.{OneMore}
+use Rattle.ra_edit.specs.Spots.{is_there}
+use Rattle.ra_edit.proofs.ShareLaws.{members_more}
+use Rattle.ra_edit.proofs.VerdictLaws.{renamed}
+
+-- whether a process is at a spot is a question of its machine alone
+
+there_same : (i : Tables) (spot : Spot) (p q at : ℕ) → is_there i spot p at ≡ is_there i spot q at
+there_same i (OnMachine m) p q at = refl
+there_same i (InNeighbourhood label) p q at = refl
+there_same i (InLocation label) p q at = refl
+
+there_as : (i j : Tables) (spot : Spot) (p q at other : ℕ) → j ≡ i → at ≡ other →
+    is_there i spot p at ≡ is_there j spot q other
+there_as i j spot p q at other origin same = ap (is_there i spot p) same ∙ there_same i spot p q other
+    ∙ ap (λ (x : Tables). is_there x spot q other) (sym origin)
+
+-- one process after another is counted
+
+pub members_none : (d : Drafted) (members : Members) → ((s x : ℕ) → count_in members.machines s x ≡ 0) →
+    ((s x : ℕ) → count_in members.neighbourhoods s x ≡ 0) → ((s x : ℕ) → count_in members.locations s x ≡ 0) →
+    HasMembers d 0 members
+unfolding tally
+members_none d members machines near locations = record {
+  each = λ s spot. nothing s spot
+      ∙ sym (total_none (λ p. of_service (instance_of d) s (is_there d.origin spot) p (machine_at d.current p)));
+}
+  where
+    nothing : (s : ℕ) (spot : Spot) → members_in members s spot ≡ 0
+    nothing s (OnMachine m) = machines s m.0
+    nothing s (InNeighbourhood label) = near s label
+    nothing s (InLocation label) = locations s label
+
+tally_next : (n : ℕ) (f : ℕ → ℕ → ℕ) (a : List Machine) → tally (n + 1) f a ≡ tally n f a + f n (machine_at a n)
+unfolding tally
+tally_next n f a = total_more n (λ p. f p (machine_at a p))
+
+pub members_next : (d : Drafted) (p s m : ℕ) (old new : Members) → HasMembers d p old →
+    s ≡ service_of (instance_of d) p → m ≡ machine_at d.current p → HasMember d.origin s m old new →
+    HasMembers d (p + 1) new
+unfolding of_service is_of
+members_next d p s m old new has s_is m_is one = record {
+  each = λ t spot. one.each t spot
+      ∙ ap₂ (λ x b. x + one_if b) (has.each t spot)
+      (ap₂ (λ x b. eqb x t && b) s_is (there_as d.origin d.origin spot 0 p m (machine_at d.current p) refl m_is))
+      ∙ sym (tally_next p (of_service (instance_of d) t (is_there d.origin spot)) d.current);
+}
+
+-- what is counted of a draft is what the definitions give
+
+pub members_told : (d : Drafted) (members : Members) (s : ℕ) (spot : Spot) → AreMembersOf d members →
+    members_in members s spot ≡ members_at (instance_of d) d.current s (is_there d.origin spot)
+unfolding members_at process_count with_processes
+members_told d members s spot has = has.each s spot
+
+members_from : (d : Drafted) (members : Members) →
+    ((s : ℕ) (spot : Spot) →
+    members_in members s spot ≡ members_at (instance_of d) d.current s (is_there d.origin spot)) →
+    AreMembersOf d members
+unfolding members_at process_count with_processes
+members_from d members each = record { each = each }
+
+pub members_stay : (d : Drafted) (n : ℕ) (old new : Members) → HasMembers d n old → AreSameIn old new →
+    HasMembers d n new
+members_stay d n old new has same = record { each = λ s spot. same.each s spot ∙ has.each s spot }
+
+pub members_few : (d : Drafted) (n : ℕ) (old new : Members) → n ≤ 50000 → HasMembers d n old → AreSameIn old new →
+    AreFewIn new
+unfolding tally of_service
+members_few d n old new few has same = record {
+  each = λ s spot. omega (
+    arith,
+    few,
+    has.each s spot,
+    same.each s spot,
+    total_bound n 1 (λ p. one_if (is_of (instance_of d) s p && is_there d.origin spot p (machine_at d.current p)))
+        (λ p within. one_most (is_of (instance_of d) s p && is_there d.origin spot p (machine_at d.current p))),
+  );
+}
+  where
+    one_most : (b : Bool) → one_if b ≤ 1
+    one_most true = omega arith
+    one_most false = omega arith
+
+-- one process more
+
+pub one_member : (d e : Drafted) (p s : ℕ) (spot : Spot) → OneMore d e p →
+    members_at (instance_of e) e.current s (is_there e.origin spot) ≡
+    members_at (instance_of d) d.current s (is_there d.origin spot)
+    + one_if (eqb (service_of (instance_of e) p) s && is_there e.origin spot 0 (machine_at e.current p))
+one_member d e p s spot more =
+    members_more d e p s (is_there d.origin spot) (is_there e.origin spot) more
+    (λ k q same. there_as d.origin e.origin spot k q (machine_at d.current k) (machine_at e.current q) more.origin
+    same.here)
+    ∙ ap (λ b. members_at (instance_of d) d.current s (is_there d.origin spot)
+    + one_if (eqb (service_of (instance_of e) p) s && b)) (there_same e.origin spot p 0 (machine_at e.current p))
+
+pub members_come : (d e : Drafted) (p s m : ℕ) (old new : Members) → AreMembersOf d old → OneMore d e p →
+    service_of (instance_of e) p ≡ s → machine_at e.current p ≡ m → HasMember d.origin s m old new →
+    AreMembersOf e new
+members_come d e p s m old new has more s_is m_is one = members_from e new (λ t spot. one.each t spot
+    ∙ ap₂ (λ x b. x + one_if b) (members_told d old t spot has)
+    (ap₂ (λ x b. eqb x t && b) (sym s_is)
+    (there_as d.origin e.origin spot 0 0 m (machine_at e.current p) more.origin (sym m_is)))
+    ∙ sym (one_member d e p t spot more))
+
+pub members_go : (d e : Drafted) (p s m : ℕ) (old new : Members) → AreMembersOf e old → OneMore d e p →
+    s ≡ service_of (instance_of e) p → m ≡ machine_at e.current p → HasMember e.origin s m new old →
+    AreMembersOf d new
+members_go d e p s m old new has more s_is m_is one = members_from d new (λ t spot.
+    let both = one.each t spot
+    ∙ ap (λ b. members_in new t spot + one_if b)
+    (ap₂ (λ x b. eqb x t && b) s_is (ap (is_there e.origin spot 0) m_is)) in
+    omega (arith, both, members_told e old t spot has, one_member d e p t spot more))
+
+-- the process itself is counted where it is
+pub member_there : (d e : Drafted) (p s m : ℕ) (spot : Spot) (members : Members) → AreMembersOf e members →
+    OneMore d e p → s ≡ service_of (instance_of e) p → m ≡ machine_at e.current p →
+    is_there e.origin spot 0 m ≡ true → 0 < members_in members s spot
+member_there d e p s m spot members has more s_is m_is there =
+    let mine = eq-eqb (service_of (instance_of e) p) s (sym s_is) in
+    let here = ap (is_there e.origin spot 0) (sym m_is) ∙ there in
+    let one = rw (mine, here) at (one_member d e p s spot more) in
+    omega (arith, members_told e members s spot has, one)
+
+-- other requirements of a process
+
+members_with : (s : ℕ) (test : ℕ → ℕ → Bool) (i : Tables) (rows : List ProcessRow) (t u : List ℕ)
+    (a0 a : List Machine) →
+    members_at (with_processes i rows t) a s test ≡ members_at (with_processes i rows u) a s test
+unfolding with_processes members_at tally of_service is_of service_of process_row process_count
+members_with s test i rows t u a0 a = refl
+
+pub members_resized : (d e : Drafted) (p : ℕ) (members : Members) → AreMembersOf d members → HasOther d e p →
+    AreMembersOf e members
+members_resized d e p members has other =
+    let origin : e.origin ≡ d.origin = other.after.origin ∙ sym other.before.origin in
+    members_from e members (λ s spot. members_told d members s spot has
+    ∙ renamed (λ i a0 a. members_at i a s (is_there d.origin spot)) d e
+    (members_with s (is_there d.origin spot)) origin other.rows other.initial other.current
+    ∙ ap (λ (i : Tables). members_at (instance_of e) e.current s (is_there i spot)) (sym origin))

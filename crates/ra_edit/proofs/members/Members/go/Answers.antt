@@ -1,0 +1,13 @@
+-- The process is counted at each spot where it is.
+use Rattle.std.proofs.Common.{sym, refl, eq-eqb}
+use Rattle.ra_edit.specs.declared.members.Spot.TheVariants.{OnMachine, InNeighbourhood, InLocation}
+use Rattle.ra_edit.proofs.members.Members.go.Goals as goal
+
+pub go-requires : goal.go-requires
+go-requires c = c.requires.there (OnMachine c.args.m) (eq-eqb _ _ refl)
+
+pub go-requires-2 : goal.go-requires-2
+go-requires-2 c = c.requires.there (InNeighbourhood c.neighbourhood.result) (eq-eqb _ _ (sym c.neighbourhood.ensures))
+
+pub go-requires-3 : goal.go-requires-3
+go-requires-3 c = c.requires.there (InLocation c.location.result) (eq-eqb _ _ (sym c.location.ensures))

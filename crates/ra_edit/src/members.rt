@@ -1,0 +1,191 @@
+//! The processes of each service by the spots where they are, counted while edits change them.
+ghost use Rattle.std.specs.Prelude.{◌≡◌, ℕ, ◌+◌, ◌<◌, List, length, true, None, IfOk, OnOk, OnErr};
+ghost use Rattle.ra_model.specs.Numbers.{machine_count};
+ghost use Rattle.ra_model.specs.Services.{members_at};
+ghost use Rattle.ra_edit.specs.Drafts.{Drafted, instance_of};
+ghost use Rattle.ra_edit.specs.Keeping.{drafted, IsSound};
+ghost use Rattle.ra_edit.specs.Kinds.{HasCome, HasGone, IsEdited};
+ghost use Rattle.ra_edit.specs.Members.{members_in, AreFewIn, AreMembersOf, AreSameIn, HasMember, HasMembers, HasRoomFor};
+ghost use Rattle.ra_edit.specs.Replies.{barred};
+ghost use Rattle.ra_edit.specs.Spots.{is_there};
+ghost use Rattle.ra_edit_read.specs.EditLists.{FitsInstance};
+
+use crate::counts::Counts;
+use crate::lists::{Lists, machine_of};
+use crate::scanning::{processes, service_of};
+use ra_base::{Machine, NoMemory, Process, Service};
+use ra_edit_read::Edit;
+use ra_model::Instance;
+use std::alloc::Global;
+
+/// Where processes are looked for: on a machine, or on one with a label.
+#[derive(Clone, Copy)]
+pub(crate) enum Spot {
+    OnMachine(Machine),
+    InNeighbourhood(u32),
+    InLocation(u32),
+}
+
+/// How many processes of each service are on each machine, in each neighbourhood and in each location.
+pub(crate) struct Members {
+    pub(crate) machines: Counts,
+    pub(crate) neighbourhoods: Counts,
+    pub(crate) locations: Counts,
+}
+
+/// Lets all counts go in one call, so that the end of an owner is short to prove.
+impl Drop for Members {
+    fn drop(self) {
+        let Members {
+            machines: _,
+            neighbourhoods: _,
+            locations: _,
+        } = self;
+    }
+}
+
+impl Members {
+    /// The processes of some lists.
+    pub(crate) fn of(alloc: Global, inst: &Instance, lists: &Lists) -> Result<Members, NoMemory>
+        requires { IsSound (drafted inst.now.tables lists.now) }
+        ensures { IfOk result (λ made. AreMembersOf (drafted inst.now.tables lists.now) made) }
+    {
+        let mut members = Members {
+            machines: Counts::new(alloc),
+            neighbourhoods: Counts::new(alloc),
+            locations: Counts::new(alloc),
+        };
+        for p in 0..processes(inst, lists) {
+            members.count(inst, lists, Process(p))?;
+        }
+        Ok(members)
+    }
+
+    /// Counts one process more.
+    fn count(&mut self, inst: &Instance, lists: &Lists, p: Process) -> Result<(), NoMemory>
+        requires sound { IsSound (drafted inst.now.tables lists.now) }
+        requires process { p.0 < length lists.now.rows.items }
+        requires counted { HasMembers (drafted inst.now.tables lists.now) p.0 self.old }
+        ensures { OnOk result (HasMembers (drafted inst.now.tables lists.now) (p.0 + 1) self.new) }
+    {
+        let s = service_of(inst, lists, p);
+        let m = machine_of(&lists.current, p);
+        self.admit(inst, s, m)?;
+        self.come(inst, s, m);
+        Ok(())
+    }
+
+    /// How many processes of a service are at a spot.
+    pub(crate) fn at(&self, s: Service, spot: Spot) -> u32
+        ensures value { result ≡ members_in self.now s.0 spot }
+        ensures members { (d : Drafted) → AreMembersOf d self.now →
+            result ≡ members_at (instance_of d) d.current s.0 (is_there d.origin spot) }
+    {
+        match spot {
+            Spot::OnMachine(m) => self.machines.at(s, m.0),
+            Spot::InNeighbourhood(label) => self.neighbourhoods.at(s, label),
+            Spot::InLocation(label) => self.locations.at(s, label),
+        }
+    }
+
+    /// Follows an edit of the lists, and takes the memory that it wants.
+    ///
+    /// # Errors
+    ///
+    /// Want of memory. No count is changed then.
+    pub(crate) fn follow(
+        &mut self,
+        inst: &Instance,
+        lists: &Lists,
+        edit: Edit,
+    ) -> Result<(), NoMemory>
+        requires sound { IsSound (drafted inst.now.tables lists.now) }
+        requires members { AreMembersOf (drafted inst.now.tables lists.now) self.old }
+        requires free { barred (length lists.now.rows.items) edit ≡ None }
+        requires fits { FitsInstance inst.now.tables edit }
+        ensures after { OnOk result ((e : Drafted) (asked : List ℕ) →
+            IsEdited (drafted inst.now.tables lists.now) edit asked e → AreMembersOf e self.new) }
+        ensures memory { OnErr result (AreMembersOf (drafted inst.now.tables lists.now) self.new) }
+    {
+        match edit {
+            Edit::Add {
+                service,
+                machine,
+                ..
+            } => self.add(inst, lists, service, machine),
+            Edit::Retire { process } => {
+                self.retire(inst, lists, Process(process));
+                Ok(())
+            }
+            Edit::Resize { .. } => Ok(()),
+        }
+    }
+
+    /// Follows a process more.
+    fn add(
+        &mut self,
+        inst: &Instance,
+        lists: &Lists,
+        s: Service,
+        m: Machine,
+    ) -> Result<(), NoMemory>
+        requires sound { IsSound (drafted inst.now.tables lists.now) }
+        requires members { AreMembersOf (drafted inst.now.tables lists.now) self.old }
+        requires machine { m.0 < machine_count inst.now.tables }
+        ensures after { OnOk result ((e : Drafted) →
+            HasCome (drafted inst.now.tables lists.now) e s.0 m.0 → AreMembersOf e self.new) }
+        ensures memory { OnErr result (AreMembersOf (drafted inst.now.tables lists.now) self.new) }
+    {
+        self.admit(inst, s, m)?;
+        self.come(inst, s, m);
+        Ok(())
+    }
+
+    /// Follows a process less.
+    fn retire(&mut self, inst: &Instance, lists: &Lists, p: Process)
+        requires sound { IsSound (drafted inst.now.tables lists.now) }
+        requires members { AreMembersOf (drafted inst.now.tables lists.now) self.old }
+        requires process { p.0 < length lists.now.rows.items }
+        ensures { (e : Drafted) → HasGone (drafted inst.now.tables lists.now) e p.0 →
+            AreMembersOf e self.new }
+    {
+        let s = service_of(inst, lists, p);
+        let m = machine_of(&lists.current, p);
+        self.go(inst, s, m);
+    }
+
+    /// Takes the memory to count a process of a service on a machine. No count is changed.
+    fn admit(&mut self, inst: &Instance, s: Service, m: Machine) -> Result<(), NoMemory>
+        requires { m.0 < machine_count inst.now.tables }
+        ensures same { AreSameIn self.old self.new }
+        ensures room { OnOk result (HasRoomFor inst.now.tables s.0 m.0 self.new) }
+    {
+        self.machines.admit(s, m.0)?;
+        self.neighbourhoods.admit(s, inst.neighbourhood(m))?;
+        self.locations.admit(s, inst.location(m))
+    }
+
+    /// Counts a process more of a service on a machine.
+    fn come(&mut self, inst: &Instance, s: Service, m: Machine)
+        requires machine { m.0 < machine_count inst.now.tables }
+        requires room { HasRoomFor inst.now.tables s.0 m.0 self.old }
+        requires few { AreFewIn self.old }
+        ensures { HasMember inst.now.tables s.0 m.0 self.old self.new }
+    {
+        self.machines.come(s, m.0);
+        self.neighbourhoods.come(s, inst.neighbourhood(m));
+        self.locations.come(s, inst.location(m));
+    }
+
+    /// Counts a process less of a service on a machine.
+    fn go(&mut self, inst: &Instance, s: Service, m: Machine)
+        requires machine { m.0 < machine_count inst.now.tables }
+        requires there { (spot : Spot) → is_there inst.now.tables spot 0 m.0 ≡ true →
+            0 < members_in self.old s.0 spot }
+        ensures { HasMember inst.now.tables s.0 m.0 self.new self.old }
+    {
+        self.machines.go(s, m.0);
+        self.neighbourhoods.go(s, inst.neighbourhood(m));
+        self.locations.go(s, inst.location(m));
+    }
+}
