@@ -183,7 +183,7 @@ added_closed d e p more fine home = closed_unbroken (instance_of e) e.initial e.
     ∙ sym (closed_with e (machine_at e.current q)) ∙ shut) ∙ same.here)
     (cases_eq q p))
 
-location_small : (i : Tables) (m : ℕ) → location_of i m < 2 ^ 32
+pub location_small : (i : Tables) (m : ℕ) → location_of i m < 2 ^ 32
 unfolding location_of
 location_small i m = (machine_row i m).small_location
 

@@ -15,10 +15,10 @@ pub mod RetiredLaws
 pub mod ResizedLaws
 pub mod ScanLaws
 pub mod TestLaws
-pub mod SeenLaws
 pub mod VerdictLaws
 pub mod LoadLaws
 pub mod TouchLaws
 pub mod ReadLaws
 pub mod CountLaws
+pub mod LocationLaws
 pub mod MemberLaws

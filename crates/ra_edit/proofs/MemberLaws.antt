@@ -1,23 +1,28 @@
 -- What is kept of the members of the services, as processes come and go.
-use Rattle.std.proofs.Common.{◌≡◌, ℕ, ◌+◌, ◌<◌, ◌≤◌, Bool, true, false, eqb, ◌&&◌, List, refl, sym, ap, ap₂, ◌∙◌}
-use Rattle.std.proofs.Common.{arith, eq-eqb}
-use Rattle.ra_base.specs.Sums.{one_if}
+use Rattle.std.proofs.Common.{◌≡◌, ℕ, ◌+◌, ◌^◌, ◌<◌, ◌≤◌, Bool, true, false, eqb, ltb, ◌&&◌, List, slice_index}
+use Rattle.std.proofs.Common.{refl, sym, ap, ap₂, ◌∙◌, subst, arith, eq-eqb, ne_eqb}
+use Rattle.ra_base.specs.Sums.{one_if, total}
 use Rattle.ra_base.specs.declared.ids.Machine.{Machine}
+use Rattle.ra_base.proofs.Counts.{count_same}
 use Rattle.ra_base.proofs.Sums.{total_none, total_bound, total_more}
 use Rattle.ra_model.specs.declared.raw.ProcessRow.{ProcessRow}
 use Rattle.ra_model.specs.declared.raw.Tables.{Tables}
-use Rattle.ra_model.specs.Numbers.{process_count, process_row, service_of}
+use Rattle.ra_model.specs.Numbers.{process_count, service_count, process_row, service_of, location_of}
 use Rattle.ra_model.specs.Assignments.{machine_at, tally}
-use Rattle.ra_model.specs.Services.{is_of, of_service, members_at}
+use Rattle.ra_model.specs.Services.{is_of, of_service, members_at, in_location, locations_of}
 use Rattle.ra_edit.specs.declared.members.Members.{Members}
 use Rattle.ra_edit.specs.declared.members.Spot.{Spot}
 use Rattle.ra_edit.specs.declared.members.Spot.TheVariants.{OnMachine, InNeighbourhood, InLocation}
 use Rattle.ra_edit.specs.Counts.{count_in}
+use Rattle.ra_edit.specs.Locations.{AreNumbered}
 use Rattle.ra_edit.specs.Drafts.{Drafted, with_processes, instance_of}
 use Rattle.ra_edit.specs.Kinds.{HasOther}
 use Rattle.ra_edit.specs.Members.{members_in, HasMembers, AreMembersOf, HasMember, AreSameIn, AreFewIn}
 use Rattle.ra_edit.specs.OneMore.{OneMore}
 use Rattle.ra_edit.specs.Spots.{is_there}
+use Rattle.ra_edit.proofs.LocationLaws.{labels_few, labels_same, numbered_kept}
+use Rattle.ra_edit.proofs.ScanLaws.{location_told}
+use Rattle.ra_edit.proofs.AddedLaws.{location_small}
 use Rattle.ra_edit.proofs.ShareLaws.{members_more}
 use Rattle.ra_edit.proofs.VerdictLaws.{renamed}
 
@@ -36,12 +41,13 @@ there_as i j spot p q at other origin same = ap (is_there i spot p) same ∙ the
 -- one process after another is counted
 
 pub members_none : (d : Drafted) (members : Members) → ((s x : ℕ) → count_in members.machines s x ≡ 0) →
-    ((s x : ℕ) → count_in members.neighbourhoods s x ≡ 0) → ((s x : ℕ) → count_in members.locations s x ≡ 0) →
-    HasMembers d 0 members
+    ((s x : ℕ) → count_in members.neighbourhoods s x ≡ 0) → ((s x : ℕ) → count_in members.locations.counts s x ≡ 0) →
+    AreNumbered (service_count d.origin) members.locations → HasMembers d 0 members
 unfolding tally
-members_none d members machines near locations = record {
+members_none d members machines near locations numbered = record {
   each = λ s spot. nothing s spot
       ∙ sym (total_none (λ p. of_service (instance_of d) s (is_there d.origin spot) p (machine_at d.current p)));
+  numbered = numbered;
 }
   where
     nothing : (s : ℕ) (spot : Spot) → members_in members s spot ≡ 0
@@ -55,13 +61,14 @@ tally_next n f a = total_more n (λ p. f p (machine_at a p))
 
 pub members_next : (d : Drafted) (p s m : ℕ) (old new : Members) → HasMembers d p old →
     s ≡ service_of (instance_of d) p → m ≡ machine_at d.current p → HasMember d.origin s m old new →
-    HasMembers d (p + 1) new
+    AreNumbered (service_count d.origin) new.locations → HasMembers d (p + 1) new
 unfolding of_service is_of
-members_next d p s m old new has s_is m_is one = record {
+members_next d p s m old new has s_is m_is one numbered = record {
   each = λ t spot. one.each t spot
       ∙ ap₂ (λ x b. x + one_if b) (has.each t spot)
       (ap₂ (λ x b. eqb x t && b) s_is (there_as d.origin d.origin spot 0 p m (machine_at d.current p) refl m_is))
       ∙ sym (tally_next p (of_service (instance_of d) t (is_there d.origin spot)) d.current);
+  numbered = numbered;
 }
 
 -- what is counted of a draft is what the definitions give
@@ -74,17 +81,30 @@ members_told d members s spot has = has.each s spot
 members_from : (d : Drafted) (members : Members) →
     ((s : ℕ) (spot : Spot) →
     members_in members s spot ≡ members_at (instance_of d) d.current s (is_there d.origin spot)) →
-    AreMembersOf d members
+    AreNumbered (service_count d.origin) members.locations → AreMembersOf d members
 unfolding members_at process_count with_processes
-members_from d members each = record { each = each }
+members_from d members each numbered = record { each = each; numbered = numbered }
+
+pub locations_told : (d : Drafted) (members : Members) (s : ℕ) → s < service_count d.origin → AreMembersOf d members →
+    slice_index members.locations.numbers.items s ≡ locations_of (instance_of d) d.current s
+unfolding locations_of
+locations_told d members s s_in has = has.numbered.each s s_in
+    ∙ count_same (2 ^ 32) (λ x. ltb 0 (count_in members.locations.counts s x))
+    (λ x. ltb 0 (in_location (instance_of d) d.current s x))
+    (λ x within. ap (ltb 0) (location_told d d.current s x (count_in members.locations.counts s x)
+    (members_told d members s (InLocation x) has)))
 
 pub members_stay : (d : Drafted) (n : ℕ) (old new : Members) → HasMembers d n old → AreSameIn old new →
     HasMembers d n new
-members_stay d n old new has same = record { each = λ s spot. same.each s spot ∙ has.each s spot }
+members_stay d n old new has same = record {
+  each = λ s spot. same.each s spot ∙ has.each s spot;
+  numbered = numbered_kept (service_count d.origin) old.locations new.locations has.numbered same.numbers
+      (labels_same old.locations.counts new.locations.counts (λ s x. same.each s (InLocation x)));
+}
 
 pub members_few : (d : Drafted) (n : ℕ) (old new : Members) → n ≤ 50000 → HasMembers d n old → AreSameIn old new →
     AreFewIn new
-unfolding tally of_service
+unfolding tally of_service is_of
 members_few d n old new few has same = record {
   each = λ s spot. omega (
     arith,
@@ -94,8 +114,27 @@ members_few d n old new few has same = record {
     total_bound n 1 (λ p. one_if (is_of (instance_of d) s p && is_there d.origin spot p (machine_at d.current p)))
         (λ p within. one_most (is_of (instance_of d) s p && is_there d.origin spot p (machine_at d.current p))),
   );
+  locations = λ s. omega (
+    arith,
+    few,
+    count_same (2 ^ 32) (λ x. ltb 0 (count_in new.locations.counts s x))
+        (λ x. ltb 0 (total n (λ p. share s p x)))
+        (λ x within. ap (ltb 0) (same.each s (InLocation x) ∙ has.each s (InLocation x))),
+    labels_few n (2 ^ 32) (share s) (λ p. location_of d.origin (machine_at d.current p))
+        (λ p. location_small d.origin (machine_at d.current p))
+        (λ p x apart. away (eqb (service_of (instance_of d) p) s)
+        (eqb (location_of d.origin (machine_at d.current p)) x)
+        (ne_eqb (location_of d.origin (machine_at d.current p)) x (λ is. apart (sym is)))),
+  );
 }
   where
+    share : ℕ → ℕ → ℕ → ℕ
+    share s p x = one_if (eqb (service_of (instance_of d) p) s && eqb (location_of d.origin (machine_at d.current p)) x)
+
+    away : (a b : Bool) → b ≡ false → one_if (a && b) ≡ 0
+    away true b none = ap one_if none
+    away false b none = refl
+
     one_most : (b : Bool) → one_if b ≤ 1
     one_most true = omega arith
     one_most false = omega arith
@@ -115,21 +154,23 @@ one_member d e p s spot more =
 
 pub members_come : (d e : Drafted) (p s m : ℕ) (old new : Members) → AreMembersOf d old → OneMore d e p →
     service_of (instance_of e) p ≡ s → machine_at e.current p ≡ m → HasMember d.origin s m old new →
-    AreMembersOf e new
-members_come d e p s m old new has more s_is m_is one = members_from e new (λ t spot. one.each t spot
+    AreNumbered (service_count d.origin) new.locations → AreMembersOf e new
+members_come d e p s m old new has more s_is m_is one numbered = members_from e new (λ t spot. one.each t spot
     ∙ ap₂ (λ x b. x + one_if b) (members_told d old t spot has)
     (ap₂ (λ x b. eqb x t && b) (sym s_is)
     (there_as d.origin e.origin spot 0 0 m (machine_at e.current p) more.origin (sym m_is)))
     ∙ sym (one_member d e p t spot more))
+    (subst (λ (i : Tables). AreNumbered (service_count i) new.locations) (sym more.origin) numbered)
 
 pub members_go : (d e : Drafted) (p s m : ℕ) (old new : Members) → AreMembersOf e old → OneMore d e p →
     s ≡ service_of (instance_of e) p → m ≡ machine_at e.current p → HasMember e.origin s m new old →
-    AreMembersOf d new
-members_go d e p s m old new has more s_is m_is one = members_from d new (λ t spot.
+    AreNumbered (service_count e.origin) new.locations → AreMembersOf d new
+members_go d e p s m old new has more s_is m_is one numbered = members_from d new (λ t spot.
     let both = one.each t spot
     ∙ ap (λ b. members_in new t spot + one_if b)
     (ap₂ (λ x b. eqb x t && b) s_is (ap (is_there e.origin spot 0) m_is)) in
     omega (arith, both, members_told e old t spot has, one_member d e p t spot more))
+    (subst (λ (i : Tables). AreNumbered (service_count i) new.locations) more.origin numbered)
 
 -- the process itself is counted where it is
 pub member_there : (d e : Drafted) (p s m : ℕ) (spot : Spot) (members : Members) → AreMembersOf e members →
@@ -157,3 +198,4 @@ members_resized d e p members has other =
     ∙ renamed (λ i a0 a. members_at i a s (is_there d.origin spot)) d e
     (members_with s (is_there d.origin spot)) origin other.rows other.initial other.current
     ∙ ap (λ (i : Tables). members_at (instance_of e) e.current s (is_there i spot)) (sym origin))
+    (subst (λ (i : Tables). AreNumbered (service_count i) members.locations) (sym origin) has.numbered)

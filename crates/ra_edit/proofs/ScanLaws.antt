@@ -1,6 +1,6 @@
 -- What is read of the lists of a draft.
-use Rattle.std.proofs.Common.{◌≡◌, ◌≢◌, ℕ, ◌+◌, ◌*◌, ◌^◌, ◌<◌, lit<, true, false, List, length, get_or, refl, sym, ap}
-use Rattle.std.proofs.Common.{◌∙◌, arith, eq-eqb, ne_eqb, Bool}
+use Rattle.std.proofs.Common.{◌≡◌, ◌≢◌, ℕ, ◌+◌, ◌*◌, ◌^◌, ◌<◌, lit<, List, length, get_or, refl, sym, ap}
+use Rattle.std.proofs.Common.{◌∙◌, arith, eq-eqb, ne_eqb}
 use Rattle.ra_base.specs.Tables.{cell}
 use Rattle.ra_base.specs.declared.ids.Machine.{Machine}
 use Rattle.ra_model.specs.declared.raw.ProcessRow.{ProcessRow}
@@ -13,7 +13,7 @@ use Rattle.ra_model.specs.Numbers.{machine_weight_of}
 use Rattle.ra_model.specs.Limits.{Small}
 use Rattle.ra_model.specs.Assignments.{machine_at}
 use Rattle.ra_model.specs.Costs.{process_share}
-use Rattle.ra_model.specs.Services.{is_of, of_service, members_at, on_machine, in_location, in_neighbourhood}
+use Rattle.ra_model.specs.Services.{members_at, on_machine, in_location, in_neighbourhood}
 use Rattle.ra_edit.specs.declared.members.Spot.TheVariants.{OnMachine, InNeighbourhood, InLocation}
 use Rattle.ra_edit.specs.declared.lists.Lists.{Lists}
 use Rattle.ra_edit.specs.Drafts.{Drafted, with_processes, instance_of}
@@ -48,20 +48,6 @@ pub cost_moves : (i : Tables) (a0 : List Machine) (p at w weight cost : ℕ) →
 unfolding process_share
 cost_moves i a0 p at w weight cost apart weight_is cost_is =
     rw (ne_eqb at (machine_at a0 p) apart, weight_is, cost_is) refl
-
-pub of_other : (i : Tables) (s : ℕ) (test : ℕ → ℕ → Bool) (p at : ℕ) → service_of i p ≢ s → 0 ≡ of_service i s test p at
-unfolding of_service is_of
-of_other i s test p at apart = sym (rw (ne_eqb (service_of i p) s apart) refl)
-
-pub of_there : (i : Tables) (s : ℕ) (test : ℕ → ℕ → Bool) (p at : ℕ) → service_of i p ≡ s → test p at ≡ true →
-    1 ≡ of_service i s test p at
-unfolding of_service is_of
-of_there i s test p at same there = sym (rw (eq-eqb (service_of i p) s same, there) refl)
-
-pub of_away : (i : Tables) (s : ℕ) (test : ℕ → ℕ → Bool) (p at : ℕ) → service_of i p ≡ s → test p at ≡ false →
-    0 ≡ of_service i s test p at
-unfolding of_service is_of
-of_away i s test p at same away = sym (rw (eq-eqb (service_of i p) s same, away) refl)
 
 -- counts at a spot are those of the definitions
 

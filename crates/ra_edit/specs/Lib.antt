@@ -6,11 +6,11 @@ pub mod Keeping
 pub mod OneMore
 pub mod Touched
 pub mod Spots
-pub mod Seen
 pub mod MachineCosts
 pub mod Locality
 pub mod Kinds
 pub mod Leaving
 pub mod Loads
 pub mod Counts
+pub mod Locations
 pub mod Members

@@ -51,9 +51,10 @@ impl<'a> Model for Draft<'a> {
 
 impl<'a> Draft<'a> {
     /// The draft of a feasible current list, whose cost has these parts. The instance is lent, and nothing is read of
-    /// its topology. The time grows with the processes times the resources and with the machines times the resources.
-    /// The draft keeps two numbers for each machine and resource, and twice the room of the lists of the most
-    /// processes that an instance may have, of which `leave` and `finish` fill the second.
+    /// its topology. The time grows with the processes times the resources, or times the logarithm of their number if
+    /// that is more, and with the machines times the resources. The draft keeps two numbers for each machine and
+    /// resource, a number for each service, at most three counts for each process, and twice the room of the lists of
+    /// the most processes that an instance may have, of which `leave` and `finish` fill the second.
     pub fn make(
         alloc: Global,
         inst: &'a Instance,

@@ -1,5 +1,5 @@
 //! What an edit breaks, found where it can break something.
-ghost use Rattle.std.specs.Prelude.{◌≡◌, ℕ, ◌<◌, true, length, IfOk};
+ghost use Rattle.std.specs.Prelude.{◌≡◌, ℕ, ◌<◌, true, length};
 ghost use Rattle.ra_base.specs.Searches.{or_else, first};
 ghost use Rattle.ra_model.specs.Numbers.{resource_count, machine_count, service_count, dependency_count, need_of, neighbourhood_of, service_of, transient_at};
 ghost use Rattle.ra_model.specs.Broken.{capacity_test, row_capacity, transient_test, row_transient, conflict_test, spread_test};
@@ -15,11 +15,9 @@ ghost use Rattle.ra_edit.specs.Loads.{IsUseRow, IsTransientRow};
 ghost use Rattle.ra_edit.specs.Touched.{far_from, added_breaks, left_alone, left_by, retired_breaks, resized_breaks};
 
 use crate::lists::Lists;
-use crate::locations::locations;
 use crate::members::{Members, Spot};
-use ra_base::{Cause, Machine, NoMemory, Process, Resource, Service};
+use ra_base::{Cause, Machine, Process, Resource, Service};
 use ra_model::Instance;
-use std::alloc::Global;
 
 /// What a process more breaks, which stands on its initial machine, with which this much is used there.
 pub(crate) fn added_breaks(
@@ -52,14 +50,13 @@ pub(crate) fn added_breaks(
 
 /// What a process less breaks, which is one of a service and on a machine.
 pub(crate) fn retired_breaks(
-    alloc: Global,
     inst: &Instance,
     lists: &Lists,
     members: &Members,
     p: Process,
     s: Service,
     at: Machine,
-) -> Result<Option<Cause>, NoMemory>
+) -> Option<Cause>
     requires sound { IsSound (drafted inst.now.tables lists.now) }
     requires members { AreMembersOf (drafted inst.now.tables lists.now) members.now }
     requires service { s.0 < service_count inst.now.tables }
@@ -67,14 +64,13 @@ pub(crate) fn retired_breaks(
     requires machine { at.0 < machine_count inst.now.tables }
     requires mine { s.0 ≡ service_of (tables_with inst.now.tables lists.now) p.0 }
     requires here { at.0 ≡ machine_at lists.now.current.items p.0 }
-    ensures { IfOk result (λ cause. (e : Drafted) →
-        HasGone (drafted inst.now.tables lists.now) e p.0 → cause ≡
-        retired_breaks (instance_of e) e.current s.0 (neighbourhood_of inst.now.tables at.0)) }
+    ensures { (e : Drafted) → HasGone (drafted inst.now.tables lists.now) e p.0 → result ≡
+        retired_breaks (instance_of e) e.current s.0 (neighbourhood_of inst.now.tables at.0) }
 {
-    if let Some(cause) = spread_test(alloc, inst, lists, members, p, s, at)? {
-        return Ok(Some(cause));
+    if let Some(cause) = spread_test(inst, lists, members, p, s, at) {
+        return Some(cause);
     }
-    Ok(first_left(inst, lists, members, p, s, at))
+    first_left(inst, lists, members, p, s, at)
 }
 
 /// What other requirements of a process break, with which this much is used of its machine, and in between of that and
@@ -273,14 +269,13 @@ fn far_need(members: &Members, s: Service, need: Service, label: u32) -> Option<
 
 /// The number of locations of a service without one of its processes, if it wants more.
 fn spread_test(
-    alloc: Global,
     inst: &Instance,
     lists: &Lists,
     members: &Members,
     p: Process,
     s: Service,
     at: Machine,
-) -> Result<Option<Cause>, NoMemory>
+) -> Option<Cause>
     requires sound { IsSound (drafted inst.now.tables lists.now) }
     requires members { AreMembersOf (drafted inst.now.tables lists.now) members.now }
     requires service { s.0 < service_count inst.now.tables }
@@ -288,48 +283,46 @@ fn spread_test(
     requires machine { at.0 < machine_count inst.now.tables }
     requires mine { s.0 ≡ service_of (tables_with inst.now.tables lists.now) p.0 }
     requires here { at.0 ≡ machine_at lists.now.current.items p.0 }
-    ensures { IfOk result (λ cause. (e : Drafted) →
-        HasGone (drafted inst.now.tables lists.now) e p.0 → cause ≡
-        spread_test (instance_of e) e.current s.0) }
+    ensures { (e : Drafted) → HasGone (drafted inst.now.tables lists.now) e p.0 →
+        result ≡ spread_test (instance_of e) e.current s.0 }
 {
-    let has = locations_without(alloc, inst, lists, members, p, s, at)?;
+    let has = locations_without(inst, lists, members, p, s, at);
     let wants = inst.spread_min(s);
     if has < wants {
-        Ok(Some(Cause::Spread {
+        Some(Cause::Spread {
             service: s,
             has,
             wants,
-        }))
+        })
     } else {
-        Ok(None)
+        None
     }
 }
 
 /// In how many locations the processes of a service are without one of them.
 fn locations_without(
-    alloc: Global,
     inst: &Instance,
     lists: &Lists,
     members: &Members,
     p: Process,
     s: Service,
     at: Machine,
-) -> Result<u32, NoMemory>
+) -> u32
     requires sound { IsSound (drafted inst.now.tables lists.now) }
     requires members { AreMembersOf (drafted inst.now.tables lists.now) members.now }
+    requires service { s.0 < service_count inst.now.tables }
     requires process { p.0 < length lists.now.rows.items }
     requires machine { at.0 < machine_count inst.now.tables }
     requires mine { s.0 ≡ service_of (tables_with inst.now.tables lists.now) p.0 }
     requires here { at.0 ≡ machine_at lists.now.current.items p.0 }
-    ensures { IfOk result (λ has. (e : Drafted) →
-        HasGone (drafted inst.now.tables lists.now) e p.0 → has ≡
-        locations_of (instance_of e) e.current s.0) }
+    ensures { (e : Drafted) → HasGone (drafted inst.now.tables lists.now) e p.0 →
+        result ≡ locations_of (instance_of e) e.current s.0 }
 {
-    let has = locations(alloc, inst, lists, s)?;
+    let has = members.locations(s);
     if members.at(s, Spot::InLocation(inst.location(at))) == 1 {
-        Ok(has - 1)
+        has - 1
     } else {
-        Ok(has)
+        has
     }
 }
 

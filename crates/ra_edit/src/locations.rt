@@ -1,61 +1,82 @@
-//! In how many locations the processes of a service are.
-ghost use Rattle.std.specs.Prelude.{◌≡◌, ◌+◌, ◌^◌, ◌<◌, length, if◌then◌else◌, IfOk, OnOk};
-ghost use Rattle.ra_base.specs.Sums.{count};
-ghost use Rattle.ra_model.specs.Services.{locations_of};
-ghost use Rattle.ra_edit.specs.Keeping.{drafted, tables_with, IsSound};
-ghost use Rattle.ra_edit.specs.Seen.{seen_at, HasSeen};
+//! In how many locations the processes of each service are.
+ghost use Rattle.std.specs.Prelude.{◌≡◌, ℕ, ◌+◌, ◌^◌, ◌<◌, length, slice_index, IfOk};
+ghost use Rattle.ra_model.specs.Numbers.{service_count};
+ghost use Rattle.ra_edit.specs.Counts.{count_in, HasCount, HasOneAt};
+ghost use Rattle.ra_edit.specs.Locations.{labels_in, AreNumbered};
 
-use crate::lists::{Lists, machine_of};
-use crate::scanning::{processes, service_of};
-use ra_base::{NoMemory, Process, Service};
-use ra_model::Instance;
+use crate::counts::Counts;
+use ra_base::{Fixed, NoMemory, Service};
+use ra_model::{Instance, copies};
 use std::alloc::Global;
-use std::collections::BTreeSet;
 
-/// The number of different locations that hold a process of a service.
-pub(crate) fn locations(
-    alloc: Global,
-    inst: &Instance,
-    lists: &Lists,
-    s: Service,
-) -> Result<u32, NoMemory>
-    requires { IsSound (drafted inst.now.tables lists.now) }
-    ensures { IfOk result (λ has. has ≡
-        locations_of (tables_with inst.now.tables lists.now) lists.now.current.items s.0) }
-{
-    let mut seen = BTreeSet::new(alloc);
-    let mut has: u32 = 0;
-    for p in 0..processes(inst, lists) {
-        if is_new(inst, lists, s, Process(p), &mut seen)? {
-            has += 1;
-        }
-    }
-    Ok(has)
+/// How many processes of each service are in each location, and in how many locations there is one.
+pub(crate) struct Locations {
+    pub(crate) counts: Counts,
+    /// The numbers of locations, by service.
+    pub(crate) numbers: Fixed<u32>,
 }
 
-/// Whether a process is the first one of a service in its location. The location is seen from then on.
-fn is_new(
-    inst: &Instance,
-    lists: &Lists,
-    s: Service,
-    p: Process,
-    seen: &mut BTreeSet<u32>,
-) -> Result<bool, NoMemory>
-    requires sound { IsSound (drafted inst.now.tables lists.now) }
-    requires process { p.0 < length lists.now.rows.items }
-    requires seen { HasSeen (tables_with inst.now.tables lists.now) lists.now.current.items s.0 p.0
-        seen.old }
-    ensures seen { OnOk result (HasSeen (tables_with inst.now.tables lists.now)
-        lists.now.current.items s.0 (p.0 + 1) seen.new) }
-    ensures more { IfOk result (λ new.
-        count (2 ^ 32) (seen_at (tables_with inst.now.tables lists.now) lists.now.current.items s.0
-        (p.0 + 1)) ≡
-        count (2 ^ 32) (seen_at (tables_with inst.now.tables lists.now) lists.now.current.items s.0
-        p.0) + (if new then 1 else 0)) }
-{
-    if service_of(inst, lists, p) != s {
-        return Ok(false);
+/// Lets both go in one call, so that the end of an owner is short to prove.
+impl Drop for Locations {
+    fn drop(self) {
+        let Locations {
+            counts: _,
+            numbers: _,
+        } = self;
     }
-    let label = inst.location(machine_of(&lists.current, p));
-    Ok(seen.insert(label)?)
+}
+
+impl Locations {
+    /// No process is counted.
+    pub(crate) fn make(alloc: Global, inst: &Instance) -> Result<Locations, NoMemory>
+        ensures empty { IfOk result (λ made. (s label : ℕ) → count_in made.counts s label ≡ 0) }
+        ensures numbered { IfOk result (λ made. AreNumbered (service_count inst.now.tables) made) }
+    {
+        let numbers = copies(alloc, inst.services() as usize, 0u32)?;
+        Ok(Locations {
+            counts: Counts::new(alloc),
+            numbers,
+        })
+    }
+
+    /// In how many locations a process of a service is.
+    pub(crate) fn number(&self, s: Service) -> u32
+        requires { s.0 < length self.now.numbers.items }
+        ensures { result ≡ slice_index self.now.numbers.items s.0 }
+    {
+        self.numbers.get(s.0 as usize)
+    }
+
+    /// Counts a process more of a service in a location.
+    pub(crate) fn come(&mut self, s: Service, label: u32)
+        requires service { s.0 < length self.old.numbers.items }
+        requires numbered { AreNumbered (length self.old.numbers.items) self.old }
+        requires there { HasCount self.old.counts s.0 label }
+        requires below { count_in self.old.counts s.0 label + 1 < 2 ^ 32 }
+        requires few { labels_in self.old.counts s.0 + 1 < 2 ^ 32 }
+        ensures counted { HasOneAt s.0 label self.old.counts self.new.counts }
+        ensures numbered { AreNumbered (length self.old.numbers.items) self.new }
+    {
+        let before = self.counts.at(s, label);
+        self.counts.come(s, label);
+        if before == 0 {
+            let more = self.number(s) + 1;
+            self.numbers.set(s.0 as usize, more);
+        }
+    }
+
+    /// Counts a process less of a service in a location.
+    pub(crate) fn go(&mut self, s: Service, label: u32)
+        requires service { s.0 < length self.old.numbers.items }
+        requires numbered { AreNumbered (length self.old.numbers.items) self.old }
+        requires there { 0 < count_in self.old.counts s.0 label }
+        ensures counted { HasOneAt s.0 label self.new.counts self.old.counts }
+        ensures numbered { AreNumbered (length self.old.numbers.items) self.new }
+    {
+        self.counts.go(s, label);
+        if self.counts.at(s, label) == 0 {
+            let fewer = self.number(s) - 1;
+            self.numbers.set(s.0 as usize, fewer);
+        }
+    }
 }

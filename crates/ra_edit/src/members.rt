@@ -1,10 +1,11 @@
 //! The processes of each service by the spots where they are, counted while edits change them.
 ghost use Rattle.std.specs.Prelude.{◌≡◌, ℕ, ◌+◌, ◌<◌, List, length, true, None, IfOk, OnOk, OnErr};
-ghost use Rattle.ra_model.specs.Numbers.{machine_count};
-ghost use Rattle.ra_model.specs.Services.{members_at};
+ghost use Rattle.ra_model.specs.Numbers.{machine_count, service_count};
+ghost use Rattle.ra_model.specs.Services.{members_at, locations_of};
 ghost use Rattle.ra_edit.specs.Drafts.{Drafted, instance_of};
 ghost use Rattle.ra_edit.specs.Keeping.{drafted, IsSound};
 ghost use Rattle.ra_edit.specs.Kinds.{HasCome, HasGone, IsEdited};
+ghost use Rattle.ra_edit.specs.Locations.{AreNumbered};
 ghost use Rattle.ra_edit.specs.Members.{members_in, AreFewIn, AreMembersOf, AreSameIn, HasMember, HasMembers, HasRoomFor};
 ghost use Rattle.ra_edit.specs.Replies.{barred};
 ghost use Rattle.ra_edit.specs.Spots.{is_there};
@@ -12,6 +13,7 @@ ghost use Rattle.ra_edit_read.specs.EditLists.{FitsInstance};
 
 use crate::counts::Counts;
 use crate::lists::{Lists, machine_of};
+use crate::locations::Locations;
 use crate::scanning::{processes, service_of};
 use ra_base::{Machine, NoMemory, Process, Service};
 use ra_edit_read::Edit;
@@ -26,11 +28,12 @@ pub(crate) enum Spot {
     InLocation(u32),
 }
 
-/// How many processes of each service are on each machine, in each neighbourhood and in each location.
+/// How many processes of each service are on each machine, in each neighbourhood and in each location, and in how many
+/// locations they are.
 pub(crate) struct Members {
     pub(crate) machines: Counts,
     pub(crate) neighbourhoods: Counts,
-    pub(crate) locations: Counts,
+    pub(crate) locations: Locations,
 }
 
 /// Lets all counts go in one call, so that the end of an owner is short to prove.
@@ -53,7 +56,7 @@ impl Members {
         let mut members = Members {
             machines: Counts::new(alloc),
             neighbourhoods: Counts::new(alloc),
-            locations: Counts::new(alloc),
+            locations: Locations::make(alloc, inst)?,
         };
         for p in 0..processes(inst, lists) {
             members.count(inst, lists, Process(p))?;
@@ -77,15 +80,23 @@ impl Members {
 
     /// How many processes of a service are at a spot.
     pub(crate) fn at(&self, s: Service, spot: Spot) -> u32
-        ensures value { result ≡ members_in self.now s.0 spot }
-        ensures members { (d : Drafted) → AreMembersOf d self.now →
+        ensures { (d : Drafted) → AreMembersOf d self.now →
             result ≡ members_at (instance_of d) d.current s.0 (is_there d.origin spot) }
     {
         match spot {
             Spot::OnMachine(m) => self.machines.at(s, m.0),
             Spot::InNeighbourhood(label) => self.neighbourhoods.at(s, label),
-            Spot::InLocation(label) => self.locations.at(s, label),
+            Spot::InLocation(label) => self.locations.counts.at(s, label),
         }
+    }
+
+    /// In how many locations a process of a service is.
+    pub(crate) fn locations(&self, s: Service) -> u32
+        requires { s.0 < length self.now.locations.numbers.items }
+        ensures { (d : Drafted) → AreMembersOf d self.now →
+            result ≡ locations_of (instance_of d) d.current s.0 }
+    {
+        self.locations.number(s)
     }
 
     /// Follows an edit of the lists, and takes the memory that it wants.
@@ -131,6 +142,7 @@ impl Members {
     ) -> Result<(), NoMemory>
         requires sound { IsSound (drafted inst.now.tables lists.now) }
         requires members { AreMembersOf (drafted inst.now.tables lists.now) self.old }
+        requires service { s.0 < service_count inst.now.tables }
         requires machine { m.0 < machine_count inst.now.tables }
         ensures after { OnOk result ((e : Drafted) →
             HasCome (drafted inst.now.tables lists.now) e s.0 m.0 → AreMembersOf e self.new) }
@@ -162,15 +174,18 @@ impl Members {
     {
         self.machines.admit(s, m.0)?;
         self.neighbourhoods.admit(s, inst.neighbourhood(m))?;
-        self.locations.admit(s, inst.location(m))
+        self.locations.counts.admit(s, inst.location(m))
     }
 
     /// Counts a process more of a service on a machine.
     fn come(&mut self, inst: &Instance, s: Service, m: Machine)
+        requires service { s.0 < service_count inst.now.tables }
         requires machine { m.0 < machine_count inst.now.tables }
+        requires numbered { AreNumbered (service_count inst.now.tables) self.old.locations }
         requires room { HasRoomFor inst.now.tables s.0 m.0 self.old }
         requires few { AreFewIn self.old }
-        ensures { HasMember inst.now.tables s.0 m.0 self.old self.new }
+        ensures member { HasMember inst.now.tables s.0 m.0 self.old self.new }
+        ensures numbered { AreNumbered (service_count inst.now.tables) self.new.locations }
     {
         self.machines.come(s, m.0);
         self.neighbourhoods.come(s, inst.neighbourhood(m));
@@ -179,10 +194,13 @@ impl Members {
 
     /// Counts a process less of a service on a machine.
     fn go(&mut self, inst: &Instance, s: Service, m: Machine)
+        requires service { s.0 < service_count inst.now.tables }
         requires machine { m.0 < machine_count inst.now.tables }
+        requires numbered { AreNumbered (service_count inst.now.tables) self.old.locations }
         requires there { (spot : Spot) → is_there inst.now.tables spot 0 m.0 ≡ true →
             0 < members_in self.old s.0 spot }
-        ensures { HasMember inst.now.tables s.0 m.0 self.new self.old }
+        ensures member { HasMember inst.now.tables s.0 m.0 self.new self.old }
+        ensures numbered { AreNumbered (service_count inst.now.tables) self.new.locations }
     {
         self.machines.go(s, m.0);
         self.neighbourhoods.go(s, inst.neighbourhood(m));

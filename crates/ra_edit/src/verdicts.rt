@@ -172,7 +172,7 @@ fn judge_retired(
 {
     let s = service_of(inst, lists, p);
     let here = machine_of(&lists.current, p);
-    if let Some(cause) = retired_breaks(alloc, inst, lists, members, p, s, here)? {
+    if let Some(cause) = retired_breaks(inst, lists, members, p, s, here) {
         return Ok(Judged::Refused(cause));
     }
     let parts = parts_without(alloc, inst, lists, loads, cost, p, here)?;

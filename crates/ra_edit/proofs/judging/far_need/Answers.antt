@@ -14,13 +14,13 @@ returns-then-need-s c = λ d e m k has come label_is need_is.
 pub returns-then-at-eq0 : goal.returns-then-at-eq0
 returns-then-at-eq0 c = λ d e m k has come label_is need_is.
     need_far e c.args.s.0 c.args.label k c.args.need.0 c.at.result need_is
-    (near_told d d.current c.args.need.0 c.args.label c.at.result (c.at.ensures.members d has)
+    (near_told d d.current c.args.need.0 c.args.label c.at.result (c.at.ensures d has)
     ∙ sym (come_near_other d e c.args.s.0 m c.args.need.0 c.args.label come label_is c.if-need-s.false))
     c.if-at-eq0.true
 
 pub returns-else-at-eq0 : goal.returns-else-at-eq0
 returns-else-at-eq0 c = λ d e m k has come label_is need_is.
     need_near e c.args.s.0 c.args.label k c.args.need.0 c.at.result need_is
-    (near_told d d.current c.args.need.0 c.args.label c.at.result (c.at.ensures.members d has)
+    (near_told d d.current c.args.need.0 c.args.label c.at.result (c.at.ensures d has)
     ∙ sym (come_near_other d e c.args.s.0 m c.args.need.0 c.args.label come label_is c.if-need-s.false))
     c.if-at-eq0.false

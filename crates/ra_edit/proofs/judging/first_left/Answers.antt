@@ -14,7 +14,7 @@ pub returns-then-at-gt1 : goal.returns-then-at-gt1
 returns-then-at-gt1 c = λ e gone.
     let d = drafted c.args.inst.now.tables c.args.lists.now in
     let told = near_told d d.current c.args.s.0 c.neighbourhood-label.result c.at.result
-    (c.at.ensures.members d c.requires.members) in
+    (c.at.ensures d c.requires.members) in
     rw (← c.neighbourhood-label.ensures)
     (none_left e c.args.s.0 c.neighbourhood-label.result (service_count (instance_of e))
     (left_more d e c.args.p.0 c.args.s.0 c.args.at.0 c.neighbourhood-label.result c.at.result gone
@@ -34,7 +34,7 @@ pub returns-in-Some : goal.returns-in-Some
 returns-in-Some c = λ e gone.
     let d = drafted c.args.inst.now.tables c.args.lists.now in
     let told = near_told d d.current c.args.s.0 c.neighbourhood-label.result c.at.result
-    (c.at.ensures.members d c.requires.members) in
+    (c.at.ensures d c.requires.members) in
     let left : IsLeft d e c.args.s.0 c.neighbourhood-label.result =
     gone_left d e c.args.p.0 c.args.s.0 c.args.at.0 c.neighbourhood-label.result c.at.result gone
     c.requires.mine c.requires.here c.neighbourhood-label.ensures told (omega (arith, c.if-at-gt1.false)) in
@@ -53,7 +53,7 @@ pub returns : goal.returns
 returns c = λ e gone.
     let d = drafted c.args.inst.now.tables c.args.lists.now in
     let told = near_told d d.current c.args.s.0 c.neighbourhood-label.result c.at.result
-    (c.at.ensures.members d c.requires.members) in
+    (c.at.ensures d c.requires.members) in
     let left : IsLeft d e c.args.s.0 c.neighbourhood-label.result =
     gone_left d e c.args.p.0 c.args.s.0 c.args.at.0 c.neighbourhood-label.result c.at.result gone
     c.requires.mine c.requires.here c.neighbourhood-label.ensures told (omega (arith, c.if-at-gt1.false)) in

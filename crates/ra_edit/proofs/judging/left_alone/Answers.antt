@@ -13,11 +13,11 @@ returns-then-u-s c = λ d e has left. left_none e c.args.s.0 c.args.label c.args
 pub returns-then-at-gt0 : goal.returns-then-at-gt0
 returns-then-at-gt0 c = λ d e has left.
     left_some e c.args.s.0 c.args.label c.args.u.0 c.at.result left.none
-    (near_told d d.current c.args.u.0 c.args.label c.at.result (c.at.ensures.members d has)
+    (near_told d d.current c.args.u.0 c.args.label c.at.result (c.at.ensures d has)
     ∙ sym (left.others c.args.u.0 c.if-u-s.false)) (omega (arith, c.if-at-gt0.true))
 
 pub returns-else-at-gt0 : goal.returns-else-at-gt0
 returns-else-at-gt0 c = λ d e has left.
     left_none e c.args.s.0 c.args.label c.args.u.0 c.at.result
-    (near_told d d.current c.args.u.0 c.args.label c.at.result (c.at.ensures.members d has)
+    (near_told d d.current c.args.u.0 c.args.label c.at.result (c.at.ensures d has)
     ∙ sym (left.others c.args.u.0 c.if-u-s.false)) (omega (arith, c.if-at-gt0.false))

@@ -11,25 +11,29 @@ pub overflow_sub-result : goal.overflow_sub-result
 overflow_sub-result c =
     let d = drafted c.args.inst.now.tables c.args.lists.now in
     let told = location_told d d.current c.args.s.0 c.location.result c.at.result
-    (c.at.ensures.members d c.requires.members) in
+    (c.at.ensures d c.requires.members) in
     let less = gone_last d (retired d c.args.p.0) c.args.p.0 c.args.s.0 c.args.at.0 c.location.result
     (has_gone d (retired d c.args.p.0) c.args.p.0 c.requires.sound c.requires.process refl) c.requires.mine
     c.requires.here c.location.ensures (omega arith) (sym told ∙ c.if-at-eq1.true) in
-    omega (arith, less, c.in_ok-has.ensures)
+    omega (arith, less, c.locations-has.ensures d c.requires.members)
 
 pub returns-then-at-eq1 : goal.returns-then-at-eq1
 returns-then-at-eq1 c = λ e gone.
     let d = drafted c.args.inst.now.tables c.args.lists.now in
     let told = location_told d d.current c.args.s.0 c.location.result c.at.result
-    (c.at.ensures.members d c.requires.members) in
+    (c.at.ensures d c.requires.members) in
     let less = gone_last d e c.args.p.0 c.args.s.0 c.args.at.0 c.location.result gone c.requires.mine c.requires.here
     c.location.ensures (omega arith) (sym told ∙ c.if-at-eq1.true) in
-    omega (arith, less, c.in_ok-has.ensures)
+    omega (arith, less, c.locations-has.ensures d c.requires.members)
 
 pub returns-else-at-eq1 : goal.returns-else-at-eq1
 returns-else-at-eq1 c = λ e gone.
     let d = drafted c.args.inst.now.tables c.args.lists.now in
     let told = location_told d d.current c.args.s.0 c.location.result c.at.result
-    (c.at.ensures.members d c.requires.members) in
-    c.in_ok-has.ensures ∙ gone_other d e c.args.p.0 c.args.s.0 c.args.at.0 c.location.result gone c.requires.mine
+    (c.at.ensures d c.requires.members) in
+    c.locations-has.ensures d c.requires.members
+    ∙ gone_other d e c.args.p.0 c.args.s.0 c.args.at.0 c.location.result gone c.requires.mine
     c.requires.here c.location.ensures (omega arith) (λ one. c.if-at-eq1.false (told ∙ one))
+
+pub locations-has-requires : goal.locations-has-requires
+locations-has-requires c = omega (arith, c.requires.service, c.requires.members.numbered.one_each)

@@ -27,14 +27,14 @@ retired_breaks-requires c =
 pub returns-in-Some : goal.returns-in-Some
 returns-in-Some c = λ e gone. gone_broken (drafted c.args.inst.now.tables c.args.lists.now) e c.args.cost c.args.p.0
     c.service_of-s.result.0 _ c.requires.kept gone c.service_of-s.ensures
-    (ap (neighbourhood_of c.args.inst.now.tables) c.machine_of-here.ensures) ∙ sym (c.in_ok-cause.ensures e gone)
+    (ap (neighbourhood_of c.args.inst.now.tables) c.machine_of-here.ensures) ∙ sym (c.retired_breaks.ensures e gone)
     ∙ c.in-Some.is
 
 pub returns : goal.returns
 returns c = λ e gone. (
   gone_broken (drafted c.args.inst.now.tables c.args.lists.now) e c.args.cost c.args.p.0 c.service_of-s.result.0 _
       c.requires.kept gone c.service_of-s.ensures
-      (ap (neighbourhood_of c.args.inst.now.tables) c.machine_of-here.ensures) ∙ sym (c.in_ok-cause.ensures e gone)
+      (ap (neighbourhood_of c.args.inst.now.tables) c.machine_of-here.ensures) ∙ sym (c.retired_breaks.ensures e gone)
       ∙ c.in_default.is,
   c.in_ok-parts.ensures e gone,
 )

@@ -4,14 +4,14 @@ use Rattle.ra_edit.specs.declared.members.Spot.TheVariants.{OnMachine, InNeighbo
 use Rattle.ra_edit.proofs.MemberLaws.{members_told}
 use Rattle.ra_edit.proofs.members.Members.at.Goals as goal
 
-pub returns-in-OnMachine-clause-members : goal.returns-in-OnMachine-clause-members
-returns-in-OnMachine-clause-members c = rw c.in-OnMachine.is (λ d has. c.at.ensures
+pub returns-in-OnMachine : goal.returns-in-OnMachine
+returns-in-OnMachine c = rw c.in-OnMachine.is (λ d has. c.at.ensures
     ∙ members_told d c.args.self.now c.args.s.0 (OnMachine c.in-OnMachine.m) has)
 
-pub returns-in-InNeighbourhood-clause-members : goal.returns-in-InNeighbourhood-clause-members
-returns-in-InNeighbourhood-clause-members c = rw c.in-InNeighbourhood.is (λ d has. c.at-in-InNeighbourhood.ensures
+pub returns-in-InNeighbourhood : goal.returns-in-InNeighbourhood
+returns-in-InNeighbourhood c = rw c.in-InNeighbourhood.is (λ d has. c.at-in-InNeighbourhood.ensures
     ∙ members_told d c.args.self.now c.args.s.0 (InNeighbourhood c.in-InNeighbourhood.label) has)
 
-pub returns-in-InLocation-clause-members : goal.returns-in-InLocation-clause-members
-returns-in-InLocation-clause-members c = rw c.in-InLocation.is (λ d has. c.at-in-InLocation.ensures
+pub returns-in-InLocation : goal.returns-in-InLocation
+returns-in-InLocation c = rw c.in-InLocation.is (λ d has. c.at-in-InLocation.ensures
     ∙ members_told d c.args.self.now c.args.s.0 (InLocation c.in-InLocation.label) has)

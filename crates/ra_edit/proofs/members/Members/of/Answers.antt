@@ -6,7 +6,7 @@ use Rattle.ra_edit.proofs.members.Members.of.Goals as goal
 
 pub loop-p-init : goal.loop-p-init
 loop-p-init c = members_none (drafted c.args.inst.now.tables c.args.lists.now) _ c.new.ensures c.new-2.ensures
-    c.new-3.ensures
+    c.in_ok-make.ensures.empty c.in_ok-make.ensures.numbered
 
 pub returns : goal.returns
 returns c =
