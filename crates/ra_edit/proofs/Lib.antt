@@ -18,6 +18,7 @@ pub mod TestLaws
 pub mod VerdictLaws
 pub mod LoadLaws
 pub mod TouchLaws
+pub mod MovedLaws
 pub mod ReadLaws
 pub mod CountLaws
 pub mod LocationLaws

@@ -1,18 +1,15 @@
 -- What the counts of a draft say of the tests after an edit.
-use Rattle.std.proofs.Common.{◌≡◌, ◌≢◌, ℕ, ◌+◌, ◌^◌, ◌<◌, ◌≤◌, Bool, true, false, cond, eqb, ◌&&◌, List}
-use Rattle.std.proofs.Common.{length, get_or, set, slice_index, refl, sym, ap, ◌∙◌, ⊎_elim, arith, eq-eqb}
-use Rattle.std.proofs.Common.{ne_eqb, get_or-set_same, get_or-set_other}
-use Rattle.std.proofs.lemmas.Bool.{cases_eq, lt-ltb, le-ltb}
+use Rattle.std.proofs.Common.{◌≡◌, ◌≢◌, ℕ, ◌+◌, ◌^◌, ◌<◌, ◌≤◌, Bool, true, false, eqb, ◌&&◌, refl, sym, ap, ◌∙◌}
+use Rattle.std.proofs.Common.{arith, eq-eqb, ne_eqb}
+use Rattle.std.proofs.lemmas.Bool.{lt-ltb, le-ltb}
 use Rattle.ra_base.specs.Sums.{one_if}
-use Rattle.ra_base.specs.declared.ids.Machine.{Machine}
 use Rattle.ra_model.specs.declared.raw.Tables.{Tables}
-use Rattle.ra_model.specs.Numbers.{process_count, neighbourhood_of, location_of, service_of}
+use Rattle.ra_model.specs.Numbers.{neighbourhood_of, location_of, service_of}
 use Rattle.ra_model.specs.Assignments.{machine_at}
-use Rattle.ra_model.specs.Services.{members_at, on_machine, in_neighbourhood, in_location, locations_of, moved_of}
-use Rattle.ra_check.specs.Stands.{HasMoved}
+use Rattle.ra_model.specs.Services.{on_machine, in_neighbourhood, in_location, locations_of}
 use Rattle.ra_edit.specs.Drafts.{Drafted, instance_of}
 use Rattle.ra_edit.specs.Kinds.{HasCome, HasGone, IsLeft}
-use Rattle.ra_edit.proofs.ShareLaws.{machine_more, neighbourhood_more, location_more, locations_more, moved_more}
+use Rattle.ra_edit.proofs.ShareLaws.{machine_more, neighbourhood_more, location_more, locations_more}
 
 both_true : (b : Bool) → (b && true) ≡ b
 both_true true = refl
@@ -85,11 +82,6 @@ gone_other d e p s at x gone s_is at_is x_is small more =
     (locations_more e d p s x gone.fewer (sym s_is) x_e small) in
     omega (arith, all)
 
-pub gone_moved : (d e : Drafted) (p s t : ℕ) → HasGone d e p → s ≡ service_of (instance_of d) p →
-    moved_of (instance_of d) d.initial d.current t ≡ moved_of (instance_of e) e.initial e.current t
-    + one_if (eqb s t && cond (eqb (machine_at d.initial p) (machine_at d.current p)) false true)
-gone_moved d e p s t gone s_is = rw (← s_is) at (moved_more e d p t gone.fewer)
-
 -- of its own service one more is near, and of each other one as many
 
 pub come_near_mine : (d e : Drafted) (s m u label : ℕ) → HasCome d e s m → label ≡ neighbourhood_of d.origin m → u ≡ s →
@@ -120,59 +112,3 @@ gone_left d e p s at label n gone s_is at_is label_is n_is few = record {
   others = λ u apart. let near = rw (ne_eqb s u (λ same. apart (sym same))) at
       (gone_near d e p s at u label gone s_is at_is label_is) in omega (arith, near);
 }
-
--- the moved processes by service
-
-moved_kept : (i : Tables) (a0 a : List Machine) (s : ℕ) (counts : List ℕ) → HasMoved i a0 a (process_count i) counts →
-    slice_index counts s ≡ moved_of i a0 a s
-unfolding moved_of members_at
-moved_kept i a0 a s counts has = has.each s
-
-moved_from : (i : Tables) (a0 a : List Machine) (counts : List ℕ) →
-    ((s : ℕ) → slice_index counts s ≡ moved_of i a0 a s) → HasMoved i a0 a (process_count i) counts
-unfolding moved_of members_at
-moved_from i a0 a counts each = record { each = each }
-
-pub moved_some : (d e : Drafted) (p s : ℕ) (counts : List ℕ) → HasGone d e p → s ≡ service_of (instance_of d) p →
-    eqb (machine_at d.initial p) (machine_at d.current p) ≡ false →
-    HasMoved (instance_of d) d.initial d.current (process_count (instance_of d)) counts →
-    slice_index counts s ≡ moved_of (instance_of e) e.initial e.current s + 1
-moved_some d e p s counts gone s_is moved has =
-    let more = rw (eq-eqb s s refl, moved) at (gone_moved d e p s s gone s_is) in
-    moved_kept (instance_of d) d.initial d.current s counts has ∙ more
-
-pub moved_less : (d e : Drafted) (p s value : ℕ) (old new : List ℕ) → HasGone d e p → s ≡ service_of (instance_of d) p →
-    eqb (machine_at d.initial p) (machine_at d.current p) ≡ false → s < length old → value + 1 ≡ get_or old s 0 →
-    new ≡ set old s value → HasMoved (instance_of d) d.initial d.current (process_count (instance_of d)) old →
-    HasMoved (instance_of e) e.initial e.current (process_count (instance_of e)) new
-moved_less d e p s value old new gone s_is moved within lowered written has =
-    moved_from (instance_of e) e.initial e.current new (λ t. ⊎_elim
-    (λ (here : t ≡ s).
-    rw (here, written)
-    (omega (arith, get_or-set_same old s value 0 within, lowered, moved_some d e p s old gone s_is moved has)))
-    (λ (apart : t ≢ s).
-    let more = rw (ne_eqb s t (λ same. apart (sym same))) at (gone_moved d e p s t gone s_is) in
-    rw written (omega (
-      arith,
-      get_or-set_other old s t value 0 apart,
-      moved_kept (instance_of d) d.initial d.current t old has,
-      more,
-    )))
-    (cases_eq t s))
-
-pub moved_stays : (d e : Drafted) (p : ℕ) (counts : List ℕ) → HasGone d e p →
-    eqb (machine_at d.initial p) (machine_at d.current p) ≡ true →
-    HasMoved (instance_of d) d.initial d.current (process_count (instance_of d)) counts →
-    HasMoved (instance_of e) e.initial e.current (process_count (instance_of e)) counts
-moved_stays d e p counts gone stays has = moved_from (instance_of e) e.initial e.current counts (λ t.
-    let more = rw stays at (gone_moved d e p (service_of (instance_of d) p) t gone refl) in
-    omega (
-      arith,
-      moved_kept (instance_of d) d.initial d.current t counts has,
-      more,
-      never (eqb (service_of (instance_of d) p) t),
-    ))
-  where
-    never : (b : Bool) → one_if (b && false) ≡ 0
-    never true = refl
-    never false = refl

@@ -242,7 +242,7 @@ parts_told d parts kept small =
       machine_small = omega (arith, machine, machine_under i d.initial d.current well small);
     }
 
-moved_same : (d e : Drafted) (p s : ℕ) → OneMore d e p → machine_at e.initial p ≡ machine_at e.current p →
+pub moved_same : (d e : Drafted) (p s : ℕ) → OneMore d e p → machine_at e.initial p ≡ machine_at e.current p →
     moved_of (instance_of e) e.initial e.current s ≡ moved_of (instance_of d) d.initial d.current s
 moved_same d e p s more home =
     let h = moved_more d e p s more in

@@ -10,6 +10,7 @@ pub mod MachineCosts
 pub mod Locality
 pub mod Kinds
 pub mod Leaving
+pub mod Moved
 pub mod Loads
 pub mod Counts
 pub mod Locations

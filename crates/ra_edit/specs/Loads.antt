@@ -8,12 +8,14 @@ use Rattle.ra_model.specs.Assignments.{machine_at}
 use Rattle.ra_model.specs.Usage.{use_share, use_of, transient_share, transient_of}
 use Rattle.ra_check.specs.Made.{IsGrid}
 use Rattle.ra_check.specs.Stands.{IsTally}
+use Rattle.ra_cells.specs.MovedCounts.{MovedCounts}
 use Rattle.ra_edit.specs.declared.lists.Lists.{Lists}
 use Rattle.ra_edit.specs.declared.loads.Loads.{Loads}
 use Rattle.ra_edit.specs.declared.members.Members.{Members}
 use Rattle.ra_edit.specs.Drafts.{Drafted, instance_of}
 use Rattle.ra_edit.specs.Keeping.{drafted, HasRoom, IsKept}
 use Rattle.ra_edit.specs.Members.{AreMembersOf}
+use Rattle.ra_edit.specs.Moved.{AreMovedOf}
 
 -- one table has more than another: an amount of each resource at machine `at`
 pub record HasMoreAt (width at : ℕ) (amount : ℕ → ℕ) (low high : List ℕ) : Type 0 where
@@ -62,10 +64,12 @@ pub record IsTransientRow (d : Drafted) (m : ℕ) (row : List ℕ) : Type 0 wher
 abbrev pub IsThere : Drafted → ℕ → ℕ → Type 0
 IsThere d p m = ((machine_at d.initial p == m) || (machine_at d.current p == m)) ≡ true
 
--- what a draft holds: its lists, the cost of the current one, what the processes use, and where they are by service
-pub record IsHeld (i : Tables) (lists : Lists) (loads : Loads) (members : Members) (parts : Parts)
-    : Type 0 where
+-- what a draft holds: its lists, the cost of the current one, what the processes use, where they are by service, and how
+-- many have moved
+pub record IsHeld (i : Tables) (lists : Lists) (loads : Loads) (members : Members)
+    (moved : MovedCounts) (parts : Parts) : Type 0 where
   pub kept : IsKept (drafted i lists) parts
   pub loads_are : AreLoadsOf (drafted i lists) loads
   pub members_are : AreMembersOf (drafted i lists) members
+  pub moved_are : AreMovedOf (drafted i lists) moved
   pub room : HasRoom i lists

@@ -16,10 +16,12 @@ use crate::edited::{Edited, Left};
 use crate::lists::{Lists, MOST_PROCESSES};
 use crate::loads::Loads;
 use crate::members::Members;
+use crate::moved::{follow_moved, moved_counts};
 use crate::replies::EditReply;
 use crate::scanning::small;
 use crate::verdicts::{Judged, judge};
 use ra_base::{Assignment, NoMemory, Parts};
+use ra_cells::Greatest;
 use ra_edit_read::{Edit, Edits};
 use ra_model::Instance;
 use ra_topology::Topology;
@@ -34,6 +36,7 @@ pub struct Draft<'a> {
     lists: Lists,
     loads: Loads,
     members: Members,
+    moved: Greatest,
     parts: Parts,
 }
 
@@ -46,15 +49,15 @@ impl<'a> Model for Draft<'a> {
 
     ghost view = { λ d. drafted d.inst.now.tables d.lists };
 
-    ghost invariant = { λ d. IsHeld d.inst.now.tables d.lists d.loads d.members d.parts };
+    ghost invariant = { λ d. IsHeld d.inst.now.tables d.lists d.loads d.members d.moved d.parts };
 }
 
 impl<'a> Draft<'a> {
     /// The draft of a feasible current list, whose cost has these parts. The instance is lent, and nothing is read of
     /// its topology. The time grows with the processes times the resources, or times the logarithm of their number if
-    /// that is more, and with the machines times the resources. The draft keeps two numbers for each machine and
-    /// resource, a number for each service, at most three counts for each process, and twice the room of the lists of
-    /// the most processes that an instance may have, of which `leave` and `finish` fill the second.
+    /// that is more, with the machines times the resources and with the services. The draft keeps two numbers for each
+    /// machine and resource, two for each service, at most three counts and a number for each process, and twice the room
+    /// of the lists of the most processes that an instance may have, of which `leave` and `finish` fill the second.
     pub fn make(
         alloc: Global,
         inst: &'a Instance,
@@ -72,11 +75,13 @@ impl<'a> Draft<'a> {
         let lists = Lists::of(alloc, inst, a0, a)?;
         let loads = Loads::of(alloc, inst, &lists)?;
         let members = Members::of(alloc, inst, &lists)?;
+        let moved = moved_counts(alloc, inst, &lists)?;
         Ok(Draft {
             inst,
             lists,
             loads,
             members,
+            moved,
             parts: start,
         })
     }
@@ -105,6 +110,7 @@ impl<'a> Draft<'a> {
             &self.lists,
             &self.loads,
             &self.members,
+            &self.moved,
             self.parts,
             edit,
             asked,
@@ -113,6 +119,7 @@ impl<'a> Draft<'a> {
             Judged::Fine(parts) => {
                 self.members.follow(self.inst, &self.lists, edit)?;
                 self.loads.follow(self.inst, &self.lists, edit, asked);
+                follow_moved(&mut self.moved, self.inst, &self.lists, edit);
                 self.lists.edit(self.inst, edit, asked);
                 self.parts = parts;
                 Ok(EditReply::Done { cost: parts.total })
@@ -149,6 +156,7 @@ impl<'a> Draft<'a> {
             lists,
             loads: _,
             members: _,
+            moved: _,
             parts: _,
         } = self;
         small(inst, &lists);
@@ -179,6 +187,7 @@ impl<'a> Draft<'a> {
             lists,
             loads: _,
             members: _,
+            moved: _,
             parts: _,
         } = self;
         small(inst, &lists);

@@ -10,6 +10,7 @@ ghost use Rattle.ra_edit.specs.Replies.{barred};
 ghost use Rattle.ra_edit.specs.Kinds.{Asks, HasCome, HasGone, HasOther, IsEdited};
 ghost use Rattle.ra_edit.specs.Loads.{AreLoadsOf};
 ghost use Rattle.ra_edit.specs.Members.{AreMembersOf};
+ghost use Rattle.ra_edit.specs.Moved.{AreMovedOf};
 
 use crate::costs::{costs_with, moved_share, summed, way_share};
 use crate::judging::{added_breaks, resized_breaks, retired_breaks};
@@ -19,6 +20,7 @@ use crate::members::Members;
 use crate::moved::service_cost_without;
 use crate::scanning::{service_of, small};
 use ra_base::{Cause, Machine, NoMemory, Parts, Process, Service};
+use ra_cells::Greatest;
 use ra_edit_read::Edit;
 use ra_model::Instance;
 use std::alloc::Global;
@@ -38,6 +40,7 @@ pub(crate) fn judge(
     lists: &Lists,
     loads: &Loads,
     members: &Members,
+    moved: &Greatest,
     cost: Parts,
     edit: Edit,
     asked: &[u32],
@@ -45,6 +48,7 @@ pub(crate) fn judge(
     requires kept { IsKept (drafted inst.now.tables lists.now) cost }
     requires loads { AreLoadsOf (drafted inst.now.tables lists.now) loads.now }
     requires members { AreMembersOf (drafted inst.now.tables lists.now) members.now }
+    requires moved { AreMovedOf (drafted inst.now.tables lists.now) moved.now }
     requires free { barred (length lists.now.rows.items) edit ≡ None }
     requires fits { FitsInstance inst.now.tables edit }
     requires asked { length asked.now ≡ resource_count inst.now.tables }
@@ -60,7 +64,16 @@ pub(crate) fn judge(
             alloc, inst, lists, loads, members, cost, service, machine, asked,
         ),
         Edit::Retire { process } => {
-            judge_retired(alloc, inst, lists, loads, members, cost, Process(process))
+            judge_retired(
+                alloc,
+                inst,
+                lists,
+                loads,
+                members,
+                moved,
+                cost,
+                Process(process),
+            )
         }
         Edit::Resize { process } => {
             judge_resized(alloc, inst, lists, loads, cost, Process(process), asked)
@@ -160,12 +173,14 @@ fn judge_retired(
     lists: &Lists,
     loads: &Loads,
     members: &Members,
+    moved: &Greatest,
     cost: Parts,
     p: Process,
 ) -> Result<Judged, NoMemory>
     requires kept { IsKept (drafted inst.now.tables lists.now) cost }
     requires loads { AreLoadsOf (drafted inst.now.tables lists.now) loads.now }
     requires members { AreMembersOf (drafted inst.now.tables lists.now) members.now }
+    requires moved { AreMovedOf (drafted inst.now.tables lists.now) moved.now }
     requires process { p.0 < length lists.now.rows.items }
     ensures { IfOk result (λ judged. (e : Drafted) →
         HasGone (drafted inst.now.tables lists.now) e p.0 → IsJudged e judged) }
@@ -175,7 +190,7 @@ fn judge_retired(
     if let Some(cause) = retired_breaks(inst, lists, members, p, s, here) {
         return Ok(Judged::Refused(cause));
     }
-    let parts = parts_without(alloc, inst, lists, loads, cost, p, here)?;
+    let parts = parts_without(alloc, inst, lists, loads, moved, cost, p, here)?;
     Ok(Judged::Fine(parts))
 }
 
@@ -185,12 +200,14 @@ fn parts_without(
     inst: &Instance,
     lists: &Lists,
     loads: &Loads,
+    moved: &Greatest,
     cost: Parts,
     p: Process,
     here: Machine,
 ) -> Result<Parts, NoMemory>
     requires kept { IsKept (drafted inst.now.tables lists.now) cost }
     requires loads { AreLoadsOf (drafted inst.now.tables lists.now) loads.now }
+    requires moved { AreMovedOf (drafted inst.now.tables lists.now) moved.now }
     requires process { p.0 < length lists.now.rows.items }
     requires here { here.0 ≡ machine_at lists.now.current.items p.0 }
     ensures { IfOk result (λ parts. (e : Drafted) →
@@ -201,7 +218,7 @@ fn parts_without(
     let used = loads.use_retired(alloc, inst, lists, p, here)?;
     let costs = costs_with(inst, lists, loads, cost, here, used.as_slice());
     let process = cost.process - moved_share(inst, lists, p);
-    let service = service_cost_without(alloc, inst, lists, p)?;
+    let service = service_cost_without(moved, inst, lists, p);
     let machine = cost.machine - way_share(inst, lists, p);
     Ok(summed(costs.load, costs.balance, process, service, machine))
 }

@@ -59,7 +59,7 @@ summed-requires c =
       load = c.costs_with-costs.ensures.load_small;
       balance = c.costs_with-costs.ensures.balance_small;
       process = omega (arith, has.process_small);
-      service = omega (arith, c.in_ok-service.ensures.bound);
+      service = omega (arith, c.service_cost_without-service.ensures.bound);
       machine = omega (arith, has.machine_small);
     }
 
@@ -72,7 +72,8 @@ returns c = λ e gone.
     let costs = c.costs_with-costs.ensures.costs e (sym gone.fewer.origin)
     (rw c.as_slice.ensures (c.in_ok-used.ensures.row e gone.fewer)) in
     c.summed.ensures ∙ gone_parts d e c.args.cost c.args.p.0 c.args.here.0 c.costs_with-costs.result.load
-    c.costs_with-costs.result.balance _ c.in_ok-service.service _ costs.before costs.after
+    c.costs_with-costs.result.balance _ c.service_cost_without-service.result _ costs.before costs.after
     c.args.inst.now.well_formed has gone c.requires.here within costs.before_are costs.after_are costs.load
-    costs.balance (ap (λ x. c.args.cost.process - x) c.moved_share.ensures) (c.in_ok-service.ensures.value e gone)
+    costs.balance (ap (λ x. c.args.cost.process - x) c.moved_share.ensures)
+    (c.service_cost_without-service.ensures.value e gone)
     (ap (λ x. c.args.cost.machine - x) c.way_share.ensures)

@@ -31,6 +31,7 @@ judge-requires c =
       kept = c.self.invariant.kept;
       loads = c.self.invariant.loads_are;
       members = c.self.invariant.members_are;
+      moved = c.self.invariant.moved_are;
       free = sym c.barred.ensures ∙ c.in_default.is;
       fits = next_fits d c.args.self.now c.args.edits.now c.args.i c.edit-edit.result c.self.view_is c.requires.fits
           c.requires.edit c.edit-edit.ensures;
@@ -92,6 +93,13 @@ follow-requires-in-Fine c =
           c.requires.fits c.requirements_of-asked.ensures.one_each;
     }
 
+pub follow_moved-requires : goal.follow_moved-requires
+follow_moved-requires c = record {
+  sound = c.self.invariant.kept.sound;
+  moved = c.self.invariant.moved_are;
+  free = sym c.barred.ensures ∙ c.in_default.is;
+}
+
 pub edit-requires : goal.edit-requires
 edit-requires c =
     let d = drafted c.self.inside.inst.now.tables c.self.inside.lists in
@@ -109,6 +117,7 @@ invariant_of-self c = record {
   kept = c.self.invariant.kept;
   loads_are = c.self.invariant.loads_are;
   members_are = c.in_err-follow-in-Fine.ensures.memory;
+  moved_are = c.self.invariant.moved_are;
   room = c.self.invariant.room;
 }
 
@@ -136,6 +145,7 @@ invariant_of-self-in-Fine c =
       };
       loads_are = c.follow-in-Fine.ensures next made;
       members_are = c.in_ok-follow-in-Fine.ensures.after next c.requirements_of-asked.result.now made;
+      moved_are = c.follow_moved.ensures next c.requirements_of-asked.result.now made;
       room = c.edit.ensures.room;
     }
 

@@ -1,4 +1,5 @@
 use Rattle.ra_edit.proofs.DraftLaws.{made_kept}
+use Rattle.ra_edit.proofs.MovedLaws.{made_few}
 use Rattle.ra_edit.proofs.draft.Draft.make.Goals as goal
 
 pub of-requires-2 : goal.of-requires-2
@@ -13,6 +14,14 @@ of-requires-3 c =
     c.in_ok-lists.ensures.lists c.args.inst.now.well_formed c.requires.a0_fits c.requires.fits c.requires.unbroken
     c.requires.parts).sound
 
+pub moved_counts-requires : goal.moved_counts-requires
+moved_counts-requires c = record {
+  sound = (made_kept _ c.args.inst.now.tables c.args.a0.now.items c.args.a.now.items c.args.start
+      c.in_ok-lists.ensures.lists c.args.inst.now.well_formed c.requires.a0_fits c.requires.fits c.requires.unbroken
+      c.requires.parts).sound;
+  few = made_few _ c.args.inst.now.tables c.args.a0.now.items c.args.a.now.items c.in_ok-lists.ensures.lists;
+}
+
 pub invariant_of-result : goal.invariant_of-result
 invariant_of-result c = record {
   kept = made_kept _ c.args.inst.now.tables c.args.a0.now.items c.args.a.now.items c.args.start
@@ -20,5 +29,6 @@ invariant_of-result c = record {
       c.requires.parts;
   loads_are = c.in_ok-loads.ensures;
   members_are = c.in_ok-members.ensures;
+  moved_are = c.in_ok-moved.ensures;
   room = c.in_ok-lists.ensures.room;
 }
