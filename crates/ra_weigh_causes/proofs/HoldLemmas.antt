@@ -226,6 +226,20 @@ conflict_all i a0 a steps n move fine all none =
     (λ s s_in. first_none_from (machine_count i) (conflict_test i (applied a steps) s)
     (λ m m_in. conflict_at i a0 a steps s m move fine every s_in m_in))
 
+pub conflict_entered : (i : Tables) (a0 a : List Machine) (steps : List Step) (s : ℕ) → IsMove i a steps → Fine i a0 a →
+    s < service_count i →
+    OnlyWhere (machine_count i) (is_named (length steps) (to_in steps)) (conflict_test i (applied a steps) s)
+conflict_entered i a0 a steps s move fine s_in = record {
+  others = λ m m_in none. conflict_free i (applied a steps) s m
+      (omega (
+        arith,
+        on_machine_falls i a steps s m move
+            (λ j within. and_right (eqb (service_in i steps j) s) (eqb (to_in steps j) m)
+            (ne_eqb (to_in steps j) m (not_named (length steps) (to_in steps) m none j within))),
+        conflict_few i a s m fine.conflict s_in m_in,
+      ));
+}
+
 pub conflict_somewhere : (i : Tables) (b : List Machine) (s m : ℕ) → s < service_count i → m < machine_count i →
     conflict_test i b s m ≢ None → broken_conflict i b ≡ None → ⊥
 unfolding broken_conflict service_conflict

@@ -18,21 +18,12 @@ use Rattle.ra_topology.specs.Lists.{service_at, is_dependant, numbers_of, servic
 use Rattle.ra_topology.specs.TopologyLists.{TopologyLists}
 use Rattle.ra_topology.specs.Fits.{IsTopologyOf}
 use Rattle.ra_moves.specs.declared.steps.Step.{Step}
-use Rattle.ra_moves.specs.Steps.{from_in, to_in}
-use Rattle.ra_moves.specs.Touched.{ends_at, service_in, moves_service}
+use Rattle.ra_moves.specs.Touched.{service_in, moves_service}
 use Rattle.ra_moves.specs.Laws.{OnlyWhere, AreLocal}
 use Rattle.ra_weigh_causes.specs.Searching.{ClearTo, Ascend}
 use Rattle.ra_weigh_causes.specs.Touching.{needs_moved, touches_service}
 
 -- all steps
-
-pub ends_all : (steps : List Step) (n low next : ℕ) → n ≡ length steps → ClearTo (is_named n (from_in steps)) low next →
-    ClearTo (is_named n (to_in steps)) low next → ClearTo (ends_at steps) low next
-unfolding ends_at
-ends_all steps n low next all left entered = record {
-  between = λ m above below. or_from _ _ (ap (λ k. is_named k (from_in steps) m) (sym all) ∙ left.between m above below)
-      (ap (λ k. is_named k (to_in steps) m) (sym all) ∙ entered.between m above below);
-}
 
 pub named_all : (n k : ℕ) (e : ℕ → ℕ) (low next : ℕ) → n ≡ k → ClearTo (is_named n e) low next →
     ClearTo (is_named k e) low next
@@ -172,7 +163,7 @@ dependant_past i s low next found list are within below past = record {
       absurd (omega (arith, below at.0 (omega (arith, at.1)), at.2)));
 }
 
-pub ruleset nexts = (ends_all, named_all, moved_all, needs_none, touched_all)
+pub ruleset nexts = (named_all, moved_all, needs_none, touched_all)
 
 -- halving
 

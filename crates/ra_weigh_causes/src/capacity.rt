@@ -13,12 +13,12 @@ impl<'a, 'b> Trial<'a, 'b> {
     pub(crate) fn broken_capacity(&self) -> Option<Cause>
         ensures { result ≡ broken_capacity (tables_of self.now) (after_of self.now) }
     {
-        let mut low = self.next_end(0);
+        let mut low = self.next_entered(0);
         while low < self.inst.machines() {
             if let Some(cause) = self.row_capacity(Machine(low)) {
                 return Some(cause);
             }
-            low = self.next_end(low + 1);
+            low = self.next_entered(low + 1);
         }
         None
     }
@@ -28,12 +28,12 @@ impl<'a, 'b> Trial<'a, 'b> {
         ensures { result ≡
             broken_transient (tables_of self.now) (initial_of self.now) (after_of self.now) }
     {
-        let mut low = self.next_end(0);
+        let mut low = self.next_entered(0);
         while low < self.inst.machines() {
             if let Some(cause) = self.row_transient(Machine(low)) {
                 return Some(cause);
             }
-            low = self.next_end(low + 1);
+            low = self.next_entered(low + 1);
         }
         None
     }

@@ -1,9 +1,9 @@
 ghost use Rattle.std.specs.Prelude.{ℕ, ◌<◌, ◌≤◌, length};
 ghost use Rattle.ra_base.specs.Sums.{is_named};
 ghost use Rattle.ra_model.specs.Numbers.{machine_count, service_count, process_count};
-ghost use Rattle.ra_moves.specs.Steps.{process_in};
+ghost use Rattle.ra_moves.specs.Steps.{process_in, to_in};
 ghost use Rattle.ra_topology.specs.Lists.{is_dependant, service_at};
-ghost use Rattle.ra_moves.specs.Touched.{ends_at, moves_service};
+ghost use Rattle.ra_moves.specs.Touched.{moves_service};
 ghost use Rattle.ra_weigh_causes.specs.Searching.{ClearTo, Ascend};
 ghost use Rattle.ra_weigh_causes.specs.Touching.{touches_service};
 ghost use Rattle.ra_weigh_causes.specs.Trials.{tables_of, steps_of};
@@ -27,18 +27,18 @@ fn nearer(low: u32, next: u32, place: u32) -> u32
 }
 
 impl<'a, 'b> Trial<'a, 'b> {
-    /// The next machine that a step leaves or enters, from a lowest one on; past the last machine if there is none.
-    pub(crate) fn next_end(&self, low: u32) -> u32
+    /// The next machine that a step enters, from a lowest one on; past the last machine if there is none.
+    #[tactic(auto, using(crate::proofs::NextLemmas::nexts))]
+    pub(crate) fn next_entered(&self, low: u32) -> u32
         requires { low ≤ machine_count (tables_of self.now) }
         ensures from { low ≤ result }
         ensures within { result ≤ machine_count (tables_of self.now) }
-        ensures clear { ClearTo (ends_at (steps_of self.now)) low result }
+        ensures clear { ClearTo (is_named (length (steps_of self.now)) (to_in (steps_of self.now)))
+            low result }
     {
         let mut next = self.inst.machines();
         for j in 0..self.mv.steps() {
-            let step = self.mv.step(j);
-            next = nearer(low, next, step.from.0);
-            next = nearer(low, next, step.to.0);
+            next = nearer(low, next, self.mv.step(j).to.0);
         }
         next
     }

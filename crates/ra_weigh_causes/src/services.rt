@@ -27,12 +27,12 @@ impl<'a, 'b> Trial<'a, 'b> {
         requires { s.0 < service_count (tables_of self.now) }
         ensures { result ≡ service_conflict (tables_of self.now) (after_of self.now) s.0 }
     {
-        let mut low = self.next_end(0);
+        let mut low = self.next_entered(0);
         while low < self.inst.machines() {
             if let Some(cause) = self.conflict_test(s, Machine(low)) {
                 return Some(cause);
             }
-            low = self.next_end(low + 1);
+            low = self.next_entered(low + 1);
         }
         None
     }

@@ -1,16 +1,15 @@
--- No machine of the steps so far is before the next one.
+-- No machine that the steps so far enter is before the next one.
 use Rattle.std.proofs.Common.{◌≤◌}
 use Rattle.ra_base.specs.Sums.{is_named}
 use Rattle.ra_model.specs.Numbers.{machine_count}
-use Rattle.ra_moves.specs.Steps.{from_in, to_in}
+use Rattle.ra_moves.specs.Steps.{to_in}
 use Rattle.ra_weigh_causes.specs.Searching.{ClearTo}
 use Rattle.ra_weigh_causes.specs.Trials.{tables_of, steps_of}
-use Rattle.ra_weigh_causes.proofs.trial.Trial.next_end.Given as goal
+use Rattle.ra_weigh_causes.proofs.trial.Trial.next_entered.Given as goal
 
 abbrev pub invariant-loop-j : goal.invariant-loop-j
 invariant-loop-j l = record {
   from : l.low ≤ l.next;
   within : l.next ≤ machine_count (tables_of l.self);
-  left : ClearTo (is_named l.j (from_in (steps_of l.self))) l.low l.next;
   entered : ClearTo (is_named l.j (to_in (steps_of l.self))) l.low l.next;
 }
