@@ -5,6 +5,7 @@ mod RowLemmas
 mod StepLemmas
 mod HoldLemmas
 mod NearLemmas
+mod FarLemmas
 mod TestLemmas
 mod NextLemmas
 mod LandLemmas

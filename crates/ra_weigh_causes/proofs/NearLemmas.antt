@@ -35,7 +35,7 @@ use Rattle.ra_weigh_causes.specs.Marks.{marked}
 use Rattle.ra_weigh_causes.proofs.TestLemmas.{held_if, near_is}
 use Rattle.ra_weigh_causes.proofs.StepLemmas.{need_there}
 use Rattle.ra_weigh_causes.proofs.NextLemmas.{dependant_place, dependant_at}
-use Rattle.ra_weigh_causes.specs.Nearness.{FindsNeeds, LeavesNone, KeepNear, FindsOne, LeavesOne, KeepsEach, StaysNear}
+use Rattle.ra_weigh_causes.specs.Nearness.{FindsNeeds, LeavesNone, KeepNear, FindsOne, LeavesOne, StaysNear}
 
 -- the services on which a service depends, as they are listed
 
@@ -94,41 +94,6 @@ one_behind i b s u t label x left near same is left_is empty near_count some lea
     omega (arith, near_is i b u x left left_is, ap (in_neighbourhood i b u) is) in
     absurd (omega (arith, leaves.each same gone, near_is i b s x near near_count, ap (in_neighbourhood i b s) is))
 
--- one service after another
-
-pub keeps_none : (i : Tables) (b : List Machine) (s : ℕ) (needs : List Service) (t to from : ℕ) →
-    KeepsEach i b s needs t to from 0
-keeps_none i b s needs t to from = record {
-  finds = λ x before. absurd (omega arith);
-  leaves = λ x before. absurd (omega arith);
-}
-
-pub keeps_next : (i : Tables) (b : List Machine) (s : ℕ) (needs : List Service) (t to from n u : ℕ) →
-    KeepsEach i b s needs t to from n → u ≡ service_at needs n → FindsOne i b s u t to → LeavesOne i b s u t from →
-    KeepsEach i b s needs t to from (n + 1)
-keeps_next i b s needs t to from n u so_far is finds leaves = record {
-  finds = λ x below. ⊎_elim
-      (λ (before : x < n). so_far.finds x before)
-      (λ (after : n ≤ x). let same : u ≡ service_at needs x = is ∙ ap (service_at needs) (omega arith) in
-      subst (λ v. FindsOne i b s v t to) same finds)
-      (cases_lt x n);
-  leaves = λ x below. ⊎_elim
-      (λ (before : x < n). so_far.leaves x before)
-      (λ (after : n ≤ x). let same : u ≡ service_at needs x = is ∙ ap (service_at needs) (omega arith) in
-      subst (λ v. LeavesOne i b s v t from) same leaves)
-      (cases_lt x n);
-}
-
-pub keeps_finds : (i : Tables) (b : List Machine) (s : ℕ) (needs : List Service) (t to from n x u : ℕ) →
-    KeepsEach i b s needs t to from n → x < n → u ≡ service_at needs x → FindsOne i b s u t to
-keeps_finds i b s needs t to from n x u keeps within is =
-    subst (λ v. FindsOne i b s v t to) (sym is) (keeps.finds x within)
-
-pub keeps_leaves : (i : Tables) (b : List Machine) (s : ℕ) (needs : List Service) (t to from n x u : ℕ) →
-    KeepsEach i b s needs t to from n → x < n → u ≡ service_at needs x → LeavesOne i b s u t from
-keeps_leaves i b s needs t to from n x u keeps within is =
-    subst (λ v. LeavesOne i b s v t from) (sym is) (keeps.leaves x within)
-
 -- one step after another
 
 pub stays_start : (i : Tables) (b : List Machine) (steps : List Step) (s u : ℕ) → StaysNear i b steps s u 0
@@ -165,24 +130,6 @@ stays_found i b steps s u n j t to stays within t_is to_is = rw (t_is, to_is) at
 pub stays_left : (i : Tables) (b : List Machine) (steps : List Step) (s u n j t from : ℕ) → StaysNear i b steps s u n →
     j < n → service_in i steps j ≡ t → neighbourhood_of i (from_in steps j) ≡ from → LeavesOne i b s u t from
 stays_left i b steps s u n j t from stays within t_is from_is = rw (t_is, from_is) at (stays.leaves j within)
-
--- the first n steps keep service s near each service of a list
-pub record AllNear (i : Tables) (b : List Machine) (steps : List Step) (s : ℕ) (list : List Service) (n : ℕ) : Type 0
-  where
-    pub each : (x : ℕ) → x < length list → StaysNear i b steps s (service_at list x) n
-
-pub all_near_start : (i : Tables) (b : List Machine) (steps : List Step) (s : ℕ) (list : List Service) →
-    AllNear i b steps s list 0
-all_near_start i b steps s list = record { each = λ x within. stays_start i b steps s (service_at list x) }
-
-pub all_near_next : (i : Tables) (b : List Machine) (steps : List Step) (s : ℕ) (list : List Service)
-    (n t to from : ℕ) → AllNear i b steps s list n → service_in i steps n ≡ t → neighbourhood_of i (to_in steps n) ≡
-    to → neighbourhood_of i (from_in steps n) ≡ from → KeepsEach i b s list t to from (length list) →
-    AllNear i b steps s list (n + 1)
-all_near_next i b steps s list n t to from so_far t_is to_is from_is keeps = record {
-  each = λ x within. stays_next i b steps s (service_at list x) n t to from (so_far.each x within) t_is to_is from_is
-      (keeps.finds x within) (keeps.leaves x within);
-}
 
 -- none of what is needed would be near a process of the service
 
@@ -314,19 +261,7 @@ pair_stays i a0 a steps s k move fine s_in k_in stays =
     (λ (other : is_of i s p ≡ false). cond-false (is_of i s p) (far_test i (applied a steps) s k p) None other)
     (cases_Bool (is_of i s p)))
 
--- nor from any, if all steps keep it near the distinct ones
-pub needs_stay : (i : Tables) (a0 a : List Machine) (steps : List Step) (s : ℕ) (needs : List Service) (n : ℕ) →
-    IsMove i a steps → Fine i a0 a → s < service_count i → AreDistinctNeedsOf i s needs → n ≡ length steps →
-    AllNear i (applied a steps) steps s needs n → service_dependency i (applied a steps) s ≡ None
-unfolding service_dependency
-needs_stay i a0 a steps s needs n move fine s_in are all near = first_none_from (dependency_count i s) _ (λ k k_in.
-    let at = need_listed i s k needs are k_in in
-    let stays : StaysNear i (applied a steps) steps s (service_at needs at.0) (length steps) =
-    subst (λ m. StaysNear i (applied a steps) steps s (service_at needs at.0) m) all (near.each at.0 at.1) in
-    pair_stays i a0 a steps s k move fine s_in k_in
-    (subst (λ u. StaysNear i (applied a steps) steps s u (length steps)) at.2 stays))
-
--- and if none is far, the service stays near
+-- and if none is far, each is near
 
 pair_met : (i : Tables) (b : List Machine) (s k p : ℕ) → pair_dependency i b s k ≡ None → p < process_count i →
     service_of i p ≡ s → HasNear i b (need_of i s k) (neighbourhood_of i (machine_at b p))
@@ -337,7 +272,7 @@ pair_met i b s k p none p_in of =
     ∙ tested in
     near_from_count i b (need_of i s k) (neighbourhood_of i (machine_at b p)) (some_near i b s k p far)
 
-none_behind_met : (i : Tables) (b : List Machine) (s k label : ℕ) → pair_dependency i b s k ≡ None →
+pub none_behind_met : (i : Tables) (b : List Machine) (s k label : ℕ) → pair_dependency i b s k ≡ None →
     in_neighbourhood i b (need_of i s k) label ≡ 0 → in_neighbourhood i b s label ≡ 0
 none_behind_met i b s k label met empty = ⊎_elim
     (λ (some : 0 < in_neighbourhood i b s label).
@@ -349,49 +284,6 @@ none_behind_met i b s k label met empty = ⊎_elim
     (λ (no : in_neighbourhood i b s label ≤ 0). omega arith)
     (cases_lt 0 (in_neighbourhood i b s label))
 
-stays_met : (i : Tables) (a : List Machine) (steps : List Step) (s k : ℕ) → IsMove i a steps →
-    (known : (j : ℕ) → j < length steps → process_in steps j < process_count i) →
-    pair_dependency i (applied a steps) s k ≡ None → StaysNear i (applied a steps) steps s (need_of i s k)
-    (length steps)
-unfolding service_in
-stays_met i a steps s k move known met = record {
-  finds = λ j within. record {
-    each = λ is.
-        let near = pair_met i (applied a steps) s k (process_in steps j) met (known j within) is in
-        let at : neighbourhood_of i (machine_at (applied a steps) (process_in steps j)) ≡ neighbourhood_of i
-        (to_in steps j) = ap (neighbourhood_of i) (lands i a steps j (process_in steps j) move within refl) in
-        rw at at (count_from_near i (applied a steps) (need_of i s k)
-        (neighbourhood_of i (machine_at (applied a steps) (process_in steps j))) near);
-  };
-  leaves = λ j within. record {
-    each = λ is empty. none_behind_met i (applied a steps) s k (neighbourhood_of i (from_in steps j)) met empty;
-  };
-}
-
--- each service of a list that a service needs
-pub listed_stays : (i : Tables) (a : List Machine) (steps : List Step) (s x u : ℕ) (needs : List Service) →
-    IsMove i a steps → AreDistinctNeedsOf i s needs → x < length needs → u ≡ service_at needs x →
-    service_dependency i (applied a steps) s ≡ None → StaysNear i (applied a steps) steps s u (length steps)
-unfolding service_dependency
-listed_stays i a steps s x u needs move are within is none =
-    let at = listed_need i s x needs are within in
-    let met : pair_dependency i (applied a steps) s at.0 ≡ None =
-    first_none_at at.0 (dependency_count i s) (pair_dependency i (applied a steps) s) at.1 none in
-    subst (λ v. StaysNear i (applied a steps) steps s v (length steps)) (at.2 ∙ sym is)
-    (stays_met i a steps s at.0 move (λ j j_in. omega (arith, move.stands.known j j_in, move.fits.one_each)) met)
-
--- and each step keeps it near all of them
-pub each_kept : (i : Tables) (a : List Machine) (steps : List Step) (s : ℕ) (needs : List Service) (j t to from : ℕ) →
-    IsMove i a steps → AreDistinctNeedsOf i s needs → j < length steps → service_in i steps j ≡ t →
-    neighbourhood_of i (to_in steps j) ≡ to → neighbourhood_of i (from_in steps j) ≡ from →
-    service_dependency i (applied a steps) s ≡ None → KeepsEach i (applied a steps) s needs t to from (length needs)
-each_kept i a steps s needs j t to from move are j_in t_is to_is from_is none = record {
-  finds = λ x within. stays_found i (applied a steps) steps s (service_at needs x) (length steps) j t to
-      (listed_stays i a steps s x (service_at needs x) needs move are within refl none) j_in t_is to_is;
-  leaves = λ x within. stays_left i (applied a steps) steps s (service_at needs x) (length steps) j t from
-      (listed_stays i a steps s x (service_at needs x) needs move are within refl none) j_in t_is from_is;
-}
-
 pub near_all : (i : Tables) (a0 a : List Machine) (steps : List Step) (n : ℕ) → IsMove i a steps → Fine i a0 a →
     n ≡ length steps → KeepNear i (applied a steps) steps n → broken_dependency i (applied a steps) ≡ None
 near_all i a0 a steps n move fine all keeps =
@@ -402,33 +294,32 @@ near_all i a0 a steps n move fine all keeps =
 
 -- if no dependency is broken each process finds what its service needs
 
-pub needs_found : (i : Tables) (b : List Machine) (s p label : ℕ) → broken_dependency i b ≡ None → s < service_count i →
+pub needs_met : (i : Tables) (b : List Machine) (s p label : ℕ) → service_dependency i b s ≡ None →
     p < process_count i → service_of i p ≡ s → neighbourhood_of i (machine_at b p) ≡ label → FindsNeeds i b s label
-needs_found i b s p label none s_in p_in of at = record {
+unfolding service_dependency
+needs_met i b s p label none p_in of at = record {
   each = λ k k_in.
-      let near = dependency_met i b none s k p s_in k_in p_in of in
-      rw at at (count_from_near i b (need_of i s k) (neighbourhood_of i (machine_at b p)) near);
+      let met : pair_dependency i b s k ≡ None =
+      first_none_at k (dependency_count i s) (pair_dependency i b s) k_in none in
+      rw at at (count_from_near i b (need_of i s k) (neighbourhood_of i (machine_at b p))
+      (pair_met i b s k p met p_in of));
 }
 
-alone_not : (i : Tables) (b : List Machine) (s u label k : ℕ) → broken_dependency i b ≡ None →
-    in_neighbourhood i b s label ≡ 0 → u < service_count i → k < dependency_count i u → need_of i u k ≡ s →
-    in_neighbourhood i b u label ≡ 0
-alone_not i b s u label k none empty u_in k_in is = ⊎_elim
-    (λ (some : 0 < in_neighbourhood i b u label).
-    let there = near_from_count i b u label some in
-    let near = dependency_met i b none u k there.0 u_in k_in there.1 there.2 in
-    let counted : 0 < in_neighbourhood i b s label =
-    rw (is, there.3) at (count_from_near i b (need_of i u k) (neighbourhood_of i (machine_at b there.0)) near) in
-    absurd (omega (arith, counted, empty)))
-    (λ (no : in_neighbourhood i b u label ≤ 0). omega arith)
-    (cases_lt 0 (in_neighbourhood i b u label))
+pub needs_found : (i : Tables) (b : List Machine) (s p label : ℕ) → broken_dependency i b ≡ None → s < service_count i →
+    p < process_count i → service_of i p ≡ s → neighbourhood_of i (machine_at b p) ≡ label → FindsNeeds i b s label
+unfolding broken_dependency
+needs_found i b s p label none s_in p_in of at =
+    needs_met i b s p label (first_none_at s (service_count i) (service_dependency i b) s_in none) p_in of at
 
 pub none_left : (i : Tables) (b : List Machine) (s label : ℕ) → broken_dependency i b ≡ None → LeavesNone i b s label
-unfolding depends
+unfolding depends broken_dependency service_dependency
 none_left i b s label none = record {
   each = λ empty u u_in needs.
       let at = is_named_from (dependency_count i u) (need_of i u) s needs in
-      alone_not i b s u label at.0 none empty u_in at.1 at.2;
+      let met : pair_dependency i b u at.0 ≡ None =
+      first_none_at at.0 (dependency_count i u) (pair_dependency i b u) at.1
+      (first_none_at u (service_count i) (service_dependency i b) u_in none) in
+      none_behind_met i b u at.0 label met (ap (λ t. in_neighbourhood i b t label) at.2 ∙ empty);
 }
 
 -- one need after another

@@ -1,5 +1,5 @@
 -- Searches that go from one place that passes a test to the next.
-use Rattle.std.proofs.Common.{◌≡◌, ℕ, ◌+◌, ◌<◌, ◌≤◌, Bool, eqb, Option, Some, None, sym, ◌∙◌, arith}
+use Rattle.std.proofs.Common.{◌≡◌, ◌≢◌, ℕ, ◌+◌, ◌<◌, ◌≤◌, Bool, eqb, Option, Some, None, sym, ◌∙◌, arith}
 use Rattle.std.proofs.lemmas.Bool.{ne_eqb, or_from}
 use Rattle.ra_base.specs.Searches.{first}
 use Rattle.ra_base.specs.Sums.{is_named}
@@ -32,14 +32,16 @@ sought_found n f low x so_far within here = sym (first_found low n f x within so
 pub sought_all : (n : ℕ) (f : ℕ → Option Cause) (low : ℕ) → Sought n f low → n ≤ low → None ≡ first n f
 sought_all n f low so_far all = let here : low ≡ n = omega (arith, so_far.within) in sym (rw here at so_far.none)
 
+-- a first place at which something is known to be found
+pub sought_there : (n : ℕ) (f : ℕ → Option Cause) (low : ℕ) (y : Option Cause) → low < n → first low f ≡ None →
+    f low ≢ None → y ≡ f low → y ≡ first n f
+sought_there n f low None within none some is = absurd (some (sym is))
+sought_there n f low (Some x) within none some is = sym (first_found low n f x within none (sym is))
+
 -- the next place
 
 pub clear_none : (e : ℕ → ℕ) (low next : ℕ) → ClearTo (is_named 0 e) low next
 clear_none e low next = record { between = λ k above below. is_named_none e k }
-
--- a nearer place is as clear
-pub clear_nearer : (test : ℕ → Bool) (low next new : ℕ) → ClearTo test low next → new ≤ next → ClearTo test low new
-clear_nearer test low next new clear near = record { between = λ k above below. clear.between k above (omega arith) }
 
 -- one more name, which isn't before the new place
 pub clear_more : (n : ℕ) (e : ℕ → ℕ) (low next new x : ℕ) → ClearTo (is_named n e) low next → new ≤ next →
@@ -49,5 +51,3 @@ clear_more n e low next new x clear near past is = record {
       ∙ or_from (is_named n e k) (eqb (e n) k) (clear.between k above (omega arith))
       (ne_eqb (e n) k (λ same. absurd (omega (arith, past (omega (arith, is, same)), is, same))));
 }
-
-pub ruleset clearing = (clear_none, clear_nearer, clear_more)

@@ -2,5 +2,4 @@ pub mod Holding
 pub mod Marks
 pub mod Nearness
 pub mod Searching
-pub mod Touching
 pub mod Trials

@@ -3,14 +3,12 @@ use Rattle.std.specs.Prelude.{◌≡◌, ℕ, ◌<◌, List, Option, true}
 use Rattle.ra_base.specs.declared.causes.Cause.{Cause}
 use Rattle.ra_base.specs.declared.ids.Machine.{Machine}
 use Rattle.ra_base.specs.declared.ids.Process.{Process}
-use Rattle.ra_base.specs.declared.ids.Service.{Service}
 use Rattle.ra_model.specs.declared.raw.Tables.{Tables}
 use Rattle.ra_model.specs.Numbers.{service_count, dependency_count, need_of, neighbourhood_of}
 use Rattle.ra_model.specs.Relations.{depends}
 use Rattle.ra_model.specs.Broken.{far_test}
 use Rattle.ra_model.specs.Members.{member_at}
 use Rattle.ra_model.specs.Services.{in_neighbourhood}
-use Rattle.ra_topology.specs.Lists.{service_at}
 use Rattle.ra_moves.specs.declared.steps.Step.{Step}
 use Rattle.ra_moves.specs.Steps.{from_in, to_in}
 use Rattle.ra_moves.specs.Touched.{service_in}
@@ -23,6 +21,17 @@ pub record FindsNeeds (i : Tables) (b : List Machine) (s label : ℕ) : Type 0 w
 pub record LeavesNone (i : Tables) (b : List Machine) (s label : ℕ) : Type 0 where
   pub each : in_neighbourhood i b s label ≡ 0 → (u : ℕ) → u < service_count i → depends i u s ≡ true
       → in_neighbourhood i b u label ≡ 0
+
+-- the same of the services before service n alone
+pub record LeavesBelow (i : Tables) (b : List Machine) (s label n : ℕ) : Type 0 where
+  pub each : in_neighbourhood i b s label ≡ 0 → (u : ℕ) → u < n → depends i u s ≡ true
+      → in_neighbourhood i b u label ≡ 0
+
+-- service u needs service s, which has no process in a neighbourhood where u has one
+pub record LeavesAlone (i : Tables) (b : List Machine) (s label u : ℕ) : Type 0 where
+  pub needs : depends i u s ≡ true
+  pub none : in_neighbourhood i b s label ≡ 0
+  pub some : 0 < in_neighbourhood i b u label
 
 -- the process of each of the first n steps finds what its service needs where it goes, and leaves none alone
 pub record KeepNear (i : Tables) (b : List Machine) (steps : List Step) (n : ℕ) : Type 0 where
@@ -38,12 +47,6 @@ pub record FindsOne (i : Tables) (b : List Machine) (s u t label : ℕ) : Type 0
 -- a process of service t that leaves a neighbourhood leaves another one of t or none of s there, if t is u
 pub record LeavesOne (i : Tables) (b : List Machine) (s u t label : ℕ) : Type 0 where
   pub each : t ≡ u → in_neighbourhood i b u label ≡ 0 → in_neighbourhood i b s label ≡ 0
-
--- a step of service t, which enters one neighbourhood and leaves another, keeps service s near each of the first n of
--- some services
-pub record KeepsEach (i : Tables) (b : List Machine) (s : ℕ) (needs : List Service) (t to from n : ℕ) : Type 0 where
-  pub finds : (x : ℕ) → x < n → FindsOne i b s (service_at needs x) t to
-  pub leaves : (x : ℕ) → x < n → LeavesOne i b s (service_at needs x) t from
 
 -- after the first n of a move's steps service s stays near service u: a process of s finds one of u where it goes, and
 -- the last of u leaves none of s behind

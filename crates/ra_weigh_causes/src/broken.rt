@@ -12,10 +12,9 @@ use ra_base::Cause;
 use ra_moves::Move;
 use ra_world::World;
 
-/// The first constraint that is broken after a move, from what its processes require. The time is that of `is_unbroken`,
-/// and grows besides with the number of places of the first constraint that is broken: if that is a dependency, with the
-/// services that depend on a service moved, with what each of them needs, and with the dependencies of one service and its
-/// processes.
+/// The first constraint that is broken after a move, from what its processes require. The time is that of
+/// `is_unbroken`. If the first constraint that is broken is a dependency, the time grows besides with the number of
+/// dependencies and processes of one service.
 pub fn first_broken(world: &World<'_>, mv: &Move, required: &[u32; 60]) -> Option<Cause>
     requires moves { IsMove (tables_in world.now) (here_of world.now) mv.now.steps }
     requires required { AreRequired (tables_in world.now) mv.now.steps
@@ -41,7 +40,8 @@ pub fn is_unbroken(world: &World<'_>, mv: &Move, required: &[u32; 60]) -> bool
 }
 
 impl<'a, 'b> Trial<'a, 'b> {
-    /// The first constraint that is broken after the move. What is looked for has been told to be there, or else can't be.
+    /// The first constraint that is broken after the move. The place of a broken row or conflict is looked for only if
+    /// there is one.
     fn first_broken(&self) -> Option<Cause>
         ensures { result ≡
             first_broken (tables_of self.now) (initial_of self.now) (after_of self.now) }
@@ -55,8 +55,8 @@ impl<'a, 'b> Trial<'a, 'b> {
         if let Some(cause) = self.broken_spread() {
             return Some(cause);
         }
-        if !self.keeps_near() {
-            return self.broken_dependency();
+        if let Some(cause) = self.broken_dependency() {
+            return Some(cause);
         }
         self.broken_closed()
     }

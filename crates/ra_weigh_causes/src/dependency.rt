@@ -1,41 +1,33 @@
-ghost use Rattle.std.specs.Prelude.{◌≡◌, ◌↔◌, ℕ, ◌<◌, true, None, length};
+ghost use Rattle.std.specs.Prelude.{◌≡◌, ◌↔◌, ◌<◌, true, length};
 ghost use Rattle.ra_model.specs.Numbers.{machine_count, service_count, process_count, dependency_count, need_of, neighbourhood_of};
 ghost use Rattle.ra_model.specs.Broken.{far_test, pair_dependency, service_dependency, broken_dependency};
-ghost use Rattle.ra_topology.specs.Lists.{service_at};
-ghost use Rattle.ra_weigh_causes.specs.Nearness.{FindsOne, LeavesOne, KeepsEach, StaysNear};
+ghost use Rattle.ra_weigh_causes.specs.Nearness.{FindsOne, LeavesOne, StaysNear};
 ghost use Rattle.ra_weigh_causes.specs.Trials.{tables_of, steps_of, after_of};
 
 use crate::marks::Mark;
 use crate::trial::Trial;
 use ra_base::{Cause, Machine, Process, Service};
-use ra_moves::Step;
 
 impl<'a, 'b> Trial<'a, 'b> {
     /// The first process in whose neighbourhood a service that its service needs has none after the move, by service,
-    /// its dependency in file order, then process. The time grows with the number of services that the services moved, and
-    /// those that depend on them, need; with the dependencies and processes of one service only if one of its dependencies
-    /// is broken.
+    /// its dependency in file order, then process. The time grows with the number of services that a service moved
+    /// needs or that need it, and if a dependency is broken with the dependencies and processes of one service.
     pub(crate) fn broken_dependency(&self) -> Option<Cause>
         ensures { result ≡ broken_dependency (tables_of self.now) (after_of self.now) }
     {
-        let mut low = self.next_touched(0);
-        while low < self.inst.services() {
-            if let Some(cause) = self.service_dependency(Service(low)) {
-                return Some(cause);
-            }
-            low = self.next_touched(low + 1);
+        let far = self.first_far();
+        if far < self.inst.services() {
+            self.service_dependency(Service(far))
+        } else {
+            None
         }
-        None
     }
 
-    /// The first such dependency of a service. Its dependencies are gone through only if one of them is broken.
+    /// The first such dependency of a service.
     fn service_dependency(&self, s: Service) -> Option<Cause>
         requires { s.0 < service_count (tables_of self.now) }
         ensures { result ≡ service_dependency (tables_of self.now) (after_of self.now) s.0 }
     {
-        if self.keeps_needs(s) {
-            return None;
-        }
         let needs = self.inst.depends(s);
         for k in 0..needs.len() {
             if let Some(cause) = self.pair_dependency(s, k, needs[k]) {
@@ -83,45 +75,6 @@ impl<'a, 'b> Trial<'a, 'b> {
         } else {
             None
         }
-    }
-
-    /// Whether none of a service's dependencies is broken, by counts alone: each step keeps it near all that it needs.
-    fn keeps_needs(&self, s: Service) -> bool
-        requires { s.0 < service_count (tables_of self.now) }
-        ensures { (result ≡ true) ↔
-            (service_dependency (tables_of self.now) (after_of self.now) s.0 ≡ None) }
-    {
-        let needs = self.topo.distinct_needs(s);
-        for j in 0..self.mv.steps() {
-            let step = self.mv.step(j);
-            let own = self.inst.service_of(step.process);
-            if !self.step_keeps(s, needs, own, step) {
-                return false;
-            }
-        }
-        true
-    }
-
-    /// Whether a step of a process of one service keeps a service near each of some that it needs.
-    fn step_keeps(&self, s: Service, needs: &[Service], own: Service, step: Step) -> bool
-        requires service { s.0 < service_count (tables_of self.now) }
-        requires needs { (x : ℕ) → x < length needs.now →
-            service_at needs.now x < service_count (tables_of self.now) }
-        requires to { step.to.0 < machine_count (tables_of self.now) }
-        requires from { step.from.0 < machine_count (tables_of self.now) }
-        ensures { (result ≡ true) ↔ KeepsEach (tables_of self.now) (after_of self.now)
-            s.0 needs.now own.0 (neighbourhood_of (tables_of self.now) step.to.0)
-            (neighbourhood_of (tables_of self.now) step.from.0) (length needs.now) }
-    {
-        for k in 0..needs.len() {
-            if !self.finds_one(s, needs[k], own, step.to) {
-                return false;
-            }
-            if !self.leaves_one(s, needs[k], own, step.from) {
-                return false;
-            }
-        }
-        true
     }
 
     /// Whether a service stays near one that it needs, by the counts where a step comes and goes.

@@ -107,7 +107,7 @@ impl<'a, 'b> Trial<'a, 'b> {
 
     /// Whether all that a service needs is in the neighbourhood of a machine.
     #[tactic(auto, using(crate::proofs::StepLemmas::known))]
-    fn finds_needs(&self, s: Service, to: Machine) -> bool
+    pub(crate) fn finds_needs(&self, s: Service, to: Machine) -> bool
         requires service { s.0 < service_count (tables_of self.now) }
         requires to { to.0 < machine_count (tables_of self.now) }
         ensures { (result ≡ true) ↔ FindsNeeds (tables_of self.now) (after_of self.now) s.0

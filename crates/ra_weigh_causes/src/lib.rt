@@ -6,6 +6,7 @@ mod capacity;
 mod closed;
 mod dependency;
 mod ends;
+mod far;
 mod holding;
 mod locations;
 mod marks;

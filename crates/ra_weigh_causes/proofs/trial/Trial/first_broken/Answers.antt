@@ -1,7 +1,7 @@
 -- What is looked for is there, and what comes before it isn't.
 use Rattle.std.proofs.Common.{◌≡◌, None, sym}
 use Rattle.std.proofs.lemmas.Bool.{both_ways}
-use Rattle.ra_model.specs.Broken.{first_broken, broken_capacity, broken_transient, broken_conflict, broken_dependency}
+use Rattle.ra_model.specs.Broken.{first_broken, broken_capacity, broken_transient, broken_conflict}
 use Rattle.ra_weigh_causes.specs.Trials.{tables_of, initial_of, after_of}
 use Rattle.ra_weigh_causes.proofs.HoldLemmas.{found_first, found_later, found_at_once, found_either}
 use Rattle.ra_weigh_causes.proofs.trial.Trial.first_broken.Goals as goal
@@ -34,18 +34,15 @@ returns-in-Some c =
     (found_later _ _ _ (sym (c.keeps_apart.ensures.0 c.if-not-keeps_apart.false))
     (found_first _ _ _ c.in-Some.ensures)))
 
-pub returns-then-not-keeps_near : goal.returns-then-not-keeps_near
+pub returns-in-Some-broken_dependency : goal.returns-in-Some-broken_dependency
 unfolding first_broken
-returns-then-not-keeps_near c =
+returns-in-Some-broken_dependency c =
     let rows = c.keeps_rows.ensures.0 c.if-not-keeps_rows.false in
     found_later _ _ _ (sym rows.capacity)
     (found_later _ _ _ (sym rows.transient)
     (found_later _ _ _ (sym (c.keeps_apart.ensures.0 c.if-not-keeps_apart.false))
     (found_later _ _ _ c.in_default.ensures
-    (found_at_once _ _ _
-    (λ (none : broken_dependency (tables_of c.args.self.now) (after_of c.args.self.now) ≡ None).
-    both_ways c.keeps_near.result c.if-not-keeps_near.true (c.keeps_near.ensures.1 none))
-    c.broken_dependency.ensures))))
+    (found_first _ _ _ c.in-Some-broken_dependency.ensures))))
 
 pub returns : goal.returns
 unfolding first_broken
@@ -55,4 +52,4 @@ returns c =
     (found_later _ _ _ (sym rows.transient)
     (found_later _ _ _ (sym (c.keeps_apart.ensures.0 c.if-not-keeps_apart.false))
     (found_later _ _ _ c.in_default.ensures
-    (found_later _ _ _ (sym (c.keeps_near.ensures.0 c.if-not-keeps_near.false)) c.broken_closed.ensures))))
+    (found_later _ _ _ c.in_default-broken_dependency.ensures c.broken_closed.ensures))))

@@ -33,6 +33,3 @@ returns c =
     let all : c.loop-k.k ≡ dependency_count (tables_of c.args.self.now) c.args.s.0 =
     omega (arith, c.loop-k-test.false, c.loop-k.auto.k-end, c.depends-needs.ensures.count) in
     sym (rw all at c.loop-k.invariant)
-
-pub returns-then-keeps_needs : goal.returns-then-keeps_needs
-returns-then-keeps_needs c = sym (c.keeps_needs.ensures.0 c.if-keeps_needs.true)
