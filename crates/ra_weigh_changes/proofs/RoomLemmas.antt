@@ -1,5 +1,5 @@
 -- Room on the machines that a move enters.
-use Rattle.std.proofs.Common.{◌≡◌, ◌↔◌, ℕ, ◌+◌, ◌<◌, ◌≤◌, arith, Bool, true, false, List, None, length, get_or, refl}
+use Rattle.std.proofs.Common.{◌≡◌, ◌↔◌, ℕ, ◌+◌, ◌<◌, ◌≤◌, arith, true, false, List, None, length, refl}
 use Rattle.std.proofs.Common.{⊎_elim}
 use Rattle.std.proofs.lemmas.Bool.{cases_lt}
 use Rattle.ra_base.specs.declared.ids.Machine.{Machine}
@@ -8,7 +8,6 @@ use Rattle.ra_model.specs.Numbers.{resource_count, capacity_of}
 use Rattle.ra_model.specs.Usage.{use_of}
 use Rattle.ra_model.specs.Broken.{broken_capacity}
 use Rattle.ra_model.proofs.BrokenLemmas.{capacity_met}
-use Rattle.ra_rows.specs.Rows.{IsUsageRow}
 use Rattle.ra_moves.specs.declared.steps.Step.{Step}
 use Rattle.ra_moves.specs.Steps.{to_in}
 use Rattle.ra_moves.specs.Replacing.{applied}
@@ -22,7 +21,7 @@ told_true holds = (λ same. holds, λ fact. refl)
 pub told_false : {P : Type 0} → (P → ⊥) → (false ≡ true) ↔ P
 told_false fails = (λ same. absurd (cc), λ fact. absurd (fails fact))
 
--- the numbers of a row
+-- the resources of a machine
 pub within_none : (i : Tables) (m : ℕ) (used : ℕ → ℕ) → AreWithin i m used 0
 within_none i m used = record { each = λ r before. absurd (omega arith) }
 
@@ -41,15 +40,6 @@ not_within i m n r most used below is high all = absurd (omega (arith, is, high,
 
 pub within_all : (i : Tables) (m n k : ℕ) (used : ℕ → ℕ) → k ≡ n → AreWithin i m used k → AreWithin i m used n
 within_all i m n k used all within = rw (← all) within
-
--- the row of a machine after the move
-pub row_within : (i : Tables) (b : List Machine) (m : ℕ) (row : List ℕ) (fits : Bool) → IsUsageRow i b m row →
-    (fits ≡ true) ↔ AreWithin i m (λ r. get_or row r 0) (resource_count i) →
-    (fits ≡ true) ↔ AreWithin i m (use_of i b m) (resource_count i)
-row_within i b m row fits is (gives, back) = (
-  λ yes. record { each = λ r below. let all = gives yes in omega (arith, is.each r below, all.each r below) },
-  λ all. back (record { each = λ r below. omega (arith, is.each r below, all.each r below) }),
-)
 
 -- the machines
 pub room_none : (i : Tables) (b : List Machine) (steps : List Step) → HaveRoom i b steps 0

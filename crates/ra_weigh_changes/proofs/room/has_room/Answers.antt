@@ -10,18 +10,18 @@ loop-j-init c =
     room_none c.args.world.now.inst.now.tables (applied c.args.world.now.kept.assignment.items c.args.mv.now.steps)
     c.args.mv.now.steps
 
-pub row_has_room-requires-clause-machine : goal.row_has_room-requires-clause-machine
-row_has_room-requires-clause-machine c = to_known _ _ _ c.loop-j.j _ c.requires.moves (omega arith) c.step.ensures
+pub machine_has_room-requires-clause-machine : goal.machine_has_room-requires-clause-machine
+machine_has_room-requires-clause-machine c = to_known _ _ _ c.loop-j.j _ c.requires.moves (omega arith) c.step.ensures
 
-pub returns-then-not-row_has_room : goal.returns-then-not-row_has_room
-returns-then-not-row_has_room c =
+pub returns-then-not-machine_has_room : goal.returns-then-not-machine_has_room
+returns-then-not-machine_has_room c =
     told_false (no_room _ _ _ (length c.args.mv.now.steps) c.loop-j.j _ (omega arith)
     (to_read _ c.loop-j.j _ c.step.ensures)
-    (λ fits. both_ways c.row_has_room.result c.if-not-row_has_room.true (c.row_has_room.ensures.1 fits)))
+    (λ fits. both_ways c.machine_has_room.result c.if-not-machine_has_room.true (c.machine_has_room.ensures.1 fits)))
 
 pub loop-j-preserved : goal.loop-j-preserved
 loop-j-preserved c = room_more _ _ _ c.loop-j.j _ c.loop-j.invariant (to_read _ c.loop-j.j _ c.step.ensures)
-    (c.row_has_room.ensures.0 c.if-not-row_has_room.false)
+    (c.machine_has_room.ensures.0 c.if-not-machine_has_room.false)
 
 pub returns : goal.returns
 returns c =
