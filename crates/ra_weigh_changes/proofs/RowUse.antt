@@ -34,7 +34,7 @@ unfolding share_at use_share
 share_is i m r p at amount is = rw is refl
 
 -- the use after one more step
-pub use_next : (i : Tables) (a : List Machine) (steps : List Step) (j m r : ℕ) → IsMove i a steps → j < length steps →
+use_next : (i : Tables) (a : List Machine) (steps : List Step) (j m r : ℕ) → IsMove i a steps → j < length steps →
     use_of i (after_steps a steps (j + 1)) m r + use_share i m r (process_in steps j) (from_in steps j) ≡
     use_of i (after_steps a steps j) m r + use_share i m r (process_in steps j) (to_in steps j)
 unfolding use_of

@@ -1,4 +1,5 @@
 pub mod RowChanges
+pub mod Masks
 pub mod PlaceCosts
 pub mod CountLists
 pub mod Room

@@ -1,13 +1,15 @@
-ghost use Rattle.std.specs.Prelude.{◌≡◌, ◌↔◌, ◌^◌, ◌<◌, true, length};
-ghost use Rattle.ra_base.specs.Tables.{cell};
+ghost use Rattle.std.specs.Prelude.{◌≡◌, ◌↔◌, ◌-◌, ◌*◌, ◌^◌, ◌<◌, ◌≤◌, true, length};
+ghost use Rattle.ra_base.specs.Sums.{total};
 ghost use Rattle.ra_model.specs.Numbers.{resource_count, machine_count};
 ghost use Rattle.ra_model.specs.Usage.{use_of};
+ghost use Rattle.ra_moves.specs.Steps.{from_in, to_in};
 ghost use Rattle.ra_moves.specs.Replacing.{applied};
 ghost use Rattle.ra_moves.specs.Moving.{IsMove};
 ghost use Rattle.ra_world.specs.Required.{AreRequired};
 ghost use Rattle.ra_world.specs.Worlds.{tables_of, here_of};
 ghost use Rattle.ra_weigh_changes.specs.Room.{AreWithin, HaveRoom};
 ghost use Rattle.ra_weigh_changes.specs.RowChanges.{share_at};
+ghost use Rattle.ra_weigh_changes.specs.Masks.{AreMasks, masked};
 
 use ra_base::{Machine, Resource};
 use ra_moves::Move;
@@ -44,63 +46,64 @@ fn machine_has_room(world: &World<'_>, mv: &Move, required: &[u32; 60], m: Machi
 {
     let inst = world.instance();
     let row = world.rows().usage_row(m);
+    let entering = masks_entering(mv, m);
+    let leaving = masks_leaving(mv, m);
     for r in 0..inst.resources() {
         let most = u64::from(inst.capacity(m, Resource(r)));
-        if most < use_after(world, mv, required, m, Resource(r), row[r as usize]) {
+        let came = amount_of(required, &entering, Resource(r));
+        let went = amount_of(required, &leaving, Resource(r));
+        if most < row[r as usize] + came - went {
             return false;
         }
     }
     true
 }
 
-/// The use of a resource of a machine after the move, from that now: what the steps that enter the machine require comes
-/// to it, and what those that leave it require goes.
+/// A mask for each step: all bits if it enters a machine, else none. They are made once for all resources, so that no
+/// step is tested again at each of them.
 #[inline(always)]
-fn use_after(
-    world: &World<'_>,
-    mv: &Move,
-    required: &[u32; 60],
-    m: Machine,
-    r: Resource,
-    now: u64,
-) -> u64
-    requires moves { IsMove (tables_of world.now) (here_of world.now) mv.now.steps }
-    requires required { AreRequired (tables_of world.now) mv.now.steps
-        (length mv.now.steps) required.now }
-    requires resource { r.0 < resource_count (tables_of world.now) }
-    requires now { now ≡ use_of (tables_of world.now) (here_of world.now) m.0 r.0 }
-    requires below { now < 2 ^ 48 }
-    ensures { result ≡
-        use_of (tables_of world.now) (applied (here_of world.now) mv.now.steps) m.0 r.0 }
+fn masks_entering(mv: &Move, m: Machine) -> [u32; 3]
+    ensures { AreMasks (to_in mv.now.steps) m.0 (length mv.now.steps) result }
 {
-    let mut came: u64 = 0;
-    let mut went: u64 = 0;
+    let mut masks = [0; 3];
     for j in 0..mv.steps() {
-        let step = mv.step(j);
-        let amount = required_of(required, j, r);
-        came += amount_at(step.to, m, amount);
-        went += amount_at(step.from, m, amount);
+        masks[j as usize] = mask_at(mv.step(j).to, m);
     }
-    now + came - went
+    masks
 }
 
-/// One of the requirements.
+/// The same of the steps that leave it.
 #[inline(always)]
-#[tactic(auto, using(ra_base::proofs::Tables::cell_is))]
-fn required_of(required: &[u32; 60], j: u32, r: Resource) -> u32
-    requires row { j < 3 }
-    requires column { r.0 < 20 }
-    ensures { result ≡ cell 20 required.now j r.0 }
+fn masks_leaving(mv: &Move, m: Machine) -> [u32; 3]
+    ensures { AreMasks (from_in mv.now.steps) m.0 (length mv.now.steps) result }
 {
-    required[j as usize * 20 + r.0 as usize]
+    let mut masks = [0; 3];
+    for j in 0..mv.steps() {
+        masks[j as usize] = mask_at(mv.step(j).from, m);
+    }
+    masks
 }
 
-/// An amount if it is at a machine, else nothing.
+/// All bits if a machine is this one, else none.
 #[inline(always)]
 #[tactic(auto, unfolding(crate::specs::RowChanges::share_at))]
-fn amount_at(at: Machine, m: Machine, amount: u32) -> u64
-    ensures value { result ≡ share_at at.0 m.0 amount }
-    ensures few { result < 2 ^ 32 }
+fn mask_at(at: Machine, m: Machine) -> u32
+    ensures { result ≡ share_at at.0 m.0 (2 ^ 32 - 1) }
 {
-    if at.0 == m.0 { u64::from(amount) } else { 0 }
+    if at.0 == m.0 { u32::MAX } else { 0 }
+}
+
+/// What the steps whose masks have all bits require of a resource together.
+#[inline(always)]
+#[tactic(auto, using(ra_base::proofs::Sums::sums), unfolding(crate::specs::Masks::masked))]
+fn amount_of(required: &[u32; 60], masks: &[u32; 3], r: Resource) -> u64
+    requires { r.0 < 20 }
+    ensures value { result ≡ total 3 (masked required.now masks.now r.0) }
+    ensures few { result ≤ 3 * 2 ^ 32 }
+{
+    let mut amount: u64 = 0;
+    for j in 0..3usize {
+        amount += u64::from(required[j * 20 + r.0 as usize] & masks[j]);
+    }
+    amount
 }

@@ -1,0 +1,11 @@
+-- The masks of the steps so far.
+use Rattle.std.proofs.Common.{◌≡◌, length}
+use Rattle.ra_moves.specs.Steps.{from_in}
+use Rattle.ra_weigh_changes.specs.Masks.{AreMasks}
+use Rattle.ra_weigh_changes.proofs.room.masks_leaving.Given as goal
+
+abbrev pub invariant-loop-j : goal.invariant-loop-j
+invariant-loop-j l = record {
+  width : length l.masks ≡ 3;
+  masks : AreMasks (from_in l.mv.steps) l.m.0 l.j l.masks;
+}
