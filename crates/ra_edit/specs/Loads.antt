@@ -64,8 +64,8 @@ pub record IsTransientRow (d : Drafted) (m : ℕ) (row : List ℕ) : Type 0 wher
 abbrev pub IsThere : Drafted → ℕ → ℕ → Type 0
 IsThere d p m = ((machine_at d.initial p == m) || (machine_at d.current p == m)) ≡ true
 
--- what a draft holds: its lists, the cost of the current one, what the processes use, where they are by service, and how
--- many have moved
+-- what a draft holds: its lists, the cost of the current one, what the processes use, where they are by
+-- service, and how many have moved
 pub record IsHeld (i : Tables) (lists : Lists) (loads : Loads) (members : Members)
     (moved : MovedCounts) (parts : Parts) : Type 0 where
   pub kept : IsKept (drafted i lists) parts

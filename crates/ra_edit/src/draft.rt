@@ -56,8 +56,9 @@ impl<'a> Draft<'a> {
     /// The draft of a feasible current list, whose cost has these parts. The instance is lent, and nothing is read of
     /// its topology. The time grows with the processes times the resources, or times the logarithm of their number if
     /// that is more, with the machines times the resources and with the services. The draft keeps two numbers for each
-    /// machine and resource, two for each service, at most three counts and a number for each process, and twice the room
-    /// of the lists of the most processes that an instance may have, of which `leave` and `finish` fill the second.
+    /// machine and resource, two for each service, at most three counts and a number for each process, and twice the
+    /// room of the lists of the most processes that an instance may have, of which `leave` and `finish` fill the
+    /// second.
     pub fn make(
         alloc: Global,
         inst: &'a Instance,

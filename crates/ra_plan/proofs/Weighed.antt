@@ -114,7 +114,8 @@ shift_same f w v p to steps same is to_is =
     ∙ ap (f w) (ap (λ (t : ℕ). leaving (here_of w) p t ∷ []) (sym to_is) ∙ sym is)
 
 -- what is found
-pub cause_found : (w : World) (p to : ℕ) (cause : Cause) → IsFinding w p to (Broken cause) → cause_of w p to ≡ Some cause
+pub cause_found : (w : World) (p to : ℕ) (cause : Cause) → IsFinding w p to (Broken cause) →
+    cause_of w p to ≡ Some cause
 unfolding IsFinding
 cause_found w p to cause found = found
 

@@ -18,14 +18,14 @@ use Rattle.ra_model.specs.Services.{on_machine, locations_of}
 use Rattle.ra_model.specs.Broken.{cause_if, capacity_test, row_capacity, broken_capacity, transient_test, row_transient}
 use Rattle.ra_model.specs.Broken.{broken_transient, conflict_test, service_conflict, broken_conflict, spread_test}
 use Rattle.ra_model.specs.Broken.{broken_spread, first_broken}
-use Rattle.ra_model.proofs.BrokenLemmas.{cause_none, cause_free, capacity_unbroken, transient_unbroken, conflict_unbroken}
-use Rattle.ra_model.proofs.BrokenLemmas.{fine_from_feasible}
+use Rattle.ra_model.proofs.BrokenLemmas.{cause_none, cause_free, capacity_unbroken, transient_unbroken}
+use Rattle.ra_model.proofs.BrokenLemmas.{conflict_unbroken, fine_from_feasible}
 use Rattle.ra_moves.specs.Steps.{process_in, from_in, to_in, step_at}
 use Rattle.ra_moves.specs.Judging.{same_test, same_of, broken_by}
 use Rattle.ra_moves.specs.Options.{leaving}
 use Rattle.ra_weigh_shift.specs.Conditions.{shifted, HasRoom, HasRoomBetween}
-use Rattle.ra_weigh_shift.proofs.RoomLaws.{IsStart, use_entered, use_other, between_entered, between_other, capacity_after}
-use Rattle.ra_weigh_shift.proofs.RoomLaws.{transient_after}
+use Rattle.ra_weigh_shift.proofs.RoomLaws.{IsStart, use_entered, use_other, between_entered, between_other}
+use Rattle.ra_weigh_shift.proofs.RoomLaws.{capacity_after, transient_after}
 use Rattle.ra_weigh_shift.proofs.MemberLaws.{members_mine, members_other, locations_other, conflict_after}
 use Rattle.ra_weigh_shift.proofs.AllowLaws.{no_repeat, same_none, applied_one}
 
@@ -75,8 +75,10 @@ row_over : (i : Tables) (a0 a : List Machine) (p to r : ℕ) → IsStart i a0 a 
 unfolding row_capacity capacity_test
 row_over i a0 a p to r h within fits above =
     first_found r (resource_count i) (capacity_test i (shifted a p to) to) _ within
-    (first_none_from _ _ (λ k below. cause_free _ _ (le-ltb _ _ (omega (arith, use_entered i a0 a p to k h, fits k below)))))
-    (ap (λ u. cause_if (ltb (capacity_of i to r) u) (Capacity (record { 0 = to }) (record { 0 = r }) u (capacity_of i to r)))
+    (first_none_from _ _
+    (λ k below. cause_free _ _ (le-ltb _ _ (omega (arith, use_entered i a0 a p to k h, fits k below)))))
+    (ap (λ u. cause_if (ltb (capacity_of i to r) u)
+    (Capacity (record { 0 = to }) (record { 0 = r }) u (capacity_of i to r)))
     (use_entered i a0 a p to r h) ∙ cause_here _ _ (lt-ltb _ _ above))
 
 pub broken_over : (i : Tables) (a0 a : List Machine) (p to r : ℕ) → IsStart i a0 a p to → r < resource_count i →
@@ -87,14 +89,16 @@ unfolding first_broken broken_capacity
 broken_over i a0 a p to r h within fits above =
     broken_first i a0 a p to _ h.apart (before _ _ _
     (first_found to (machine_count i) (row_capacity i (shifted a p to)) _ h.reach
-    (first_none_from _ _ (λ m below. no_row_before i a0 a p to m h below)) (row_over i a0 a p to r h within fits above)))
+    (first_none_from _ _ (λ m below. no_row_before i a0 a p to m h below))
+    (row_over i a0 a p to r h within fits above)))
 
 -- too little room in between
 no_between_before : (i : Tables) (a0 a : List Machine) (p to m : ℕ) → IsStart i a0 a p to → m < to →
     row_transient i a0 (shifted a p to) m ≡ None
 unfolding row_transient transient_test
 no_between_before i a0 a p to m h below = first_none_from _ _ (λ r within. cause_free _ _ (⊎_elim
-    (λ (twice : transient_at i r ≡ true). and_right _ _ (le-ltb (capacity_of i m r) (transient_of i a0 (shifted a p to) m r) (omega (
+    (λ (twice : transient_at i r ≡ true). and_right _ _
+    (le-ltb (capacity_of i m r) (transient_of i a0 (shifted a p to) m r) (omega (
       arith,
       between_other i a0 a p to m r h (λ same. absurd (omega (arith, same, below))),
       h.feasible.transient m r (omega (arith, below, h.reach)) within twice,
@@ -113,7 +117,8 @@ row_between i a0 a p to r h away within transient fits above =
     first_found r (resource_count i) (transient_test i a0 (shifted a p to) to) _ within
     (first_none_from _ _ (λ k below. cause_free _ _ (⊎_elim
     (λ (twice : transient_at i k ≡ true). and_right _ _
-    (le-ltb (capacity_of i to k) (transient_of i a0 (shifted a p to) to k) (omega (arith, between_entered i a0 a p to k h away, fits k below twice))))
+    (le-ltb (capacity_of i to k) (transient_of i a0 (shifted a p to) to k)
+    (omega (arith, between_entered i a0 a p to k h away, fits k below twice))))
     (λ (once : transient_at i k ≡ false). and_left _ _ once)
     (cases_Bool (transient_at i k)))))
     (ap (λ u. cause_if (transient_at i r && ltb (capacity_of i to r) u)
@@ -188,7 +193,8 @@ unfolding first_broken broken_conflict service_conflict
 broken_twice i a0 a p to h room between some =
     broken_first i a0 a p to _ h.apart
     (no_row i a0 a p to _ h room between ∙ before _ _ _
-    (first_found (service_of i p) (service_count i) (service_conflict i (shifted a p to)) _ (h.formed.services p h.known)
+    (first_found (service_of i p) (service_count i) (service_conflict i (shifted a p to)) _
+    (h.formed.services p h.known)
     (first_none_from _ _ (λ s below. none_other i a0 a p to s h (omega (arith, below, h.formed.services p h.known))
     (λ same. absurd (omega (arith, same, below)))))
     (first_found to (machine_count i) (conflict_test i (shifted a p to) (service_of i p)) _ h.reach

@@ -19,8 +19,8 @@ pub enum Finding {
 }
 
 impl<'w, 'a> Shift<'w, 'a> {
-    /// What the shift to a machine breaks. The time grows with the number of resources, and with that of the services that
-    /// the service needs or that depend on it.
+    /// What the shift to a machine breaks. The time grows with the number of resources, and with that of the services
+    /// that the service needs or that depend on it.
     pub fn find(&self, to: Machine) -> Finding
         requires { to.0 < machine_count (tables_of self.now.world.now) }
         ensures { IsFinding self.now.world.now self.now.process.0 to.0 result }

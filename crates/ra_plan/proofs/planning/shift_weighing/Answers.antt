@@ -38,13 +38,15 @@ weighed-requires-in-Unbroken-clause-machine g c =
 
 pub weighed-requires-in-Unbroken-clause-unbroken : goal.weighed-requires-in-Unbroken-clause-unbroken
 weighed-requires-in-Unbroken-clause-unbroken g c =
-    let found = subst (IsFinding c.args.shift.now.world.now c.args.shift.now.process.0 c.step.result.to.0) c.in-Unbroken.is
-    c.find.ensures in
+    let found = subst (IsFinding c.args.shift.now.world.now c.args.shift.now.process.0 c.step.result.to.0)
+    c.in-Unbroken.is c.find.ensures in
     unbroken_found _ _ _ found
 
 pub returns-in-Broken-clause-value : goal.returns-in-Broken-clause-value
 returns-in-Broken-clause-value g c =
-    let found = subst (IsFinding c.args.shift.now.world.now c.args.shift.now.process.0 c.step.result.to.0) c.in-Broken.is
-    c.find.ensures in
-    c.bare.ensures ∙ sym (bare_is _ _ _ _ _ (sym (shift_same cause_at c.args.world.now c.args.shift.now.world.now c.args.shift.now.process.0 c.step.result.to.0
-    c.args.mv.now.steps c.requires.world c.requires.alone (ap (λ (s : Step). s.to.0) (sym c.step.ensures))) ∙ cause_found _ _ _ _ found))
+    let found = subst (IsFinding c.args.shift.now.world.now c.args.shift.now.process.0 c.step.result.to.0)
+    c.in-Broken.is c.find.ensures in
+    c.bare.ensures ∙ sym (bare_is _ _ _ _ _ (sym (shift_same cause_at c.args.world.now c.args.shift.now.world.now
+    c.args.shift.now.process.0 c.step.result.to.0 c.args.mv.now.steps c.requires.world c.requires.alone
+    (ap (λ (s : Step). s.to.0) (sym c.step.ensures)))
+    ∙ cause_found _ _ _ _ found))

@@ -61,7 +61,8 @@ returns-then-not-is_alone c =
     let to = c.args.to.0 in
     let start = start_of i a0 a p to (at_of w p to shift.process_known c.requires)
     (λ same. c.if-to-self.false (sym same ∙ sym shift.from_is)) in
-    let none : on_machine i a (service_of i p) to ≢ 0 = λ alone. both_ways c.is_alone.result c.if-not-is_alone.true (c.is_alone.ensures.1 alone) in
+    let none : on_machine i a (service_of i p) to ≢ 0 =
+    λ alone. both_ways c.is_alone.result c.if-not-is_alone.true (c.is_alone.ensures.1 alone) in
     let some : 0 < on_machine i a (service_of i p) to = omega (arith, none) in
     broken_twice i a0 a p to start c.in_default.ensures.none c.in_default-over_between.ensures.none some
     ∙ ap (λ (s : ℕ). Some (Conflict (record { 0 = s }) (record { 0 = to }))) (sym shift.service_is)
@@ -81,7 +82,8 @@ returns-then-not-keeps_spread c =
     let alone = c.is_alone.ensures.0 c.if-not-is_alone.false in
     let enough : spread_of i (service_of i p) ≤ locations_of i (shifted a p to) (service_of i p) → ⊥ =
     λ many. both_ways c.keeps_spread.result c.if-not-keeps_spread.true (c.keeps_spread.ensures.1 many) in
-    let few : c.locations_with.result < spread_of i (service_of i p) = omega (arith, c.locations_with.ensures, enough) in
+    let few : c.locations_with.result < spread_of i (service_of i p) =
+    omega (arith, c.locations_with.ensures, enough) in
     broken_apart i a0 a p to c.locations_with.result start c.in_default.ensures.none
     c.in_default-over_between.ensures.none alone c.locations_with.ensures few
     ∙ ap₂ (λ (s n : ℕ). Some (Spread (record { 0 = s }) c.locations_with.result n)) (sym shift.service_is)

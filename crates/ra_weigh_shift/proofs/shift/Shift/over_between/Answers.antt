@@ -23,8 +23,8 @@ returns-then-is_too_much-clause-some c =
     let much = c.is_too_much.ensures.0 c.if-is_too_much.true in
     let sum : (k : ℕ) → k < resource_count i → slice_index c.transient_row-row.result.now k
     + slice_index shift.required k ≡ used_between w p to k =
-    λ k k_in. between_with i c.rows.result.now.tables w.start.now.items c.rows.result.now.start w.kept.assignment.items p to
-    k c.transient_row-row.result.now shift.required c.rows.ensures.instance c.rows.ensures.initial
+    λ k k_in. between_with i c.rows.result.now.tables w.start.now.items c.rows.result.now.start w.kept.assignment.items
+    p to k c.transient_row-row.result.now shift.required c.rows.ensures.instance c.rows.ensures.initial
     (c.transient_row-row.ensures.values _ c.rows.ensures.stand) shift.required_are k_in in
     record {
       r = r;
