@@ -60,7 +60,8 @@ masked_share : (amount at m : ℕ) → amount < 2 ^ 32 → bit_and amount (share
 masked_share amount at m few =
     let all : bit_and amount (2 ^ 32 - 1) ≡ amount = omega (arith, and_mask amount 32, few) in
     ⊎_elim
-    (λ (here : at ≡ m). ap (bit_and amount) (share_here at m (2 ^ 32 - 1) here) ∙ all ∙ sym (share_here at m amount here))
+    (λ (here : at ≡ m). ap (bit_and amount) (share_here at m (2 ^ 32 - 1) here) ∙ all
+    ∙ sym (share_here at m amount here))
     (λ (apart : at ≢ m). ap (bit_and amount) (share_elsewhere at m (2 ^ 32 - 1) apart) ∙ and_zero_r amount
     ∙ sym (share_elsewhere at m amount apart))
     (cases_eq at m)
@@ -98,8 +99,8 @@ masked_sum i steps ends m r table masks small few inside required are =
         ∙ and_zero_r (cell 20 table (length steps + k) r)
 
 -- the use now, as a row has it
-pub used_now : (i tables : Tables) (a : List Machine) (m r : ℕ) (row : List ℕ) → tables ≡ i → IsUsageRow tables a m row →
-    r < resource_count i → get_or row r 0 ≡ use_of i a m r
+pub used_now : (i tables : Tables) (a : List Machine) (m r : ℕ) (row : List ℕ) → tables ≡ i →
+    IsUsageRow tables a m row → r < resource_count i → get_or row r 0 ≡ use_of i a m r
 used_now i tables a m r row same is inside = (rw same at is).each r inside
 
 -- the use after the move: what comes is more, and what goes is less
