@@ -267,15 +267,10 @@ found_first a b x is = sym (ap (λ c. or_else c b) (sym is) ∙ or_else_some x b
 pub found_later : (a b y : Option Cause) → None ≡ a → y ≡ b → y ≡ or_else a b
 found_later a b y none is = is ∙ sym (ap (λ c. or_else c b) (sym none) ∙ or_else_none b)
 
--- a first search, or one of the first two, that finds something
+-- a first search that finds something
 pub found_at_once : (a b y : Option Cause) → (a ≡ None → ⊥) → y ≡ a → y ≡ or_else a b
 found_at_once None b y some is = absurd (some refl)
 found_at_once (Some x) b y some is = is ∙ sym (or_else_some x b)
-
-pub found_either : (a b c y : Option Cause) → (a ≡ None → b ≡ None → ⊥) → y ≡ or_else a b → y ≡ or_else a (or_else b c)
-found_either None b c y some is =
-    found_later None (or_else b c) y refl (found_at_once b c y (some refl) (is ∙ or_else_none b))
-found_either (Some x) b c y some is = is ∙ or_else_some x b ∙ sym (or_else_some x (or_else b c))
 
 -- a comparison that tells
 pub told_le : {P : Type 0} → (x y : ℕ) → (x ≤ y → P) → (y < x → P → ⊥) → (nat_le x y ≡ true) ↔ P

@@ -1,6 +1,5 @@
 ghost use Rattle.std.specs.Prelude.{◌≡◌, ◌↔◌, true, None, length};
-ghost use Rattle.ra_base.specs.Searches.{or_else};
-ghost use Rattle.ra_model.specs.Broken.{first_broken, broken_capacity, broken_transient};
+ghost use Rattle.ra_model.specs.Broken.{first_broken};
 ghost use Rattle.ra_moves.specs.Replacing.{applied};
 ghost use Rattle.ra_moves.specs.Moving.{IsMove};
 ghost use Rattle.ra_world.specs.Required.{AreRequired};
@@ -40,14 +39,17 @@ pub fn is_unbroken(world: &World<'_>, mv: &Move, required: &[u32; 60]) -> bool
 }
 
 impl<'a, 'b> Trial<'a, 'b> {
-    /// The first constraint that is broken after the move. The place of a broken row or conflict is looked for only if
-    /// there is one.
+    /// The first constraint that is broken after the move. Most moves break a capacity, so the rows are gone over in the
+    /// order of their causes at once. The place of a conflict is looked for only if there is one.
     fn first_broken(&self) -> Option<Cause>
         ensures { result ≡
             first_broken (tables_of self.now) (initial_of self.now) (after_of self.now) }
     {
-        if !self.keeps_rows() {
-            return self.broken_row();
+        if let Some(cause) = self.broken_capacity() {
+            return Some(cause);
+        }
+        if let Some(cause) = self.broken_transient() {
+            return Some(cause);
         }
         if !self.keeps_apart() {
             return self.broken_conflict();
@@ -59,16 +61,5 @@ impl<'a, 'b> Trial<'a, 'b> {
             return Some(cause);
         }
         self.broken_closed()
-    }
-
-    /// The first use above a capacity after the move, else the first transient use above one.
-    fn broken_row(&self) -> Option<Cause>
-        ensures { result ≡ or_else (broken_capacity (tables_of self.now) (after_of self.now))
-            (broken_transient (tables_of self.now) (initial_of self.now) (after_of self.now)) }
-    {
-        if let Some(cause) = self.broken_capacity() {
-            return Some(cause);
-        }
-        self.broken_transient()
     }
 }

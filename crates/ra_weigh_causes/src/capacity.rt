@@ -103,9 +103,12 @@ impl<'a, 'b> Trial<'a, 'b> {
         ensures { result ≡
             transient_test (tables_of self.now) (initial_of self.now) (after_of self.now) m.0 r.0 }
     {
+        if !self.inst.transient(r) {
+            return None;
+        }
         let used = self.transient_after(m, r, kept);
         let cap = self.inst.capacity(m, r);
-        if self.inst.transient(r) && u64::from(cap) < used {
+        if u64::from(cap) < used {
             Some(Cause::Transient {
                 machine: m,
                 resource: r,

@@ -1,55 +1,52 @@
 -- What is looked for is there, and what comes before it isn't.
 use Rattle.std.proofs.Common.{◌≡◌, None, sym}
 use Rattle.std.proofs.lemmas.Bool.{both_ways}
-use Rattle.ra_model.specs.Broken.{first_broken, broken_capacity, broken_transient, broken_conflict}
-use Rattle.ra_weigh_causes.specs.Trials.{tables_of, initial_of, after_of}
-use Rattle.ra_weigh_causes.proofs.HoldLemmas.{found_first, found_later, found_at_once, found_either}
+use Rattle.ra_model.specs.Broken.{first_broken, broken_conflict}
+use Rattle.ra_weigh_causes.specs.Trials.{tables_of, after_of}
+use Rattle.ra_weigh_causes.proofs.HoldLemmas.{found_first, found_later, found_at_once}
 use Rattle.ra_weigh_causes.proofs.trial.Trial.first_broken.Goals as goal
 
-pub returns-then-not-keeps_rows : goal.returns-then-not-keeps_rows
+pub returns-in-Some : goal.returns-in-Some
 unfolding first_broken
-returns-then-not-keeps_rows c =
-    found_either _ _ _ _ (λ (use_none : broken_capacity (tables_of c.args.self.now) (after_of c.args.self.now) ≡ None)
-    (transient_none : broken_transient (tables_of c.args.self.now) (initial_of c.args.self.now)
-    (after_of c.args.self.now) ≡ None). both_ways c.keeps_rows.result c.if-not-keeps_rows.true
-    (c.keeps_rows.ensures.1 (record { capacity = use_none; transient = transient_none }))) c.broken_row.ensures
+returns-in-Some c = found_first _ _ _ c.in-Some.ensures
+
+pub returns-in-Some-broken_transient : goal.returns-in-Some-broken_transient
+unfolding first_broken
+returns-in-Some-broken_transient c =
+    found_later _ _ _ c.in_default.ensures (found_first _ _ _ c.in-Some-broken_transient.ensures)
 
 pub returns-then-not-keeps_apart : goal.returns-then-not-keeps_apart
 unfolding first_broken
 returns-then-not-keeps_apart c =
-    let rows = c.keeps_rows.ensures.0 c.if-not-keeps_rows.false in
-    found_later _ _ _ (sym rows.capacity)
-    (found_later _ _ _ (sym rows.transient)
+    found_later _ _ _ c.in_default.ensures
+    (found_later _ _ _ c.in_default-broken_transient.ensures
     (found_at_once _ _ _
     (λ (none : broken_conflict (tables_of c.args.self.now) (after_of c.args.self.now) ≡ None).
     both_ways c.keeps_apart.result c.if-not-keeps_apart.true (c.keeps_apart.ensures.1 none))
     c.broken_conflict.ensures))
 
-pub returns-in-Some : goal.returns-in-Some
+pub returns-in-Some-broken_spread : goal.returns-in-Some-broken_spread
 unfolding first_broken
-returns-in-Some c =
-    let rows = c.keeps_rows.ensures.0 c.if-not-keeps_rows.false in
-    found_later _ _ _ (sym rows.capacity)
-    (found_later _ _ _ (sym rows.transient)
+returns-in-Some-broken_spread c =
+    found_later _ _ _ c.in_default.ensures
+    (found_later _ _ _ c.in_default-broken_transient.ensures
     (found_later _ _ _ (sym (c.keeps_apart.ensures.0 c.if-not-keeps_apart.false))
-    (found_first _ _ _ c.in-Some.ensures)))
+    (found_first _ _ _ c.in-Some-broken_spread.ensures)))
 
 pub returns-in-Some-broken_dependency : goal.returns-in-Some-broken_dependency
 unfolding first_broken
 returns-in-Some-broken_dependency c =
-    let rows = c.keeps_rows.ensures.0 c.if-not-keeps_rows.false in
-    found_later _ _ _ (sym rows.capacity)
-    (found_later _ _ _ (sym rows.transient)
+    found_later _ _ _ c.in_default.ensures
+    (found_later _ _ _ c.in_default-broken_transient.ensures
     (found_later _ _ _ (sym (c.keeps_apart.ensures.0 c.if-not-keeps_apart.false))
-    (found_later _ _ _ c.in_default.ensures
+    (found_later _ _ _ c.in_default-broken_spread.ensures
     (found_first _ _ _ c.in-Some-broken_dependency.ensures))))
 
 pub returns : goal.returns
 unfolding first_broken
 returns c =
-    let rows = c.keeps_rows.ensures.0 c.if-not-keeps_rows.false in
-    found_later _ _ _ (sym rows.capacity)
-    (found_later _ _ _ (sym rows.transient)
+    found_later _ _ _ c.in_default.ensures
+    (found_later _ _ _ c.in_default-broken_transient.ensures
     (found_later _ _ _ (sym (c.keeps_apart.ensures.0 c.if-not-keeps_apart.false))
-    (found_later _ _ _ c.in_default.ensures
+    (found_later _ _ _ c.in_default-broken_spread.ensures
     (found_later _ _ _ c.in_default-broken_dependency.ensures c.broken_closed.ensures))))
