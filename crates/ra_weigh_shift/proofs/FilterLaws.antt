@@ -316,13 +316,23 @@ unfolding filter_sum
 sum_parts w p to weight cost way load balance weight_is cost_is way_is load_is balance_is =
     ap₂ (λ x y. x + y) (ap₂ (λ x y. x + y) (way_is ∙ ap₂ (λ x y. x * y) weight_is cost_is) load_is) balance_is
 
--- a part of it is below the whole
-pub sum_part : (w : World) (p to weight cost way load : ℕ) → weight ≡ machine_weight_of w.inst.now.tables →
-    cost ≡ way_cost_of w.inst.now.tables (machine_at w.start.now.items p) to → way ≡ weight * cost →
-    load ≡ load_above w.inst.now.tables w.kept.assignment.items p to → way + load ≤ sum_at w p to
-sum_part w p to weight cost way load weight_is cost_is way_is load_is =
+-- what the machine itself adds, without the way to it, and the load alone
+pub sum_without_way : (w : World) (p to load balance : ℕ) →
+    load ≡ load_above w.inst.now.tables w.kept.assignment.items p to →
+    balance ≡ balance_above w.inst.now.tables w.kept.assignment.items p to → load + balance ≤ sum_at w p to
+sum_without_way w p to load balance load_is balance_is =
     omega (
       arith,
-      sum_parts w p to weight cost way load (balance_above w.inst.now.tables w.kept.assignment.items p to)
-          weight_is cost_is way_is load_is refl,
+      sum_parts w p to (machine_weight_of w.inst.now.tables)
+          (way_cost_of w.inst.now.tables (machine_at w.start.now.items p) to)
+          (machine_weight_of w.inst.now.tables * way_cost_of w.inst.now.tables (machine_at w.start.now.items p) to)
+          load balance refl refl refl load_is balance_is,
+    )
+
+pub sum_load : (w : World) (p to load : ℕ) →
+    load ≡ load_above w.inst.now.tables w.kept.assignment.items p to → load ≤ sum_at w p to
+sum_load w p to load load_is =
+    omega (
+      arith,
+      sum_without_way w p to load (balance_above w.inst.now.tables w.kept.assignment.items p to) load_is refl,
     )

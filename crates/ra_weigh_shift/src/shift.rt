@@ -243,19 +243,24 @@ impl<'w, 'a> Shift<'w, 'a> {
         self.home
     }
 
-    /// What a machine adds, if that is below a bound.
+    /// What a machine adds, if that is below a bound. The way to it is read last, since most machines add too much without
+    /// it, and on a large instance it is what comes from memory.
     #[inline(always)]
     fn sum_below(&self, to: Machine, bound: u128) -> Option<u128>
         requires { to.0 < machine_count self.now.world.now.inst.now.tables }
         ensures { IsSumBelow self.now.world.now self.now.process.0 to.0 bound result }
     {
-        let inst = self.world.instance();
-        let way = u64::from(inst.machine_weight()) * u64::from(inst.move_cost(self.home, to));
-        let load = u128::from(way) + load_above(self.world, &self.required, to);
+        let load = load_above(self.world, &self.required, to);
         if load >= bound {
             return None;
         }
-        let sum = load + balance_above(self.world, &self.required, to);
+        let costs = load + balance_above(self.world, &self.required, to);
+        if costs >= bound {
+            return None;
+        }
+        let inst = self.world.instance();
+        let way = u64::from(inst.machine_weight()) * u64::from(inst.move_cost(self.home, to));
+        let sum = costs + u128::from(way);
         if sum >= bound {
             return None;
         }
