@@ -6,3 +6,4 @@ pub mod MovedNext
 pub mod ChangeLaws
 pub mod CostLaws
 pub mod RoomLemmas
+pub mod ExchangeLaws

@@ -26,6 +26,11 @@ pub record LessTo (n : ℕ) (old new amounts : List ℕ) : Type 0 where
   pub done : (k : ℕ) → k < n → get_or new k 0 + get_or amounts k 0 ≡ get_or old k 0
   pub rest : (k : ℕ) → n ≤ k → get_or new k 0 ≡ get_or old k 0
 
+-- or more by what has come, and less by what has gone
+pub record ExchangedTo (n : ℕ) (old new come gone : List ℕ) : Type 0 where
+  pub same_length : length new ≡ length old
+  pub done : (k : ℕ) → k < n → get_or new k 0 + get_or gone k 0 ≡ get_or old k 0 + get_or come k 0
+
 -- a share at its machine, and elsewhere
 pub share_here : (at m amount : ℕ) → at ≡ m → share_at at m amount ≡ amount
 unfolding share_at

@@ -4,3 +4,4 @@ pub mod PlaceCosts
 pub mod CountLists
 pub mod Room
 pub mod Below
+pub mod Exchanges

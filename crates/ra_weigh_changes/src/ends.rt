@@ -1,15 +1,20 @@
-ghost use Rattle.std.specs.Prelude.{◌≡◌, ◌+◌, ◌*◌, ◌^◌, ◌<◌, ◌≤◌, length};
+ghost use Rattle.std.specs.Prelude.{◌≡◌, ◌+◌, ◌*◌, ◌^◌, ◌<◌, ◌≤◌, List, length};
 ghost use Rattle.ra_base.specs.Sums.{total, is_named, fresh};
-ghost use Rattle.ra_model.specs.Numbers.{machine_count};
+ghost use Rattle.ra_base.specs.declared.ids.Machine.{Machine};
+ghost use Rattle.ra_model.specs.Numbers.{resource_count, machine_count};
+ghost use Rattle.ra_rows.specs.Rows.{IsUsageRow};
 ghost use Rattle.ra_moves.specs.Replacing.{applied};
 ghost use Rattle.ra_moves.specs.Values.{end_count, end_in};
 ghost use Rattle.ra_moves.specs.Moving.{IsMove};
 ghost use Rattle.ra_world.specs.Required.{AreRequired};
 ghost use Rattle.ra_weigh_changes.specs.PlaceCosts.{row_cost};
+ghost use Rattle.ra_weigh_changes.specs.Exchanges.{IsExchange, IsExchangedAt};
 
 use crate::amounts::Change;
-use crate::rows::follow_row;
+use crate::exchanges::is_exchange;
+use crate::rows::{exchange_row, follow_row, required_row};
 use ra_base::Machine;
+use ra_model::Instance;
 use ra_moves::Move;
 use ra_world::{World, row_balance, row_load};
 
@@ -31,6 +36,9 @@ pub(crate) fn change_at_ends(world: &World<'_>, mv: &Move, required: &[u32; 60])
     ensures added_few { result.added ≤ 2 ^ 110 }
     ensures taken_few { result.taken ≤ 2 ^ 110 }
 {
+    if is_exchange(mv) {
+        return change_at_exchange(world, mv, required);
+    }
     let mut change = Change { added: 0, taken: 0 };
     for j in 0..2 * mv.steps() {
         let here = change_at(world, mv, required, j);
@@ -38,6 +46,63 @@ pub(crate) fn change_at_ends(world: &World<'_>, mv: &Move, required: &[u32; 60])
         change.taken += here.taken;
     }
     change
+}
+
+/// The same, if two processes exchange their machines: these two are all.
+#[inline(always)]
+fn change_at_exchange(world: &World<'_>, mv: &Move, required: &[u32; 60]) -> Change
+    requires moves { IsMove world.now.inst.now.tables
+        world.now.kept.assignment.items mv.now.steps }
+    requires required { AreRequired world.now.inst.now.tables mv.now.steps
+        (length mv.now.steps) required.now }
+    requires exchange { IsExchange mv.now.steps }
+    ensures added { result.added ≡ total (end_count mv.now.steps)
+        (fresh (end_in mv.now.steps) (row_cost world.now.inst.now.tables
+        (applied world.now.kept.assignment.items mv.now.steps))) }
+    ensures taken { result.taken ≡ total (end_count mv.now.steps)
+        (fresh (end_in mv.now.steps) (row_cost world.now.inst.now.tables
+        world.now.kept.assignment.items)) }
+    ensures added_few { result.added ≤ 2 ^ 110 }
+    ensures taken_few { result.taken ≤ 2 ^ 110 }
+{
+    let step = mv.step(0);
+    let first = cost_exchanged(world, mv, required, step.from, 1, 0);
+    let second = cost_exchanged(world, mv, required, step.to, 0, 1);
+    Change {
+        added: first + second,
+        taken: cost_now(world, step.from) + cost_now(world, step.to),
+    }
+}
+
+/// What one of the two machines costs once the process of one step has come to it, and that of the other has gone.
+#[inline(always)]
+fn cost_exchanged(
+    world: &World<'_>,
+    mv: &Move,
+    required: &[u32; 60],
+    m: Machine,
+    comes: u32,
+    goes: u32,
+) -> u128
+    requires moves { IsMove world.now.inst.now.tables
+        world.now.kept.assignment.items mv.now.steps }
+    requires required { AreRequired world.now.inst.now.tables mv.now.steps
+        (length mv.now.steps) required.now }
+    requires machine { m.0 < machine_count world.now.inst.now.tables }
+    requires exchanged { IsExchangedAt mv.now.steps m.0 comes goes }
+    ensures value { result ≡ row_cost world.now.inst.now.tables
+        (applied world.now.kept.assignment.items mv.now.steps) m.0 }
+    ensures few { result ≤ 2 ^ 106 }
+{
+    let inst = world.instance();
+    let width = inst.resources();
+    let mut numbers = [0u64; 20];
+    let row = &mut numbers[..width as usize];
+    let used = world.rows().usage_row(m);
+    let come = required_row(required, comes, width);
+    let gone = required_row(required, goes, width);
+    exchange_row(used, come, gone, row);
+    cost_of_row(inst, m, row)
 }
 
 /// What the machine of one end adds to this change: nothing if an end before it has named it.
@@ -112,6 +177,18 @@ fn cost_after(world: &World<'_>, mv: &Move, required: &[u32; 60], m: Machine) ->
     let row = &mut numbers[..inst.resources() as usize];
     row.copy_from_slice(world.rows().usage_row(m));
     follow_row(world, mv, required, m, row);
+    cost_of_row(inst, m, row)
+}
+
+/// The load and balance cost of a machine of which this much is used.
+#[inline(always)]
+fn cost_of_row(inst: &Instance, m: Machine, row: &[u64]) -> u128
+    requires machine { m.0 < machine_count inst.now.tables }
+    requires width { length row.now ≡ resource_count inst.now.tables }
+    ensures value { (a : List Machine) → IsUsageRow inst.now.tables a m.0 row.now →
+        result ≡ row_cost inst.now.tables a m.0 }
+    ensures few { result ≤ 2 ^ 106 }
+{
     row_load(inst, m, row) + row_balance(inst, m, row)
 }
 

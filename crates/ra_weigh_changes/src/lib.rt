@@ -7,6 +7,7 @@ mod changes;
 mod costs;
 mod counts;
 mod ends;
+mod exchanges;
 mod room;
 mod rows;
 mod ways;

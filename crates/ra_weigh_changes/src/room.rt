@@ -10,7 +10,10 @@ ghost use Rattle.ra_world.specs.Worlds.{tables_of, here_of};
 ghost use Rattle.ra_weigh_changes.specs.Room.{AreWithin, HaveRoom};
 ghost use Rattle.ra_weigh_changes.specs.RowChanges.{share_at};
 ghost use Rattle.ra_weigh_changes.specs.Masks.{AreMasks, masked};
+ghost use Rattle.ra_weigh_changes.specs.Exchanges.{IsExchange, IsExchangedAt};
 
+use crate::exchanges::is_exchange;
+use crate::rows::required_row;
 use ra_base::{Machine, Resource};
 use ra_moves::Move;
 use ra_world::World;
@@ -24,9 +27,65 @@ pub fn has_room(world: &World<'_>, mv: &Move, required: &[u32; 60]) -> bool
     ensures { (result ≡ true) ↔ HaveRoom (tables_of world.now)
         (applied (here_of world.now) mv.now.steps) mv.now.steps (length mv.now.steps) }
 {
+    if is_exchange(mv) {
+        return exchange_has_room(world, mv, required);
+    }
     for j in 0..mv.steps() {
         let to = mv.step(j).to;
         if !machine_has_room(world, mv, required, to) {
+            return false;
+        }
+    }
+    true
+}
+
+/// The same, if two processes exchange their machines: what comes and what goes is known then for each of the two.
+#[inline(always)]
+fn exchange_has_room(world: &World<'_>, mv: &Move, required: &[u32; 60]) -> bool
+    requires moves { IsMove (tables_of world.now) (here_of world.now) mv.now.steps }
+    requires required { AreRequired (tables_of world.now) mv.now.steps
+        (length mv.now.steps) required.now }
+    requires exchange { IsExchange mv.now.steps }
+    ensures { (result ≡ true) ↔ HaveRoom (tables_of world.now)
+        (applied (here_of world.now) mv.now.steps) mv.now.steps (length mv.now.steps) }
+{
+    let step = mv.step(0);
+    if !has_room_exchanged(world, mv, required, step.from, 1, 0) {
+        return false;
+    }
+    has_room_exchanged(world, mv, required, step.to, 0, 1)
+}
+
+/// Whether one of the two machines has the capacity for what it has once the process of one step has come to it, and that
+/// of the other has gone.
+#[inline(always)]
+fn has_room_exchanged(
+    world: &World<'_>,
+    mv: &Move,
+    required: &[u32; 60],
+    m: Machine,
+    comes: u32,
+    goes: u32,
+) -> bool
+    requires moves { IsMove (tables_of world.now) (here_of world.now) mv.now.steps }
+    requires required { AreRequired (tables_of world.now) mv.now.steps
+        (length mv.now.steps) required.now }
+    requires machine { m.0 < machine_count (tables_of world.now) }
+    requires exchanged { IsExchangedAt mv.now.steps m.0 comes goes }
+    ensures { (result ≡ true) ↔ AreWithin (tables_of world.now) m.0
+        (use_of (tables_of world.now) (applied (here_of world.now) mv.now.steps) m.0)
+        (resource_count (tables_of world.now)) }
+{
+    let inst = world.instance();
+    let width = inst.resources();
+    let row = world.rows().usage_row(m);
+    let come = required_row(required, comes, width);
+    let gone = required_row(required, goes, width);
+    for r in 0..width {
+        let most = u64::from(inst.capacity(m, Resource(r)));
+        let came = u64::from(come[r as usize]);
+        let went = u64::from(gone[r as usize]);
+        if most < row[r as usize] + came - went {
             return false;
         }
     }

@@ -6,6 +6,7 @@ ghost use Rattle.ra_moves.specs.Replacing.{applied};
 ghost use Rattle.ra_moves.specs.Moving.{IsMove};
 ghost use Rattle.ra_world.specs.Required.{AreRequired};
 ghost use Rattle.ra_weigh_changes.specs.RowChanges.{share_at, HasMore, HasMoreAt, HasFollowed, CanFollow};
+ghost use Rattle.ra_weigh_changes.specs.Exchanges.{HasExchanged};
 
 use ra_base::Machine;
 use ra_moves::{Move, Step};
@@ -40,7 +41,7 @@ pub(crate) fn follow_row(
 /// One row of the requirements.
 #[inline(always)]
 #[tactic(auto, using(crate::proofs::RowLemmas::required_cell))]
-fn required_row(required: &[u32; 60], j: u32, width: u32) -> &[u32]
+pub(crate) fn required_row(required: &[u32; 60], j: u32, width: u32) -> &[u32]
     requires row { j < 3 }
     requires width { width ≤ 20 }
     ensures one_each { length result.now ≡ width }
@@ -111,5 +112,21 @@ fn take_row(row: &mut [u64], amounts: &[u32])
 {
     for r in 0..row.len() {
         row[r] -= u64::from(amounts[r]);
+    }
+}
+
+/// Makes a row that of use with what comes, and without what goes.
+#[inline(always)]
+pub(crate) fn exchange_row(used: &[u64], come: &[u32], gone: &[u32], row: &mut [u64])
+    requires width { length row.old ≡ length used.now }
+    requires width_come { length come.now ≡ length used.now }
+    requires width_gone { length gone.now ≡ length used.now }
+    requires room { (r : ℕ) → r < length used.now → slice_index used.now r < 2 ^ 63 }
+    requires enough { (r : ℕ) → r < length used.now →
+        slice_index gone.now r ≤ slice_index used.now r + slice_index come.now r }
+    ensures { HasExchanged used.now row.new come.now gone.now }
+{
+    for r in 0..used.len() {
+        row[r] = used[r] + u64::from(come[r]) - u64::from(gone[r]);
     }
 }

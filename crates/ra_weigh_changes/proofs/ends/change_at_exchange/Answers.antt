@@ -1,0 +1,45 @@
+-- The two machines are all ends.
+use Rattle.std.proofs.Common.{arith}
+use Rattle.ra_moves.specs.Replacing.{applied}
+use Rattle.ra_weigh_changes.specs.PlaceCosts.{row_cost}
+use Rattle.ra_weigh_changes.proofs.MoveLemmas.{from_known, to_known}
+use Rattle.ra_weigh_changes.proofs.ExchangeLaws.{first_read, second_read, cost_exchanged}
+use Rattle.ra_weigh_changes.proofs.ends.change_at_exchange.Goals as goal
+
+pub cost_exchanged-first-requires-clause-machine : goal.cost_exchanged-first-requires-clause-machine
+cost_exchanged-first-requires-clause-machine c =
+    from_known _ _ _ 0 _ c.requires.moves (omega (arith, c.requires.exchange.two)) c.step-step.ensures
+
+pub cost_exchanged-first-requires-clause-exchanged : goal.cost_exchanged-first-requires-clause-exchanged
+cost_exchanged-first-requires-clause-exchanged c =
+    first_read c.args.mv.now.steps c.step-step.result c.requires.exchange c.step-step.ensures
+
+pub cost_exchanged-second-requires-clause-machine : goal.cost_exchanged-second-requires-clause-machine
+cost_exchanged-second-requires-clause-machine c =
+    to_known _ _ _ 0 _ c.requires.moves (omega (arith, c.requires.exchange.two)) c.step-step.ensures
+
+pub cost_exchanged-second-requires-clause-exchanged : goal.cost_exchanged-second-requires-clause-exchanged
+cost_exchanged-second-requires-clause-exchanged c =
+    second_read c.args.mv.now.steps c.step-step.result c.requires.exchange c.step-step.ensures
+
+pub cost_now-requires : goal.cost_now-requires
+cost_now-requires c = record {
+  machine = from_known _ _ _ 0 _ c.requires.moves (omega (arith, c.requires.exchange.two)) c.step-step.ensures;
+}
+
+pub cost_now-requires-2 : goal.cost_now-requires-2
+cost_now-requires-2 c = record {
+  machine = to_known _ _ _ 0 _ c.requires.moves (omega (arith, c.requires.exchange.two)) c.step-step.ensures;
+}
+
+pub returns-clause-added : goal.returns-clause-added
+returns-clause-added c =
+    cost_exchanged c.args.mv.now.steps
+    (row_cost c.args.world.now.inst.now.tables (applied c.args.world.now.kept.assignment.items c.args.mv.now.steps))
+    c.step-step.result _ _ c.requires.exchange c.step-step.ensures c.cost_exchanged-first.ensures.value
+    c.cost_exchanged-second.ensures.value
+
+pub returns-clause-taken : goal.returns-clause-taken
+returns-clause-taken c =
+    cost_exchanged c.args.mv.now.steps (row_cost c.args.world.now.inst.now.tables c.args.world.now.kept.assignment.items)
+    c.step-step.result _ _ c.requires.exchange c.step-step.ensures c.cost_now.ensures.value c.cost_now-2.ensures.value
