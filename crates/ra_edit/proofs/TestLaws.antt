@@ -2,7 +2,8 @@
 use Rattle.std.proofs.Common.{◌≡◌, ◌≢◌, ℕ, zero, suc, ◌<◌, ◌≤◌, Bool, true, false, cond, List, length, get_or, Option}
 use Rattle.std.proofs.Common.{Some, None, refl, sym, ap, ◌∙◌, arith, lt-ltb, le-ltb, ne_eqb, eq-eqb}
 use Rattle.std.proofs.lemmas.Bool.{cond-true, cond-false, and_from, and_left, and_right}
-use Rattle.std.proofs.lemmas.List.{get_or_read}
+use Rattle.std.proofs.Math.ListN.{get_or-map}
+use Rattle.std.proofs.lemmas.List.{length-map}
 use Rattle.ra_base.specs.declared.ids.Service.{Service}
 use Rattle.ra_base.specs.declared.causes.Cause.{Cause}
 use Rattle.ra_base.specs.declared.causes.Cause.TheVariants.{Capacity, Transient, Conflict, Spread, Dependency}
@@ -15,10 +16,12 @@ use Rattle.ra_model.specs.Relations.{depends}
 use Rattle.ra_model.specs.Services.{on_machine, in_neighbourhood, locations_of}
 use Rattle.ra_model.specs.Broken.{cause_if, capacity_test, row_capacity, transient_test, row_transient, conflict_test}
 use Rattle.ra_model.specs.Broken.{spread_test}
+use Rattle.ra_topology.specs.Lists.{service_at, is_dependant, numbers_of, AreDependantsOf}
 use Rattle.ra_edit.specs.Drafts.{Drafted, with_processes, instance_of}
 use Rattle.ra_edit.specs.Touched.{far_from, left_alone, left_by, first_of_two, resized_breaks}
 use Rattle.ra_base.specs.Searches.{or_else, first}
-use Rattle.ra_base.proofs.Searches.{or_else_none, first_none_from}
+use Rattle.ra_base.proofs.Searches.{or_else_none, first_none_from, first_same}
+use Rattle.ra_base.proofs.Picks.{pick_first}
 
 failed_if : (failed : Bool) (cause : Cause) → failed ≡ true → Some cause ≡ cause_if failed cause
 unfolding cause_if
@@ -167,28 +170,42 @@ service_weight_in e = refl
 
 -- who depends on whom
 
-pub need_read : (i : Tables) (s k : ℕ) (needs : List Service) →
-    ((j : ℕ) → j < dependency_count i s → (get_or needs j (record { 0 = 0 })).0 ≡ need_of i s j) →
-    length needs ≡ dependency_count i s → k < length needs → (x : Service) → x ≡ get_or needs k x → need_of i s k ≡ x.0
-need_read i s k needs each long within x read =
-    sym (ap (λ (v : Service). v.0) (get_or_read needs k x within read (record { 0 = 0 })) ∙ each k (omega arith))
-
-pub depends_in : (e : Drafted) (s u : ℕ) → depends (instance_of e) s u ≡ depends e.origin s u
+depends_in : (e : Drafted) (s u : ℕ) → depends (instance_of e) s u ≡ depends e.origin s u
 unfolding with_processes depends dependency_count dependency_end dependency_start need_of need_at service_row
 depends_in e zero u = refl
 depends_in e (suc s) u = refl
 
-pub left_depends : (e : Drafted) (s label u : ℕ) (x : Option Cause) → depends e.origin u s ≡ true →
-    x ≡ left_alone (instance_of e) e.current s label u → x ≡ left_by (instance_of e) e.current s label u
-unfolding left_by
-left_depends e s label u x needs is =
-    is ∙ sym (cond-true _ (left_alone (instance_of e) e.current s label u) None (depends_in e u s ∙ needs))
+left_if : (e : Drafted) (i : Tables) (s label u : ℕ) → e.origin ≡ i →
+    cond (is_dependant i s u) (left_alone (instance_of e) e.current s label u) None ≡
+    left_by (instance_of e) e.current s label u
+unfolding left_by is_dependant
+left_if e i s label u same =
+    ap (λ (b : Bool). cond b (left_alone (instance_of e) e.current s label u) None)
+    (sym (depends_in e u s ∙ ap (λ (j : Tables). depends j u s) same))
 
-pub left_free : (e : Drafted) (s label u : ℕ) → depends e.origin u s ≡ false →
-    None ≡ left_by (instance_of e) e.current s label u
-unfolding left_by
-left_free e s label u needs =
-    sym (cond-false _ (left_alone (instance_of e) e.current s label u) None (depends_in e u s ∙ needs))
+-- a search over listed services is one over their numbers
+listed_first : {X : Type 0} → (list : List Service) (f : ℕ → Option X) →
+    first (length list) (λ k. f (service_at list k)) ≡
+    first (length (numbers_of list)) (λ k. f (get_or (numbers_of list) k 0))
+unfolding service_at
+listed_first list f =
+    first_same (length list) (λ k. f (service_at list k)) (λ k. f (get_or (numbers_of list) k 0))
+    (λ k within. ap f (sym (get_or-map (λ (u : Service). u.0) list k (record { 0 = 0 }))))
+    ∙ ap (λ n. first n (λ k. f (get_or (numbers_of list) k 0))) (sym (length-map list (λ (u : Service). u.0)))
+
+-- what is found among the dependants of a service is what is found among all services
+pub left_listed : (e : Drafted) (i : Tables) (s label : ℕ) (list : List Service) → e.origin ≡ i →
+    AreDependantsOf i s list →
+    first (length list) (λ k. left_alone (instance_of e) e.current s label (service_at list k)) ≡
+    first (service_count (instance_of e)) (left_by (instance_of e) e.current s label)
+left_listed e i s label list same are =
+    let alone = left_alone (instance_of e) e.current s label in
+    listed_first list alone
+    ∙ ap (λ (numbers : List ℕ). first (length numbers) (λ k. alone (get_or numbers k 0))) are.numbers
+    ∙ pick_first (service_count i) (is_dependant i s) alone
+    ∙ first_same (service_count i) _ (left_by (instance_of e) e.current s label)
+    (λ u within. left_if e i s label u same)
+    ∙ ap (λ n. first n (left_by (instance_of e) e.current s label)) (sym (services_in e ∙ ap service_count same))
 
 either_none : {X : Type 0} → (b : Bool) (x : Option X) → x ≡ None → cond b x None ≡ None
 either_none true x none = none

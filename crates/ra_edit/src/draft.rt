@@ -12,6 +12,7 @@ ghost use Rattle.ra_edit.specs.Replies.{barred, edit_answer, after_edit};
 ghost use Rattle.ra_edit.specs.SameLists.{AreSameLists};
 
 use crate::building::build;
+use crate::dependants::Dependants;
 use crate::edited::{Edited, Left};
 use crate::lists::{Lists, MOST_PROCESSES};
 use crate::loads::Loads;
@@ -36,6 +37,7 @@ pub struct Draft<'a> {
     lists: Lists,
     loads: Loads,
     members: Members,
+    dependants: Dependants,
     moved: Greatest,
     parts: Parts,
 }
@@ -49,15 +51,16 @@ impl<'a> Model for Draft<'a> {
 
     ghost view = { λ d. drafted d.inst.now.tables d.lists };
 
-    ghost invariant = { λ d. IsHeld d.inst.now.tables d.lists d.loads d.members d.moved d.parts };
+    ghost invariant = { λ d. IsHeld d.inst.now.tables d.lists d.loads d.members d.dependants d.moved d.parts };
 }
 
 impl<'a> Draft<'a> {
     /// The draft of a feasible current list, whose cost has these parts. The instance is lent, and nothing is read of
-    /// its topology. The time grows with the processes times the resources, or times the logarithm of their number if
-    /// that is more, with the machines times the resources and with the services. The draft keeps two numbers for each
-    /// machine and resource, two for each service, at most three counts and a number for each process, and twice the
-    /// room of the lists of the most processes that an instance may have, of which `leave` and `finish` fill the
+    /// the topology that is lent. The time grows with the processes times the resources, or times the logarithm of
+    /// their number if that is more, with the machines times the resources, with the services and with their
+    /// dependencies. The draft keeps two numbers for each machine and resource, two for each service, at most three
+    /// counts and a number for each process, a topology of its own for the services that depend on each one, and twice
+    /// the room of the lists of the most processes that an instance may have, of which `leave` and `finish` fill the
     /// second.
     pub fn make(
         alloc: Global,
@@ -76,12 +79,14 @@ impl<'a> Draft<'a> {
         let lists = Lists::of(alloc, inst, a0, a)?;
         let loads = Loads::of(alloc, inst, &lists)?;
         let members = Members::of(alloc, inst, &lists)?;
+        let dependants = Dependants::of(alloc, inst)?;
         let moved = moved_counts(alloc, inst, &lists)?;
         Ok(Draft {
             inst,
             lists,
             loads,
             members,
+            dependants,
             moved,
             parts: start,
         })
@@ -111,6 +116,7 @@ impl<'a> Draft<'a> {
             &self.lists,
             &self.loads,
             &self.members,
+            &self.dependants,
             &self.moved,
             self.parts,
             edit,
@@ -157,6 +163,7 @@ impl<'a> Draft<'a> {
             lists,
             loads: _,
             members: _,
+            dependants: _,
             moved: _,
             parts: _,
         } = self;
@@ -188,6 +195,7 @@ impl<'a> Draft<'a> {
             lists,
             loads: _,
             members: _,
+            dependants: _,
             moved: _,
             parts: _,
         } = self;

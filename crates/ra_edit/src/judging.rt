@@ -3,10 +3,10 @@ ghost use Rattle.std.specs.Prelude.{◌≡◌, ℕ, ◌<◌, true, length};
 ghost use Rattle.ra_base.specs.Searches.{or_else, first};
 ghost use Rattle.ra_model.specs.Numbers.{resource_count, machine_count, service_count, dependency_count, need_of, neighbourhood_of, service_of, transient_at};
 ghost use Rattle.ra_model.specs.Broken.{capacity_test, row_capacity, transient_test, row_transient, conflict_test, spread_test};
-ghost use Rattle.ra_model.specs.Relations.{depends};
 ghost use Rattle.ra_model.specs.Usage.{use_of, transient_of};
 ghost use Rattle.ra_model.specs.Assignments.{machine_at};
 ghost use Rattle.ra_model.specs.Services.{locations_of};
+ghost use Rattle.ra_topology.specs.Fits.{AreDependants};
 ghost use Rattle.ra_edit.specs.Keeping.{drafted, tables_with, IsSound};
 ghost use Rattle.ra_edit.specs.Drafts.{Drafted, instance_of};
 ghost use Rattle.ra_edit.specs.Kinds.{HasCome, HasGone, IsLeft};
@@ -14,6 +14,7 @@ ghost use Rattle.ra_edit.specs.Members.{AreMembersOf};
 ghost use Rattle.ra_edit.specs.Loads.{IsUseRow, IsTransientRow};
 ghost use Rattle.ra_edit.specs.Touched.{far_from, added_breaks, left_alone, left_by, retired_breaks, resized_breaks};
 
+use crate::dependants::Dependants;
 use crate::lists::Lists;
 use crate::members::{Members, Spot};
 use ra_base::{Cause, Machine, Process, Resource, Service};
@@ -53,12 +54,14 @@ pub(crate) fn retired_breaks(
     inst: &Instance,
     lists: &Lists,
     members: &Members,
+    dependants: &Dependants,
     p: Process,
     s: Service,
     at: Machine,
 ) -> Option<Cause>
     requires sound { IsSound (drafted inst.now.tables lists.now) }
     requires members { AreMembersOf (drafted inst.now.tables lists.now) members.now }
+    requires dependants { AreDependants dependants.now inst.now.tables }
     requires service { s.0 < service_count inst.now.tables }
     requires process { p.0 < length lists.now.rows.items }
     requires machine { at.0 < machine_count inst.now.tables }
@@ -70,7 +73,7 @@ pub(crate) fn retired_breaks(
     if let Some(cause) = spread_test(inst, lists, members, p, s, at) {
         return Some(cause);
     }
-    first_left(inst, lists, members, p, s, at)
+    first_left(inst, lists, members, dependants, p, s, at)
 }
 
 /// What other requirements of a process break, with which this much is used of its machine, and in between of that and
@@ -326,16 +329,20 @@ fn locations_without(
     }
 }
 
-/// The first service in a neighbourhood that depends on a service of which no process is left there without one.
+/// The first service in a neighbourhood that depends on a service of which no process is left there without one. Only
+/// those that depend on it are looked at.
 fn first_left(
     inst: &Instance,
     lists: &Lists,
     members: &Members,
+    dependants: &Dependants,
     p: Process,
     s: Service,
     at: Machine,
 ) -> Option<Cause>
     requires members { AreMembersOf (drafted inst.now.tables lists.now) members.now }
+    requires dependants { AreDependants dependants.now inst.now.tables }
+    requires service { s.0 < service_count inst.now.tables }
     requires machine { at.0 < machine_count inst.now.tables }
     requires mine { s.0 ≡ service_of (tables_with inst.now.tables lists.now) p.0 }
     requires here { at.0 ≡ machine_at lists.now.current.items p.0 }
@@ -347,25 +354,13 @@ fn first_left(
     if 1 < members.at(s, Spot::InNeighbourhood(label)) {
         return None;
     }
-    for u in 0..inst.services() {
-        if let Some(cause) = left_by(inst, members, s, label, Service(u)) {
+    let services = dependants.of_service(s);
+    for k in 0..services.len() {
+        if let Some(cause) = left_alone(members, s, label, services[k]) {
             return Some(cause);
         }
     }
     None
-}
-
-/// A service in a neighbourhood, if it depends on one of which no process is left there.
-fn left_by(inst: &Instance, members: &Members, s: Service, label: u32, u: Service) -> Option<Cause>
-    requires { u.0 < service_count inst.now.tables }
-    ensures { (d e : Drafted) → d.origin ≡ inst.now.tables → AreMembersOf d members.now →
-        IsLeft d e s.0 label → result ≡ left_by (instance_of e) e.current s.0 label u.0 }
-{
-    if depends(inst, u, s) {
-        left_alone(members, s, label, u)
-    } else {
-        None
-    }
 }
 
 /// A service in a neighbourhood where no process is left of one that it depends on.
@@ -385,19 +380,4 @@ fn left_alone(members: &Members, s: Service, label: u32, u: Service) -> Option<C
     } else {
         None
     }
-}
-
-/// Whether a service depends on another.
-#[tactic(auto, using(ra_base::proofs::Named::names, crate::proofs::TestLaws::need_read), unfolding(ra_model::specs::Relations::depends))]
-fn depends(inst: &Instance, s: Service, on: Service) -> bool
-    requires { s.0 < service_count inst.now.tables }
-    ensures { result ≡ depends inst.now.tables s.0 on.0 }
-{
-    let needs = inst.depends(s);
-    for k in 0..needs.len() {
-        if needs[k].0 == on.0 {
-            return true;
-        }
-    }
-    false
 }

@@ -6,6 +6,7 @@ mod base;
 mod building;
 mod costs;
 mod counts;
+mod dependants;
 mod draft;
 mod edited;
 mod growing;
