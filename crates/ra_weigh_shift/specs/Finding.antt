@@ -2,14 +2,16 @@
 use Rattle.std.specs.Prelude.{◌≡◌, ◌≢◌, ℕ, ◌+◌, ◌<◌, ◌≤◌, true, [], ◌∷◌, Option, Some}
 use Rattle.ra_base.specs.declared.causes.Cause.{Cause}
 use Rattle.ra_base.specs.declared.causes.Cause.TheVariants.{Capacity, Transient}
-use Rattle.ra_model.specs.Numbers.{resource_count, requirement_of, capacity_of, transient_at}
+use Rattle.ra_model.specs.Numbers.{resource_count, requirement_of, capacity_of, transient_at, service_of, spread_of}
 use Rattle.ra_model.specs.Assignments.{machine_at}
 use Rattle.ra_model.specs.Usage.{use_of, transient_of}
+use Rattle.ra_model.specs.Services.{on_machine, locations_of}
 use Rattle.ra_moves.specs.Judging.{broken_by}
 use Rattle.ra_moves.specs.Options.{leaving}
 use Rattle.ra_world.specs.Worlds.{tables_of, start_of, here_of}
 use Rattle.ra_world.specs.declared.world.World.{World}
 use Rattle.ra_weigh_shift.specs.Arriving.{BreaksNothing}
+use Rattle.ra_weigh_shift.specs.Conditions.{shifted, HasRoom, HasRoomBetween}
 use Rattle.ra_weigh_shift.specs.declared.finding.Finding.{Finding}
 use Rattle.ra_weigh_shift.specs.declared.finding.Finding.TheVariants.{Broken, Unbroken, BrokenElsewhere}
 
@@ -18,11 +20,21 @@ abbrev pub cause_of : World → ℕ → ℕ → Option Cause
 cause_of w p to =
     broken_by (tables_of w) (start_of w) (here_of w) (leaving (here_of w) p to ∷ [])
 
--- it is refused for the cause that is told, or breaks nothing, or breaks something
+-- it breaks something, and no constraint before the dependencies: a dependency, or it enters a closed machine
+pub record IsBrokenElsewhere (w : World) (p to : ℕ) : Type 0 where
+  pub apart : machine_at (here_of w) p ≢ to
+  pub room : HasRoom (tables_of w) (here_of w) p to
+  pub between : HasRoomBetween (tables_of w) (start_of w) (here_of w) p to
+  pub alone : on_machine (tables_of w) (here_of w) (service_of (tables_of w) p) to ≡ 0
+  pub spread : spread_of (tables_of w) (service_of (tables_of w) p)
+      ≤ locations_of (tables_of w) (shifted (here_of w) p to) (service_of (tables_of w) p)
+  pub broken : BreaksNothing w p to → ⊥
+
+-- it is refused for the cause that is told, or breaks nothing, or breaks something that comes late
 unfoldable pub IsFinding : World → ℕ → ℕ → Finding → Type 0
 IsFinding w p to (Broken cause) = cause_of w p to ≡ Some cause
 IsFinding w p to Unbroken = BreaksNothing w p to
-IsFinding w p to BrokenElsewhere = BreaksNothing w p to → ⊥
+IsFinding w p to BrokenElsewhere = IsBrokenElsewhere w p to
 
 -- how much of resource r the machine uses with p, once it is there and while it moves there
 abbrev pub used_with : World → ℕ → ℕ → ℕ → ℕ

@@ -14,7 +14,7 @@ pub enum Finding {
     Broken(Cause),
     /// It breaks nothing.
     Unbroken,
-    /// It breaks a dependency or enters a closed machine. The cause is not looked for.
+    /// It breaks a dependency or enters a closed machine, and nothing before these. The cause is not looked for.
     BrokenElsewhere,
 }
 

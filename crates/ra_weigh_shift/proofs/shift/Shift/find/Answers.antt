@@ -95,9 +95,16 @@ returns-then-not-keeps_dependants c =
     let shift = c.args.self.now in
     let w = shift.world.now in
     let at = at_of w shift.process.0 c.args.to.0 shift.process_known c.requires in
-    λ none. both_ways c.keeps_dependants.result c.if-not-keeps_dependants.true
-    (c.keeps_dependants.ensures.1
-    (allowed w.inst.now.tables w.start.now.items w.kept.assignment.items shift.process.0 c.args.to.0 at none).leaves)
+    record {
+      apart = λ same. c.if-to-self.false (sym same ∙ sym shift.from_is);
+      room = c.in_default.ensures.none;
+      between = c.in_default-over_between.ensures.none;
+      alone = c.is_alone.ensures.0 c.if-not-is_alone.false;
+      spread = c.keeps_spread.ensures.0 c.if-not-keeps_spread.false;
+      broken = λ none. both_ways c.keeps_dependants.result c.if-not-keeps_dependants.true
+          (c.keeps_dependants.ensures.1
+          (allowed w.inst.now.tables w.start.now.items w.kept.assignment.items shift.process.0 c.args.to.0 at none).leaves);
+    }
 
 pub returns-then-not-finds_needs : goal.returns-then-not-finds_needs
 unfolding IsFinding
@@ -105,9 +112,16 @@ returns-then-not-finds_needs c =
     let shift = c.args.self.now in
     let w = shift.world.now in
     let at = at_of w shift.process.0 c.args.to.0 shift.process_known c.requires in
-    λ none. both_ways c.finds_needs.result c.if-not-finds_needs.true
-    (c.finds_needs.ensures.1
-    (allowed w.inst.now.tables w.start.now.items w.kept.assignment.items shift.process.0 c.args.to.0 at none).needs)
+    record {
+      apart = λ same. c.if-to-self.false (sym same ∙ sym shift.from_is);
+      room = c.in_default.ensures.none;
+      between = c.in_default-over_between.ensures.none;
+      alone = c.is_alone.ensures.0 c.if-not-is_alone.false;
+      spread = c.keeps_spread.ensures.0 c.if-not-keeps_spread.false;
+      broken = λ none. both_ways c.finds_needs.result c.if-not-finds_needs.true
+          (c.finds_needs.ensures.1
+          (allowed w.inst.now.tables w.start.now.items w.kept.assignment.items shift.process.0 c.args.to.0 at none).needs);
+    }
 
 pub returns-then-not-is_admitted : goal.returns-then-not-is_admitted
 unfolding IsFinding
@@ -115,9 +129,16 @@ returns-then-not-is_admitted c =
     let shift = c.args.self.now in
     let w = shift.world.now in
     let at = at_of w shift.process.0 c.args.to.0 shift.process_known c.requires in
-    λ none. both_ways c.is_admitted.result c.if-not-is_admitted.true
-    (c.is_admitted.ensures.1
-    (allowed w.inst.now.tables w.start.now.items w.kept.assignment.items shift.process.0 c.args.to.0 at none).admitted)
+    record {
+      apart = λ same. c.if-to-self.false (sym same ∙ sym shift.from_is);
+      room = c.in_default.ensures.none;
+      between = c.in_default-over_between.ensures.none;
+      alone = c.is_alone.ensures.0 c.if-not-is_alone.false;
+      spread = c.keeps_spread.ensures.0 c.if-not-keeps_spread.false;
+      broken = λ none. both_ways c.is_admitted.result c.if-not-is_admitted.true
+          (c.is_admitted.ensures.1
+          (allowed w.inst.now.tables w.start.now.items w.kept.assignment.items shift.process.0 c.args.to.0 at none).admitted);
+    }
 
 pub returns : goal.returns
 unfolding IsFinding
