@@ -59,6 +59,13 @@ def commands_of(folder):
         command = Command("repair", shape, tries(REPAIR_TRIES), of_four, REPAIR_TRIES, tries(0), 11, own=True)
         of_four = of_four or command
         yield command
+    for shapes in (("dependency-1", "dependency-20000"), ("services-4", "services-5000")):
+        first = None
+        for shape in shapes:
+            lots = lambda budget: ["solve", *files(shape, "model", "initial"), f"7:{budget}"]
+            command = Command("solve, 1 worker", shape, lots(PROPOSALS), first, PROPOSALS, lots(0))
+            first = first or command
+            yield command
     for shape, counts in (("100-skewed", [1]), ("1000-skewed", [1, 2, 4])):
         start, one = ["solve", *files(shape, "model", "initial")], None
         for workers in counts:
@@ -112,8 +119,8 @@ def main():
         for (command, program), times in runs.items():
             times.append(time_of(folder, program, command))
     print("processor: median seconds of processor time; beside: its time divided by that of the plain loop, of `bound` of the")
-    print("model alone, of `check` of the model that is edited, or, by the clock and without reading, of one worker or of the")
-    print("repair above; other: divided by that of the other program\n")
+    print("model alone, of `check` of the model that is edited, or, by the clock and without reading, of the run by one")
+    print("worker or the repair above; other: divided by that of the other program\n")
     print("| command | instance | processor | MB | beside | proposals a second |" + " other | MB of the other |" * (len(programs) - 1))
     print("|" + "---|" * (6 + 2 * (len(programs) - 1)))
     for command in commands:
