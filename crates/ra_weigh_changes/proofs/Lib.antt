@@ -1,7 +1,6 @@
 pub mod MoveLemmas
 pub mod RowLemmas
 pub mod RowUse
-pub mod MaskLemmas
 pub mod MovedNext
 pub mod ChangeLaws
 pub mod CostLaws

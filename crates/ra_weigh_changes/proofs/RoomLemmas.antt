@@ -1,6 +1,6 @@
 -- Room on the machines that a move enters.
-use Rattle.std.proofs.Common.{◌≡◌, ◌↔◌, ℕ, ◌+◌, ◌<◌, ◌≤◌, arith, true, false, List, None, length, refl}
-use Rattle.std.proofs.Common.{⊎_elim}
+use Rattle.std.proofs.Common.{◌≡◌, ◌↔◌, ℕ, ◌+◌, ◌<◌, ◌≤◌, arith, Bool, true, false, List, None, length, refl}
+use Rattle.std.proofs.Common.{⊎_elim, get_or}
 use Rattle.std.proofs.lemmas.Bool.{cases_lt}
 use Rattle.ra_base.specs.declared.ids.Machine.{Machine}
 use Rattle.ra_model.specs.declared.raw.Tables.{Tables}
@@ -8,6 +8,7 @@ use Rattle.ra_model.specs.Numbers.{resource_count, capacity_of}
 use Rattle.ra_model.specs.Usage.{use_of}
 use Rattle.ra_model.specs.Broken.{broken_capacity}
 use Rattle.ra_model.proofs.BrokenLemmas.{capacity_met}
+use Rattle.ra_rows.specs.Rows.{IsUsageRow}
 use Rattle.ra_moves.specs.declared.steps.Step.{Step}
 use Rattle.ra_moves.specs.Steps.{to_in}
 use Rattle.ra_moves.specs.Replacing.{applied}
@@ -40,6 +41,20 @@ not_within i m n r most used below is high all = absurd (omega (arith, is, high,
 
 pub within_all : (i : Tables) (m n k : ℕ) (used : ℕ → ℕ) → k ≡ n → AreWithin i m used k → AreWithin i m used n
 within_all i m n k used all within = rw (← all) within
+
+-- the use now, as a row has it
+pub used_now : (i tables : Tables) (a : List Machine) (m r : ℕ) (row : List ℕ) → tables ≡ i →
+    IsUsageRow tables a m row → r < resource_count i → get_or row r 0 ≡ use_of i a m r
+used_now i tables a m r row same is inside = (rw same at is).each r inside
+
+-- what is told of a row is told of the use that it has
+pub told_of_use : (i : Tables) (a : List Machine) (m : ℕ) (row : List ℕ) (told : Bool) → IsUsageRow i a m row →
+    (told ≡ true) ↔ AreWithin i m (λ r. get_or row r 0) (resource_count i) →
+    (told ≡ true) ↔ AreWithin i m (use_of i a m) (resource_count i)
+told_of_use i a m row told is says = (
+  λ yes. record { each = λ r below. omega (arith, is.each r below, (says.0 yes).each r below) },
+  λ within. says.1 (record { each = λ r below. omega (arith, is.each r below, within.each r below) }),
+)
 
 -- the machines
 pub room_none : (i : Tables) (b : List Machine) (steps : List Step) → HaveRoom i b steps 0

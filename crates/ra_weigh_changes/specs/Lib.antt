@@ -1,5 +1,5 @@
 pub mod RowChanges
-pub mod Masks
+pub mod EndCosts
 pub mod PlaceCosts
 pub mod CountLists
 pub mod Room

@@ -1,5 +1,5 @@
 ghost use Rattle.std.specs.Prelude.{◌≡◌, ◌+◌, ◌*◌, ◌^◌, ◌<◌, ◌≤◌, List, length};
-ghost use Rattle.ra_base.specs.Sums.{total, is_named, fresh};
+ghost use Rattle.ra_base.specs.Sums.{is_named, fresh};
 ghost use Rattle.ra_base.specs.declared.ids.Machine.{Machine};
 ghost use Rattle.ra_model.specs.Numbers.{resource_count, machine_count};
 ghost use Rattle.ra_rows.specs.Rows.{IsUsageRow};
@@ -7,12 +7,14 @@ ghost use Rattle.ra_moves.specs.Replacing.{applied};
 ghost use Rattle.ra_moves.specs.Values.{end_count, end_in};
 ghost use Rattle.ra_moves.specs.Moving.{IsMove};
 ghost use Rattle.ra_world.specs.Required.{AreRequired};
+ghost use Rattle.ra_world.specs.Worlds.{tables_of, here_of};
 ghost use Rattle.ra_weigh_changes.specs.PlaceCosts.{row_cost};
+ghost use Rattle.ra_weigh_changes.specs.EndCosts.{IsChangeAtEnds};
 ghost use Rattle.ra_weigh_changes.specs.Exchanges.{IsExchange, IsExchangedAt};
 
 use crate::amounts::Change;
 use crate::exchanges::is_exchange;
-use crate::rows::{exchange_row, follow_row, required_row};
+use crate::rows::{exchange_row, required_row, row_after};
 use ra_base::Machine;
 use ra_model::Instance;
 use ra_moves::Move;
@@ -21,20 +23,12 @@ use ra_world::{World, row_balance, row_load};
 /// The change of load and balance cost together: what the machines of the move cost after it, and what they cost now,
 /// each machine once.
 #[inline(always)]
-#[tactic(auto, using(ra_base::proofs::Sums::sums), unfolding(ra_moves::specs::Values::end_count))]
+#[tactic(auto, unfolding(ra_moves::specs::Values::end_count))]
 pub(crate) fn change_at_ends(world: &World<'_>, mv: &Move, required: &[u32; 60]) -> Change
-    requires moves { IsMove world.now.inst.now.tables
-        world.now.kept.assignment.items mv.now.steps }
-    requires required { AreRequired world.now.inst.now.tables mv.now.steps
+    requires moves { IsMove (tables_of world.now) (here_of world.now) mv.now.steps }
+    requires required { AreRequired (tables_of world.now) mv.now.steps
         (length mv.now.steps) required.now }
-    ensures added { result.added ≡ total (end_count mv.now.steps)
-        (fresh (end_in mv.now.steps) (row_cost world.now.inst.now.tables
-        (applied world.now.kept.assignment.items mv.now.steps))) }
-    ensures taken { result.taken ≡ total (end_count mv.now.steps)
-        (fresh (end_in mv.now.steps) (row_cost world.now.inst.now.tables
-        world.now.kept.assignment.items)) }
-    ensures added_few { result.added ≤ 2 ^ 110 }
-    ensures taken_few { result.taken ≤ 2 ^ 110 }
+    ensures { IsChangeAtEnds world.now mv.now.steps result }
 {
     if is_exchange(mv) {
         return change_at_exchange(world, mv, required);
@@ -51,19 +45,11 @@ pub(crate) fn change_at_ends(world: &World<'_>, mv: &Move, required: &[u32; 60])
 /// The same, if two processes exchange their machines: these two are all.
 #[inline(always)]
 fn change_at_exchange(world: &World<'_>, mv: &Move, required: &[u32; 60]) -> Change
-    requires moves { IsMove world.now.inst.now.tables
-        world.now.kept.assignment.items mv.now.steps }
-    requires required { AreRequired world.now.inst.now.tables mv.now.steps
+    requires moves { IsMove (tables_of world.now) (here_of world.now) mv.now.steps }
+    requires required { AreRequired (tables_of world.now) mv.now.steps
         (length mv.now.steps) required.now }
     requires exchange { IsExchange mv.now.steps }
-    ensures added { result.added ≡ total (end_count mv.now.steps)
-        (fresh (end_in mv.now.steps) (row_cost world.now.inst.now.tables
-        (applied world.now.kept.assignment.items mv.now.steps))) }
-    ensures taken { result.taken ≡ total (end_count mv.now.steps)
-        (fresh (end_in mv.now.steps) (row_cost world.now.inst.now.tables
-        world.now.kept.assignment.items)) }
-    ensures added_few { result.added ≤ 2 ^ 110 }
-    ensures taken_few { result.taken ≤ 2 ^ 110 }
+    ensures { IsChangeAtEnds world.now mv.now.steps result }
 {
     let step = mv.step(0);
     let first = cost_exchanged(world, mv, required, step.from, 1, 0);
@@ -84,14 +70,13 @@ fn cost_exchanged(
     comes: u32,
     goes: u32,
 ) -> u128
-    requires moves { IsMove world.now.inst.now.tables
-        world.now.kept.assignment.items mv.now.steps }
-    requires required { AreRequired world.now.inst.now.tables mv.now.steps
+    requires moves { IsMove (tables_of world.now) (here_of world.now) mv.now.steps }
+    requires required { AreRequired (tables_of world.now) mv.now.steps
         (length mv.now.steps) required.now }
-    requires machine { m.0 < machine_count world.now.inst.now.tables }
+    requires machine { m.0 < machine_count (tables_of world.now) }
     requires exchanged { IsExchangedAt mv.now.steps m.0 comes goes }
-    ensures value { result ≡ row_cost world.now.inst.now.tables
-        (applied world.now.kept.assignment.items mv.now.steps) m.0 }
+    ensures value { result ≡
+        row_cost (tables_of world.now) (applied (here_of world.now) mv.now.steps) m.0 }
     ensures few { result ≤ 2 ^ 106 }
 {
     let inst = world.instance();
@@ -109,15 +94,14 @@ fn cost_exchanged(
 #[inline(always)]
 #[tactic(auto, using(ra_base::proofs::Named::names, crate::proofs::MoveLemmas::end_known))]
 fn change_at(world: &World<'_>, mv: &Move, required: &[u32; 60], j: u32) -> Change
-    requires moves { IsMove world.now.inst.now.tables
-        world.now.kept.assignment.items mv.now.steps }
-    requires required { AreRequired world.now.inst.now.tables mv.now.steps
+    requires moves { IsMove (tables_of world.now) (here_of world.now) mv.now.steps }
+    requires required { AreRequired (tables_of world.now) mv.now.steps
         (length mv.now.steps) required.now }
     requires end { j < end_count mv.now.steps }
-    ensures added { result.added ≡ fresh (end_in mv.now.steps) (row_cost world.now.inst.now.tables
-        (applied world.now.kept.assignment.items mv.now.steps)) j }
-    ensures taken { result.taken ≡ fresh (end_in mv.now.steps) (row_cost world.now.inst.now.tables
-        world.now.kept.assignment.items) j }
+    ensures added { result.added ≡ fresh (end_in mv.now.steps)
+        (row_cost (tables_of world.now) (applied (here_of world.now) mv.now.steps)) j }
+    ensures taken { result.taken ≡
+        fresh (end_in mv.now.steps) (row_cost (tables_of world.now) (here_of world.now)) j }
     ensures added_few { result.added ≤ 2 ^ 106 }
     ensures taken_few { result.taken ≤ 2 ^ 106 }
 {
@@ -163,20 +147,18 @@ fn is_named_before(mv: &Move, j: u32, m: Machine) -> bool
 /// What a machine costs after the move.
 #[inline(always)]
 fn cost_after(world: &World<'_>, mv: &Move, required: &[u32; 60], m: Machine) -> u128
-    requires moves { IsMove world.now.inst.now.tables
-        world.now.kept.assignment.items mv.now.steps }
-    requires required { AreRequired world.now.inst.now.tables mv.now.steps
+    requires moves { IsMove (tables_of world.now) (here_of world.now) mv.now.steps }
+    requires required { AreRequired (tables_of world.now) mv.now.steps
         (length mv.now.steps) required.now }
-    requires machine { m.0 < machine_count world.now.inst.now.tables }
-    ensures value { result ≡ row_cost world.now.inst.now.tables
-        (applied world.now.kept.assignment.items mv.now.steps) m.0 }
+    requires machine { m.0 < machine_count (tables_of world.now) }
+    ensures value { result ≡
+        row_cost (tables_of world.now) (applied (here_of world.now) mv.now.steps) m.0 }
     ensures few { result ≤ 2 ^ 106 }
 {
     let inst = world.instance();
     let mut numbers = [0u64; 20];
     let row = &mut numbers[..inst.resources() as usize];
-    row.copy_from_slice(world.rows().usage_row(m));
-    follow_row(world, mv, required, m, row);
+    row_after(world, mv, required, m, row);
     cost_of_row(inst, m, row)
 }
 
@@ -195,9 +177,8 @@ fn cost_of_row(inst: &Instance, m: Machine, row: &[u64]) -> u128
 /// What a machine costs now.
 #[inline(always)]
 fn cost_now(world: &World<'_>, m: Machine) -> u128
-    requires machine { m.0 < machine_count world.now.inst.now.tables }
-    ensures value { result ≡ row_cost world.now.inst.now.tables
-        world.now.kept.assignment.items m.0 }
+    requires machine { m.0 < machine_count (tables_of world.now) }
+    ensures value { result ≡ row_cost (tables_of world.now) (here_of world.now) m.0 }
     ensures few { result ≤ 2 ^ 106 }
 {
     world.machine_load(m) + world.machine_balance(m)

@@ -1,10 +1,11 @@
 ghost use Rattle.std.specs.Prelude.{◌≡◌, ℕ, ◌+◌, ◌^◌, ◌<◌, ◌≤◌, length, slice_index};
 ghost use Rattle.ra_base.specs.Tables.{cell};
-ghost use Rattle.ra_model.specs.Numbers.{resource_count};
+ghost use Rattle.ra_model.specs.Numbers.{resource_count, machine_count};
 ghost use Rattle.ra_rows.specs.Rows.{IsUsageRow};
 ghost use Rattle.ra_moves.specs.Replacing.{applied};
 ghost use Rattle.ra_moves.specs.Moving.{IsMove};
 ghost use Rattle.ra_world.specs.Required.{AreRequired};
+ghost use Rattle.ra_world.specs.Worlds.{tables_of, here_of};
 ghost use Rattle.ra_weigh_changes.specs.RowChanges.{share_at, HasMore, HasMoreAt, HasFollowed, CanFollow};
 ghost use Rattle.ra_weigh_changes.specs.Exchanges.{HasExchanged};
 
@@ -12,25 +13,39 @@ use ra_base::Machine;
 use ra_moves::{Move, Step};
 use ra_world::World;
 
-/// Makes a machine's row of use that of the assignment after the move.
+/// Makes a row the use of a machine after the move.
 #[inline(always)]
-pub(crate) fn follow_row(
+pub(crate) fn row_after(
     world: &World<'_>,
     mv: &Move,
     required: &[u32; 60],
     m: Machine,
     row: &mut [u64],
 )
-    requires moves { IsMove world.now.inst.now.tables
-        world.now.kept.assignment.items mv.now.steps }
-    requires required { AreRequired world.now.inst.now.tables mv.now.steps
+    requires moves { IsMove (tables_of world.now) (here_of world.now) mv.now.steps }
+    requires required { AreRequired (tables_of world.now) mv.now.steps
         (length mv.now.steps) required.now }
-    requires width { length row.old ≡ resource_count world.now.inst.now.tables }
-    requires before { IsUsageRow world.now.inst.now.tables world.now.kept.assignment.items m.0
-        row.old }
-    ensures width { length row.new ≡ resource_count world.now.inst.now.tables }
-    ensures after { IsUsageRow world.now.inst.now.tables
-        (applied world.now.kept.assignment.items mv.now.steps) m.0 row.new }
+    requires machine { m.0 < machine_count (tables_of world.now) }
+    requires width { length row.old ≡ resource_count (tables_of world.now) }
+    ensures width { length row.new ≡ resource_count (tables_of world.now) }
+    ensures after { IsUsageRow (tables_of world.now)
+        (applied (here_of world.now) mv.now.steps) m.0 row.new }
+{
+    row.copy_from_slice(world.rows().usage_row(m));
+    follow_row(world, mv, required, m, row)
+}
+
+/// Brings a machine's row of use from before the move to after it.
+#[inline(always)]
+fn follow_row(world: &World<'_>, mv: &Move, required: &[u32; 60], m: Machine, row: &mut [u64])
+    requires moves { IsMove (tables_of world.now) (here_of world.now) mv.now.steps }
+    requires required { AreRequired (tables_of world.now) mv.now.steps
+        (length mv.now.steps) required.now }
+    requires width { length row.old ≡ resource_count (tables_of world.now) }
+    requires before { IsUsageRow (tables_of world.now) (here_of world.now) m.0 row.old }
+    ensures width { length row.new ≡ resource_count (tables_of world.now) }
+    ensures after { IsUsageRow (tables_of world.now)
+        (applied (here_of world.now) mv.now.steps) m.0 row.new }
 {
     let width = world.instance().resources();
     for j in 0..mv.steps() {
@@ -115,7 +130,7 @@ fn take_row(row: &mut [u64], amounts: &[u32])
     }
 }
 
-/// Makes a row that of use with what comes, and without what goes.
+/// Makes a row the use of a machine with what comes and without what goes.
 #[inline(always)]
 pub(crate) fn exchange_row(used: &[u64], come: &[u32], gone: &[u32], row: &mut [u64])
     requires width { length row.old ≡ length used.now }

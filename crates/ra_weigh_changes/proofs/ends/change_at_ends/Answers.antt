@@ -1,9 +1,9 @@
 -- One more end.
-use Rattle.std.proofs.Common.{sym, arith}
+use Rattle.std.proofs.Common.{◌≡◌, sym, arith}
 use Rattle.ra_base.specs.Sums.{fresh}
 use Rattle.ra_base.proofs.Sums.{total_none, total_more}
 use Rattle.ra_moves.specs.Replacing.{applied}
-use Rattle.ra_moves.specs.Values.{end_in}
+use Rattle.ra_moves.specs.Values.{end_count, end_in}
 use Rattle.ra_weigh_changes.specs.PlaceCosts.{row_cost}
 use Rattle.ra_weigh_changes.proofs.ends.change_at_ends.Goals as goal
 
@@ -35,4 +35,16 @@ loop-j-preserved c =
       );
       added_few = omega (arith, c.loop-j.invariant.added_few, c.change_at-here.ensures.added_few);
       taken_few = omega (arith, c.loop-j.invariant.taken_few, c.change_at-here.ensures.taken_few);
+    }
+
+pub returns : goal.returns
+unfolding end_count
+returns c =
+    let all : c.loop-j.j ≡ end_count c.args.mv.now.steps = omega arith in
+    let so_far = c.loop-j.invariant in
+    record {
+      added = rw all at so_far.added;
+      taken = rw all at so_far.taken;
+      added_few = omega (arith, so_far.added_few, all, c.requires.moves.few);
+      taken_few = omega (arith, so_far.taken_few, all, c.requires.moves.few);
     }

@@ -32,14 +32,16 @@ cost_now-requires-2 c = record {
   machine = to_known _ _ _ 0 _ c.requires.moves (omega (arith, c.requires.exchange.two)) c.step-step.ensures;
 }
 
-pub returns-clause-added : goal.returns-clause-added
-returns-clause-added c =
-    cost_exchanged c.args.mv.now.steps
-    (row_cost c.args.world.now.inst.now.tables (applied c.args.world.now.kept.assignment.items c.args.mv.now.steps))
-    c.step-step.result _ _ c.requires.exchange c.step-step.ensures c.cost_exchanged-first.ensures.value
-    c.cost_exchanged-second.ensures.value
-
-pub returns-clause-taken : goal.returns-clause-taken
-returns-clause-taken c =
-    cost_exchanged c.args.mv.now.steps (row_cost c.args.world.now.inst.now.tables c.args.world.now.kept.assignment.items)
-    c.step-step.result _ _ c.requires.exchange c.step-step.ensures c.cost_now.ensures.value c.cost_now-2.ensures.value
+pub returns : goal.returns
+returns c =
+    let i = c.args.world.now.inst.now.tables in
+    let a = c.args.world.now.kept.assignment.items in
+    let steps = c.args.mv.now.steps in
+    record {
+      added = cost_exchanged steps (row_cost i (applied a steps)) c.step-step.result _ _ c.requires.exchange
+          c.step-step.ensures c.cost_exchanged-first.ensures.value c.cost_exchanged-second.ensures.value;
+      taken = cost_exchanged steps (row_cost i a) c.step-step.result _ _ c.requires.exchange c.step-step.ensures
+          c.cost_now.ensures.value c.cost_now-2.ensures.value;
+      added_few = omega (arith, c.cost_exchanged-first.ensures.few, c.cost_exchanged-second.ensures.few);
+      taken_few = omega (arith, c.cost_now.ensures.few, c.cost_now-2.ensures.few);
+    }

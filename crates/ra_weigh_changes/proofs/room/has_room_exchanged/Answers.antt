@@ -1,7 +1,7 @@
 use Rattle.std.proofs.Common.{◌<◌, ◌∙◌, arith}
 use Rattle.ra_model.specs.Numbers.{resource_count}
 use Rattle.ra_weigh_changes.proofs.RoomLemmas.{told_true, told_false, within_none, within_more, not_within, within_all}
-use Rattle.ra_weigh_changes.proofs.MaskLemmas.{used_now}
+use Rattle.ra_weigh_changes.proofs.RoomLemmas.{used_now}
 use Rattle.ra_weigh_changes.proofs.ExchangeLaws.{exchanged_now}
 use Rattle.ra_weigh_changes.proofs.room.has_room_exchanged.Goals as goal
 

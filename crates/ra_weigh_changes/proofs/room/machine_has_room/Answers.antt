@@ -1,61 +1,7 @@
-use Rattle.std.proofs.Common.{◌<◌, ◌∙◌, get_or, arith}
-use Rattle.ra_model.specs.Numbers.{resource_count}
-use Rattle.ra_weigh_changes.proofs.RoomLemmas.{told_true, told_false, within_none, within_more, not_within, within_all}
-use Rattle.ra_weigh_changes.proofs.MaskLemmas.{used_now, used_then}
+use Rattle.ra_weigh_changes.proofs.RoomLemmas.{told_of_use}
 use Rattle.ra_weigh_changes.proofs.room.machine_has_room.Goals as goal
-
-pub loop-r-init : goal.loop-r-init
-loop-r-init c = within_none _ _ _
-
-pub overflow_sub-row : goal.overflow_sub-row
-overflow_sub-row c =
-    let i = c.args.world.now.inst.now in
-    let below : c.loop-r.r < resource_count i.tables =
-    omega (arith, c.loop-r-test.true, rw c.instance-inst.ensures at c.resources-r-end.ensures) in
-    let now = used_now i.tables _ _ _ c.loop-r.r _ c.rows.ensures.instance
-    (c.usage_row-row.ensures.values _ c.rows.ensures.stand) below in
-    let flow = used_then i.tables c.args.world.now.kept.assignment.items c.args.mv.now.steps c.args.m.0 c.loop-r.r
-    (get_or c.usage_row-row.result.now c.loop-r.r 0) c.amount_of-came.result c.amount_of-went.result
-    c.args.required.now c.masks_entering-entering.result c.masks_leaving-leaving.result i.small c.requires.moves below
-    c.requires.required c.masks_entering-entering.ensures c.masks_leaving-leaving.ensures
-    now c.amount_of-came.ensures.value c.amount_of-went.ensures.value in
-    omega (arith, flow)
-
-pub returns-then-most-row : goal.returns-then-most-row
-returns-then-most-row c =
-    let i = c.args.world.now.inst.now in
-    let below : c.loop-r.r < resource_count i.tables =
-    omega (arith, c.loop-r-test.true, rw c.instance-inst.ensures at c.resources-r-end.ensures) in
-    let now = used_now i.tables _ _ _ c.loop-r.r _ c.rows.ensures.instance
-    (c.usage_row-row.ensures.values _ c.rows.ensures.stand) below in
-    let flow = used_then i.tables c.args.world.now.kept.assignment.items c.args.mv.now.steps c.args.m.0 c.loop-r.r
-    (get_or c.usage_row-row.result.now c.loop-r.r 0) c.amount_of-came.result c.amount_of-went.result
-    c.args.required.now c.masks_entering-entering.result c.masks_leaving-leaving.result i.small c.requires.moves below
-    c.requires.required c.masks_entering-entering.ensures c.masks_leaving-leaving.ensures
-    now c.amount_of-came.ensures.value c.amount_of-went.ensures.value in
-    told_false (not_within i.tables c.args.m.0 (resource_count i.tables) c.loop-r.r c.from-most.result _ below
-    (c.from-most.ensures ∙ rw c.instance-inst.ensures at c.capacity.ensures)
-    (omega (arith, flow, c.if-most-row.true)))
-
-pub loop-r-preserved : goal.loop-r-preserved
-loop-r-preserved c =
-    let i = c.args.world.now.inst.now in
-    let below : c.loop-r.r < resource_count i.tables =
-    omega (arith, c.loop-r-test.true, rw c.instance-inst.ensures at c.resources-r-end.ensures) in
-    let now = used_now i.tables _ _ _ c.loop-r.r _ c.rows.ensures.instance
-    (c.usage_row-row.ensures.values _ c.rows.ensures.stand) below in
-    let flow = used_then i.tables c.args.world.now.kept.assignment.items c.args.mv.now.steps c.args.m.0 c.loop-r.r
-    (get_or c.usage_row-row.result.now c.loop-r.r 0) c.amount_of-came.result c.amount_of-went.result
-    c.args.required.now c.masks_entering-entering.result c.masks_leaving-leaving.result i.small c.requires.moves below
-    c.requires.required c.masks_entering-entering.ensures c.masks_leaving-leaving.ensures
-    now c.amount_of-came.ensures.value c.amount_of-went.ensures.value in
-    within_more i.tables c.args.m.0 c.loop-r.r c.from-most.result _ c.loop-r.invariant
-    (c.from-most.ensures ∙ rw c.instance-inst.ensures at c.capacity.ensures)
-    (omega (arith, flow, c.if-most-row.false))
 
 pub returns : goal.returns
 returns c =
-    let tables = c.args.world.now.inst.now.tables in
-    told_true (within_all tables c.args.m.0 (resource_count tables) c.loop-r.r _
-    (omega (arith, c.loop-r-test.false, c.loop-r.auto.r-end, rw c.instance-inst.ensures at c.resources-r-end.ensures))
-    c.loop-r.invariant)
+    told_of_use c.args.world.now.inst.now.tables _ c.args.m.0 _ c.is_within.result c.row_after.ensures.after
+    (rw c.instance-inst.ensures at c.is_within.ensures)

@@ -1,9 +1,0 @@
--- The resources so far have room.
-use Rattle.ra_model.specs.Usage.{use_of}
-use Rattle.ra_moves.specs.Replacing.{applied}
-use Rattle.ra_weigh_changes.specs.Room.{AreWithin}
-use Rattle.ra_weigh_changes.proofs.room.machine_has_room.Given as goal
-
-abbrev pub invariant-loop-r : goal.invariant-loop-r
-invariant-loop-r l = AreWithin l.world.inst.now.tables l.m.0
-    (use_of l.world.inst.now.tables (applied l.world.kept.assignment.items l.mv.steps) l.m.0) l.r
