@@ -7,18 +7,18 @@ use Rattle.ra_model.specs.Numbers.{machine_count}
 use Rattle.ra_moves.specs.Options.{leaving, option_at, option_cost}
 use Rattle.ra_moves.specs.declared.steps.Step.{Step}
 use Rattle.ra_weigh_shift.specs.Lanes.{machine_in}
-use Rattle.ra_world.specs.Worlds.{here_of}
+use Rattle.ra_world.specs.Worlds.{tables_of, start_of, here_of}
 use Rattle.ra_world.specs.declared.world.World.{World}
 use Rattle.ra_plan.specs.declared.best.Best.{Best}
 
 -- the cost of option k, if it is judged Done on the assignment of a world
 unfoldable pub cost_in : World → List ℕ → Drawing → ℕ → ℕ → Option ℕ
 cost_in w x d allowed k =
-    option_cost w.inst.now.tables w.start.now.items w.kept.assignment.items x d allowed k
+    option_cost (tables_of w) (start_of w) (here_of w) x d allowed k
 
 -- its steps
 unfoldable pub steps_in : World → List ℕ → Drawing → ℕ → List Step
-steps_in w x d k = (option_at w.kept.assignment.items x (machine_count w.inst.now.tables) d k).steps
+steps_in w x d k = (option_at (here_of w) x (machine_count (tables_of w)) d k).steps
 
 -- what a cost has to be below: that of the best so far, or else the first that is too high
 unfoldable pub bound_of : Option ℕ → ℕ → ℕ

@@ -5,6 +5,7 @@ ghost use Rattle.ra_moves.specs.Judging.{judge};
 ghost use Rattle.ra_moves.specs.Options.{leaving};
 ghost use Rattle.ra_weigh_shift.specs.Arriving.{cost_now, IsCostBelow};
 ghost use Rattle.ra_world.specs.declared.world.World.{World};
+ghost use Rattle.ra_world.specs.Worlds.{tables_of, start_of, here_of};
 ghost use Rattle.ra_plan.specs.Choosing.{IsBest, steps_in, bound_of};
 
 use ra_moves::Verdict;
@@ -48,7 +49,7 @@ impl Best {
     pub(crate) fn or_found(self, option: u32, found: Option<u128>) -> Best
         ensures best { (w : World) (x : List ℕ) (d : Drawing) (allowed p to : ℕ)
             → IsBest w x d allowed option self
-            → steps_in w x d option ≡ leaving w.kept.assignment.items p to ∷ []
+            → steps_in w x d option ≡ leaving (here_of w) p to ∷ []
             → IsCostBelow w p to (bound_of self.cost (cost_now w + allowed + 1)) found
             → IsBest w x d allowed (option + 1) result }
         ensures bound { (w : World) (p to most : ℕ)
@@ -69,8 +70,8 @@ impl Best {
     pub(crate) fn consider(self, option: u32, verdict: &Verdict) -> Best
         ensures { (w : World) (x : List ℕ) (d : Drawing) (allowed : ℕ)
             → IsBest w x d allowed option self
-            → verdict.now ≡ judge w.inst.now.tables w.start.now.items w.kept.assignment.items
-            (steps_in w x d option) allowed
+            → verdict.now ≡ judge (tables_of w) (start_of w) (here_of w) (steps_in w x d option)
+            allowed
             → IsBest w x d allowed (option + 1) result }
     {
         match *verdict {

@@ -5,7 +5,7 @@ ghost use Rattle.ra_moves.specs.declared.steps.MoveKind.TheVariants as kind;
 ghost use Rattle.ra_moves.specs.Options.{kind_of, plan_of, option_at, option_count};
 ghost use Rattle.ra_moves.specs.Moving.{IsOffered};
 ghost use Rattle.ra_moves.specs.Weighing.{weighed_of};
-ghost use Rattle.ra_world.specs.Worlds.{tables_of, here_of};
+ghost use Rattle.ra_world.specs.Worlds.{tables_of, start_of, here_of};
 ghost use Rattle.ra_plan.specs.Deciding.{cause_at, weighed_at, IsPlanned, IsShiftOf};
 
 use crate::best::Best;
@@ -35,16 +35,15 @@ pub fn plan<L: Ledger>(
 ) -> Plan
     ensures numbers_q { result.q ≡ q }
     ensures numbers_k { result.k ≡ k }
-    ensures planned { result.mv ≡ plan_of world.now.inst.now.tables world.now.start.now.items
-        world.now.kept.assignment.items words.now drawing allowed }
-    ensures weighed { result.weighed ≡ weighed_of world.now.inst.now.tables
-        world.now.start.now.items world.now.kept.assignment.items result.mv.steps }
-    ensures offered { IsOffered world.now.inst.now.tables world.now.kept.assignment.items
-        result.mv.steps }
-    ensures counted_one { drawing ≡ One → steps.new ≤ steps.old + 24 * resource_count
-        world.now.inst.now.tables }
-    ensures counted_two { drawing ≡ Two → steps.new ≤ steps.old + 384 * resource_count
-        world.now.inst.now.tables }
+    ensures planned { result.mv ≡ plan_of
+        (tables_of world.now) (start_of world.now) (here_of world.now) words.now drawing allowed }
+    ensures weighed { result.weighed ≡
+        weighed_of (tables_of world.now) (start_of world.now) (here_of world.now) result.mv.steps }
+    ensures offered { IsOffered (tables_of world.now) (here_of world.now) result.mv.steps }
+    ensures counted_one { drawing ≡ One →
+        steps.new ≤ steps.old + 24 * resource_count (tables_of world.now) }
+    ensures counted_two { drawing ≡ Two →
+        steps.new ≤ steps.old + 384 * resource_count (tables_of world.now) }
 {
     let machines = world.instance().machines();
     let first = resolve(world.assignment(), words, machines, drawing, 0);
@@ -171,7 +170,8 @@ fn shift_weighing<L: Ledger>(
     requires world { shift.now.world.now ≡ world.now }
     requires offered { IsOffered (tables_of world.now) (here_of world.now) mv.now.steps }
     requires alone { IsShiftOf world.now shift.now.process.0 mv.now.steps }
-    requires best { (cost : ℕ) → best.now.cost ≡ Some cost → cause_at world.now mv.now.steps ≡ None }
+    requires best { (cost : ℕ) → best.now.cost ≡ Some cost →
+        cause_at world.now mv.now.steps ≡ None }
     ensures value { result ≡ weighed_at world.now mv.now.steps }
     ensures counted { steps.new ≤ steps.old + 6 * resource_count (tables_of world.now) }
 {

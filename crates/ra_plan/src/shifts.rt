@@ -151,13 +151,12 @@ fn with_shift(
     most: u128,
 ) -> Best
     requires world { shift.now.world.now ≡ world.now }
-    requires machine { to.0 < machine_count world.now.inst.now.tables }
+    requires machine { to.0 < machine_count (tables_of world.now) }
     requires bound { bound_of best.cost most ≤ 2 ^ 120 }
-    ensures { (x : List ℕ) (d : Drawing) (allowed : ℕ) → most ≡ cost_now world.now + allowed + 1
-        → IsBest world.now x d allowed option best
-        → steps_in world.now x d option
-        ≡ leaving world.now.kept.assignment.items shift.now.process.0 to.0 ∷ []
-        → IsBest world.now x d allowed (option + 1) result }
+    ensures { (x : List ℕ) (d : Drawing) (allowed : ℕ) →
+        most ≡ cost_now world.now + allowed + 1 → IsBest world.now x d allowed option best →
+        steps_in world.now x d option ≡ leaving (here_of world.now) shift.now.process.0 to.0 ∷ [] →
+        IsBest world.now x d allowed (option + 1) result }
 {
     best.or_found(option, shift.cost_below(to, best.bound(most)))
 }

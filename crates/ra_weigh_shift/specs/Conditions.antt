@@ -37,20 +37,33 @@ pub record MayLeave (i : Tables) (a : List Machine) (p : ℕ) : Type 0 where
       → in_neighbourhood i a (service_of i p) (neighbourhood_of i (machine_at a p)) ≤ 1
       → in_neighbourhood i a d (neighbourhood_of i (machine_at a p)) ≡ 0
 
--- p may go to machine `to`
+-- no process of p's service is on machine `to`
+abbrev pub IsAlone : Tables → List Machine → ℕ → ℕ → Type 0
+IsAlone i a p to = on_machine i a (service_of i p) to ≡ 0
+
+-- in how many locations p's service is then, and whether these are enough
+abbrev pub locations_after : Tables → List Machine → ℕ → ℕ → ℕ
+locations_after i a p to = locations_of i (shifted a p to) (service_of i p)
+
+abbrev pub KeepsSpread : Tables → List Machine → ℕ → ℕ → Type 0
+KeepsSpread i a p to = spread_of i (service_of i p) ≤ locations_after i a p to
+
+-- no service stays behind without p's
+abbrev pub KeepsDependants : Tables → List Machine → ℕ → ℕ → Type 0
+KeepsDependants i a p to =
+    neighbourhood_of i (machine_at a p) ≢ neighbourhood_of i to → MayLeave i a p
+
+-- machine `to` is open, or p comes home
+abbrev pub IsAdmitted : Tables → List Machine → ℕ → ℕ → Type 0
+IsAdmitted i a0 p to = closed_at i to ≡ true → machine_at a0 p ≡ to
+
+-- p may go to machine `to`, which is another than its own
 pub record Allows (i : Tables) (a0 a : List Machine) (p to : ℕ) : Type 0 where
-  -- it is another machine
   pub apart : machine_at a p ≢ to
-  -- with room
   pub room : HasRoom i a p to
   pub between : HasRoomBetween i a0 a p to
-  -- no process of its service is there
-  pub alone : on_machine i a (service_of i p) to ≡ 0
-  -- its service is still in enough locations
-  pub spread : spread_of i (service_of i p) ≤ locations_of i (shifted a p to) (service_of i p)
-  -- its service has what it needs there
+  pub alone : IsAlone i a p to
+  pub spread : KeepsSpread i a p to
   pub needs : FindsNeeds i a p to
-  -- and no service stays behind without it
-  pub leaves : neighbourhood_of i (machine_at a p) ≢ neighbourhood_of i to → MayLeave i a p
-  -- the machine is open, or p comes home
-  pub admitted : closed_at i to ≡ true → machine_at a0 p ≡ to
+  pub leaves : KeepsDependants i a p to
+  pub admitted : IsAdmitted i a0 p to

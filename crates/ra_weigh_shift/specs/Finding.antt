@@ -1,33 +1,29 @@
 -- What is found of the shift of process p of a world to machine `to` (this project's).
-use Rattle.std.specs.Prelude.{◌≡◌, ◌≢◌, ℕ, ◌+◌, ◌<◌, ◌≤◌, true, [], ◌∷◌, Option, Some}
+use Rattle.std.specs.Prelude.{◌≡◌, ◌≢◌, ℕ, ◌+◌, ◌<◌, ◌≤◌, true, Option, Some}
 use Rattle.ra_base.specs.declared.causes.Cause.{Cause}
 use Rattle.ra_base.specs.declared.causes.Cause.TheVariants.{Capacity, Transient}
-use Rattle.ra_model.specs.Numbers.{resource_count, requirement_of, capacity_of, transient_at, service_of, spread_of}
+use Rattle.ra_model.specs.Numbers.{resource_count, requirement_of, capacity_of, transient_at}
 use Rattle.ra_model.specs.Assignments.{machine_at}
 use Rattle.ra_model.specs.Usage.{use_of, transient_of}
-use Rattle.ra_model.specs.Services.{on_machine, locations_of}
 use Rattle.ra_moves.specs.Judging.{broken_by}
-use Rattle.ra_moves.specs.Options.{leaving}
 use Rattle.ra_world.specs.Worlds.{tables_of, start_of, here_of}
 use Rattle.ra_world.specs.declared.world.World.{World}
-use Rattle.ra_weigh_shift.specs.Arriving.{BreaksNothing}
-use Rattle.ra_weigh_shift.specs.Conditions.{shifted, HasRoom, HasRoomBetween}
+use Rattle.ra_weigh_shift.specs.Arriving.{steps_to, BreaksNothing}
+use Rattle.ra_weigh_shift.specs.Conditions.{HasRoom, HasRoomBetween, IsAlone, KeepsSpread}
 use Rattle.ra_weigh_shift.specs.declared.finding.Finding.{Finding}
 use Rattle.ra_weigh_shift.specs.declared.finding.Finding.TheVariants.{Broken, Unbroken, BrokenElsewhere}
 
 -- the cause for which the shift is refused, if there is one
 abbrev pub cause_of : World → ℕ → ℕ → Option Cause
-cause_of w p to =
-    broken_by (tables_of w) (start_of w) (here_of w) (leaving (here_of w) p to ∷ [])
+cause_of w p to = broken_by (tables_of w) (start_of w) (here_of w) (steps_to w p to)
 
 -- it breaks something, and no constraint before the dependencies: a dependency, or it enters a closed machine
 pub record IsBrokenElsewhere (w : World) (p to : ℕ) : Type 0 where
   pub apart : machine_at (here_of w) p ≢ to
   pub room : HasRoom (tables_of w) (here_of w) p to
   pub between : HasRoomBetween (tables_of w) (start_of w) (here_of w) p to
-  pub alone : on_machine (tables_of w) (here_of w) (service_of (tables_of w) p) to ≡ 0
-  pub spread : spread_of (tables_of w) (service_of (tables_of w) p)
-      ≤ locations_of (tables_of w) (shifted (here_of w) p to) (service_of (tables_of w) p)
+  pub alone : IsAlone (tables_of w) (here_of w) p to
+  pub spread : KeepsSpread (tables_of w) (here_of w) p to
   pub broken : BreaksNothing w p to → ⊥
 
 -- it is refused for the cause that is told, or breaks nothing, or breaks something that comes late

@@ -1,9 +1,8 @@
-ghost use Rattle.std.specs.Prelude.{◌≡◌, ◌≢◌, ◌<◌, [], ◌∷◌};
+ghost use Rattle.std.specs.Prelude.{◌≡◌, ◌≢◌, ◌<◌};
 ghost use Rattle.ra_model.specs.Numbers.{machine_count, service_of};
 ghost use Rattle.ra_model.specs.Assignments.{machine_at};
-ghost use Rattle.ra_moves.specs.Options.{leaving};
 ghost use Rattle.ra_moves.specs.Weighing.{local_change, moved_count, weighed_of};
-ghost use Rattle.ra_weigh_shift.specs.Arriving.{BreaksNothing};
+ghost use Rattle.ra_weigh_shift.specs.Arriving.{steps_to, BreaksNothing};
 ghost use Rattle.ra_world.specs.Worlds.{tables_of, start_of, here_of};
 
 use crate::costs::{cost_with, way_cost};
@@ -17,8 +16,7 @@ impl<'w, 'a> Shift<'w, 'a> {
         requires machine { to.0 < machine_count (tables_of self.now.world.now) }
         requires unbroken { BreaksNothing self.now.world.now self.now.process.0 to.0 }
         ensures { result ≡ weighed_of (tables_of self.now.world.now) (start_of self.now.world.now)
-            (here_of self.now.world.now)
-            (leaving (here_of self.now.world.now) self.now.process.0 to.0 ∷ []) }
+            (here_of self.now.world.now) (steps_to self.now.world.now self.now.process.0 to.0) }
     {
         Weighed {
             broken: None,
@@ -33,9 +31,8 @@ impl<'w, 'a> Shift<'w, 'a> {
     fn change(&self, to: Machine) -> i128
         requires machine { to.0 < machine_count (tables_of self.now.world.now) }
         requires apart { machine_at (here_of self.now.world.now) self.now.process.0 ≢ to.0 }
-        ensures { result ≡ local_change (tables_of self.now.world.now)
-            (start_of self.now.world.now) (here_of self.now.world.now)
-            (leaving (here_of self.now.world.now) self.now.process.0 to.0 ∷ []) }
+        ensures { result ≡ local_change (tables_of self.now.world.now) (start_of self.now.world.now)
+            (here_of self.now.world.now) (steps_to self.now.world.now self.now.process.0 to.0) }
     {
         let world = self.world;
         let here = world.machine_load(to) + world.machine_balance(to);
@@ -46,9 +43,8 @@ impl<'w, 'a> Shift<'w, 'a> {
 
     /// The service with its moved counts before and after the shift.
     fn moved_count(&self, to: Machine) -> MovedCount
-        ensures { result ≡ moved_count (tables_of self.now.world.now)
-            (start_of self.now.world.now) (here_of self.now.world.now)
-            (leaving (here_of self.now.world.now) self.now.process.0 to.0 ∷ [])
+        ensures { result ≡ moved_count (tables_of self.now.world.now) (start_of self.now.world.now)
+            (here_of self.now.world.now) (steps_to self.now.world.now self.now.process.0 to.0)
             (service_of (tables_of self.now.world.now) self.now.process.0) }
     {
         MovedCount {
