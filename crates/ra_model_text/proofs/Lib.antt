@@ -5,3 +5,4 @@ pub mod SmallNumbers
 pub mod Counts
 pub mod Meaning
 pub mod ModelLines
+pub mod Chunks

@@ -1,17 +1,20 @@
-ghost use Rattle.std.specs.Prelude.{◌≡◌, ◌<◌, [], ◌∷◌, decimal};
+ghost use Rattle.std.specs.Prelude.{◌≡◌, ◌<◌, ◌≤◌, [], ◌∷◌, decimal, length};
 ghost use Rattle.ra_base.specs.Sums.{one_if};
 ghost use Rattle.ra_model.specs.Numbers.{resource_count, machine_count, service_count, process_count, balance_count, transient_at, capacity_of, safety_of, way_cost_of, dependency_count, need_of, requirement_of};
 ghost use Rattle.ra_model_text.specs.Lines.{line_text};
 ghost use Rattle.ra_model_text.specs.ModelTexts.{resource_text, machine_text, service_text, process_text, balance_text};
 ghost use Rattle.ra_report_text.specs.Gathering.{Adds};
-ghost use Rattle.ra_model_text.specs.ModelLines.{spaced};
+ghost use Rattle.ra_model_text.specs.ModelLines.{spaced, numbers_text};
 
 use itoa::Buffer;
 use ra_base::{Machine, Process, Resource, Service, Steps};
 use ra_io::Sink;
 use ra_model::Instance;
-use ra_report_text::Gathered;
+use ra_report_text::{Gathered, Line};
 use std::sync::ledger::Ledger;
+
+/// How many numbers are written into a line at a time: with a space and up to twenty digits each, so many fit.
+const NUMBERS_AT_ONCE: usize = 19;
 
 /// Adds the digits of the first number of a line.
 #[inline(always)]
@@ -114,8 +117,29 @@ fn add_way_costs<O: Sink>(text: &mut Gathered<'_, O>, inst: &Instance, m: Machin
     ensures { Adds O.taken O.faults text.old text.new
         (spaced (machine_count inst.now.tables) (way_cost_of inst.now.tables m.0)) }
 {
-    for b in 0..inst.machines() {
-        add_more(text, inst.move_cost(m, Machine(b)) as u64);
+    add_numbers(text, inst.ways_from(m))
+}
+
+/// Adds numbers, with a space before each.
+fn add_numbers<O: Sink>(text: &mut Gathered<'_, O>, numbers: &[u32])
+    ensures { Adds O.taken O.faults text.old text.new (numbers_text numbers.now) }
+{
+    let mut line = Line::new();
+    for chunk in numbers.chunks(NUMBERS_AT_ONCE) {
+        write_numbers(&mut line, chunk);
+        text.add(line.as_slice());
+    }
+}
+
+/// Writes a line anew: numbers, with a space before each.
+#[inline(always)]
+fn write_numbers(line: &mut Line, numbers: &[u32])
+    requires { length numbers.now ≤ NUMBERS_AT_ONCE }
+    ensures { line.new ≡ numbers_text numbers.now }
+{
+    line.clear();
+    for i in (0..numbers.len()).rev() {
+        line.prepend_marked(b' ', numbers[i] as u64);
     }
 }
 
