@@ -1,0 +1,104 @@
+"""Files: whole ones to write, lists of numbers to read, a folder for a while."""
+import os
+import shutil
+import tempfile
+
+from .problems import Problem
+
+PIECE = 1 << 20
+
+
+def target(name):
+    """The file that a tool will write, checked before the work begins: a plain file, or none yet, in a folder that takes it."""
+    name = os.path.realpath(name)
+    if os.path.exists(name) and not os.path.isfile(name):
+        raise Problem(f"{name} is no plain file, so nothing is written there", 2)
+    folder = os.path.dirname(name)
+    if not os.path.isdir(folder) or not os.access(folder, os.W_OK):
+        raise Problem(f"{folder} is no folder that can be written to", 7)
+    return name
+
+
+def write_whole(name, pieces):
+    """Writes a file beside its place and then renames it, so that only a whole one is ever there."""
+    name = os.path.realpath(name)
+    beside = os.path.join(os.path.dirname(name), f".{os.path.basename(name)}.{os.getpid()}")
+    try:
+        with open(beside, "wb") as file:
+            for piece in pieces:
+                file.write(piece)
+            file.flush()
+            os.fsync(file.fileno())
+        os.replace(beside, name)
+    except OSError as fault:
+        raise Problem(f"write fault: {name}: {fault.strerror}", 7) from None
+    finally:
+        if os.path.exists(beside):
+            os.unlink(beside)
+
+
+class Room:
+    """A folder for what a tool needs for a while."""
+
+    def __enter__(self):
+        try:
+            self.folder = tempfile.mkdtemp(prefix="reassign-")
+        except OSError as fault:
+            raise Problem(f"write fault: {fault.strerror}", 7) from None
+        return lambda name: os.path.join(self.folder, name)
+
+    def __exit__(self, *_):
+        shutil.rmtree(self.folder, ignore_errors=True)
+
+
+class Numbers:
+    """The numbers of a file, one after another, in pieces. What isn't one ends the tool with this status."""
+
+    def __init__(self, name, status):
+        self.name, self.status, self.words, self.at, self.cut = name, status, [], 0, b""
+        try:
+            self.file = open(name, "rb")
+        except OSError as fault:
+            raise Problem(f"{name}: {fault.strerror}") from None
+
+    def wrong(self, why):
+        return Problem(f"{self.name} {why}", self.status)
+
+    def fill(self):
+        """Takes in one more piece. Answers whether there was one."""
+        try:
+            piece = self.file.read(PIECE)
+        except OSError as fault:
+            raise Problem(f"{self.name}: {fault.strerror}") from None
+        if piece.translate(None, b"0123456789 \t\r\n"):
+            raise self.wrong("has something that is no number")
+        more = (self.cut + piece).split()
+        self.cut = more.pop() if more and piece and piece[-1:] not in b" \t\r\n" else b""
+        self.words, self.at = self.words[self.at:] + more, 0
+        return bool(piece)
+
+    def next_words(self, count):
+        """The next words, as they stand."""
+        while len(self.words) - self.at < count:
+            if not self.fill() and len(self.words) < count:
+                raise self.wrong("ends too early")
+        self.at += count
+        return self.words[self.at - count:self.at]
+
+    def take(self, count):
+        return list(map(int, self.next_words(count)))
+
+    def one(self):
+        return self.take(1)[0]
+
+
+def read_list(name, status=5):
+    """The numbers of an assignment or, if the status is 10, of a closed list."""
+    numbers = Numbers(name, status)
+    while numbers.fill():
+        pass
+    return numbers.take(len(numbers.words))
+
+
+def list_text(numbers):
+    return (" ".join(map(str, numbers)) + "\n").encode()

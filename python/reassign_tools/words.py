@@ -1,0 +1,49 @@
+"""The words with which a tool is called."""
+import argparse
+import os
+import re
+
+from . import __version__
+from .problems import Problem
+
+MOST_PROPOSALS = 1_000_000  # of a run
+MOST_LOTS = 16
+LARGEST_SEED = 2**64 - 1
+
+
+class Words(argparse.ArgumentParser):
+    """The words of a call, which are refused in one line. The description is the tool's own text, as it stands."""
+
+    def __init__(self, tool, text):
+        super().__init__(prog=tool, description=text, formatter_class=argparse.RawDescriptionHelpFormatter, allow_abbrev=False)
+        self.add_argument("--version", action="version", version=f"reassign-{tool} {__version__}")
+
+    def error(self, message):
+        raise Problem(f"{message}; {self.prog} --help shows how to call it", 2)
+
+    def add_program(self):
+        """The option that names the program."""
+        self.add_argument("--program", metavar="FILE",
+                          help="the program to call (else the environment's REASSIGN, else ./reassign of the repository, else "
+                          "`reassign` beside the tool, or where commands are looked for)")
+
+
+def number(least, most):
+    """Reads a word that has to be a number from least to most."""
+    def read(word):
+        if not re.fullmatch("[0-9]{1,20}", word) or not least <= int(word) <= most:
+            raise argparse.ArgumentTypeError(f"{word!r} is not a number from {least} to {most}")
+        return int(word)
+    return read
+
+
+def file_name(word):
+    """A name that the program takes too."""
+    if not word or word.startswith("-"):
+        raise argparse.ArgumentTypeError(f"{word!r} is no name of a file")
+    return word
+
+
+def processors():
+    """How many workers a run has if nobody says."""
+    return max(1, min(MOST_LOTS, len(os.sched_getaffinity(0))))
