@@ -1,4 +1,5 @@
 """Files: whole ones to write, lists of numbers to read, a folder for a while."""
+import fcntl
 import os
 import shutil
 import tempfile
@@ -35,6 +36,27 @@ def write_whole(name, pieces):
     finally:
         if os.path.exists(beside):
             os.unlink(beside)
+
+
+def lock(name, what):
+    """Locks a file, which is made if it isn't there, until this process ends. Raises Problem with status 7 if another one has
+    locked it, since both would write what it stands for."""
+    try:
+        file = open(name, "a+", encoding="utf-8")
+    except OSError as fault:
+        raise Problem(f"write fault: {name}: {fault.strerror}", 7) from None
+    try:
+        fcntl.flock(file, fcntl.LOCK_EX | fcntl.LOCK_NB)
+    except OSError:
+        file.seek(0)
+        raise Problem(f"{what} is being written by another call, which is process {file.read(20).strip() or 'unknown'}", 7) from None
+    file.truncate(0)
+    file.write(f"{os.getpid()}\n")
+    file.flush()
+    _locks.append(file)
+
+
+_locks = []  # the files that are locked stay open as long as the process runs
 
 
 class Room:

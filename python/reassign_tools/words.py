@@ -11,12 +11,24 @@ MOST_LOTS = 16
 LARGEST_SEED = 2**64 - 1
 
 
+class ShowVersion(argparse.Action):
+    """Unlike argparse's own it fails if the version can't be written."""
+
+    def __call__(self, parser, *_):
+        print(f"reassign-{parser.prog} {__version__}")
+        parser.exit()
+
+
 class Words(argparse.ArgumentParser):
     """The words of a call, which are refused in one line. The description is the tool's own text, as it stands."""
 
     def __init__(self, tool, text):
         super().__init__(prog=tool, description=text, formatter_class=argparse.RawDescriptionHelpFormatter, allow_abbrev=False)
-        self.add_argument("--version", action="version", version=f"reassign-{tool} {__version__}")
+        self.add_argument("--version", action=ShowVersion, nargs=0, help="show the version and end")
+
+    def print_help(self, file=None):
+        """Unlike argparse's own it fails if the text can't be written."""
+        print(self.format_help(), end="", file=file)
 
     def error(self, message):
         raise Problem(f"{message}; {self.prog} --help shows how to call it", 2)
