@@ -23,7 +23,7 @@ import re
 import shlex
 import time
 
-from .files import Room, list_text, lock, read_list, target, write_whole
+from .files import Room, is_same, list_text, lock, read_list, target, write_whole
 from .going_on import going_on
 from .models import Model, same_sizes
 from .problems import Problem, Stopped
@@ -64,7 +64,11 @@ def percent(part, whole):
 class Rounds:
     def __init__(self, words):
         self.words, self.program = words, Program(words.program)
-        self.best, self.folder = target(words.out), os.path.realpath(words.out) + ".rounds"
+        inputs = words.model, words.initial, words.closed, words.model_from
+        self.best, self.folder = target(words.out, self.program.name, *inputs), os.path.realpath(words.out) + ".rounds"
+        for name in filter(None, inputs[:3]):
+            if is_same(os.path.dirname(os.path.realpath(name)), self.folder):
+                raise Problem(f"{name} is in {words.out}.rounds, whose files would be lost", 2)
         self.closing = closed_words(words.closed)
         start = self.program.numbers("check", words.model, words.initial, words.initial, *self.closing)
         self.start_cost = self.cost = start["cost"]

@@ -51,9 +51,30 @@ def number(least, most):
 
 def file_name(word):
     """A name that the program takes too."""
+    if not is_text(word):
+        raise argparse.ArgumentTypeError(f"{word!r} isn't UTF-8, and the program takes no such name")
+    return any_file_name(word)
+
+
+def any_file_name(word):
+    """A name of a file of which the program isn't told."""
     if not word or word.startswith("-"):
         raise argparse.ArgumentTypeError(f"{word!r} is no name of a file")
     return word
+
+
+def is_text(word):
+    """Whether a word of the command line is UTF-8."""
+    try:
+        word.encode()
+    except UnicodeEncodeError:
+        return False
+    return True
+
+
+def shown(word):
+    """A word of the command line as a text that can be printed, whatever its bytes are."""
+    return os.fsencode(word).decode(errors="replace")
 
 
 def processors():
