@@ -1,0 +1,62 @@
+"""The models of rounds on tiny instances, against the second implementation of the rules in bench/compare.py."""
+import itertools
+import os
+import random
+import sys
+
+from common import ROOT, ToolCase, put
+
+sys.path.append(os.path.join(ROOT, "bench"))
+from compare import Instance, random_instance
+
+from reassign_tools.going_on import going_on
+from reassign_tools.models import Model
+
+
+def instance_of(model, closed):
+    ways = [list(map(int, row.split())) for row in model.ways]
+    return Instance(model.transient, model.load_weights, model.hoods, model.locations, model.capacity, model.safety, ways,
+                    model.spreads, model.needs, model.service, model.required, model.move_cost, model.balances, model.weights,
+                    closed)
+
+
+class RoundModels(ToolCase):
+    def test_every_list(self):
+        """Each list that is feasible in a round is feasible from the true start; and with raised ways it is there as much
+        cheaper as the round says."""
+        chance, seen = random.Random(9), 0
+        for _ in range(2000):
+            made = random_instance(chance)
+            if len(made.locations) > 4 or len(made.services) > 5:
+                continue
+            put("tiny", made.text() + "\n")
+            model = Model.read("tiny")
+            closed = [chance.random() < 0.2 for _ in made.locations]
+            true = instance_of(model, closed)
+            lists = list(itertools.product(range(model.machines), repeat=model.processes))
+            starts = [a for a in lists if true.broken(a, a) is None]
+            if not starts:
+                continue
+            start = chance.choice(starts)
+            last = chance.choice([a for a in lists if true.broken(start, a) is None])
+            for raised in (False, True):
+                seen += self.follow(model, true, closed, lists, start, last, raised)
+        self.assertGreater(seen, 1000)
+
+    def follow(self, model, true, closed, lists, start, last, raised):
+        """One round's model, from one list. Answers how many lists were judged."""
+        new, _ = going_on(model, start, last, raised)
+        put("tiny_round", b"".join(new.pieces()).decode())
+        in_round = instance_of(Model.read("tiny_round"), closed)
+        told = f"{true.text()}\n{start}\n{last}"
+        self.assertIsNone(in_round.broken(last, last), told)
+        count = 0
+        for a in lists:
+            if in_round.broken(last, a) is None:
+                count += 1
+                self.assertIsNone(true.broken(start, a), f"{told}\n{a}")
+                self.assertEqual(model.cost(start, a), true.parts(start, a)[0])
+                rise = true.parts(start, a)[0] - true.parts(start, last)[0]
+                if raised:
+                    self.assertLessEqual(rise, in_round.parts(last, a)[0] - in_round.parts(last, last)[0], f"{told}\n{a}")
+        return count

@@ -1,0 +1,3 @@
+"""Tools beside the program `reassign`, and calls for notebooks."""
+
+__version__ = "1.0.0"

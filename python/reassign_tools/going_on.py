@@ -1,0 +1,110 @@
+"""The model of a run that goes on from a list, so that whatever it makes is feasible from the true start (docs/ROUNDS.md)."""
+import copy
+import os
+import signal
+
+from .children import end_with
+from .files import Room
+from .models import LARGEST, MOST_RESOURCES
+from .problems import Problem
+from .words import processors
+
+
+def going_on(model, start, last, raised=False):
+    """The model of a run that begins at the list `last` and makes only lists that are feasible from `start`. With the ways
+    raised none of them costs more from there than the run says; with the ways as written none does if a detour is never
+    cheaper than the way. Answers it, and how many resources should have a twin and have none."""
+    held = model.left_behind(start, last)
+    is_held = [any(row[r] for row in held) for r in range(model.resources)]
+    weighed = {r for first, second, _, weight in model.balances if weight for r in (first, second)}
+    less, twins, left_out = [], [], 0
+    for r in range(model.resources):
+        if model.transient[r] and is_held[r]:
+            if r in weighed and model.resources + len(twins) < MOST_RESOURCES:
+                twins.append(r)
+            else:
+                less.append(r)
+                left_out += r in weighed
+    new = copy.copy(model)
+    new.transient = [0 if r in twins else flag for r, flag in enumerate(model.transient)] + [1] * len(twins)
+    new.load_weights = model.load_weights + [0] * len(twins)
+    new.capacity, new.safety = [], []
+    for capacity, safety, gone in zip(model.capacity, model.safety, held):
+        left = [room - out for room, out in zip(capacity, gone)]
+        new.capacity.append([left[r] if r in less else room for r, room in enumerate(capacity)] + [left[r] for r in twins])
+        new.safety.append(safety + [left[r] for r in twins])
+    if twins:
+        new.required = [required + [required[r] for r in twins] for required in model.required]
+    new.move_cost = [cost if home == machine else 0 for cost, home, machine in zip(model.move_cost, start, last)]
+    if raised and model.weights[2]:
+        new.ways = raised_ways(model, start, last)
+    return new, left_out
+
+
+def raised_ways(model, start, last):
+    """As the way from each machine to each other, the most that it costs more from the true start for a process that stands
+    there: the greatest difference over these processes, raised by one number for the whole row if one is below 0."""
+    homes = [set() for _ in range(model.machines)]
+    for home, machine in zip(start, last):
+        homes[machine].add(home)
+    changed = [machine for machine, some in enumerate(homes) if some - {machine}]
+    for home in set().union(*(homes[machine] for machine in changed)):
+        model.way_costs(home)
+
+    def new_row(machine):
+        most = None
+        for home in homes[machine]:
+            row = model.way_costs(home)
+            base = row[machine]
+            if most is None:
+                most = [cost - base for cost in row]
+            else:
+                most = [cost - base if cost - base > so_far else so_far for cost, so_far in zip(row, most)]
+        raised = -min(most)
+        return " ".join([str(min(cost + raised, LARGEST)) for cost in most]).encode()
+
+    ways = list(model.ways)
+    for machine, row in side_by_side(changed, new_row, len(changed) * model.machines > 1_000_000):
+        ways[machine] = row
+    return ways
+
+
+def side_by_side(items, work, large):
+    """Each item with what the work gives, a line of bytes; on several processors if it is much."""
+    count = processors() if large else 1
+    if count == 1:
+        for item in items:
+            yield item, work(item)
+        return
+    with Room() as room:
+        children, parent = [], os.getpid()
+        for part in range(count):
+            child = os.fork()
+            if child == 0:
+                status = 1
+                try:
+                    end_with(parent)
+                    signal.signal(signal.SIGINT, signal.SIG_DFL)
+                    signal.signal(signal.SIGTERM, signal.SIG_DFL)
+                    with open(room(str(part)), "wb") as file:
+                        for item in items[part::count]:
+                            file.write(work(item) + b"\n")
+                    status = 0
+                finally:
+                    os._exit(status)
+            children.append(child)
+        try:
+            ended = [os.waitpid(child, 0)[1] for child in children]
+        except BaseException:
+            for child in children:
+                try:
+                    os.kill(child, signal.SIGKILL)
+                except ProcessLookupError:
+                    pass
+            raise
+        if any(ended):
+            raise Problem("write fault: a part of a model couldn't be written", 7)
+        for part in range(count):
+            with open(room(str(part)), "rb") as lines:
+                for item, line in zip(items[part::count], lines):
+                    yield item, line.rstrip(b"\n")

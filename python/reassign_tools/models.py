@@ -1,0 +1,192 @@
+"""Models: reading, writing, and what an assignment uses."""
+import json
+from array import array
+from collections import Counter
+from dataclasses import dataclass, field
+
+from .files import Numbers, read_list
+from .problems import Problem
+
+LARGEST = 4294967295  # the largest number that a model may have
+MOST_RESOURCES = 20
+
+
+@dataclass
+class Model:
+    """A model. Resources, machines, services and processes are counted from 0, as in its file (docs/FORMATS.md)."""
+
+    transient: list  # by resource: 0 or 1
+    load_weights: list
+    hoods: list  # by machine
+    locations: list
+    capacity: list  # by machine: a row by resource
+    safety: list
+    ways: list  # by machine: the costs of the ways from it, as they stand in the file, in one row of bytes
+    spreads: list  # by service
+    needs: list  # by service: the services that it depends on
+    service: list  # by process
+    required: list  # by process: a row by resource
+    move_cost: list
+    balances: list  # (first, second, target, weight)
+    weights: list  # of processes, services and machines moved
+    rows: dict = field(default_factory=dict, repr=False)
+
+    @classmethod
+    def read(cls, name):
+        """The model of a file. Raises Problem with status 3 if the file can't be read, and 4 if it is no model as far as its
+        fields go; whether each number is in its range `reassign check` says."""
+        numbers = Numbers(name, 4)
+        take = numbers.take
+        resources = numbers.one()
+        flags = take(2 * resources)
+        machines = numbers.one()
+        hoods, locations, capacity, safety, ways = [], [], [], [], []
+        for _ in range(machines):
+            hood, location = take(2)
+            hoods.append(hood)
+            locations.append(location)
+            capacity.append(take(resources))
+            safety.append(take(resources))
+            ways.append(b" ".join(numbers.next_words(machines)))
+        spreads, needs = [], []
+        for _ in range(numbers.one()):
+            spread, count = take(2)
+            spreads.append(spread)
+            needs.append(take(count))
+        services, required, move_cost = [], [], []
+        for _ in range(numbers.one()):
+            service, *row, cost = take(resources + 2)
+            services.append(service)
+            required.append(row)
+            move_cost.append(cost)
+        balances = [take(4) for _ in range(numbers.one())]
+        return cls(flags[0::2], flags[1::2], hoods, locations, capacity, safety, ways, spreads, needs, services, required,
+                   move_cost, balances, take(3))
+
+    @property
+    def resources(self):
+        return len(self.transient)
+
+    @property
+    def machines(self):
+        return len(self.capacity)
+
+    @property
+    def services(self):
+        return len(self.spreads)
+
+    @property
+    def processes(self):
+        return len(self.required)
+
+    def way_costs(self, machine):
+        """The row of ways as numbers, which are kept."""
+        if machine not in self.rows:
+            row = self.ways[machine]
+            try:
+                self.rows[machine] = array("I", json.loads(b"[" + row.replace(b" ", b",") + b"]"))
+            except ValueError:  # leading zeros
+                self.rows[machine] = array("I", map(int, row.split()))
+        return self.rows[machine]
+
+    def stay_cost(self, machine):
+        """The way from a machine to itself, which a model may give any cost."""
+        return int(self.ways[machine].split(maxsplit=machine + 1)[machine])
+
+    def pieces(self):
+        """The text of the model, in pieces."""
+        line = lambda *words: (" ".join(map(str, words)) + "\n").encode()
+        yield line(self.resources)
+        for flag, weight in zip(self.transient, self.load_weights):
+            yield line(flag, weight)
+        yield line(self.machines)
+        for machine, ways in enumerate(self.ways):
+            at = self.hoods[machine], self.locations[machine], *self.capacity[machine], *self.safety[machine]
+            yield line(*at)[:-1] + b" " + ways + b"\n"
+        yield line(self.services)
+        for spread, needs in zip(self.spreads, self.needs):
+            yield line(spread, len(needs), *needs)
+        yield line(self.processes)
+        for service, required, cost in zip(self.service, self.required, self.move_cost):
+            yield line(service, *required, cost)
+        yield line(len(self.balances))
+        for balance in self.balances:
+            yield line(*balance)
+        yield line(*self.weights)
+
+    def use(self, assignment):
+        """What is used of each resource, by machine."""
+        rows = [[0] * self.resources for _ in range(self.machines)]
+        for machine, required in zip(assignment, self.required):
+            rows[machine] = [used + more for used, more in zip(rows[machine], required)]
+        return rows
+
+    def left_behind(self, start, now):
+        """What the processes that left their first machine require together of each resource there."""
+        rows = [[0] * self.resources for _ in range(self.machines)]
+        for home, machine, required in zip(start, now, self.required):
+            if home != machine:
+                rows[home] = [used + more for used, more in zip(rows[home], required)]
+        return rows
+
+    def cost(self, start, now):
+        """What an assignment costs, as moved from a start."""
+        cost = 0
+        for used, capacity, safety in zip(self.use(now), self.capacity, self.safety):
+            cost += sum(weight * (one - safe) for weight, one, safe in zip(self.load_weights, used, safety) if one > safe)
+            for first, second, goal, weight in self.balances:
+                cost += weight * max(0, goal * (capacity[first] - used[first]) - (capacity[second] - used[second]))
+        return cost + sum(self.moves_cost(start, now))
+
+    def moves_cost(self, start, now):
+        """What the moves from a start cost: process, service, machine."""
+        process = machine = 0
+        moved, stayed = Counter(), Counter()
+        for p, (home, there) in enumerate(zip(start, now)):
+            if home == there:
+                stayed[home] += 1
+            else:
+                process += self.move_cost[p]
+                moved[self.service[p]] += 1
+                machine += self.way_costs(home)[there]
+        machine += sum(count * self.stay_cost(home) for home, count in stayed.items())
+        return self.weights[0] * process, self.weights[1] * max(moved.values(), default=0), self.weights[2] * machine
+
+    def members(self):
+        """The processes of each service."""
+        members = [[] for _ in range(self.services)]
+        for process, service in enumerate(self.service):
+            members[service].append(process)
+        return members
+
+
+    def places_by_dependency(self):
+        """A place for each service, in an order in which those that depend on each other stand together."""
+        near = [set(needs) for needs in self.needs]
+        for service, needs in enumerate(self.needs):
+            for needed in needs:
+                near[needed].add(service)
+        places = {}
+        for first in range(self.services):
+            coming = [first]
+            while coming:
+                service = coming.pop()
+                if service not in places:
+                    places[service] = len(places)
+                    coming += sorted(near[service] - places.keys(), reverse=True)
+        return places
+
+
+def same_sizes(model, name, *lists):
+    for one in lists:
+        if len(one) != model.processes or any(not 0 <= machine < model.machines for machine in one):
+            raise Problem(f"{name}: the lists and the model don't belong together", 5)
+
+
+def closed_flags(model, name):
+    flags = [False] * model.machines
+    for machine in read_list(name, 10) if name else []:
+        if machine >= model.machines:
+            raise Problem(f"{name}: no machine {machine}", 10)
+        flags[machine] = True
+    return flags

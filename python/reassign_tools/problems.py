@@ -1,0 +1,21 @@
+"""What ends a tool before its aim."""
+
+
+class Problem(Exception):
+    """A line for standard error, and the status with which a tool ends (docs/GUIDE.md, "In scripts").
+
+    2    the words are no call of the tool
+    3    a file can't be read, or the program isn't there
+    4, 5, 6, 8, 10    what `reassign` says of the model, of a list, of a broken rule, of memory, of a closed list
+    7    an output couldn't be written
+    9    a report isn't one, or isn't one of these files
+    11   the tool ended short of its aim; its files are written whole
+    """
+
+    def __init__(self, line, status=3):
+        super().__init__(line)
+        self.line, self.status = line, status
+
+
+class Stopped(KeyboardInterrupt):
+    """Ctrl-C, or the system's call to end. A notebook, in which no tool runs, gets its KeyboardInterrupt instead."""

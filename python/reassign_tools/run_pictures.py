@@ -1,0 +1,184 @@
+"""The picture of a run: costs over the places of the journal, and what came of each worker's entries."""
+import math
+from array import array
+
+from .pictures import ACROSS, BLUE, FAINT, GREY, GRID, ORANGE, PURPLE, SKY, Picture, grouped, percent, ticks, wide
+from .run_reports import DONE, LATE
+from .words import shown
+
+BARS = 160
+
+
+class Axis:
+    """Places from left to right. On a logarithmic axis a place counts by its logarithm from a thousandth of the last on."""
+
+    def __init__(self, left, last, is_early):
+        self.left, self.last, self.unit = left, max(last, 1), None
+        if is_early:
+            self.unit = 10 ** max(0, int(math.log10(self.last)) - 3)
+            self.whole = math.log1p(self.last / self.unit)
+
+    def at(self, place):
+        part = math.log1p(place / self.unit) / self.whole if self.unit else place / self.last
+        return self.left + ACROSS * part
+
+    def place(self, part):
+        """The place at a part of the width."""
+        return self.unit * math.expm1(part * self.whole) if self.unit else part * self.last
+
+    def marks(self):
+        """The places with a number, and those with a line alone."""
+        if not self.unit:
+            return list(ticks(0, self.last)), []
+        numbered = [0]
+        while (numbered[-1] or self.unit / 10) * 10 <= self.last:
+            numbered.append(int((numbered[-1] or self.unit / 10) * 10 + 0.5))
+        between = [times * one for one in numbered[1:] for times in (2, 3, 4, 5, 6, 7, 8, 9) if times * one <= self.last]
+        return numbered, between
+
+
+def is_early(report, start):
+    """Whether more than half of the fall comes in the first tenth of a long journal."""
+    if len(report.marks) < 200 or not report.costs:
+        return False
+    half = ((report.costs[0] if start is None else start) + report.least) / 2
+    first = next((place for place, cost in zip(report.places, report.costs) if cost <= half), None)
+    return first is not None and first < len(report.marks) / 10
+
+
+def thinned(axis, down, first, places, costs):
+    """The points of a line that changes at these places: if many lie side by side, the highest and the lowest."""
+    points, column, low, high, last = [], None, 0, 0, down(first[1])
+    points.append((axis.at(first[0]), last))
+    x = points[0][0]
+    for place, cost in zip(places, costs):
+        at, y = axis.at(place), down(cost)
+        if int(2 * at) != column:
+            if column is not None:
+                points += [(x, low), (x, high), (x, last)] if low != high else [(x, last)]
+            column, x = int(2 * at), at
+            points.append((x, last))
+            low = high = y
+        else:
+            low, high = min(low, y), max(high, y)
+        last = y
+    points += [(x, low), (x, high), (x, last)] if column is not None else []
+    points.append((axis.left + ACROSS, last))
+    return points
+
+
+def leasts(start, places, costs):
+    """Where the least cost falls, and to what."""
+    least, at, fallen = start, array("I"), array("d")
+    for place, cost in zip(places, costs):
+        if least is None or cost < least:
+            least = cost
+            at.append(place)
+            fallen.append(cost)
+    return at, fallen
+
+
+def draw_costs(picture, report, start, axis, top, height):
+    left, end = picture.left, picture.left + ACROSS
+    known = [report.bound, report.least] + [start] * (start is not None)
+    known += [int(cost) for cost in (max(report.costs, default=report.least), min(report.costs, default=report.least))]
+    low, high = min(known), max(known)
+    room = max(high - low, 1) // 20 + 1
+    low, high = max(low - room, 0), high + room
+    down = lambda cost: top + height * (high - cost) / (high - low)
+    for mark in ticks(low, high):
+        picture.line(left, down(mark), end, down(mark), GRID)
+        picture.text(left - 8, down(mark) + 4, grouped(mark), "end", 12)
+    numbered, between = axis.marks()
+    for mark in numbered:
+        picture.line(axis.at(mark), top + height, axis.at(mark), top + height + 6)
+        picture.text(axis.at(mark), top + height + 20, grouped(mark), "middle", 12)
+    for mark in between:
+        picture.line(axis.at(mark), top + height, axis.at(mark), top + height + 3)
+    picture.line(left, top, left, top + height)
+    picture.line(left, top + height, end, top + height)
+    picture.line(left, down(report.bound), end, down(report.bound), ORANGE, 2, "8 5")
+    places, costs = report.places, report.costs
+    first = (0, start) if start is not None else (places[0], costs[0]) if places else (0, report.least)
+    picture.path(thinned(axis, down, first, *leasts(start, places, costs)), SKY, 6)
+    picture.path(thinned(axis, down, first, places, costs), BLUE, 1.5)
+    picture.heading(top - 14, "cost")
+    scale = ", on a logarithmic axis" if axis.unit else ""
+    picture.text(end, top + height + 40, f"place in the journal{scale}", "end")
+    legend = [("cost", BLUE, 1.5, "start: not told" if start is None else f"start {grouped(start)}"),
+              ("least so far", SKY, 6, f"least {grouped(report.least)}"),
+              ("lower bound", ORANGE, 2, grouped(report.bound))]
+    for row, (name, colour, width, value) in enumerate(legend):
+        y = top + 10 + 44 * row
+        picture.line(end + 14, y, end + 40, y, colour, width, "8 5" if colour == ORANGE else "")
+        picture.text(end + 48, y + 4, name)
+        picture.text(end + 48, y + 21, value, size=12)
+    if start is not None and start > report.bound:
+        part = (report.least - report.bound) / (start - report.bound)
+        picture.text(end + 48, top + 146, f"{percent(part)} of the way from", size=12)
+        picture.text(end + 48, top + 162, "start to bound is left", size=12)
+    if start is None:
+        for row, words in enumerate(("the report does not tell", "what the start costs:", "--run with the model", "and the start does")):
+            picture.text(end + 48, top + 146 + 16 * row, words, size=12)
+
+
+def draw_workers(picture, report, axis, top):
+    """A strip of bars for each worker, and its sums beside it. Answers where the last strip ends."""
+    left, end, marks, count = picture.left, picture.left + ACROSS, report.marks, len(report.marks)
+    edges = sorted({min(count, round(axis.place(bar / BARS))) for bar in range(BARS + 1)} | {0, count})
+    late_any = any(mark & LATE for mark in set(marks))
+    rows = []
+    for worker in range(report.workers):
+        bars = []
+        for one, two in zip(edges, edges[1:]):
+            part = bytes(marks[one:two])
+            done, late, both, neither = (part.count(worker | flags) for flags in (DONE, LATE, DONE | LATE, 0))
+            bars.append((one, two, done + both, late + both, done + late + both + neither))
+        rows.append(bars)
+    # A few bars of few entries may be much higher than all others.
+    parts = sorted(late / made for bars in rows for _, _, _, late, made in bars if late)
+    most = parts[int(0.9 * len(parts))] if len(parts) > 20 else max(parts, default=0)
+    scale = next(step for step in (0.01, 0.02, 0.05, 0.1, 0.2, 0.5, 1) if step >= most)
+    more = " or more" if parts and parts[-1] > scale else ""
+    picture.heading(top - 34, "what came of each worker's entries")
+    x = left
+    legend = [("done", BLUE), ("refused", GREY)]
+    legend += [(f"planned at an earlier state (lower strip: its full height is {100 * scale:.0f} %{more})", PURPLE)] * late_any
+    for name, colour in legend:
+        picture.bar(x, top - 22, 11, 11, colour)
+        picture.text(x + 16, top - 12, name, size=12)
+        x += 36 + wide(name, 12)
+    upper, lower = 32, 14 if late_any else 0
+    step = upper + lower + 18
+    for worker, bars in enumerate(rows):
+        base = top + worker * step + upper
+        for one, two, done, late, made in bars:
+            if made:
+                x, width = axis.at(one), axis.at(two) - axis.at(one)
+                width -= 0.5 if width > 2 else 0
+                picture.bar(x, base - upper, width, upper * (1 - done / made), GREY)
+                picture.bar(x, base - upper * done / made, width, upper * done / made, BLUE)
+                part = min(1, late / made / scale)
+                picture.bar(x, base + 2 + lower * (1 - part), width, lower * part, PURPLE)
+        picture.line(left, base, end, base)
+        if late_any:
+            picture.line(left, base + 2 + lower, end, base + 2 + lower, FAINT)
+        picture.text(left - 8, base - upper / 2 + 5, f"worker {worker}", "end", 12)
+        done, late, made = (sum(bar[at] for bar in bars) for at in (2, 3, 4))
+        picture.text(end + 14, base - upper / 2 - 4, f"{grouped(done)} done", size=12)
+        picture.text(end + 14, base - upper / 2 + 11, f"{grouped(made - done)} refused", size=12)
+        if late_any:
+            picture.text(end + 14, base - upper / 2 + 26, f"{percent(late / made if made else 0)} planned earlier", size=12)
+    return top + report.workers * step
+
+
+def draw_run(report, instance, command):
+    start = instance.start_cost if instance else report.start
+    longest = max(len(grouped(number)) for number in (report.bound, report.least, start or 0, int(max(report.costs, default=0))))
+    picture = Picture(max(88, 24 + 8 * longest))
+    axis = Axis(picture.left, len(report.marks), is_early(report, start))
+    draw_costs(picture, report, start, axis, 90, 300)
+    end = draw_workers(picture, report, axis, 490) if report.marks else 450
+    count, workers = len(report.marks), report.workers
+    title = f"{shown(report.name)}: {grouped(count)} {'entry' if count == 1 else 'entries'} of {workers} worker{'s' * (workers > 1)}"
+    return picture.written(end + 4, title, command)

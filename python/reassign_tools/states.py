@@ -1,0 +1,61 @@
+"""An assignment, and what a shift of one process would break in it."""
+
+
+class State:
+    """An assignment with what it uses, and what a shift of one process would break."""
+
+    def __init__(self, model, start, now, closed):
+        self.model, self.start, self.now, self.closed = model, start, list(now), closed
+        self.use = model.use(now)
+        self.held = model.left_behind(start, now)
+        self.members = model.members()
+        self.needed_by = [[] for _ in range(model.services)]
+        for service, needs in enumerate(model.needs):
+            for needed in set(needs):
+                self.needed_by[needed].append(service)
+
+    def hoods_of(self, service, without=None):
+        hoods = self.model.hoods
+        return {hoods[self.now[p]] for p in self.members[service] if p != without}
+
+    def room_lacks(self, process, machine):
+        """The first capacity, else the first transient capacity, that a process would break on a machine which it isn't
+        on, as the program's cause: (word, machine, resource, used, capacity), or None."""
+        model, used = self.model, self.use[machine]
+        required, capacity = model.required[process], model.capacity[machine]
+        for resource, more in enumerate(required):
+            if used[resource] + more > capacity[resource]:
+                return "capacity", machine, resource, used[resource] + more, capacity[resource]
+        held, home = self.held[machine], self.start[process] == machine
+        for resource, more in enumerate(required):
+            if model.transient[resource]:
+                want = used[resource] + held[resource] + (0 if home else more)
+                if want > capacity[resource]:
+                    return "transient", machine, resource, want, capacity[resource]
+        return None
+
+    def breaks(self, process, machine):
+        """What a shift of a process to a machine would break first, in the program's words, or None."""
+        model, service = self.model, self.model.service[process]
+        lacks = self.room_lacks(process, machine)
+        if lacks:
+            return lacks
+        others = [self.now[p] for p in self.members[service] if p != process]
+        if machine in others:
+            return "conflict", service, machine
+        has = len({model.locations[m] for m in others} | {model.locations[machine]})
+        if has < model.spreads[service]:
+            return "spread", service, has, model.spreads[service]
+        own = {model.hoods[m] for m in others} | {model.hoods[machine]}
+        for asking in sorted({service, *self.needed_by[service]}):
+            places = own if asking == service else self.hoods_of(asking)
+            for needed in model.needs[asking]:
+                if asking != service and needed != service:
+                    continue
+                near = own if needed == service else self.hoods_of(needed)
+                lonely = sorted(places - near)
+                if lonely:
+                    return "dependency", asking, needed, lonely[0]
+        if self.closed[machine] and self.start[process] != machine:
+            return "closed", process, machine
+        return None

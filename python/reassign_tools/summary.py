@@ -1,0 +1,211 @@
+"""Sums up a report of `reassign solve`.
+
+It tells the cost of the start and of the end, the bound, the share of the way between start and bound that is left; the
+entries done, refused by cause, and planned at an earlier state, for each worker; the processes that moved, from where to
+where and by which services; and the fullest machines before and after. With --json it is one object for scripts, which has
+every moved process.
+
+Each line of the report is read, the moves that were done are followed from INITIAL, and both lists are judged by `reassign
+check`. A report that is cut off or isn't one, or isn't one of these files, is told with the line, and nothing is summed up.
+If it is cut off between two entries behind its best place, nothing in it tells that: give the lots of the run with
+--lots="7:10 8:10" (and its slack, closed list and drawing in front: --lots="--slack 30 7:10"), and `reassign verify` judges
+it first. For example
+
+    $ tools/summary /tmp/report examples/sample/model examples/sample/initial"""
+import json
+import shlex
+import sys
+from collections import Counter
+
+from .files import Room, list_text, read_list, write_whole
+from .models import Model, same_sizes
+from .problems import Problem
+from .program import COSTS, Program, closed_words
+from .reports import ENTRY, HEAD, STEP, STEPS, ReportHead
+from .running import run_tool
+from .words import Words, file_name, number
+
+
+def parser():
+    words = Words("summary", __doc__)
+    words.add_program()
+    words.add_argument("report", metavar="REPORT", type=file_name)
+    words.add_argument("model", metavar="MODEL", type=file_name)
+    words.add_argument("initial", metavar="INITIAL", type=file_name)
+    words.add_argument("--json", action="store_true", help="print one JSON object")
+    words.add_argument("--top", metavar="N", type=number(1, 100_000), default=5, help="lines of each list (5)")
+    words.add_argument("--closed", metavar="FILE", type=file_name, help="the closed list of the run")
+    words.add_argument("--lots", metavar="WORDS", help="the words behind INITIAL with which the report is verified")
+    return words
+
+
+class Worker:
+    def __init__(self):
+        self.entries = self.done = self.earlier = 0
+        self.refused = Counter()
+
+
+class Journal:
+    """The entries of a report, read line by line, with the state that they lead to."""
+
+    def __init__(self, report, initial):
+        self.now, self.workers, self.places = list(initial), [], 0
+        try:
+            with open(report, "rb") as lines:
+                self.head = ReportHead(report, [line for _, line in zip(range(len(HEAD)), lines)])
+                self.best_at = self.head.numbers["best_at"]
+                self.meet_best()
+                for line in lines:
+                    self.read(line)
+        except OSError as fault:
+            raise Problem(f"{report}: {fault.strerror}") from None
+        if self.places < self.best_at:
+            at = self.places + len(HEAD) + 1
+            raise Problem(f"{report}: line {at}: the report is cut off: its best place is {self.best_at}", 9)
+
+    def wrong(self, line, what):
+        raise Problem(self.head.told(self.places + len(HEAD) + 1, line, what), 9)
+
+    def read(self, line):
+        entry = ENTRY.fullmatch(line)
+        if not entry:
+            self.wrong(line, "no entry")
+        place, at, k, planned, kind, steps, cost, cause, _ = entry.groups()
+        if int(place) != self.places:
+            self.wrong(line, f"entry {self.places} should stand here")
+        at = int(at)
+        if at >= 16:
+            self.wrong(line, "no worker")
+        while len(self.workers) <= at:
+            self.workers.append(Worker())
+        worker = self.workers[at]
+        if int(k) != worker.entries or int(planned) > self.places or steps.count(b">") != STEPS[kind]:
+            self.wrong(line, "no entry that may stand here")
+        worker.entries += 1
+        worker.earlier += int(planned) < self.places
+        if cause:
+            worker.refused[cause.decode()] += 1
+        else:
+            worker.done += 1
+            self.follow(line, STEP.findall(steps))
+        self.places += 1
+        if self.places == self.best_at:
+            if cause or int(cost) != self.head.numbers["cost"]:
+                self.wrong(line, f"the state behind it should cost {self.head.numbers['cost']}")
+            self.meet_best()
+
+    def follow(self, line, steps):
+        for process, left, entered in steps:
+            process, left = int(process), int(left)
+            if process >= len(self.now) or self.now[process] != left:
+                self.wrong(line, f"process {process} isn't on machine {left}, if the run began at this start")
+            self.now[process] = int(entered)
+
+    def meet_best(self):
+        if self.places == self.best_at and self.now != self.head.assignment:
+            raise Problem(f"{self.head.name}: line {HEAD.index('assignment') + 1}: the entries don't lead from this start to "
+                          "this assignment", 9)
+
+
+def fullest(model, use, top):
+    """The machines with the greatest share of a capacity in use: (machine, resource, used, capacity)."""
+    def share(row, capacity):
+        return max((used / room if room else float(used > 0), -r) for r, (used, room) in enumerate(zip(row, capacity)))
+    shares = [(*share(row, capacity), machine) for machine, (row, capacity) in enumerate(zip(use, model.capacity))]
+    shares.sort(key=lambda it: (-it[0], it[2]))
+    return [{"machine": m, "resource": -r, "used": use[m][-r], "capacity": model.capacity[m][-r]} for _, r, m in shares[:top]]
+
+
+def summed(words):
+    program = Program(words.program)
+    closing = closed_words(words.closed)
+    if words.lots is not None:
+        try:
+            lots = shlex.split(words.lots)
+        except ValueError as fault:
+            raise Problem(f"--lots: {fault}", 2) from None
+        program.run("verify", words.model, words.initial, words.report, *lots)
+    start = program.numbers("check", words.model, words.initial, words.initial, *closing)
+    initial = read_list(words.initial)
+    journal = Journal(words.report, initial)
+    numbers, end = journal.head.numbers, journal.head.assignment
+    model = Model.read(words.model)
+    same_sizes(model, words.report, initial, end)
+    judged = judge_end(program, words, closing, end)
+    for at, name in enumerate(COSTS, 1):
+        if judged[name] != numbers[name]:
+            raise Problem(f"{words.report}: line {at}: {name} is {judged[name]} with this model and start", 9)
+    bound = program.numbers("bound", words.model, words.initial, *closing)["bound"]
+    if bound != numbers["bound"]:
+        raise Problem(f"{words.report}: line 7: the bound is {bound} with this model, start and closed list", 9)
+    moved = [(p, a, b) for p, (a, b) in enumerate(zip(initial, end)) if a != b]
+    way = start["cost"] - bound
+    return {
+        "start": start,
+        "end": {name: numbers[name] for name in COSTS},
+        "bound": bound,
+        "way_left": (numbers["cost"] - bound) / way if way else 0.0,
+        "best_at": journal.best_at,
+        "entries": journal.places,
+        "workers": [{"entries": w.entries, "done": w.done, "refused": dict(sorted(w.refused.items())), "earlier": w.earlier}
+                    for w in journal.workers],
+        "processes": model.processes,
+        "moved": [{"process": p, "service": model.service[p], "from": a, "to": b} for p, a, b in moved],
+        "fullest_before": fullest(model, model.use(initial), words.top),
+        "fullest_after": fullest(model, model.use(end), words.top),
+    }
+
+
+def judge_end(program, words, closing, end):
+    with Room() as room:
+        write_whole(room("end"), [list_text(end)])
+        return program.numbers("check", words.model, words.initial, room("end"), *closing)
+
+
+def told_counts(counts, top, form):
+    """The greatest counts, in words."""
+    most = sorted(counts.items(), key=lambda it: (-it[1], it[0]))
+    told = ", ".join(form(key, count) for key, count in most[:top])
+    return told + (f", and {len(most) - top} more" if len(most) > top else "")
+
+
+def tell(found, top):
+    start, end = found["start"]["cost"], found["end"]["cost"]
+    print(f"start {start}\nend {end}\nbound {found['bound']}\nway left {100 * found['way_left']:.1f} %")
+    for name in COSTS[1:]:
+        print(f"{name} {found['start'][name]} > {found['end'][name]}")
+    refused = Counter()
+    for worker in found["workers"]:
+        refused.update(worker["refused"])
+    done = sum(worker["done"] for worker in found["workers"])
+    print(f"entries {found['entries']}: {done} done, {sum(refused.values())} refused; the best behind {found['best_at']}")
+    if refused:
+        print("refused by " + told_counts(refused, len(refused), "{} {}".format))
+    for at, worker in enumerate(found["workers"]):
+        print(f"worker {at}: {worker['entries']} entries, {worker['done']} done, {sum(worker['refused'].values())} refused, "
+              f"{worker['earlier']} planned at an earlier state")
+    moved = found["moved"]
+    print(f"moved {len(moved)} of {found['processes']} processes")
+    if moved:
+        services = Counter(it["service"] for it in moved)
+        ways = Counter((it["from"], it["to"]) for it in moved)
+        print("ways " + told_counts(ways, top, lambda way, count: f"{way[0]}>{way[1]} {count}"))
+        print("left " + told_counts(Counter(it["from"] for it in moved), top, "machine {} {}".format))
+        print("entered " + told_counts(Counter(it["to"] for it in moved), top, "machine {} {}".format))
+        print(f"services {len(services)}: " + told_counts(services, top, "service {} {}".format))
+    for when in ("before", "after"):
+        print(f"fullest {when}: " + ", ".join("machine {machine} resource {resource} {used} of {capacity}".format(**it)
+                                              for it in found[f"fullest_{when}"]))
+
+
+def work(words):
+    found = summed(words)
+    if words.json:
+        json.dump(found, sys.stdout)
+        print()
+    else:
+        tell(found, words.top)
+
+
+def main(words=None):
+    run_tool(parser(), work, words)

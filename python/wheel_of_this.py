@@ -1,0 +1,62 @@
+"""Makes the wheel of `reassign_tools` for `pip install` (PEP 517), with python's standard library alone.
+
+The same sources make the same bytes: files stand in order, with one time.
+"""
+import base64
+import hashlib
+import os
+import re
+import tomllib
+import zipfile
+
+HERE = os.path.dirname(os.path.realpath(__file__))
+PACKAGE = "reassign_tools"
+TIME = (1980, 1, 1, 0, 0, 0)
+
+
+def project():
+    with open(os.path.join(HERE, "pyproject.toml"), "rb") as file:
+        return tomllib.load(file)["project"]
+
+
+def version():
+    with open(os.path.join(HERE, PACKAGE, "__init__.py"), encoding="utf-8") as file:
+        return re.search('^__version__ = "(.*)"$', file.read(), re.M).group(1)
+
+
+def sources():
+    """The files of the package, with their texts."""
+    for name in sorted(os.listdir(os.path.join(HERE, PACKAGE))):
+        if name.endswith(".py"):
+            with open(os.path.join(HERE, PACKAGE, name), "rb") as file:
+                yield f"{PACKAGE}/{name}", file.read()
+
+
+def information(folder):
+    """What stands beside the package in a wheel."""
+    about = project()
+    metadata = (f"Metadata-Version: 2.1\nName: {about['name']}\nVersion: {version()}\nSummary: {about['description']}\n"
+                f"Requires-Python: {about['requires-python']}\nLicense: {about['license']['text']}\n")
+    yield f"{folder}/METADATA", metadata.encode()
+    yield f"{folder}/WHEEL", f"Wheel-Version: 1.0\nGenerator: {os.path.basename(__file__)}\nRoot-Is-Purelib: true\nTag: py3-none-any\n".encode()
+    scripts = "".join(f"{name} = {call}\n" for name, call in about["scripts"].items())
+    yield f"{folder}/entry_points.txt", f"[console_scripts]\n{scripts}".encode()
+
+
+def recorded(name, text):
+    digest = base64.urlsafe_b64encode(hashlib.sha256(text).digest()).decode().rstrip("=")
+    return f"{name},sha256={digest},{len(text)}\n"
+
+
+def build_wheel(wheel_directory, config_settings=None, metadata_directory=None):
+    name = f"{PACKAGE}-{version()}"
+    folder = f"{name}.dist-info"
+    files = [*sources(), *information(folder)]
+    record = "".join(recorded(*file) for file in files) + f"{folder}/RECORD,,\n"
+    wheel = f"{name}-py3-none-any.whl"
+    with zipfile.ZipFile(os.path.join(wheel_directory, wheel), "w", zipfile.ZIP_DEFLATED) as archive:
+        for at, text in [*files, (f"{folder}/RECORD", record.encode())]:
+            entry = zipfile.ZipInfo(at, TIME)
+            entry.external_attr = 0o644 << 16
+            archive.writestr(entry, text, zipfile.ZIP_DEFLATED)
+    return wheel
