@@ -134,18 +134,23 @@ fn each_guard_makes_a_plan_stale(rt: &impl Abort, alloc: Global, inst: &Instance
     }
 }
 
-/// Process 1 would stay where it is. So the plan of process 2 of the start still holds: it costs 3111 as above.
+/// The first worker's process would stay where it is, which is refused. So the second worker's plan, made at the start
+/// too, still holds: the costs are those above.
 fn a_refused_entry_touches_nothing(rt: &impl Abort, alloc: Global, inst: &Instance) {
-    let replies = replies_on_sample(rt, alloc, inst, &shift(1, 3), &shift(2, 1));
-    let verdict = Verdict::Refused {
-        cause: Cause::Same {
-            process: Process(1),
-        },
-    };
-    assert_eq!(rt;
-        replies,
-        [Reply::Recorded { at: 0, verdict }, done(1, 3111)]
-    );
+    let rows: &[(Process, u64, [u64; 8], u128)] = &[
+        (Process(1), 3, shift(2, 1), 3111),
+        (Process(2), 0, AWAY, 3510),
+    ];
+    for (process, machine, second, cost) in rows {
+        let first = shift(u64::from(process.0), *machine);
+        let replies = replies_on_sample(rt, alloc, inst, &first, second);
+        let cause = Cause::Same { process: *process };
+        let verdict = Verdict::Refused { cause };
+        assert_eq!(rt;
+            replies,
+            [Reply::Recorded { at: 0, verdict }, done(1, *cost)]
+        );
+    }
 }
 
 #[test]
