@@ -140,6 +140,19 @@ class Install(ToolCase):
 class Others(ToolCase):
     """Wrong calls of what stands beside."""
 
+    def test_help(self):
+        """Each file of tools/ tells how to call it, and its version."""
+        version = text_in("VERSION").strip()
+        for name in sorted(os.listdir(os.path.join(ROOT, "tools"))):
+            path = os.path.join(ROOT, "tools", name)
+            if os.path.isfile(path):
+                told = run(path, "--help")
+                self.assertEqual((told.returncode, told.stderr), (0, ""), name)
+                self.assertIn("usage: ", told.stdout)
+                told = run(path, "--version")
+                self.assertEqual((told.returncode, told.stderr), (0, ""), name)
+                self.assertIn(told.stdout, (f"{name} {version}\n", f"reassign-{name} {version}\n"))
+
     def test_look(self):
         self.expect_line(2, None, os.path.join(ROOT, "tools", "look"))
         ran = run("/bin/sh", os.path.join(ROOT, "tools", "look"), "bound", SAMPLE[0], env={"PATH": "/usr/bin:/bin"})
