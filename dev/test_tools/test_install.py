@@ -32,7 +32,8 @@ class Install(ToolCase):
         self.assertIn(f"version {version}", text_in("README.md"))
         self.assertIn(f".Os reassign {version}\n", text_in("docs/reassign.1"))
         self.assertIn(f'__version__ = "{version}"\n', text_in("python/reassign_tools/__init__.py"))
-        self.assertEqual(re.findall(r"^## \[(.*?)\]", text_in("CHANGELOG.md"), re.M)[:1], [version])
+        versions = re.findall(r"^## \[(\d.*?)\]", text_in("CHANGELOG.md"), re.M)
+        self.assertEqual(versions[0], version)
 
     def test_install(self):
         place, moved = os.path.abspath("a place"), os.path.abspath("moved")
@@ -138,6 +139,19 @@ class Install(ToolCase):
 
 class Others(ToolCase):
     """Wrong calls of what stands beside."""
+
+    def test_help(self):
+        """Each file of tools/ tells how to call it, and its version."""
+        version = text_in("VERSION").strip()
+        for name in sorted(os.listdir(os.path.join(ROOT, "tools"))):
+            path = os.path.join(ROOT, "tools", name)
+            if os.path.isfile(path):
+                told = run(path, "--help")
+                self.assertEqual((told.returncode, told.stderr), (0, ""), name)
+                self.assertIn("usage: ", told.stdout)
+                told = run(path, "--version")
+                self.assertEqual((told.returncode, told.stderr), (0, ""), name)
+                self.assertIn(told.stdout, (f"{name} {version}\n", f"reassign-{name} {version}\n"))
 
     def test_look(self):
         self.expect_line(2, None, os.path.join(ROOT, "tools", "look"))
