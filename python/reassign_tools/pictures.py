@@ -47,9 +47,10 @@ class Picture:
         self.shapes.append(f'<polyline points="{steps}" fill="none" stroke="{colour}" stroke-width="{width}"'
                            f' stroke-linejoin="round"{dashed}/>')
 
-    def band(self, low, high, colour):
+    def band(self, low, high, colour, opacity=1):
         steps = " ".join(f"{x:.1f},{y:.1f}" for x, y in low + high[::-1])
-        self.shapes.append(f'<polygon points="{steps}" fill="{colour}"/>')
+        thin = f' fill-opacity="{opacity}"' if opacity < 1 else ""
+        self.shapes.append(f'<polygon points="{steps}" fill="{colour}"{thin}/>')
 
     def bar(self, x, y, width, height, colour):
         if width > 0 and height > 0:

@@ -25,6 +25,11 @@ class Program:
         if self.name == here:
             self.make()
 
+    def binary(self):
+        """The program itself, which the repository's own call finds and calls."""
+        is_call = self.name == os.path.join(ROOT, "reassign")
+        return os.path.join(ROOT, "crates", "reassign", "out", "reassign") if is_call else os.path.abspath(self.name)
+
     def make(self):
         """The repository's own call proves and compiles the program if that is due, and says on standard error how far it
         is: so it is called once with nothing in between."""
