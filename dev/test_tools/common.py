@@ -58,9 +58,18 @@ def children(process):
         return []
 
 
+def is_ready(process):
+    """Whether a tool has begun to work: it catches SIGTERM then."""
+    try:
+        caught = next(line for line in text_of(f"/proc/{process}/status").splitlines() if line.startswith("SigCgt:"))
+    except (OSError, StopIteration):
+        return False
+    return bool(int(caught.split()[1], 16) >> signal.SIGTERM - 1 & 1)
+
+
 def stop(begun, seconds=0, by=signal.SIGINT):
     """Stops a tool so many seconds after it began to call the program: its status, its output and its errors."""
-    while begun.poll() is None and not children(begun.pid):
+    while begun.poll() is None and not (is_ready(begun.pid) and children(begun.pid)):
         time.sleep(0.01)
     time.sleep(seconds)
     begun.send_signal(by)
@@ -116,6 +125,14 @@ class ToolCase(unittest.TestCase):
         self.assertEqual(len(ran.stderr.splitlines()), 1, told)
         if line is not None:
             self.assertEqual(ran.stderr, line + "\n", told)
+
+    def wait_for(self, condition, begun, seconds=120):
+        """Waits until something is so, as long as what was begun runs."""
+        end = time.monotonic() + seconds
+        while not condition():
+            self.assertIsNone(begun.poll(), "it ended before")
+            self.assertLess(time.monotonic(), end, "it never came")
+            time.sleep(0.01)
 
     def make_instance(self, name, *numbers):
         """A skewed instance: machines, processes, resources, seed. Answers its model and its start."""

@@ -3,7 +3,7 @@ import os
 import shutil
 import signal
 
-from common import ToolCase, begin, put, stop, text_of
+from common import ToolCase, begin, is_ready, put, stop, text_of
 
 
 class Outputs(ToolCase):
@@ -25,6 +25,7 @@ class Outputs(ToolCase):
         with open("/dev/full", "w", encoding="utf-8") as full:
             for tool in ("summary", "plot", "rounds"):
                 self.expect(7, tool, "--help", out=full)
+                self.expect(7, tool, "--version", out=full)
             self.expect(7, "summary", "report", "model", "initial", out=full)
             self.expect(7, "plot", "report", out=full)
             self.expect(7, "rounds", "model", "initial", "--out", "told", "--rounds", "1", "--budget", "50", out=full, begun=True)
@@ -59,9 +60,7 @@ class Outputs(ToolCase):
     def test_plot_stopped(self):
         os.mkfifo("pipe")
         run = begin("plot", "--out", "never", "pipe")
-        while not any(line.startswith("SigCgt") and int(line.split()[1], 16) & 2 for line in
-                      text_of(f"/proc/{run.pid}/status").splitlines()):
-            pass
+        self.wait_for(lambda: is_ready(run.pid), run)
         run.send_signal(signal.SIGINT)
         _, error = run.communicate()
         self.assertEqual((run.returncode, error), (130, "plot: stopped\n"))

@@ -6,14 +6,17 @@ a closed machine costs more than anything else (the way from it to itself, which
 proposed too, B times, to make room; and if some are left then, the closed machines have no capacity of a resource that isn't
 transient, and `reassign repair` looks for a way there (tools/repair_words). What comes is judged with MODEL itself.
 
-NEW has the list with the fewest processes on closed machines. If somebody is still there, the status is 11, and it is told
-which rule keeps each from each open machine, and what it would break on the machines with most room. For example
+Others, who stood on open machines, may have moved by then. They are put back: all of them, else by halves, as long as
+`reassign check` calls the list feasible, until none can go back alone, or after so many checks (--checks). It is told how many
+others had to move, and which rule keeps them from going back.
+
+NEW has the list with the fewest processes on closed machines. If somebody stays there, the status is 11, and it is told
+which rule keeps each from each open machine, and what it would break on the machines with most room. Ctrl-C ends it well:
+NEW has the best list so far. For example
 
     $ tools/evacuate examples/sample/model examples/sample/initial /tmp/closed --out /tmp/emptied"""
 import copy
-import os
 import random
-import subprocess
 from collections import Counter
 
 from .files import Room, list_text, read_list, target, write_whole
@@ -21,7 +24,9 @@ from .going_on import going_on
 from .lots import lot_of
 from .models import LARGEST, Model, closed_flags, same_sizes
 from .program import COSTS, Program
-from .running import command_of, run_tool, say
+from .repair_words import Repair
+from .repair_words import parser as repair_parser
+from .running import no_more_stops, run_tool, say
 from .states import State
 from .words import LARGEST_SEED, MOST_LOTS, MOST_PROPOSALS, Words, file_name, number, processors
 
@@ -40,6 +45,8 @@ def parser():
                        help="proposals for all processes in a turn, if some are left (1000000); 0 moves nobody else")
     words.add_argument("--workers", metavar="W", type=number(1, MOST_LOTS), default=processors(),
                        help="workers of these proposals (as many as processors)")
+    words.add_argument("--checks", metavar="N", type=number(0, 1_000_000), default=2000,
+                       help="put others back by at most so many calls of `reassign check` (2000)")
     words.add_argument("--seed", metavar="S", type=number(0, LARGEST_SEED), default=1, help="seed of the choices (1)")
     words.add_argument("--model-out", metavar="FILE", type=file_name, help="write the changed model there")
     return words
@@ -48,7 +55,9 @@ def parser():
 class Evacuation:
     def __init__(self, words, room):
         self.words, self.room, self.program = words, room, Program(words.program)
-        self.out = target(words.out)
+        inputs = self.program.name, words.model, words.initial, words.closed
+        self.out = target(words.out, *inputs)
+        self.model_out = words.model_out and target(words.model_out, words.out, *inputs)
         self.closing = ["--closed", words.closed]
         self.program.numbers("check", words.model, words.initial, words.initial, *self.closing)
         self.model, self.start = Model.read(words.model), read_list(words.initial)
@@ -56,11 +65,16 @@ class Evacuation:
         self.flags = closed_flags(self.model, words.closed)
         self.changed = self.with_high_stays()
         if words.model_out:
-            write_whole(target(words.model_out), self.changed.pieces())
-        self.chance, self.now, self.turns = random.Random(words.seed), list(self.start), 0
+            write_whole(self.model_out, self.changed.pieces())
+        self.chance, self.now, self.turns, self.checks = random.Random(words.seed), list(self.start), 0, words.checks
 
-    def left(self, now=None):
+    def staying(self, now=None):
+        """The processes on closed machines."""
         return [p for p, machine in enumerate(now or self.now) if self.flags[machine]]
+
+    def others(self):
+        """The processes of open machines that moved."""
+        return [p for p, (home, now) in enumerate(zip(self.start, self.now)) if home != now and not self.flags[home]]
 
     def most_rise(self, process, ways):
         """No less than what the cost rises by if a process leaves its machine."""
@@ -74,7 +88,7 @@ class Evacuation:
         """The model in which staying on a closed machine costs most."""
         model, changed = self.model, copy.copy(self.model)
         changed.ways, changed.rows = list(model.ways), {}
-        most = max((self.most_rise(p, model.way_costs(self.start[p])) for p in self.left(self.start)), default=0)
+        most = max((self.most_rise(p, model.way_costs(self.start[p])) for p in self.staying(self.start)), default=0)
         if model.weights[2] * LARGEST <= most:
             changed.ways = [b" ".join([b"0"] * model.machines)] * model.machines
             changed.weights = [*model.weights[:2], LARGEST]
@@ -85,15 +99,15 @@ class Evacuation:
                 changed.ways[machine] = b" ".join(row)
         return changed
 
-    def aimed(self, left):
+    def aimed(self, staying):
         """A lot of proposals for the processes on closed machines: each looks at machine after machine, as far as the lot
         takes them."""
         machines = self.model.machines
-        starts = {p: self.chance.randrange(machines) for p in left}
-        return [lot_of((0, p, (starts[p] + begin) % machines) for begin in range(0, machines, WINDOW) for p in left)[0]]
+        starts = {p: self.chance.randrange(machines) for p in staying}
+        return [lot_of((0, p, (starts[p] + begin) % machines) for begin in range(0, machines, WINDOW) for p in staying)[0]]
 
     def turn(self, lots, least):
-        """A run from the list so far. Answers whether at least so many fewer are left."""
+        """A run from the list so far. Answers whether at least so many fewer stay."""
         self.turns += 1
         model, start = self.changed, self.words.initial
         if self.now != self.start:
@@ -110,35 +124,67 @@ class Evacuation:
         return [f"{(seed + worker) % 2**64}:{budget // workers}" for worker in range(workers)]
 
     def keep(self, found, least=1):
-        """Keeps a list that leaves so many fewer on closed machines, if it is feasible from the true start."""
-        left = len(self.left(found))
-        if left > len(self.left()) - least or found == self.now:
+        """Keeps a list with so many fewer on closed machines, if it is feasible from the true start."""
+        staying = len(self.staying(found))
+        if staying > len(self.staying()) - least or found == self.now or not self.is_feasible(found):
             return False
+        self.now = found
+        say(f"turn {self.turns}: {staying} of {len(self.staying(self.start))} processes stay")
+        return True
+
+    def is_feasible(self, found):
+        """Whether a list is feasible from the true start, as `check` says."""
         write_whole(self.room("found"), [list_text(found)])
         status, _, _ = self.program.run("check", self.words.model, self.words.initial, self.room("found"), *self.closing,
                                         endings=(0, 6))
-        if status == 0:
-            self.now = found
-            say(f"turn {self.turns}: {left} of {len(self.left(self.start))} processes are left")
         return status == 0
 
     def go(self):
-        while self.left():
-            if self.turn(self.aimed(self.left()), 1):
+        while self.staying():
+            if self.turn(self.aimed(self.staying()), 1):
                 continue
-            before = len(self.left())
+            before = len(self.staying())
             if self.words.budget:
                 self.turn(self.lots_for_all(), 0)
             self.by_hand()
-            if len(self.left()) == before and not (self.words.budget and self.turn(self.aimed(self.left()), 1)):
+            if len(self.staying()) == before and not (self.words.budget and self.turn(self.aimed(self.staying()), 1)):
                 break
-        if self.left() and self.words.budget:
+        if self.staying() and self.words.budget:
             self.by_repair()
+        self.put_others_back()
+
+    def put_others_back(self):
+        """Puts the others back who needn't have moved: all of them, else by halves, in which those stand together whose
+        services depend on each other; and anew, since one who went back may make room for another."""
+        before = after = len(self.others())
+        places = self.model.places_by_dependency()
+        while after and self.checks:
+            groups = [sorted(self.others(), key=lambda p: (places[self.model.service[p]], p))]
+            while groups:
+                groups = [half for group in groups if not self.put_back(group) for half in halves(group)]
+            last, after = after, len(self.others())
+            if after == last:
+                break
+        if before:
+            say(f"{before} others had moved; {before - after} of them went back, by {self.words.checks - self.checks} checks")
+
+    def put_back(self, group):
+        """Puts processes back to their first machines, if the list stays feasible."""
+        if not self.checks:
+            return False
+        self.checks -= 1
+        found = list(self.now)
+        for process in group:
+            found[process] = self.start[process]
+        if not self.is_feasible(found):
+            return False
+        self.now = found
+        return True
 
     def by_hand(self):
         """Moves each process that is left to an open machine that takes it, if there is one."""
         state = State(self.model, self.start, self.now, self.flags)
-        for process in self.left()[:MOST_LOOKED]:
+        for process in self.staying()[:MOST_LOOKED]:
             machine = next((m for m in self.by_room(state, process) if state.breaks(process, m) is None), None)
             if machine is not None:
                 moved = list(state.now)
@@ -148,8 +194,8 @@ class Evacuation:
 
     def by_repair(self):
         """Looks for a way by `repair`, with no capacity of a resource that isn't transient on the closed machines."""
-        model, left = self.model, self.left()
-        counts = [sum(model.required[p][r] > 0 for p in left) * (not model.transient[r]) for r in range(model.resources)]
+        model, staying = self.model, self.staying()
+        counts = [sum(model.required[p][r] > 0 for p in staying) * (not model.transient[r]) for r in range(model.resources)]
         if not max(counts):
             return
         r = counts.index(max(counts))
@@ -159,18 +205,13 @@ class Evacuation:
         # From the list so far: what is feasible there in one go is feasible from the true start.
         write_whole(self.room("model"), going_on(empty, self.start, self.now)[0].pieces())
         write_whole(self.room("list"), [list_text(self.now)])
-        command = [*command_of("repair_words"), self.room("model"), self.room("list"), "--closed", self.words.closed, "--out",
-                   self.room("repaired"), "--seed", str(self.words.seed), "--program", self.program.name]
+        options = repair_parser().parse_args([
+            self.room("model"), self.room("list"), "--closed", self.words.closed, "--out", self.room("repaired"),
+            "--seed", str(self.words.seed), "--program", self.program.name])
         self.turns += 1
-        repair = subprocess.Popen(command, stdin=subprocess.DEVNULL, stdout=subprocess.DEVNULL, stderr=subprocess.DEVNULL)
-        try:
-            repair.wait()
-        except BaseException:
-            repair.terminate()
-            repair.wait()
-            raise
-        if os.path.exists(self.room("repaired")):
-            self.keep(read_list(self.room("repaired")))
+        repair = Repair(options, self.room, tell=lambda line: None)
+        repair.go()
+        self.keep(repair.now)
 
     def by_room(self, state, process):
         """The open machines, those first where most room would be left of the scarcest resource."""
@@ -182,17 +223,32 @@ class Evacuation:
         return sorted((m for m in range(self.model.machines) if not self.flags[m] and m != own), key=lambda m: (-room(m), m))
 
     def tell(self):
-        left, first = self.left(), self.left(self.start)
-        moved = [p for p, (home, machine) in enumerate(zip(self.start, self.now)) if home != machine]
-        elsewhere = sum(not self.flags[self.start[p]] for p in moved)
-        print(f"left {len(first) - len(left)} of {len(first)} processes on {sum(self.flags)} closed machines")
-        print(f"moved {len(moved)} processes, {elsewhere} of them from open machines")
+        """Tells what came. Answers the status."""
+        staying, first, others = self.staying(), self.staying(self.start), self.others()
+        print(f"went {len(first) - len(staying)} of {len(first)} processes from {sum(self.flags)} closed machines")
+        print(f"others {len(others)} of {self.model.processes - len(first)} had to move")
         costs = self.program.numbers("check", self.words.model, self.words.initial, self.out, *self.closing)
         print("".join(f"{name} {costs[name]}\n" for name in COSTS), end="")
-        if not left:
-            return 0
-        state, totals = State(self.model, self.start, self.now, self.flags), Counter()
-        for at, process in enumerate(left[:MOST_LOOKED]):
+        state = State(self.model, self.start, self.now, self.flags)
+        if others:
+            self.tell_others(state, others)
+        if staying:
+            self.tell_staying(state, staying)
+        return 11 if staying else 0
+
+    def tell_others(self, state, others):
+        """Why the others can't go back."""
+        causes = {process: state.breaks(process, self.start[process]) for process in others}
+        for process in others[:MOST_TOLD]:
+            cause = " ".join(map(str, causes[process] or ["not tried"]))
+            print(f"process {process} of service {self.model.service[process]} can't go back to machine {self.start[process]}: "
+                  f"{cause}")
+        print(f"all {len(others)} others: {told(Counter(cause[0] if cause else 'not tried' for cause in causes.values()))}")
+
+    def tell_staying(self, state, staying):
+        """Why those that stay do."""
+        totals = Counter()
+        for at, process in enumerate(staying[:MOST_LOOKED]):
             machines = self.by_room(state, process)
             causes = {machine: state.breaks(process, machine) for machine in machines}
             counts = Counter(cause[0] if cause else "nothing" for cause in causes.values())
@@ -202,8 +258,13 @@ class Evacuation:
                       f"of {len(machines)} open machines {told(counts)}")
                 for machine in machines[:3]:
                     print(f"  machine {machine}: {' '.join(map(str, causes[machine] or ['takes it']))}")
-        print(f"all {min(len(left), MOST_LOOKED)} that were looked at: {told(totals)}")
-        return 11
+        print(f"all {min(len(staying), MOST_LOOKED)} that were looked at: {told(totals)}")
+
+
+def halves(group):
+    """The halves of a group, if it has any."""
+    middle = len(group) // 2
+    return [group[:middle], group[middle:]] if middle else []
 
 
 def told(counts):
@@ -213,8 +274,12 @@ def told(counts):
 def work(words):
     with Room() as room:
         evacuation = Evacuation(words, room)
-        evacuation.go()
-    write_whole(evacuation.out, [list_text(evacuation.now)])
+        try:
+            evacuation.go()
+        except KeyboardInterrupt:
+            no_more_stops()
+            say(f"stopped in turn {evacuation.turns}; {words.out} has the best list so far")
+        write_whole(evacuation.out, [list_text(evacuation.now)])
     return evacuation.tell()
 
 

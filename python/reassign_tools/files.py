@@ -1,4 +1,5 @@
 """Files: whole ones to write, lists of numbers to read, a folder for a while."""
+import fcntl
 import os
 import shutil
 import tempfile
@@ -8,8 +9,25 @@ from .problems import Problem
 PIECE = 1 << 20
 
 
-def target(name):
-    """The file that a tool will write, checked before the work begins: a plain file, or none yet, in a folder that takes it."""
+def is_same(one, other):
+    """Whether two names stand for one file, through links too, also if it isn't there yet."""
+    one, other = os.path.realpath(one), os.path.realpath(other)
+    try:
+        return os.path.samefile(one, other)
+    except OSError:
+        pass
+    try:
+        return os.path.basename(one) == os.path.basename(other) and os.path.samefile(os.path.dirname(one), os.path.dirname(other))
+    except OSError:
+        return False
+
+
+def target(name, *others):
+    """The file that a tool will write, checked before the work begins: a plain file, or none yet, in a folder that takes it,
+    and none of the others that are named, which it would destroy. (An other one may be None.)"""
+    for other in filter(None, others):
+        if is_same(name, other):
+            raise Problem(f"{name} and {other} are one file, which would be lost", 2)
     name = os.path.realpath(name)
     if os.path.exists(name) and not os.path.isfile(name):
         raise Problem(f"{name} is no plain file, so nothing is written there", 2)
@@ -37,18 +55,74 @@ def write_whole(name, pieces):
             os.unlink(beside)
 
 
+def lock(name, what):
+    """Locks a file, which is made if it isn't there, until this process ends. Raises Problem with status 7 if another one has
+    locked it, since both would write what it stands for."""
+    try:
+        file = open(name, "a+", encoding="utf-8")
+    except OSError as fault:
+        raise Problem(f"write fault: {name}: {fault.strerror}", 7) from None
+    try:
+        fcntl.flock(file, fcntl.LOCK_EX | fcntl.LOCK_NB)
+    except OSError:
+        file.seek(0)
+        raise Problem(f"{what} is being written by another call, which is process {file.read(20).strip() or 'unknown'}", 7) from None
+    file.truncate(0)
+    file.write(f"{os.getpid()}\n")
+    file.flush()
+    _locks.append(file)
+
+
+_locks = []  # the files that are locked stay open as long as the process runs
+
+
 class Room:
-    """A folder for what a tool needs for a while."""
+    """A folder for what a tool needs for a while. It is locked as long as the tool runs, so what a killed one left can be told,
+    and the next tool removes it."""
+
+    PREFIX = "reassign-tools-"
 
     def __enter__(self):
         try:
-            self.folder = tempfile.mkdtemp(prefix="reassign-")
+            remove_left(tempfile.gettempdir(), self.PREFIX)
+            self.folder, self.lock = None, None
+            while self.folder is None:
+                self.make()
         except OSError as fault:
             raise Problem(f"write fault: {fault.strerror}", 7) from None
         return lambda name: os.path.join(self.folder, name)
 
+    def make(self):
+        """Makes the folder and locks it. Another tool may take it for a left one in between: then it is gone again."""
+        folder = tempfile.mkdtemp(prefix=self.PREFIX)
+        try:
+            self.lock = os.open(folder, os.O_RDONLY)
+            fcntl.flock(self.lock, fcntl.LOCK_EX)
+            if os.path.samestat(os.fstat(self.lock), os.stat(folder)):
+                self.folder = folder
+        except FileNotFoundError:
+            pass
+
     def __exit__(self, *_):
         shutil.rmtree(self.folder, ignore_errors=True)
+        os.close(self.lock)
+
+
+def remove_left(place, prefix):
+    """Removes the folders of tools that were killed: those of this user that nobody has locked."""
+    for name in os.listdir(place):
+        folder = os.path.join(place, name)
+        if name.startswith(prefix) and os.path.isdir(folder) and os.stat(folder).st_uid == os.geteuid():
+            at = None
+            try:
+                at = os.open(folder, os.O_RDONLY | os.O_NOFOLLOW)
+                fcntl.flock(at, fcntl.LOCK_EX | fcntl.LOCK_NB)
+                shutil.rmtree(folder, ignore_errors=True)
+            except OSError:
+                pass  # its tool runs, or another call removes it
+            finally:
+                if at is not None:
+                    os.close(at)
 
 
 class Numbers:

@@ -3,6 +3,7 @@ import copy
 import os
 import signal
 
+from .children import end_with
 from .files import Room
 from .models import LARGEST, MOST_RESOURCES
 from .problems import Problem
@@ -76,12 +77,13 @@ def side_by_side(items, work, large):
             yield item, work(item)
         return
     with Room() as room:
-        children = []
+        children, parent = [], os.getpid()
         for part in range(count):
             child = os.fork()
             if child == 0:
                 status = 1
                 try:
+                    end_with(parent)
                     signal.signal(signal.SIGINT, signal.SIG_DFL)
                     signal.signal(signal.SIGTERM, signal.SIG_DFL)
                     with open(room(str(part)), "wb") as file:

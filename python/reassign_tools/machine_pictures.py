@@ -1,5 +1,6 @@
 """The picture of the machines: how much of each capacity is in use, before and after."""
 from .pictures import ACROSS, BLACK, BLUE, FAINT, GREEN, GRID, MIDDLE, ORANGE, PALE, PALE_GREEN, Picture, grouped
+from .words import shown
 
 GROUPS, MOST_DOTS, MOST_NUMBERS = 100, 120, 50
 
@@ -110,4 +111,4 @@ def draw_machines(report, instance, command):
     if count > MOST_DOTS:
         words += f", in {GROUPS} groups"
     picture.text(picture.left + ACROSS, end - 30, words, "end")
-    return picture.written(end - 14, f"{report.name}: {grouped(count)} machines, before and after", command)
+    return picture.written(end - 14, f"{shown(report.name)}: {grouped(count)} machines, before and after", command)

@@ -160,6 +160,23 @@ class Model:
         return members
 
 
+    def places_by_dependency(self):
+        """A place for each service, in an order in which those that depend on each other stand together."""
+        near = [set(needs) for needs in self.needs]
+        for service, needs in enumerate(self.needs):
+            for needed in needs:
+                near[needed].add(service)
+        places = {}
+        for first in range(self.services):
+            coming = [first]
+            while coming:
+                service = coming.pop()
+                if service not in places:
+                    places[service] = len(places)
+                    coming += sorted(near[service] - places.keys(), reverse=True)
+        return places
+
+
 def same_sizes(model, name, *lists):
     for one in lists:
         if len(one) != model.processes or any(not 0 <= machine < model.machines for machine in one):

@@ -27,15 +27,15 @@ from .problems import Problem
 from .run_pictures import draw_run
 from .run_reports import RunReport
 from .running import run_tool
-from .words import Words, file_name
+from .words import Words, any_file_name, shown
 
 
 def parser():
     words = Words("plot", __doc__)
-    words.add_argument("report", metavar="REPORT", type=file_name)
-    words.add_argument("model", metavar="MODEL", type=file_name, nargs="?")
-    words.add_argument("initial", metavar="INITIAL", type=file_name, nargs="?")
-    words.add_argument("--out", metavar="FILE", type=file_name, help="where the picture goes (standard output)")
+    words.add_argument("report", metavar="REPORT", type=any_file_name)
+    words.add_argument("model", metavar="MODEL", type=any_file_name, nargs="?")
+    words.add_argument("initial", metavar="INITIAL", type=any_file_name, nargs="?")
+    words.add_argument("--out", metavar="FILE", type=any_file_name, help="where the picture goes (standard output)")
     words.add_argument("--run", action="store_true", help="draw the run, though there are a model and a start")
     return words
 
@@ -64,11 +64,11 @@ def work(words):
         raise Problem("MODEL stands alone, without INITIAL; plot --help shows how to call it", 2)
     if words.run and not words.model:
         raise Problem("--run wants MODEL and INITIAL; plot --help shows how to call it", 2)
-    out = words.out and target(words.out)
+    out = words.out and target(words.out, words.report, words.model, words.initial)
     report = RunReport(words.report)
     instance = Instance(report, words.model, words.initial) if words.model else None
     names = [words.report] + [words.model, words.initial] * bool(words.model)
-    command = "tools/plot " + shlex.join(["--run"] * words.run + names)
+    command = "tools/plot " + shown(shlex.join(["--run"] * words.run + names))
     picture = (draw_machines if instance and not words.run else draw_run)(report, instance, command).encode()
     if out:
         write_whole(out, [picture])

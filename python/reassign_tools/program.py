@@ -5,6 +5,7 @@ import signal
 import subprocess
 import sys
 
+from .children import begin, end
 from .problems import Problem, Stopped
 
 ROOT = os.path.dirname(os.path.dirname(os.path.dirname(os.path.realpath(__file__))))
@@ -33,8 +34,7 @@ class Program:
     def make(self):
         """The repository's own call proves and compiles the program if that is due, and says on standard error how far it
         is: so it is called once with nothing in between."""
-        made = subprocess.Popen([self.name, "bound", os.path.join(ROOT, "examples/sample/model")], stdin=subprocess.DEVNULL,
-                                stdout=subprocess.DEVNULL, start_new_session=True)
+        made = begin([self.name, "bound", os.path.join(ROOT, "examples/sample/model")], stdout=subprocess.DEVNULL)
         try:
             status = made.wait()
         except BaseException:
@@ -47,9 +47,8 @@ class Program:
         """Runs a command. Answers its status, the lines that it prints (the first ones, if their number is given), and
         its error line. Its output goes to the file `keep` too. Another status than those of `endings` ends the tool."""
         command = [self.name, *map(str, words)]
-        how = {"stdin": subprocess.DEVNULL, "stdout": subprocess.PIPE, "stderr": subprocess.PIPE, "start_new_session": True}
         try:
-            run = subprocess.Popen(command, **how)
+            run = begin(command, stdout=subprocess.PIPE, stderr=subprocess.PIPE)
         except OSError as fault:
             raise Problem(f"{self.name} can't be run: {fault.strerror}") from None
         try:
@@ -77,15 +76,6 @@ class Program:
             return {word: int(value) for word, value in (line.split() for line in lines)}
         except ValueError:
             raise Problem(f"`{self.name} {words[0]}` doesn't print what reassign prints: is it the program?") from None
-
-
-def end(run):
-    """Ends a program that was begun, and whatever it began itself."""
-    try:
-        os.killpg(run.pid, signal.SIGTERM)
-    except ProcessLookupError:
-        pass
-    run.wait()
 
 
 def read_output(pipe, keep, lines):

@@ -179,9 +179,11 @@ class Result:
 
 
 class Repair:
-    def __init__(self, words, room):
-        self.words, self.program, self.room = words, Program(words.program), room
-        self.out = target(words.out)
+    """The repair of a list; `tell` gets lines that say how far it is."""
+
+    def __init__(self, words, room, tell=say):
+        self.words, self.program, self.room, self.tell = words, Program(words.program), room, tell
+        self.out = target(words.out, self.program.name, words.model, words.initial, words.closed)
         self.closing = closed_words(words.closed)
         self.program.run("bound", words.model, words.initial, *self.closing)
         self.model, self.first = Model.read(words.model), read_list(words.initial)
@@ -245,7 +247,7 @@ class Repair:
             first = came.before if turns == 1 else first
             idle = 0 if penalty is None or came.penalty < penalty else idle + 1
             if not idle:
-                say(f"turn {turns}: penalty {came.penalty} after {self.tries} tries")
+                self.tell(f"turn {turns}: penalty {came.penalty} after {self.tries} tries")
             penalty = came.penalty
             if not judged.feasible and lot_of(self.told)[1] > MOST_TOLD and not self.is_entered():
                 self.begin_anew()

@@ -2,8 +2,9 @@
 
 Each round is one run of `reassign solve`, from the best list so far, in a model in which whatever it makes is feasible from
 the true start, INITIAL, too (docs/ROUNDS.md says why). Its list is kept if `reassign check` from the true start calls it
-better. A round behind one that found nothing begins at the true start itself, with other seeds, and the next at the best list
-again. The best list stands in BEST after each round. If BEST is there already, the rounds go on from it. Without a limit they
+better. A round after one that found nothing begins at the true start itself, with other seeds, and the next at the best list
+again. No list is kept, and no round begins at one, that has somebody on a closed machine who isn't there in the best list: so
+machines that were emptied stay empty. The best list stands in BEST after each round. If BEST is there already, the rounds go on from it. Without a limit they
 end when four in a row find nothing. Ctrl-C ends them well: what BEST has is judged and printed.
 
 A round charges each process the way from where it stands, as MODEL has it. If a list that a round calls better isn't, the
@@ -22,7 +23,7 @@ import re
 import shlex
 import time
 
-from .files import Room, list_text, read_list, target, write_whole
+from .files import Room, is_same, list_text, lock, read_list, target, write_whole
 from .going_on import going_on
 from .models import Model, same_sizes
 from .problems import Problem, Stopped
@@ -63,12 +64,19 @@ def percent(part, whole):
 class Rounds:
     def __init__(self, words):
         self.words, self.program = words, Program(words.program)
-        self.best, self.folder = target(words.out), os.path.realpath(words.out) + ".rounds"
+        inputs = words.model, words.initial, words.closed, words.model_from
+        self.best, self.folder = target(words.out, self.program.name, *inputs), os.path.realpath(words.out) + ".rounds"
+        for name in filter(None, inputs[:3]):
+            if is_same(os.path.dirname(os.path.realpath(name)), self.folder):
+                raise Problem(f"{name} is in {words.out}.rounds, whose files would be lost", 2)
         self.closing = closed_words(words.closed)
         start = self.program.numbers("check", words.model, words.initial, words.initial, *self.closing)
         self.start_cost = self.cost = start["cost"]
         self.bound = self.program.numbers("bound", words.model, words.initial, *self.closing)["bound"]
         self.list_name, self.model, self.start = words.initial, None, None
+        self.closed = set(read_list(words.closed, 10)) if words.closed else set()
+        # The processes that are on closed machines at the true start, and in the best list.
+        self.first = self.staying = self.on_closed(read_list(words.initial))
         self.number, self.raised, self.anew = 0, words.raised, False
 
     def cost_of(self, name):
@@ -77,10 +85,14 @@ class Rounds:
     def left(self):
         return percent(self.cost - self.bound, self.start_cost - self.bound)
 
+    def on_closed(self, now):
+        return {process for process, machine in enumerate(now) if machine in self.closed}
+
     def begin(self):
-        """The folder and the log, the number of the first round, and a list that is there already."""
+        """The folder with its lock and the log, the number of the first round, and a list that is there already."""
         try:
             os.makedirs(self.folder, exist_ok=True)
+            lock(os.path.join(self.folder, "lock"), self.words.out)
             with open(os.path.join(self.folder, "log"), "a+", encoding="utf-8") as file:
                 file.seek(0)
                 self.number = max(map(int, re.findall(r"^# round (\d+)", file.read(), re.M)), default=0)
@@ -105,7 +117,8 @@ class Rounds:
             raise Problem(f"write fault: {self.folder}/log: {fault.strerror}", 7) from None
 
     def keep_list(self, best):
-        """The list from which the next round begins."""
+        """The best list, from which the next round begins."""
+        self.staying = self.on_closed(best)
         self.list_name = os.path.join(self.folder, f"{self.number + 1}.list")
         write_whole(self.list_name, [list_text(best)])
 
@@ -158,6 +171,8 @@ class Rounds:
         if cost >= self.cost:
             self.raised = self.raised or not self.anew
             return False
+        if self.on_closed(map(int, found)) - self.staying:
+            return False
         self.cost = cost
         write_whole(self.best, [list_text(found)])
         self.keep_list(found)
@@ -198,7 +213,7 @@ class Rounds:
             better = self.round(room, budget)
             spent, made, done = spent + time.monotonic() - at, made + budget, done + 1
             idle = 0 if better else idle + 1
-            self.anew = idle % 2 == 1 and self.list_name != words.initial
+            self.anew = idle % 2 == 1 and self.list_name != words.initial and not self.first - self.staying
             told = "" if better else " (nothing better)"
             say(f"round {self.number}: cost {self.cost}{told}, {self.left()} of the way left, "
                 f"{time.monotonic() - at:.1f} s, {time.monotonic() - began:.0f} s in all")

@@ -4,6 +4,7 @@ from array import array
 
 from .pictures import ACROSS, BLUE, FAINT, GREY, GRID, ORANGE, PURPLE, SKY, Picture, grouped, percent, ticks, wide
 from .run_reports import DONE, LATE
+from .words import shown
 
 BARS = 160
 
@@ -179,5 +180,5 @@ def draw_run(report, instance, command):
     draw_costs(picture, report, start, axis, 90, 300)
     end = draw_workers(picture, report, axis, 490) if report.marks else 450
     count, workers = len(report.marks), report.workers
-    title = f"{report.name}: {grouped(count)} {'entry' if count == 1 else 'entries'} of {workers} worker{'s' * (workers > 1)}"
+    title = f"{shown(report.name)}: {grouped(count)} {'entry' if count == 1 else 'entries'} of {workers} worker{'s' * (workers > 1)}"
     return picture.written(end + 4, title, command)

@@ -17,6 +17,8 @@ def run_tool(parser, work, words=None):
     _name = parser.prog
     signal.signal(signal.SIGINT, stop)
     signal.signal(signal.SIGTERM, stop)
+    if signal.getsignal(signal.SIGHUP) != signal.SIG_IGN:  # as `nohup` leaves it
+        signal.signal(signal.SIGHUP, stop)
     status, line = ended(parser, work, words)
     try:
         sys.stdout.flush()
@@ -67,6 +69,7 @@ def no_more_stops():
     """From here on Ctrl-C ends nothing: what is left takes a moment."""
     signal.signal(signal.SIGINT, signal.SIG_IGN)
     signal.signal(signal.SIGTERM, signal.SIG_IGN)
+    signal.signal(signal.SIGHUP, signal.SIG_IGN)
 
 
 def say(line):

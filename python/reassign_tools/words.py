@@ -11,12 +11,24 @@ MOST_LOTS = 16
 LARGEST_SEED = 2**64 - 1
 
 
+class ShowVersion(argparse.Action):
+    """Unlike argparse's own it fails if the version can't be written."""
+
+    def __call__(self, parser, *_):
+        print(f"reassign-{parser.prog} {__version__}")
+        parser.exit()
+
+
 class Words(argparse.ArgumentParser):
     """The words of a call, which are refused in one line. The description is the tool's own text, as it stands."""
 
     def __init__(self, tool, text):
         super().__init__(prog=tool, description=text, formatter_class=argparse.RawDescriptionHelpFormatter, allow_abbrev=False)
-        self.add_argument("--version", action="version", version=f"reassign-{tool} {__version__}")
+        self.add_argument("--version", action=ShowVersion, nargs=0, help="show the version and end")
+
+    def print_help(self, file=None):
+        """Unlike argparse's own it fails if the text can't be written."""
+        print(self.format_help(), end="", file=file)
 
     def error(self, message):
         raise Problem(f"{message}; {self.prog} --help shows how to call it", 2)
@@ -39,9 +51,30 @@ def number(least, most):
 
 def file_name(word):
     """A name that the program takes too."""
+    if not is_text(word):
+        raise argparse.ArgumentTypeError(f"{word!r} isn't UTF-8, and the program takes no such name")
+    return any_file_name(word)
+
+
+def any_file_name(word):
+    """A name of a file of which the program isn't told."""
     if not word or word.startswith("-"):
         raise argparse.ArgumentTypeError(f"{word!r} is no name of a file")
     return word
+
+
+def is_text(word):
+    """Whether a word of the command line is UTF-8."""
+    try:
+        word.encode()
+    except UnicodeEncodeError:
+        return False
+    return True
+
+
+def shown(word):
+    """A word of the command line as a text that can be printed, whatever its bytes are."""
+    return os.fsencode(word).decode(errors="replace")
 
 
 def processors():
