@@ -14,6 +14,7 @@ from dataclasses import asdict, dataclass, field
 from statistics import median
 
 from . import __version__
+from .children import begin
 from .files import list_text, write_whole
 from .problems import Problem
 from .program import slack_words
@@ -51,11 +52,11 @@ class Running:
     def __init__(self):
         self.lock, self.groups, self.is_over = threading.Lock(), set(), False
 
-    def begin(self, words, **how):
+    def start(self, words, **how):
         with self.lock:
             if self.is_over:
                 raise Problem("stopped", 130)
-            run = subprocess.Popen(words, stdin=subprocess.DEVNULL, stdout=subprocess.PIPE, start_new_session=True, **how)
+            run = begin(words, stdout=subprocess.PIPE, **how)
             self.groups.add(run.pid)
         return run
 
@@ -93,7 +94,7 @@ def timed(running, words, take=None, limit=None):
     with tempfile.TemporaryFile() as errors:
         began, ended = time.monotonic(), Timed(None, "", 0.0, 0.0)
         try:
-            run = running.begin(list(map(str, words)), stderr=errors)
+            run = running.start(list(map(str, words)), stderr=errors)
         except OSError as fault:
             return Timed(127, f"{words[0]}: {fault.strerror}", 0.0, 0.0)
         waiting = threading.Thread(target=wait_for, args=(running, run, limit, ended), daemon=True)
