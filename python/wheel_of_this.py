@@ -26,10 +26,11 @@ def version():
 
 def sources():
     """The files of the package, with their texts."""
-    for name in sorted(os.listdir(os.path.join(HERE, PACKAGE))):
+    found = [os.path.relpath(os.path.join(at, name), HERE) for at, _, names in os.walk(os.path.join(HERE, PACKAGE)) for name in names]
+    for name in sorted(found):
         if name.endswith(".py"):
-            with open(os.path.join(HERE, PACKAGE, name), "rb") as file:
-                yield f"{PACKAGE}/{name}", file.read()
+            with open(os.path.join(HERE, name), "rb") as file:
+                yield name, file.read()
 
 
 def information(folder):

@@ -8,6 +8,7 @@ import sys
 import time
 
 from common import PROGRAM, ROOT, ToolCase, run, text_of
+from reassign_tools.__main__ import TOOLS
 
 SAMPLE = [os.path.join(ROOT, "examples", "sample", name) for name in ("model", "initial")]
 INSTALL, UNINSTALL = (os.path.join(ROOT, "tools", name) for name in ("install", "uninstall"))
@@ -58,18 +59,59 @@ class Install(ToolCase):
         self.assertFalse(os.path.exists(place))
         self.expect_line(1, f"uninstall: nothing of reassign is installed in {place}", UNINSTALL, place)
 
+    def test_destdir(self):
+        """Everything stands below DESTDIR, and nothing at the prefix."""
+        root, prefix = os.path.abspath("root"), os.path.abspath("prefix")
+        for destdir in (root, f"{root}/", "root"):
+            told = self.expect_run(INSTALL, "--program", PROGRAM, prefix, env={**os.environ, "DESTDIR": destdir})
+            self.assertIn(f"in {root}{prefix}\n", told)
+            self.assertFalse(os.path.exists(prefix))
+            self.expect_run(f"{root}{prefix}/bin/reassign", "check", *SAMPLE, SAMPLE[1])
+            self.expect_run(f"{root}{prefix}/bin/reassign-rounds", "--version")
+            self.expect_run(UNINSTALL, prefix, env={**os.environ, "DESTDIR": destdir})
+            self.assertFalse(os.path.exists(f"{root}{prefix}"))
+
     def look_at_readers(self, place):
         """The man page and the completions, by the programs that read them, as far as they are on the machine."""
-        man = f"{place}/share/man/man1/reassign.1"
-        for reader, *words in (["mandoc", "-T", "lint", "-W", "warning", man], ["man", "--warnings", "-E", "UTF-8", "-l", man],
-                               ["bash", "-n", f"{place}/share/bash-completion/completions/reassign"],
-                               ["zsh", "-n", f"{place}/share/zsh/site-functions/_reassign"],
-                               ["fish", "-n", f"{place}/share/fish/vendor_completions.d/reassign.fish"]):
-            if shutil.which(reader):
-                self.expect_run(reader, *words)
-        offered = run("bash", "-c", f'. "{place}/share/bash-completion/completions/reassign"; COMP_WORDS=(reassign s); COMP_CWORD=1; '
-                      'compopt() { :; }; _reassign; echo "${COMPREPLY[@]}"')
-        self.assertEqual(offered.stdout, "solve\n", offered.stderr)
+        readers = (("share/man/man1", ["mandoc", "-T", "lint", "-W", "warning"]), ("share/man/man1", ["man", "--warnings", "-l"]),
+                   ("share/bash-completion/completions", ["bash", "-n"]), ("share/zsh/site-functions", ["zsh", "-n"]),
+                   ("share/fish/vendor_completions.d", ["fish", "-n"]))
+        for folder, reader in readers:
+            names = sorted(os.listdir(f"{place}/{folder}"))
+            self.assertTrue(any("rounds" in name or "tools" in name for name in names), names)
+            for name in names:
+                if shutil.which(reader[0]) and not os.path.islink(f"{place}/{folder}/{name}"):
+                    self.expect_run(*reader, f"{place}/{folder}/{name}")
+
+    def test_completions(self):
+        """What bash offers."""
+        room = os.path.abspath("described")
+        self.expect_run(os.path.join(ROOT, "dev", "describe_tools"), room)
+
+        def offered(file, function, *words):
+            script = f'. "{file}"; COMP_WORDS=({" ".join(words)}); COMP_CWORD={len(words) - 1}; compopt() {{ :; }}; {function}; ' \
+                     'printf "%s\\n" "${COMPREPLY[@]}"'
+            return run("bash", "-c", script).stdout.split()
+        file = os.path.join(ROOT, "tools", "completions", "reassign.bash")
+        self.assertEqual(offered(file, "_reassign", "reassign", "s"), ["solve"])
+        self.assertEqual(offered(file, "_reassign", "reassign", "t"), ["trial"])
+        self.assertEqual(offered(file, "_reassign", "reassign", "trial", "''"), [])
+        self.assertEqual(offered(file, "_reassign", "reassign", "check", "mod"), ["model"])
+        for tool in TOOLS:
+            told = run(os.path.join(ROOT, "tools", tool), "--help").stdout
+            file, function = f"{room}/bash/reassign-{tool}", f"_reassign_{tool}"
+            words = offered(file, function, f"reassign-{tool}", "--")
+            # The words of the usage, and no others.
+            usage = told.partition("\n\n")[0]
+            self.assertEqual(set(words), {"--help"} | set(re.findall(r"--[a-z][a-z-]*", usage)))
+            fish = text_of(f"{room}/fish/reassign-{tool}.fish")
+            self.assertEqual({f"--{word}" for word in re.findall(r" -l (\S+)", fish)}, set(words))
+            page = text_of(f"{room}/reassign-tools.1")
+            for word in words:
+                self.assertIn(f".It Fl {word[1:]}", page)
+                self.assertIn(f"{word}[", text_of(f"{room}/zsh/_reassign-tools"))
+        self.assertEqual(offered(f"{room}/bash/reassign-rounds", "_reassign_rounds", "reassign-rounds", "--out", "mod"), ["model"])
+        self.assertEqual(offered(f"{room}/bash/reassign-rounds", "_reassign_rounds", "reassign-rounds", "--seed", "''"), [])
 
     def test_refusals(self):
         for words in (["a", "b"], ["--x"], [""], ["--program"]):
@@ -109,3 +151,9 @@ class Others(ToolCase):
         self.expect_line(1, None, maker, "/dev/null/x", "10", "10", "1", "1")
         for script in ("judge_report", "compare", "make_pinned", "measure"):
             self.expect_line(2, None, sys.executable, os.path.join(ROOT, "bench", f"{script}.py"))
+        for words in (["--x"], ["a", "b"], [""]):
+            self.expect_line(2, "usage: bench/run [OTHER]", os.path.join(ROOT, "bench", "run"), *words)
+        for word in ("--help", "-h"):
+            ran = run(os.path.join(ROOT, "bench", "run"), word)
+            self.assertEqual((ran.returncode, ran.stderr), (0, ""))
+            self.assertIn("\nusage: bench/run [OTHER]\n", ran.stdout)

@@ -18,7 +18,8 @@ def main():
     return importlib.import_module(f"reassign_tools.{name}").main(sys.argv[2:])
 
 
-if not __package__:
-    sys.path[0] = os.path.dirname(os.path.dirname(os.path.realpath(__file__)))
-    sys.dont_write_bytecode = True
-sys.exit(main())
+if __name__ == "__main__":
+    if not __package__:
+        sys.path[0] = os.path.dirname(os.path.dirname(os.path.realpath(__file__)))
+        sys.dont_write_bytecode = True
+    sys.exit(main())

@@ -2,8 +2,8 @@
 
 With `--closed` alone nobody enters a closed machine, but nobody has to leave. This tool writes a model in which staying on
 a closed machine costs more than anything else (the way from it to itself, which a model may give any cost), and runs
-`reassign solve` on it with proposals for the processes that stand there, in turns. If some are left, all processes are
-proposed too, B times, to make room; and if some are left then, the closed machines have no capacity of a resource that isn't
+`reassign solve` on it with proposals for the processes that stand there, in turns. If some stay, all processes are
+proposed too, B times, to make room; and if some stay then, the closed machines have no capacity of a resource that isn't
 transient, and `reassign repair` looks for a way there (tools/repair_words). What comes is judged with MODEL itself.
 
 Others, who stood on open machines, may have moved by then. They are put back: all of them, else by halves, as long as
@@ -42,7 +42,7 @@ def parser():
     words.add_argument("closed", metavar="CLOSED", type=file_name, help="the machines to be emptied")
     words.add_argument("--out", metavar="NEW", type=file_name, required=True, help="the new list")
     words.add_argument("--budget", metavar="B", type=number(0, MOST_PROPOSALS), default=MOST_PROPOSALS,
-                       help="proposals for all processes in a turn, if some are left (1000000); 0 moves nobody else")
+                       help="proposals for all processes in a turn, if some stay (1000000); 0 moves nobody else")
     words.add_argument("--workers", metavar="W", type=number(1, MOST_LOTS), default=processors(),
                        help="workers of these proposals (as many as processors)")
     words.add_argument("--checks", metavar="N", type=number(0, 1_000_000), default=2000,

@@ -13,6 +13,7 @@ class State:
         for service, needs in enumerate(model.needs):
             for needed in set(needs):
                 self.needed_by[needed].append(service)
+        self.known_lonely = {}  # by process and neighbourhood
 
     def hoods_of(self, service, without=None):
         hoods = self.model.hoods
@@ -46,7 +47,23 @@ class State:
         has = len({model.locations[m] for m in others} | {model.locations[machine]})
         if has < model.spreads[service]:
             return "spread", service, has, model.spreads[service]
-        own = {model.hoods[m] for m in others} | {model.hoods[machine]}
+        lonely = self.lonely(process, model.hoods[machine])
+        if lonely:
+            return "dependency", *lonely
+        if self.closed[machine] and self.start[process] != machine:
+            return "closed", process, machine
+        return None
+
+    def lonely(self, process, hood):
+        """The first service, with one that it needs and the neighbourhood in which that would be missing, if a process went
+        to a neighbourhood; or None."""
+        if (process, hood) not in self.known_lonely:
+            self.known_lonely[process, hood] = self.first_lonely(process, hood)
+        return self.known_lonely[process, hood]
+
+    def first_lonely(self, process, hood):
+        model, service = self.model, self.model.service[process]
+        own = self.hoods_of(service, process) | {hood}
         for asking in sorted({service, *self.needed_by[service]}):
             places = own if asking == service else self.hoods_of(asking)
             for needed in model.needs[asking]:
@@ -55,7 +72,5 @@ class State:
                 near = own if needed == service else self.hoods_of(needed)
                 lonely = sorted(places - near)
                 if lonely:
-                    return "dependency", asking, needed, lonely[0]
-        if self.closed[machine] and self.start[process] != machine:
-            return "closed", process, machine
+                    return asking, needed, lonely[0]
         return None

@@ -35,7 +35,7 @@ class Words(argparse.ArgumentParser):
 
     def add_program(self):
         """The option that names the program."""
-        self.add_argument("--program", metavar="FILE",
+        self.add_argument("--program", metavar="FILE", type=any_file_name,
                           help="the program to call (else the environment's REASSIGN, else ./reassign of the repository, else "
                           "`reassign` beside the tool, or where commands are looked for)")
 
