@@ -1,7 +1,7 @@
 """The picture of a race: for each instance the share of the way that is left over seconds, by median and quartiles."""
 import math
 
-from .pictures import ACROSS, BLACK, BLUE, FAINT, GREEN, GRID, ORANGE, PURPLE, SKY, Picture
+from .pictures import ACROSS, BLACK, BLUE, FAINT, GREEN, GRID, ORANGE, PURPLE, SKY, Picture, decades, log_ticks
 from .race_plan import OWN
 from .race_rows import grouped, percent
 
@@ -81,7 +81,7 @@ class Panel:
 
     def draw_frame(self):
         picture, left, bottom = self.picture, self.picture.left, self.top + HEIGHT
-        for mark in marks(self.low, self.high):
+        for mark in log_ticks(self.low, self.high):
             picture.line(left, self.down(mark), left + ACROSS, self.down(mark), GRID)
             picture.text(left - 8, self.down(mark) + 4, f"{100 * mark:.6g} %", "end", 12)
         for mark in decades(self.shortest, self.longest, (1, 2, 5)):
@@ -117,20 +117,6 @@ class Panel:
             self.picture.text(x + 32, y + 4, line.name)
             self.picture.text(x + 32, y + 20, f"{end}, {len(line.ends)} runs", size=12, colour=FAINT)
             y += 42
-
-
-def marks(low, high):
-    """Shares for an axis: 1, 2 and 5 of each decade, or more if these are few."""
-    few = list(decades(low, high, (1, 2, 5)))
-    return few if len(few) >= 3 else list(decades(low, high, (1, 1.2, 1.5, 2, 2.5, 3, 4, 5, 6, 7, 8, 9)))
-
-
-def decades(low, high, steps):
-    for exponent in range(math.floor(math.log10(low)), math.ceil(math.log10(high)) + 1):
-        for step in steps:
-            mark = step * 10.0 ** exponent
-            if low <= mark <= high:
-                yield float(f"{mark:.6g}")
 
 
 def curves(rows):

@@ -35,3 +35,12 @@ class ReportHead:
     def told(self, at, line, what):
         cut = line and not line.endswith(b"\n")
         return f"{self.name}: line {at}: {'the report is cut off, or is none' if cut else what}"
+
+
+def is_list(name):
+    """Whether a file begins like a list and not like a report."""
+    try:
+        with open(name, "rb") as file:
+            return file.read(4096).lstrip()[:1].isdigit()
+    except OSError as fault:
+        raise Problem(f"{name}: {fault.strerror}") from None

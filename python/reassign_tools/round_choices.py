@@ -3,9 +3,9 @@ import math
 from dataclasses import dataclass, field
 
 SHARES = (0.0, 0.002, 0.01, 0.03)  # of the start's cost per process
-FIRST = 1  # of these, for the first round
+FIRST = 2  # of these, for the first round
 ANEW_ORDER = (2, 3, 1, 0)  # in which they are tried by rounds that begin anew
-ON_ORDER = (1, 2, 0)  # and by rounds that go on: these are short of room, and the most slack brings nothing there
+ON_ORDER = (2, 1, 0)  # and by rounds that go on: these are short of room, and the most slack brings nothing there
 AGAIN = 5  # each so many rounds anew the slack is tried that has waited longest
 FADE = 0.5  # what a round that goes on gains is worth half after each later one
 DOUBT = 0.001  # how far runs anew lie apart before any is known, as a share of the fall
