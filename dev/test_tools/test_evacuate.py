@@ -30,7 +30,7 @@ class Evacuate(ToolCase):
         put("start", "0 1 3 3 3 3 3 3 3 3\n")
         told = self.expect(0, "evacuate", "tight", "start", "closed", "--out", "emptied", "--budget", 3000, "--workers", 1)
         self.assertEqual(text_of("emptied"), "1 2 3 3 3 3 3 3 3 3\n", told)
-        self.assertIn("went 1 of 1 processes from 1 closed machines\nothers 1 of 9 had to move\n", told)
+        self.assertIn("went 1 of 1 processes of 1 closed machine\nothers 1 of 9 had to move\n", told)
         self.assertIn("process 1 of service 1 can't go back to machine 1: capacity 1 1 11 10\n", told)
 
     def test_no_checks(self):

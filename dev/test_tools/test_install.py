@@ -32,7 +32,8 @@ class Install(ToolCase):
         self.assertIn(f"version {version}", text_in("README.md"))
         self.assertIn(f".Os reassign {version}\n", text_in("docs/reassign.1"))
         self.assertIn(f'__version__ = "{version}"\n', text_in("python/reassign_tools/__init__.py"))
-        self.assertEqual(re.findall(r"^## \[(.*?)\]", text_in("CHANGELOG.md"), re.M)[:1], [version])
+        versions = re.findall(r"^## \[(\d.*?)\]", text_in("CHANGELOG.md"), re.M)
+        self.assertEqual(versions[0], version)
 
     def test_install(self):
         place, moved = os.path.abspath("a place"), os.path.abspath("moved")

@@ -225,7 +225,8 @@ class Evacuation:
     def tell(self):
         """Tells what came. Answers the status."""
         staying, first, others = self.staying(), self.staying(self.start), self.others()
-        print(f"went {len(first) - len(staying)} of {len(first)} processes from {sum(self.flags)} closed machines")
+        count = sum(self.flags)
+        print(f"went {len(first) - len(staying)} of {len(first)} processes of {count} closed machine{'s' * (count != 1)}")
         print(f"others {len(others)} of {self.model.processes - len(first)} had to move")
         costs = self.program.numbers("check", self.words.model, self.words.initial, self.out, *self.closing)
         print("".join(f"{name} {costs[name]}\n" for name in COSTS), end="")
