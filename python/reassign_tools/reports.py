@@ -1,6 +1,7 @@
 """Reports of `reassign solve`."""
 import re
 
+from .files import read_list
 from .problems import Problem
 from .program import COSTS
 
@@ -42,5 +43,17 @@ def is_list(name):
     try:
         with open(name, "rb") as file:
             return file.read(4096).lstrip()[:1].isdigit()
+    except OSError as fault:
+        raise Problem(f"{name}: {fault.strerror}") from None
+
+
+def read_placement(name):
+    """The machines of a file that is an assignment, or a report of `reassign solve`, of which the assignment is taken. Raises
+    Problem with status 3 if it can't be read, 5 if it is no assignment, and 9 if it is no report."""
+    try:
+        with open(name, "rb") as lines:
+            if not lines.peek(5).startswith(b"cost "):
+                return read_list(name)
+            return ReportHead(name, [line for _, line in zip(HEAD, lines)]).assignment
     except OSError as fault:
         raise Problem(f"{name}: {fault.strerror}") from None

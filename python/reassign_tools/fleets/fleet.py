@@ -1,0 +1,315 @@
+"""A fleet: what the tables of a folder say."""
+import graphlib
+from dataclasses import dataclass, field
+
+from ..models import LARGEST, MOST_RESOURCES
+from .measures import Measure, unit_for
+from .mistakes import Mistakes, Place
+from .settings import FILE as SETTINGS, Resource, Settings
+from .tables import Table, read_text
+from .way_tables import read_ways
+
+MACHINES, SERVICES, PROCESSES = "machines.csv", "services.csv", "processes.csv"
+MOST_MACHINES, MOST_SERVICES, MOST_PROCESSES, MOST_DEPENDENCIES = 5_000, 50_000, 50_000, 100_000
+STATES = ("open", "closed")
+
+
+@dataclass
+class Machine:
+    name: str
+    neighbourhood: str
+    location: str
+    capacity: list  # by resource, in its unit
+    safety: list
+    closed: bool
+
+
+@dataclass
+class Service:
+    name: str
+    spread: int
+    depends_on: list  # numbers of services
+    requirement: list  # by resource, in its unit; None if the table doesn't say it
+
+
+@dataclass
+class Process:
+    name: str
+    service: int
+    machine: int
+    move_cost: int
+    requirement: list
+
+
+@dataclass
+class Fleet:
+    """Machines, services and processes by their names, in the order of the tables."""
+
+    settings: Settings
+    machines: list
+    services: list
+    processes: list
+    way_pairs: list  # those ways whose cost is written one by one (way_tables.py)
+    texts: dict = field(repr=False)  # of the files, by their names
+    notes: list  # what isn't wrong, and worth knowing
+
+    @classmethod
+    def read(cls, folder):
+        """The fleet of a folder with machines.csv, services.csv, processes.csv and, if there is one, settings.toml.
+
+        Raises FleetMistakes, which has all that is wrong, with places; its status is 3 if a file can't be read, else 4."""
+        return FleetReader(folder).read()
+
+    @property
+    def resources(self):
+        return self.settings.resources
+
+
+class FleetReader:
+    """Reads the tables of a folder, and collects what is wrong in them."""
+
+    def __init__(self, folder):
+        self.folder, self.mistakes, self.notes, self.texts = folder, Mistakes(), [], {}
+
+    def read(self):
+        self.settings = Settings.read(self.text(SETTINGS, is_needed=False), self.mistakes)
+        tables = {file: self.table(file) for file in (MACHINES, SERVICES, PROCESSES)}
+        self.find_resources(tables)
+        self.machines = self.read_machines(tables[MACHINES]) if tables[MACHINES] else None
+        self.services = self.read_services(tables[SERVICES]) if tables[SERVICES] else None
+        processes = self.read_processes(tables[PROCESSES]) if tables[PROCESSES] else []
+        ways_file = self.settings.ways.file
+        ways = self.table(ways_file) if ways_file else None
+        pairs = read_ways(ways, self.machines, self.mistakes) if ways and self.machines else []
+        self.mistakes.close()
+        for measure in (*self.capacities, *self.requirements):
+            self.notes += measure.notes()
+        self.look_at_places()
+        self.look_for_cycles()
+        return Fleet(self.settings, self.machines, self.services, processes, pairs, self.texts, self.notes)
+
+    # Files and columns
+
+    def text(self, file, is_needed=True):
+        text = read_text(self.folder, file, self.mistakes, is_needed)
+        if text is not None:
+            self.texts[file] = text
+        return text
+
+    def table(self, file):
+        text = self.text(file)
+        return None if text is None else Table(file, text, self.mistakes)
+
+    def find_resources(self, tables):
+        """Looks which resources there are, what their units are, and whether their columns are there."""
+        settings, machines = self.settings, tables[MACHINES]
+        own = {"machine", "state", *settings.neighbourhood, *settings.location, *settings.ignored}
+        if not settings.resources and machines:
+            settings.resources = [Resource(name) for name in dict.fromkeys(machines.columns) if name not in own]
+        resources = settings.resources
+        if machines and machines.columns and not resources:
+            self.mistakes.add(Place(MACHINES, machines.header_line), "no column is a resource")
+        if len(resources) > MOST_RESOURCES:
+            self.mistakes.add(settings.place("resource", MOST_RESOURCES) if settings.places else Place(MACHINES, 1),
+                              f"{len(resources)} resources; at most {MOST_RESOURCES} are possible")
+        for one in resources:
+            if one.unit is None:
+                one.unit = unit_for(one.name, [table for table in tables.values() if table])
+        self.capacities = [Measure(one, self.mistakes, up=False) for one in resources]
+        self.requirements = [Measure(one, self.mistakes, up=True) for one in resources]
+        self.look_at_balances()
+        names = [one.name for one in resources]
+        safeties = [one.safety for one in resources if isinstance(one.safety, str)]
+        if machines:
+            machines.needs("machine", *settings.neighbourhood, *settings.location, *names, *safeties)
+            machines.knows({*own, *names, *safeties})
+        services, processes = tables[SERVICES], tables[PROCESSES]
+        if services:
+            services.needs("service", "spread", "depends_on")
+            services.knows({"service", "spread", "depends_on", *names, *settings.ignored})
+        if processes:
+            processes.needs("process", "service", "machine")
+            processes.knows({"process", "service", "machine", "move_cost", *names, *settings.ignored})
+        if services and processes and services.columns and processes.columns:
+            services.needs(*[name for name in names if name not in processes.columns], why=", and processes.csv has none")
+
+    def look_at_balances(self):
+        names = [one.name for one in self.settings.resources]
+        for at, balance in enumerate(self.settings.balances):
+            for word in ("first", "second"):
+                name = getattr(balance, word)
+                if name not in names:
+                    self.mistakes.add(self.settings.place("balance", at, word), f"no resource {name!r}"
+                                      f"{self.mistakes.nearest(name, names)}")
+
+    # Rows
+
+    def numbers(self, table, column, what, most):
+        """The numbers of the names in a column, in the order of the rows; those that are wrong are told."""
+        at, numbers = table.at(column), {}
+        if len(table.rows) > most:
+            self.mistakes.add(Place(table.file, table.rows[most].line), f"{len(table.rows):,} {what}s; at most {most:,} are "
+                              "possible")
+        if at is None:
+            return None
+        if not table.rows and not table.faulty:
+            self.mistakes.add(Place(table.file, table.header_line), f"the table has no {what}")
+        lines = {}
+        for row in table.rows:
+            name = row.cells[at]
+            if not name or not name.isprintable():
+                self.mistakes.add(table.place(row, at), f"{name!r} is no name" if name else f"this {what} has no name")
+            elif name in numbers:
+                self.mistakes.add(table.place(row, at), f"{what} {name!r} stands in line {lines[name]} already")
+            else:
+                numbers[name], lines[name] = len(numbers), row.line
+        return numbers
+
+    def number(self, table, row, at, default, what):
+        """A whole number of a cell, or the default if the cell is empty or there is no such column."""
+        text = row.cells[at] if at is not None else ""
+        if not text:
+            return default
+        if not (text.isascii() and text.isdigit()) or int(text[:20]) > LARGEST:
+            self.mistakes.add(table.place(row, at), f"{what}: {text!r} is no whole number from 0 to {LARGEST:,}")
+            return default
+        return int(text)
+
+    def labels(self, table, names):
+        """A function that gives what a row has in some columns, taken together."""
+        at = [table.at(name) for name in names if table.at(name) is not None]
+
+        def label(row):
+            for column in at:
+                if not row.cells[column]:
+                    self.mistakes.add(table.place(row, column), f"machine {row.cells[0]!r} has no {table.columns[column]}")
+            return "/".join(row.cells[column] for column in at)
+        return label
+
+    def read_machines(self, table):
+        self.machine_numbers = self.numbers(table, "machine", "machine", MOST_MACHINES)
+        self.faulty_machines = table.faulty_names(table.at("machine") or 0)
+        if self.machine_numbers is None:
+            return []
+        hood, location = self.labels(table, self.settings.neighbourhood), self.labels(table, self.settings.location)
+        at, state_at = table.at("machine"), table.at("state")
+        amounts = [table.at(one.name) for one in self.settings.resources]
+        safeties = [table.at(one.safety) if isinstance(one.safety, str) else None for one in self.settings.resources]
+        machines = []
+        for row in table.rows:
+            name = row.cells[at]
+            state = row.cells[state_at] if state_at is not None else ""
+            if state and state not in STATES:
+                self.mistakes.add(table.place(row, state_at), f"machine {name!r}: {state!r} is no state; it is open or closed"
+                                  f"{self.mistakes.nearest(state, STATES)}")
+            capacity, safety = [], []
+            for one, measure, column, safety_at in zip(self.settings.resources, self.capacities, amounts, safeties):
+                room = measure.take(table, row, column, f"machine {name!r}")
+                capacity.append(room)
+                if isinstance(one.safety, str):
+                    safety.append(measure.take(table, row, safety_at, f"machine {name!r}"))
+                else:
+                    safety.append(measure.share(table, row, column, one.safety))
+            machines.append(Machine(name, hood(row), location(row), capacity, safety, state == "closed"))
+        return machines
+
+    def read_services(self, table):
+        self.service_numbers = self.numbers(table, "service", "service", MOST_SERVICES)
+        self.faulty_services = table.faulty_names(table.at("service") or 0)
+        if self.service_numbers is None:
+            return []
+        at, spread_at, needs_at = (table.at(name) for name in ("service", "spread", "depends_on"))
+        amounts = [table.at(one.name) for one in self.settings.resources]
+        names = list(self.service_numbers)
+        services, count = [], 0
+        for row in table.rows:
+            name = row.cells[at]
+            needs = []
+            words = row.cells[needs_at].split(";") if needs_at is not None else []
+            for needed in dict.fromkeys(word.strip() for word in words if word.strip()):
+                if needed in self.service_numbers:
+                    needs.append(self.service_numbers[needed])
+                elif needed not in self.faulty_services:
+                    self.mistakes.add(table.place(row, needs_at), f"service {name!r} depends on {needed!r}, and there is no "
+                                      f"such service{self.mistakes.nearest(needed, names)}")
+            before, count = count, count + len(needs)
+            if before <= MOST_DEPENDENCIES < count:
+                self.mistakes.add(table.place(row, needs_at), f"more than {MOST_DEPENDENCIES:,} dependencies in all")
+            spread = self.number(table, row, spread_at, self.settings.spread, f"service {name!r}: spread")
+            requirement = [measure.take(table, row, column, f"service {name!r}", is_needed=False)
+                           for measure, column in zip(self.requirements, amounts)]
+            services.append(Service(name, spread, needs, requirement))
+        return services
+
+    def read_processes(self, table):
+        numbers = self.numbers(table, "process", "process", MOST_PROCESSES)
+        if numbers is None:
+            return []
+        at, service_at, machine_at, cost_at = (table.at(name) for name in ("process", "service", "machine", "move_cost"))
+        amounts = [table.at(one.name) for one in self.settings.resources]
+        find_service = self.finder(table, service_at, "service", self.services and self.service_numbers,
+                                   self.services and self.faulty_services)
+        find_machine = self.finder(table, machine_at, "machine", self.machines and self.machine_numbers,
+                                   self.machines and self.faulty_machines)
+        processes, resources = [], self.settings.resources
+        for row in table.rows:
+            name = row.cells[at]
+            service, machine = find_service(row, name), find_machine(row, name)
+            requirement = [measure.take(table, row, column, f"process {name!r}", is_needed=False)
+                           for measure, column in zip(self.requirements, amounts)]
+            if service is not None:
+                for r, (own, of_service) in enumerate(zip(requirement, self.services[service].requirement)):
+                    requirement[r] = of_service if own is None else own
+                    if requirement[r] is None and not self.requirements[r].has_failed:
+                        self.mistakes.add(Place(table.file, row.line, *([] if amounts[r] is None else [amounts[r] + 1])),
+                                          f"process {name!r} has no {resources[r].name}, and neither has service "
+                                          f"{self.services[service].name!r}")
+            cost = self.number(table, row, cost_at, self.settings.move_cost, f"process {name!r}: move_cost")
+            processes.append(Process(name, service, machine, cost, requirement))
+        return processes
+
+    def finder(self, table, at, what, numbers, faulty):
+        """A function that gives the number of what a row names, and tells it if there is none."""
+        if at is None or not numbers:
+            return lambda row, process: None
+        names = list(numbers)
+
+        def find(row, process):
+            name = row.cells[at]
+            number = numbers.get(name)
+            if number is None and name not in faulty:
+                self.mistakes.add(table.place(row, at), f"process {process!r}: no {what} {name!r}"
+                                  f"{self.mistakes.nearest(name, names)}" if name else f"process {process!r} has no {what}")
+            return number
+        return find
+
+    # What isn't wrong
+
+    def look_at_places(self):
+        hoods = {}
+        for one in self.machines:
+            hoods.setdefault(one.location, set()).add(one.neighbourhood)
+        location, hood = "/".join(self.settings.location), "/".join(self.settings.neighbourhood)
+        several = sorted(name for name, some in hoods.items() if len(some) > 1)
+        if several and self.settings.neighbourhood != self.settings.location:
+            first = several[0]
+            self.notes.append(f"{location} {first!r} stands in more than one {hood} ({', '.join(sorted(hoods[first]))}) and is "
+                              f"one location for the spread{self.more(several)}; location = [\"{hood}\", \"{location}\"] makes "
+                              "them several")
+        wide = [one.name for one in self.services if one.spread > len(hoods)]
+        if wide:
+            self.notes.append(f"service {wide[0]!r} asks for more locations than the {len(hoods)} that there "
+                              f"are{self.more(wide)}")
+
+    def look_for_cycles(self):
+        graph = {at: one.depends_on for at, one in enumerate(self.services)}
+        try:
+            graphlib.TopologicalSorter(graph).prepare()
+        except graphlib.CycleError as fault:
+            names = " > ".join(self.services[at].name for at in reversed(fault.args[1]))
+            self.notes.append(f"services depend on each other in a ring: {names}; that is allowed, and each of them needs the "
+                              "next in its neighbourhood")
+
+    @staticmethod
+    def more(items):
+        return f", and so do {len(items) - 1} others" if len(items) > 1 else ""

@@ -1,0 +1,86 @@
+"""Amounts in the cells of tables, as numbers of a model."""
+from collections import Counter
+from dataclasses import dataclass, field
+from fractions import Fraction
+
+from ..models import LARGEST
+from .amounts import NoAmount, amount, amount_text, in_units, loses_much, suffix_of
+
+MOST_TOLD = 3  # amounts that are named as losing by rounding
+
+
+@dataclass
+class Measure:
+    """Reads the amounts of a resource: capacities, which are rounded down, or requirements, which are rounded up."""
+
+    resource: object
+    mistakes: object
+    up: bool
+    counts: dict = field(default_factory=dict)  # of units, by the text of the cell
+    seen: Counter = field(default_factory=Counter)  # how often a text that loses much was read
+    first: dict = field(default_factory=dict)  # where it was read first
+    has_failed: bool = False  # an amount was told as a mistake
+
+    def take(self, table, row, at, whose, is_needed=True):
+        """The number for a cell; None if the cell is empty or wrong. What is wrong is told."""
+        text = row.cells[at] if at is not None else ""
+        if not text:
+            if is_needed and at is not None:
+                self.wrong(table, row, at, f"{whose} has no {table.columns[at]}")
+            return None
+        if text not in self.counts:
+            try:
+                value = amount(text)
+            except NoAmount as fault:
+                self.wrong(table, row, at, f"{whose}: {fault}")
+                return None
+            self.counts[text] = in_units(value, self.resource.unit, self.up)
+            if loses_much(value, self.resource.unit, self.counts[text]):
+                self.first[text] = table.place(row, at)
+        count = self.counts[text]
+        if count > LARGEST:
+            self.wrong(table, row, at, f"{whose}: {text} is {count:,} times the unit {amount_text(self.resource.unit)}, and at "
+                       f"most {LARGEST:,} are possible; give {self.resource.name} a larger unit")
+            return None
+        if text in self.first:
+            self.seen[text] += 1
+        return count
+
+    def share(self, table, row, at, part):
+        """A share of the amount in a cell, rounded down; None if there is none."""
+        text = row.cells[at] if at is not None else ""
+        return in_units(amount(text) * part, self.resource.unit, False) if text in self.counts else None
+
+    def wrong(self, table, row, at, text):
+        self.has_failed = True
+        self.mistakes.add(table.place(row, at), text)
+
+    def notes(self):
+        """Tells where rounding takes more than a hundredth."""
+        if self.seen:
+            unit, name = amount_text(self.resource.unit), self.resource.name
+            most = sorted(self.seen, key=self.error, reverse=True)
+            told = "; ".join(f"{self.first[text].file}:{self.first[text].line}: {text} becomes {self.counts[text]:,}"
+                             for text in most[:MOST_TOLD])
+            yield (f"{name}: rounding {'up' if self.up else 'down'} to whole units of {unit} changes {sum(self.seen.values()):,} "
+                   f"amounts by more than a hundredth, most of all {told}")
+
+    def error(self, text):
+        value = amount(text)
+        return abs(self.counts[text] * self.resource.unit - value) / value
+
+
+def unit_for(name, tables):
+    """The unit of a resource for which the settings name none, by how its amounts are written in the tables: 1Mi if one has
+    the suffix of a power of 1024, else 1M if one is in millions or more, else 1m if one has a part of 1, else 1."""
+    texts = {row.cells[at] for table in tables if (at := table.at(name)) is not None for row in table.rows}
+    found = set()
+    for text in texts:
+        try:
+            value = amount(text)
+        except NoAmount:
+            continue
+        suffix = suffix_of(text)
+        found.add("1Mi" if suffix.endswith("i") else "1M" if suffix in ("M", "G", "T", "P", "E") else
+                  "1m" if value.denominator > 1 else "1")
+    return amount(next((unit for unit in ("1Mi", "1M", "1m") if unit in found), "1")) + Fraction(0)

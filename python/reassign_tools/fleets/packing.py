@@ -1,0 +1,132 @@
+"""A fleet as the files of the program: model, initial, closed, names.json."""
+import hashlib
+import os
+import shutil
+from fractions import Fraction
+
+from ..files import list_text, write_whole
+from ..models import LARGEST, Model
+from ..names import Names
+from ..problems import Problem
+from .amounts import amount_text
+from .mistakes import Mistakes
+from .way_tables import way_rows
+
+FILES = ("model", "initial", "closed", "names.json")
+
+
+def labels_of(names):
+    """A number for each name, by the first use, and the names in this order."""
+    numbers = {}
+    return [numbers.setdefault(name, len(numbers)) for name in names], list(numbers)
+
+
+def model_of(fleet):
+    """The model of a fleet. Raises FleetMistakes if a balance asks for more than a model's number can say."""
+    machines, services, processes, settings = fleet.machines, fleet.services, fleet.processes, fleet.settings
+    weights = settings.weights
+    return Model(
+        transient=[int(one.transient) for one in fleet.resources],
+        load_weights=[one.load_weight for one in fleet.resources],
+        hoods=labels_of(one.neighbourhood for one in machines)[0],
+        locations=labels_of(one.location for one in machines)[0],
+        capacity=[one.capacity for one in machines],
+        safety=[one.safety for one in machines],
+        ways=way_rows(machines, settings.ways, fleet.way_pairs),
+        spreads=[one.spread for one in services],
+        needs=[one.depends_on for one in services],
+        service=[one.service for one in processes],
+        required=[one.requirement for one in processes],
+        move_cost=[one.move_cost for one in processes],
+        balances=balances_of(fleet),
+        weights=[weights.process, weights.service, weights.machine],
+    )
+
+
+def balances_of(fleet):
+    """The balance objectives as a model has them. An amount as the target becomes one of units, rounded to the nearest."""
+    numbers = {one.name: at for at, one in enumerate(fleet.resources)}
+    mistakes, balances = Mistakes(), []
+    for at, one in enumerate(fleet.settings.balances):
+        first, second = numbers[one.first], numbers[one.second]
+        target = one.target
+        if isinstance(target, Fraction):
+            exact = target * fleet.resources[first].unit / fleet.resources[second].unit
+            target = round(exact)
+            if abs(target - exact) * 100 > exact:
+                place = fleet.settings.place("balance", at, "target")
+                fleet.notes.append(f"{place.file}:{place.line}: {amount_text(one.target)} of {one.second} for each 1 of "
+                                   f"{one.first} are {float(exact):.4g} units for each unit, rounded to {target}, which changes "
+                                   "the target by more than a hundredth")
+        if target > LARGEST:
+            mistakes.add(fleet.settings.place("balance", at, "target"), f"the target is {target:,} units, and at most "
+                         f"{LARGEST:,} are possible")
+        balances.append((first, second, target, one.weight))
+    mistakes.close()
+    return balances
+
+
+def names_of(fleet, model_hash):
+    """The names of a fleet in the order of its model's numbers."""
+    return Names(
+        model_sha256=model_hash,
+        resources=[one.name for one in fleet.resources],
+        units=[one.unit for one in fleet.resources],
+        machines=[one.name for one in fleet.machines],
+        neighbourhoods=labels_of(one.neighbourhood for one in fleet.machines)[1],
+        locations=labels_of(one.location for one in fleet.machines)[1],
+        services=[one.name for one in fleet.services],
+        processes=[one.name for one in fleet.processes],
+        tables=fleet.texts,
+    )
+
+
+def pack(fleet, folder):
+    """Writes the files of a fleet into a folder, which is made if it isn't there. The names come last, so that those of an
+    earlier fleet are known to be another model's if the writing ends before."""
+    digest = hashlib.sha256()
+    model = model_of(fleet)
+
+    def hashed():
+        for piece in model.pieces():
+            digest.update(piece)
+            yield piece
+
+    with whole_folder(folder) as beside:
+        write_whole(os.path.join(beside, "model"), hashed())
+        write_whole(os.path.join(beside, "initial"), [list_text(one.machine for one in fleet.processes)])
+        write_whole(os.path.join(beside, "closed"), [list_text(at for at, one in enumerate(fleet.machines) if one.closed)])
+        write_whole(os.path.join(beside, "names.json"), [names_of(fleet, digest.hexdigest()).text().encode()])
+
+
+class whole_folder:
+    """A folder in which files are written. If it isn't there yet, it is made beside its place and then renamed, so that it is
+    there with all of its files or not at all."""
+
+    def __init__(self, folder):
+        self.folder = os.path.realpath(folder)
+        self.is_new = not os.path.exists(self.folder)
+        above, name = os.path.split(self.folder)
+        self.beside = os.path.join(above, f".{name}.{os.getpid()}") if self.is_new else self.folder
+
+    def __enter__(self):
+        try:
+            if self.is_new:
+                os.mkdir(self.beside)
+            elif not os.path.isdir(self.folder):
+                raise Problem(f"{self.folder} is no folder", 2)
+        except OSError as fault:
+            raise Problem(f"write fault: {self.folder}: {fault.strerror}", 7) from None
+        return self.beside
+
+    def __exit__(self, kind, *_):
+        if not self.is_new:
+            return
+        if kind is None:
+            try:
+                os.rename(self.beside, self.folder)
+            except OSError as fault:
+                shutil.rmtree(self.beside, ignore_errors=True)
+                raise Problem(f"write fault: {self.folder}: {fault.strerror}", 7) from None
+        else:
+            shutil.rmtree(self.beside, ignore_errors=True)

@@ -1,0 +1,278 @@
+"""The settings of a fleet: settings.toml, each of whose words has a default."""
+import json
+import re
+import tomllib
+from dataclasses import dataclass, field
+from decimal import Decimal
+from fractions import Fraction
+
+from ..models import LARGEST
+from .amounts import NoAmount, amount, amount_text
+from .mistakes import Place
+
+FILE = "settings.toml"
+MOST_BALANCES = 10
+
+
+@dataclass
+class Resource:
+    """A resource. What one of the model's numbers means is `unit`; none means that the amounts in the tables decide."""
+
+    name: str
+    unit: Fraction | None = None
+    transient: bool = False
+    load_weight: int = 1
+    safety: Fraction | str = Fraction(4, 5)  # a share of the capacity, or the name of a column
+
+
+@dataclass
+class Balance:
+    """A balance objective. A target that is a fraction is an amount of the second for each 1 of the first; a whole number is
+    one of units for each unit."""
+
+    first: str
+    second: str
+    target: int | Fraction = 1
+    weight: int = 1
+
+
+@dataclass
+class Ways:
+    """What the way from a machine to another costs, as a number."""
+
+    same_location: int = 1
+    same_neighbourhood: int = 2
+    elsewhere: int = 5
+    file: str = ""
+
+
+@dataclass
+class Weights:
+    process: int = 1
+    service: int = 10
+    machine: int = 1
+
+
+@dataclass
+class Settings:
+    """The settings. No resources means that the columns of machines.csv decide."""
+
+    neighbourhood: list = field(default_factory=lambda: ["zone"])
+    location: list = field(default_factory=lambda: ["rack"])
+    move_cost: int = 1
+    spread: int = 1
+    ignored: list = field(default_factory=list)
+    resources: list = field(default_factory=list)
+    balances: list = field(default_factory=list)
+    ways: Ways = field(default_factory=Ways)
+    weights: Weights = field(default_factory=Weights)
+    places: dict = field(default_factory=dict, repr=False)  # of sections and words in the file
+
+    @classmethod
+    def read(cls, text, mistakes):
+        """The settings of a text, or the defaults if there is none. Mistakes are added to those that are given."""
+        settings = cls()
+        try:
+            words = tomllib.loads(text or "", parse_float=Decimal)
+        except tomllib.TOMLDecodeError as fault:
+            found = re.fullmatch(r"(.*) \(at line (\d+), column (\d+)\)", str(fault))
+            place = Place(FILE, int(found[2]), int(found[3])) if found else Place(FILE, text.count("\n") + 1)
+            mistakes.add(place, f"no TOML: {found[1] if found else fault}")
+            return settings
+        settings.places = places_of(text or "")
+        Reader(settings, mistakes).fill(words)
+        return settings
+
+    def place(self, section, at=0, word=""):
+        """Where a word stands: that of a section, of which there may be several."""
+        line, column = self.places.get((section, at, word)) or self.places.get((section, at, "")) or (0, 0)
+        return Place(FILE, line, column)
+
+    def lines(self):
+        """The settings as they are written, each word of them."""
+        yield f"neighbourhood = {written_names(self.neighbourhood)}"
+        yield f"location = {written_names(self.location)}"
+        yield f"move_cost = {self.move_cost}"
+        yield f"spread = {self.spread}"
+        yield f"ignored = {json.dumps(self.ignored, ensure_ascii=False)}"
+        for one in self.resources:
+            safety = quoted(one.safety) if isinstance(one.safety, str) else f"{float(one.safety):.10g}"
+            yield from ("", "[[resource]]", f"name = {quoted(one.name)}", f"unit = {quoted(amount_text(one.unit))}",
+                        f"transient = {str(one.transient).lower()}", f"load_weight = {one.load_weight}", f"safety = {safety}")
+        for one in self.balances:
+            target = one.target if isinstance(one.target, int) else quoted(amount_text(one.target))
+            yield from ("", "[[balance]]", f"first = {quoted(one.first)}", f"second = {quoted(one.second)}",
+                        f"target = {target}", f"weight = {one.weight}")
+        ways, weights = self.ways, self.weights
+        yield from ("", "[ways]", f"same_location = {ways.same_location}", f"same_neighbourhood = {ways.same_neighbourhood}",
+                    f"elsewhere = {ways.elsewhere}")
+        if ways.file:
+            yield f"file = {quoted(ways.file)}"
+        yield from ("", "[weights]", f"process = {weights.process}", f"service = {weights.service}",
+                    f"machine = {weights.machine}")
+
+
+def quoted(text):
+    return json.dumps(text, ensure_ascii=False)
+
+
+def written_names(names):
+    return quoted(names[0]) if len(names) == 1 else json.dumps(names, ensure_ascii=False)
+
+
+class Wrong(ValueError):
+    """A value that a setting can't have; its text says what it can be."""
+
+
+def whole(value):
+    if type(value) is not int or not 0 <= value <= LARGEST:
+        raise Wrong(f"a whole number from 0 to {LARGEST:,}")
+    return value
+
+
+def truth(value):
+    if type(value) is not bool:
+        raise Wrong("true or false")
+    return value
+
+
+def name(value):
+    if type(value) is not str or not value:
+        raise Wrong("a name in quotation marks")
+    return value
+
+
+def file(value):
+    if "/" in name(value) or value.startswith("."):
+        raise Wrong("the name of a file in the fleet's folder")
+    return value
+
+
+def names(value):
+    if type(value) is not list or any(type(one) is not str for one in value):
+        raise Wrong("a list of names in quotation marks")
+    return value
+
+
+def columns(value):
+    if type(value) is str and value:
+        return [value]
+    if value == [] or type(value) is not list or any(type(one) is not str for one in value):
+        raise Wrong("the name of a column in quotation marks, or a list of such names")
+    return value
+
+
+def unit(value):
+    wrong = "an amount above 0 in quotation marks, such as \"1m\" or \"1Mi\""
+    if type(value) is not str:
+        raise Wrong(wrong)
+    try:
+        if not amount(value):
+            raise Wrong(wrong)
+    except NoAmount:
+        raise Wrong(wrong) from None
+    return amount(value)
+
+
+def share(value):
+    if type(value) is str and value:
+        return value
+    if type(value) not in (int, Decimal) or not (Decimal(value).is_finite() and 0 <= value <= 1):
+        raise Wrong("a share of the capacity from 0 to 1, or the name of a column")
+    return Fraction(value)
+
+
+def target(value):
+    if type(value) is str:
+        try:
+            return amount(value)
+        except NoAmount as fault:
+            raise Wrong(f"an amount: {fault}") from None
+    return whole(value)
+
+
+OWN = {"neighbourhood": columns, "location": columns, "move_cost": whole, "spread": whole, "ignored": names}
+RESOURCE = {"name": name, "unit": unit, "transient": truth, "load_weight": whole, "safety": share}
+BALANCE = {"first": name, "second": name, "target": target, "weight": whole}
+WAYS = {"same_location": whole, "same_neighbourhood": whole, "elsewhere": whole, "file": file}
+WEIGHTS = {"process": whole, "service": whole, "machine": whole}
+
+
+class Reader:
+    """Reads the words of settings into their places."""
+
+    def __init__(self, settings, mistakes):
+        self.settings, self.mistakes = settings, mistakes
+
+    def fill(self, words):
+        settings = self.settings
+        parts = {name: words.pop(name, kind()) for name, kind in
+                 (("resource", list), ("balance", list), ("ways", dict), ("weights", dict))}
+        self.take(settings, OWN, words, "", also=parts)
+        for named, kind in parts.items():
+            if named in ("ways", "weights"):
+                if self.is_table(kind, named):
+                    self.take(getattr(settings, named), {"ways": WAYS, "weights": WEIGHTS}[named], kind, named)
+            elif type(kind) is not list:
+                self.wrong(("", 0, named), f"{named} has to be written as [[{named}]]")
+        settings.resources = self.listed(parts["resource"], "resource", RESOURCE, Resource, ("name",))
+        settings.balances = self.listed(parts["balance"], "balance", BALANCE, Balance, ("first", "second"))
+        if len(settings.balances) > MOST_BALANCES:
+            self.wrong(("balance", MOST_BALANCES, ""), f"{len(settings.balances)} balances; at most {MOST_BALANCES} are possible")
+        seen = set()
+        for at, one in enumerate(settings.resources):
+            if one.name in seen:
+                self.wrong(("resource", at, "name"), f"two resources are named {one.name!r}")
+            seen.add(one.name)
+
+    def listed(self, items, section, readers, kind, needed):
+        made = []
+        for at, item in enumerate(items if type(items) is list else []):
+            if not self.is_table(item, section, at):
+                continue
+            lacking = [word for word in needed if word not in item]
+            for word in lacking:
+                self.wrong((section, at, ""), f"this {section} has no {word!r}")
+            one = kind(*[item.get(word) for word in needed])
+            if self.take(one, readers, item, section, at) and not lacking:
+                made.append(one)
+        return made
+
+    def is_table(self, item, section, at=0):
+        if type(item) is dict:
+            return True
+        self.wrong((section, at, ""), f"[{section}] has to be a table")
+        return False
+
+    def take(self, into, readers, words, section, at=0, also=()):
+        """Sets what the words say. Answers whether all was well."""
+        is_well = True
+        for word, value in words.items():
+            if word not in readers:
+                hint = self.mistakes.nearest(word, [*readers, *also])
+                self.wrong((section, at, word), f"no setting {word!r}{f' of [{section}]' if section else ''}{hint}")
+                is_well = False
+                continue
+            try:
+                setattr(into, word, readers[word](value))
+            except Wrong as wrong:
+                self.wrong((section, at, word), f"{word} has to be {wrong}")
+                is_well = False
+        return is_well
+
+    def wrong(self, key, text):
+        self.mistakes.add(self.settings.place(*key), text)
+
+
+def places_of(text):
+    """The line and column of each section and word, by (section, number of the section, word)."""
+    places, counts, section, at = {}, {}, "", 0
+    for line, words in enumerate(text.splitlines(), 1):
+        if found := re.match(r"\s*(\[+)\s*\"?([\w-]+)\"?\s*\]+", words):
+            section = found[2]
+            at = counts.get(section, -1) + 1
+            counts[section] = at
+            places[section, at, ""] = line, found.start(1) + 1
+        elif found := re.match(r"\s*(\"?)([\w.-]+)\1\s*=", words):
+            places.setdefault((section, at, found[2]), (line, found.start(1) + 1))
+    return places
