@@ -7,7 +7,7 @@ import importlib
 import os
 import sys
 
-TOOLS = ("evacuate", "moves", "named", "plot", "repair_words", "rounds", "summary")
+TOOLS = ("evacuate", "moves", "named", "plot", "race", "repair_words", "rounds", "summary")
 
 
 def main():

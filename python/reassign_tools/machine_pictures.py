@@ -1,114 +1,171 @@
 """The picture of the machines: how much of each capacity is in use, before and after."""
-from .pictures import ACROSS, BLACK, BLUE, FAINT, GREEN, GRID, MIDDLE, ORANGE, PALE, PALE_GREEN, Picture, grouped
+from .pictures import ACROSS, BLACK, BLUE, FAINT, GREEN, GRID, MIDDLE, ORANGE, PALE, PALE_GREEN, Picture, grouped, wide
 from .words import shown
 
-GROUPS, MOST_DOTS, MOST_NUMBERS = 100, 120, 50
+MOST_DOTS = 120  # machines that are drawn as dots joined by lines
+MOST_SINGLE = 600  # machines that are drawn one by one
+GROUP, MOST_GROUPS = 20, 100  # more are drawn in groups of at least so many, of which there are at most so many
+MOST_NUMBERS = 50
+ONE_COLUMN = 4  # resources; more stand in two columns
+HEIGHT, STEP, BESIDE, NARROW = 170, 236, 96, 500
 
 
-def quantile(values, part):
-    return values[min(len(values) - 1, int(part * len(values)))]
+class Groups:
+    """Machines in the order of their use at the start, in groups of nearly one size."""
+
+    def __init__(self, order):
+        self.count = min(MOST_GROUPS, len(order) // GROUP)
+        self.members = [order[at * len(order) // self.count:(at + 1) * len(order) // self.count] for at in range(self.count)]
+
+    def size(self):
+        return round(sum(map(len, self.members)) / self.count)
+
+    def parts(self, values, part):
+        """Of each group the value below which such a part of it is, counted from its end if the part is above a half."""
+        chosen = []
+        for group in self.members:
+            ordered = sorted(values[machine] for machine in group)
+            out = int((1 - part if part > 0.5 else part) * len(ordered))
+            chosen.append(ordered[-1 - out] if part > 0.5 else ordered[min(out, len(ordered) - 1)])
+        return chosen
 
 
 class Panel:
     """The use of each machine of one resource."""
 
-    def __init__(self, picture, instance, resource, top, height):
-        model = instance.model
-        most = [max(capacity[resource], 1) for capacity in model.capacity]
-        self.before, self.after, self.safety = ([row[resource] / full for row, full in zip(rows, most)]
-                                                for rows in (instance.before, instance.after, model.safety))
-        self.order = sorted(range(len(most)), key=lambda machine: (self.before[machine], machine))
-        self.picture, self.top, self.height = picture, top, height
+    def __init__(self, picture, use, machine_names, left, top, width):
+        self.picture, self.use, self.names = picture, use, machine_names
+        self.before, self.after, self.safety = map(use.shares, (use.before, use.after, use.safety))
+        self.order = sorted(range(len(use.capacity)), key=lambda machine: (self.before[machine], machine))
+        self.left, self.top, self.width = left, top, width
         self.high = 1.05 * max(1.0, max(self.before), max(self.after))
-        self.draw_frame(resource)
+
+    def draw(self):
+        self.draw_frame()
         if len(self.order) <= MOST_DOTS:
             self.draw_dots()
+        elif len(self.order) <= MOST_SINGLE:
+            self.draw_single()
         else:
-            self.draw_bands()
+            self.draw_groups(Groups(self.order))
+        if len(self.order) > MOST_DOTS:
             self.draw_ends()
 
     def down(self, part):
-        return self.top + self.height * (1 - min(part, self.high) / self.high)
+        return self.top + HEIGHT * (1 - min(part, self.high) / self.high)
 
-    def across(self, at):
-        return self.picture.left + ACROSS * (at + 0.5) / len(self.order)
+    def across(self, at, count):
+        return self.left + self.width * (at + 0.5) / count
 
-    def draw_frame(self, resource):
-        picture, left = self.picture, self.picture.left
-        picture.heading(self.top - 10, f"resource {resource}")
+    def draw_frame(self):
+        picture, left, end, bottom = self.picture, self.left, self.left + self.width, self.top + HEIGHT
+        picture.text(left, self.top - 10, self.use.name, size=15, weight="bold")
         for mark in (0, 25, 50, 75, 100):
             y = self.down(mark / 100)
-            picture.line(left, y, left + ACROSS, y, ORANGE if mark == 100 else GRID, 2 if mark == 100 else 1)
+            picture.line(left, y, end, y, ORANGE if mark == 100 else GRID, 2 if mark == 100 else 1)
             picture.text(left - 8, y + 4, f"{mark} %", "end", 12)
-        picture.line(left, self.top, left, self.top + self.height)
-        picture.line(left, self.top + self.height, left + ACROSS, self.top + self.height)
+        picture.line(left, self.top, left, bottom)
+        picture.line(left, bottom, end, bottom)
 
     def draw_dots(self):
-        picture, radius = self.picture, 3 if len(self.order) > 60 else 4
+        picture, count = self.picture, len(self.order)
+        radius = min(4, max(1.8, 0.4 * self.width / count))
         for at, machine in enumerate(self.order):
-            x = self.across(at)
+            x = self.across(at, count)
             picture.line(x, self.down(self.before[machine]), x, self.down(self.after[machine]), "#D0D0D0", 1.5)
         for at, machine in enumerate(self.order):
-            x = self.across(at)
-            picture.dot(x, self.down(self.before[machine]), radius, "white", FAINT)
-            picture.dot(x, self.down(self.after[machine]), radius - 0.7, BLUE, BLUE)
-        for at, machine in enumerate(self.order):
-            x, y = self.across(at), self.down(self.safety[machine])
+            x, y = self.across(at, count), self.down(self.safety[machine])
             picture.line(x - radius - 1, y, x + radius + 1, y, GREEN, 2)
-            if len(self.order) <= MOST_NUMBERS:
-                picture.text(x, self.top + self.height + 14, str(machine), "middle", 11 if len(self.order) <= 30 else 8)
+        for at, machine in enumerate(self.order):
+            x = self.across(at, count)
+            picture.dot(x, self.down(self.before[machine]), radius, "white", FAINT)
+            picture.dot(x, self.down(self.after[machine]), max(radius - 0.7, 1.2), BLUE, BLUE)
+        self.draw_names()
 
-    def draw_bands(self):
-        groups = [self.order[at * len(self.order) // GROUPS:(at + 1) * len(self.order) // GROUPS] for at in range(GROUPS)]
-        points = lambda values, part: [(self.picture.left + ACROSS * (at + 0.5) / GROUPS,
-                                        self.down(quantile(sorted(values[machine] for machine in group), part)))
-                                       for at, group in enumerate(groups)]
+    def draw_names(self):
+        """The machines under the axis, if there is room for them."""
+        size, room = 11 if len(self.order) <= 30 else 8, self.width / len(self.order)
+        if len(self.order) <= MOST_NUMBERS and max(wide(name, size) for name in self.names) <= 1.4 * room:
+            for at, machine in enumerate(self.order):
+                self.picture.text(self.across(at, len(self.order)), self.top + HEIGHT + 14, self.names[machine], "middle", size)
+
+    def draw_single(self):
+        """A bar for each machine after, and lines through all of them for what is before, and for safety."""
+        count = len(self.order)
+        width = self.width / count
+        for at, machine in enumerate(self.order):
+            y = self.down(self.after[machine])
+            self.picture.bar(self.left + at * width, y, width, self.top + HEIGHT - y, MIDDLE)
+        steps = lambda values: [(self.left + (at + side) * width, self.down(values[machine]))
+                                for at, machine in enumerate(self.order) for side in (0, 1)]
+        self.picture.path(steps(self.before), BLACK, 1.5)
+        self.picture.path(steps(self.safety), GREEN, 1.5)
+
+    def draw_groups(self, groups):
+        points = lambda values, part: [(self.across(at, groups.count), self.down(value))
+                                       for at, value in enumerate(groups.parts(values, part))]
         picture = self.picture
         picture.band(points(self.after, 0), points(self.after, 1), PALE)
         picture.band(points(self.after, 0.1), points(self.after, 0.9), MIDDLE)
         if points(self.safety, 0) != points(self.safety, 1):
             picture.band(points(self.safety, 0.1), points(self.safety, 0.9), PALE_GREEN)
-        picture.path(points(self.after, 0.5), BLUE, 3)
-        picture.path(points(self.safety, 0.5), GREEN, 1.2)
+        picture.path(points(self.after, 0.5), BLUE, 4)
         picture.path(points(self.before, 0.5), BLACK, 1.5, "2 3")
+        picture.path(points(self.safety, 0.5), GREEN, 1.5)  # on top, so that it is seen where the middle stands on it
 
     def draw_ends(self):
         """How many machines there are, under the axis."""
         count = len(self.order)
         for at in (0, count // 4, count // 2, 3 * count // 4, count):
-            x, y = self.picture.left + ACROSS * at / count, self.top + self.height
+            x, y = self.left + self.width * at / count, self.top + HEIGHT
             self.picture.line(x, y, x, y + 5)
             self.picture.text(x, y + 18, grouped(at), "middle", 11)
 
 
-def draw_machines(report, instance, command):
-    picture, count = Picture(80), len(instance.model.capacity)
-    picture.heading(76, "use of each machine, as a part of its capacity")
-    for resource in range(instance.model.resources):
-        Panel(picture, instance, resource, 116 + 236 * resource, 170)
-    x, y = picture.left + ACROSS + 24, 126
+def draw_legend(picture, x, y, count):
+    """What the colours mean, one below the other."""
+    rows = []
     if count <= MOST_DOTS:
-        picture.dot(x + 8, y, 4, "white", FAINT)
-        picture.text(x + 24, y + 4, "at the start")
-        picture.dot(x + 8, y + 24, 3.3, BLUE, BLUE)
-        picture.text(x + 24, y + 28, "in the report")
-        y += 48
+        rows += [(lambda y: picture.dot(x + 8, y, 4, "white", FAINT), "before"), (lambda y: picture.dot(x + 8, y, 3.3, BLUE, BLUE), "after")]
+    elif count <= MOST_SINGLE:
+        rows += [(line_of(picture, x, BLACK, 1.5), "before"), (bar_of(picture, x, MIDDLE), "after, a bar for each machine")]
     else:
-        picture.line(x, y, x + 18, y, BLACK, 1.5, "2 3")
-        picture.text(x + 24, y + 4, "at the start, the middle")
-        picture.line(x, y + 24, x + 18, y + 24, BLUE, 3)
-        picture.text(x + 24, y + 28, "in the report, the middle")
-        for row, (colour, words) in enumerate(((MIDDLE, "eight in ten of a group"), (PALE, "all of a group"))):
-            picture.bar(x, y + 39 + 24 * row, 18, 14, colour)
-            picture.text(x + 24, y + 52 + 24 * row, words)
-        y += 96
-    picture.line(x, y, x + 18, y, GREEN, 2)
-    picture.text(x + 24, y + 4, "safety capacity" if count <= MOST_DOTS else "safety capacity, the middle")
-    picture.line(x, y + 24, x + 18, y + 24, ORANGE, 2)
-    picture.text(x + 24, y + 28, "capacity")
-    end = 116 + 236 * instance.model.resources
-    words = "machines, in the order of their use at the start"
-    if count > MOST_DOTS:
-        words += f", in {GROUPS} groups"
-    picture.text(picture.left + ACROSS, end - 30, words, "end")
-    return picture.written(end - 14, f"{shown(report.name)}: {grouped(count)} machines, before and after", command)
+        rows += [(line_of(picture, x, BLACK, 1.5, "2 3"), "before, the middle of a group"),
+                 (line_of(picture, x, BLUE, 4), "after, the middle of a group"),
+                 (bar_of(picture, x, MIDDLE), "after, eight in ten of a group"), (bar_of(picture, x, PALE), "after, all of a group")]
+    middle = ", the middle of a group" if count > MOST_SINGLE else ""
+    rows += [(line_of(picture, x, GREEN, 2), f"safety capacity{middle}"), (line_of(picture, x, ORANGE, 2), "capacity")]
+    for at, (shape, words) in enumerate(rows):
+        shape(y + 24 * at)
+        picture.text(x + 26, y + 4 + 24 * at, words)
+
+
+def line_of(picture, x, colour, width, dash=""):
+    return lambda y: picture.line(x, y, x + 18, y, colour, width, dash)
+
+
+def bar_of(picture, x, colour):
+    return lambda y: picture.bar(x, y - 7, 18, 14, colour)
+
+
+def draw_machines(uses, machine_names, title, command):
+    """The picture of the machines, a panel for each resource."""
+    picture, count = Picture(80), len(machine_names)
+    columns = 1 if len(uses) <= ONE_COLUMN else 2
+    width = ACROSS if columns == 1 else NARROW
+    in_groups = ""
+    if count > MOST_SINGLE:
+        groups = Groups(list(range(count)))
+        in_groups = f", in {groups.count} groups of {'about ' * (count % groups.count > 0)}{groups.size()}"
+    picture.heading(76, f"use of each machine, as a part of its capacity; machines in the order of their use before{in_groups}")
+    for at, use in enumerate(uses):
+        left = picture.left + at % columns * (width + BESIDE)
+        Panel(picture, use, machine_names, left, 122 + STEP * (at // columns), width).draw()
+    picture.right = max(picture.right, picture.left + columns * width + (columns - 1) * BESIDE + 16)
+    draw_legend(picture, picture.left + columns * width + (columns - 1) * BESIDE + 24, 132, count)
+    bottom = 122 + STEP * -(-len(uses) // columns) - 26
+    return picture.written(max(bottom, 132 + 24 * 6), title, command)
+
+
+def title_of(name, count):
+    return f"{shown(name)}: {grouped(count)} machines, before and after"

@@ -47,9 +47,10 @@ class Picture:
         self.shapes.append(f'<polyline points="{steps}" fill="none" stroke="{colour}" stroke-width="{width}"'
                            f' stroke-linejoin="round"{dashed}/>')
 
-    def band(self, low, high, colour):
+    def band(self, low, high, colour, opacity=1):
         steps = " ".join(f"{x:.1f},{y:.1f}" for x, y in low + high[::-1])
-        self.shapes.append(f'<polygon points="{steps}" fill="{colour}"/>')
+        thin = f' fill-opacity="{opacity}"' if opacity < 1 else ""
+        self.shapes.append(f'<polygon points="{steps}" fill="{colour}"{thin}/>')
 
     def bar(self, x, y, width, height, colour):
         if width > 0 and height > 0:
@@ -86,3 +87,17 @@ def ticks(low, high, wanted=5):
         step = step * 2 if str(step)[0] in "15" else step // 2 * 5
     first = -(-low // step) * step
     return range(first, high + 1, step)
+
+
+def log_ticks(low, high):
+    """Numbers for a logarithmic axis from low to high: 1, 2 and 5 of each decade, or more if these are few."""
+    few = list(decades(low, high, (1, 2, 5)))
+    return few if len(few) >= 3 else list(decades(low, high, (1, 1.2, 1.5, 2, 2.5, 3, 4, 5, 6, 7, 8, 9)))
+
+
+def decades(low, high, steps):
+    for exponent in range(math.floor(math.log10(low)), math.ceil(math.log10(high)) + 1):
+        for step in steps:
+            mark = float(f"{step * 10.0 ** exponent:.6g}")
+            if low <= mark <= high:
+                yield mark

@@ -1,30 +1,36 @@
-"""Draws a run of `reassign solve` as a picture (SVG, to standard output).
+"""Draws a run of `reassign solve`, or the machines before and after, as a picture (SVG, to standard output).
 
-REPORT alone draws the run; --run REPORT MODEL INITIAL draws it with the cost of its start; and REPORT MODEL INITIAL draws the
-machines, before and after.
+REPORT alone draws the run; --run REPORT MODEL INITIAL draws it with the cost of its start; REPORT MODEL INITIAL, or any list,
+LIST MODEL INITIAL, draws the machines, before and after.
 
-The run: over the places of the report's journal the cost, the least so far and the printed bound; and for each worker
-which part of its entries was done and which refused, and, if there are several workers, which part was planned at an
-earlier state than the one in which it stands. If most of the fall comes early, places stand on a logarithmic axis. A
-report alone doesn't always tell what the start costs; MODEL and INITIAL do.
+The run: over the places of the report's journal the cost, the least so far and the printed bound; below them how far these are
+above the bound, on a logarithmic axis, which shows the end; and for each worker which part of its entries was done and which
+refused, and, if there are several workers, which part was planned at an earlier state than the one in which it stands. If
+most of the fall comes early, places stand on a logarithmic axis, unless that leaves much of a worker's strip empty. A report
+alone doesn't always tell what the start costs; MODEL and INITIAL do.
 
-The machines: for each resource the use of each machine as a part of its capacity, at the start and in the report's
-assignment, in the order of their use at the start. More than 120 machines are drawn as bands over groups of them.
+The machines: for each resource the use of each machine as a part of its capacity, before and after, in the order of their use
+before. Up to 600 machines are drawn one by one, and more in groups of at least 20. With --names resources and machines have
+their names, as `named pack` writes them.
 
-A report that is cut off, or isn't one, is refused with its wrong line; so is one that costs something else
-than it says, from this start in this model. One that is cut between two entries, behind its best state, can't be told.
+A report that is cut off, or isn't one, is refused with its wrong line; so is one that costs something else than it says, from
+this start in this model. One that is cut between two entries, after its best state, can't be told. Whether a list is feasible
+`summary` says.
 
 The colours can be told apart by readers who are colour blind. For example
 
-    $ tools/plot --out /tmp/picture.svg --run /tmp/report examples/sample/model examples/sample/initial"""
+    $ tools/plot --out /tmp/picture.svg examples/sample/new examples/sample/model examples/sample/initial"""
 import shlex
 import sys
 
 from .files import read_list, target, write_whole
-from .machine_pictures import draw_machines
+from .machine_pictures import draw_machines, title_of
+from .machine_uses import uses_of
 from .models import Model, same_sizes
+from .names import Names
 from .problems import Problem
 from .run_pictures import draw_run
+from .reports import is_list
 from .run_reports import RunReport
 from .running import run_tool
 from .words import Words, any_file_name, shown
@@ -32,31 +38,62 @@ from .words import Words, any_file_name, shown
 
 def parser():
     words = Words("plot", __doc__)
-    words.add_argument("report", metavar="REPORT", type=any_file_name)
+    words.add_argument("report", metavar="REPORT|LIST", type=any_file_name)
     words.add_argument("model", metavar="MODEL", type=any_file_name, nargs="?")
     words.add_argument("initial", metavar="INITIAL", type=any_file_name, nargs="?")
     words.add_argument("--out", metavar="FILE", type=any_file_name, help="where the picture goes (standard output)")
     words.add_argument("--run", action="store_true", help="draw the run, though there are a model and a start")
+    words.add_argument("--names", metavar="FILE", type=any_file_name, help="the names of the model, as `named pack` writes them")
+    words.add_argument("--title", metavar="TITLE", help="the title of the picture")
     return words
 
 
 class Instance:
-    """The model and the start of a report, which have to make the costs that the report tells."""
+    """A model and a start, from which a report's list costs what the report says."""
 
-    def __init__(self, report, model_name, start_name):
-        start, end = read_list(start_name), report.assignment
-        self.model = model = Model.read(model_name)
-        same_sizes(model, start_name, start)
-        if len(end) != len(start) or max(end) >= model.machines:
+    def __init__(self, model_name, start_name):
+        self.start_name, self.start = start_name, read_list(start_name)
+        self.model = Model.read(model_name)
+        same_sizes(self.model, start_name, self.start)
+        self.start_cost = self.model.cost(self.start, self.start)
+
+    def has(self, report):
+        """Raises Problem with status 9 if a report isn't of this model and start."""
+        end = report.assignment
+        if len(end) != len(self.start) or max(end) >= self.model.machines:
             raise Problem(f"{report.name}: not of this model: it has {len(end)} processes, on machines up to {max(end)}", 9)
-        self.before, self.after = model.use(start), model.use(end)
-        self.start_cost, cost = model.cost(start, start), model.cost(start, end)
+        cost = self.model.cost(self.start, end)
         if cost != report.least:
             raise Problem(f"{report.name}: not of this model and this start: its assignment costs {cost} there, and it says "
                           f"{report.least}", 9)
         if report.start not in (None, self.start_cost):
-            raise Problem(f"{report.name}: not of this model and this start: its start costs {report.start}, and {start_name} "
-                          f"costs {self.start_cost}", 9)
+            raise Problem(f"{report.name}: not of this model and this start: its start costs {report.start}, and "
+                          f"{self.start_name} costs {self.start_cost}", 9)
+
+
+def machines(words, instance, end, command):
+    """The picture of the machines."""
+    model = instance.model
+    names = Names.read(words.names, words.model) if words.names else Names.numbers(model)
+    title = words.title or title_of(words.report, model.machines)
+    return draw_machines(uses_of(model, names, instance.start, end), names.machines, title, command)
+
+
+def picture_of(words):
+    command = "tools/plot " + shown(shlex.join(["--run"] * words.run + list(filter(None, (words.report, words.model, words.initial)))))
+    instance = Instance(words.model, words.initial) if words.model else None
+    if is_list(words.report):
+        if words.run or not instance:
+            raise Problem(f"{words.report} is a list, of which the machines are drawn, with MODEL and INITIAL", 2)
+        end = read_list(words.report)
+        same_sizes(instance.model, words.report, end)
+        return machines(words, instance, end, command)
+    report = RunReport(words.report)
+    if instance:
+        instance.has(report)
+    if instance and not words.run:
+        return machines(words, instance, report.assignment, command)
+    return draw_run(report, instance, command, words.title)
 
 
 def work(words):
@@ -64,12 +101,10 @@ def work(words):
         raise Problem("MODEL stands alone, without INITIAL; plot --help shows how to call it", 2)
     if words.run and not words.model:
         raise Problem("--run wants MODEL and INITIAL; plot --help shows how to call it", 2)
-    out = words.out and target(words.out, words.report, words.model, words.initial)
-    report = RunReport(words.report)
-    instance = Instance(report, words.model, words.initial) if words.model else None
-    names = [words.report] + [words.model, words.initial] * bool(words.model)
-    command = "tools/plot " + shown(shlex.join(["--run"] * words.run + names))
-    picture = (draw_machines if instance and not words.run else draw_run)(report, instance, command).encode()
+    if words.names and not words.model:
+        raise Problem("--names is for a model and its machines; plot --help shows how to call it", 2)
+    out = words.out and target(words.out, words.report, words.model, words.initial, words.names)
+    picture = picture_of(words).encode()
     if out:
         write_whole(out, [picture])
     else:

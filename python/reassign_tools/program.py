@@ -4,6 +4,7 @@ import shutil
 import signal
 import subprocess
 import sys
+import threading
 
 from .children import begin, end
 from .problems import Problem, Stopped
@@ -26,6 +27,11 @@ class Program:
         if self.name == here:
             self.make()
 
+    def binary(self):
+        """The program itself, which the repository's own call finds and calls."""
+        is_call = self.name == os.path.join(ROOT, "reassign")
+        return os.path.join(ROOT, "crates", "reassign", "out", "reassign") if is_call else os.path.abspath(self.name)
+
     def make(self):
         """The repository's own call proves and compiles the program if that is due, and says on standard error how far it
         is: so it is called once with nothing in between."""
@@ -38,15 +44,20 @@ class Program:
         if status:
             raise Problem("the program was not made")
 
-    def run(self, *words, keep=None, lines=None, endings=(0,)):
+    def run(self, *words, keep=None, lines=None, endings=(0,), limit=None):
         """Runs a command. Answers its status, the lines that it prints (the first ones, if their number is given), and
-        its error line. Its output goes to the file `keep` too. Another status than those of `endings` ends the tool."""
+        its error line. Its output goes to the file `keep` too. Another status than those of `endings` ends the tool. After so
+        many seconds as `limit` the command is ended, and the status is None."""
         command = [self.name, *map(str, words)]
         try:
             run = begin(command, stdout=subprocess.PIPE, stderr=subprocess.PIPE)
         except OSError as fault:
             raise Problem(f"{self.name} can't be run: {fault.strerror}") from None
+        is_over = threading.Event()
+        alarm = threading.Timer(limit, lambda: (is_over.set(), run.kill())) if limit is not None else None
         try:
+            if alarm:
+                alarm.start()
             printed = read_output(run.stdout, keep, lines)
             error = run.stderr.read().decode(errors="replace").strip()
             status = run.wait()
@@ -54,8 +65,12 @@ class Program:
             end(run)
             raise
         finally:
+            if alarm:
+                alarm.cancel()
             run.stdout.close()
             run.stderr.close()
+        if is_over.is_set() and status == -signal.SIGKILL:
+            return None, printed, error
         if status < 0 and -status in (signal.SIGINT, signal.SIGTERM):
             raise Stopped
         if status < 0:

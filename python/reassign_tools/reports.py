@@ -38,6 +38,15 @@ class ReportHead:
         return f"{self.name}: line {at}: {'the report is cut off, or is none' if cut else what}"
 
 
+def is_list(name):
+    """Whether a file begins like a list and not like a report."""
+    try:
+        with open(name, "rb") as file:
+            return file.read(4096).lstrip()[:1].isdigit()
+    except OSError as fault:
+        raise Problem(f"{name}: {fault.strerror}") from None
+
+
 def read_placement(name):
     """The machines of a file that is an assignment, or a report of `reassign solve`, of which the assignment is taken. Raises
     Problem with status 3 if it can't be read, 5 if it is no assignment, and 9 if it is no report."""

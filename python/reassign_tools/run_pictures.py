@@ -2,11 +2,12 @@
 import math
 from array import array
 
-from .pictures import ACROSS, BLUE, FAINT, GREY, GRID, ORANGE, PURPLE, SKY, Picture, grouped, percent, ticks, wide
+from .pictures import ACROSS, BLUE, FAINT, GREY, GRID, ORANGE, PURPLE, SKY, Picture, grouped, log_ticks, percent, ticks, wide
 from .run_reports import DONE, LATE
 from .words import shown
 
 BARS = 160
+MOST_EMPTY = 0.1  # of a worker's strip
 
 
 class Axis:
@@ -78,55 +79,91 @@ def leasts(start, places, costs):
     return at, fallen
 
 
-def draw_costs(picture, report, start, axis, top, height):
-    left, end = picture.left, picture.left + ACROSS
-    known = [report.bound, report.least] + [start] * (start is not None)
-    known += [int(cost) for cost in (max(report.costs, default=report.least), min(report.costs, default=report.least))]
-    low, high = min(known), max(known)
-    room = max(high - low, 1) // 20 + 1
-    low, high = max(low - room, 0), high + room
-    down = lambda cost: top + height * (high - cost) / (high - low)
-    for mark in ticks(low, high):
-        picture.line(left, down(mark), end, down(mark), GRID)
-        picture.text(left - 8, down(mark) + 4, grouped(mark), "end", 12)
-    numbered, between = axis.marks()
-    for mark in numbered:
-        picture.line(axis.at(mark), top + height, axis.at(mark), top + height + 6)
-        picture.text(axis.at(mark), top + height + 20, grouped(mark), "middle", 12)
-    for mark in between:
-        picture.line(axis.at(mark), top + height, axis.at(mark), top + height + 3)
-    picture.line(left, top, left, top + height)
-    picture.line(left, top + height, end, top + height)
-    picture.line(left, down(report.bound), end, down(report.bound), ORANGE, 2, "8 5")
-    places, costs = report.places, report.costs
-    first = (0, start) if start is not None else (places[0], costs[0]) if places else (0, report.least)
-    picture.path(thinned(axis, down, first, *leasts(start, places, costs)), SKY, 6)
-    picture.path(thinned(axis, down, first, places, costs), BLUE, 1.5)
-    picture.heading(top - 14, "cost")
-    scale = ", on a logarithmic axis" if axis.unit else ""
-    picture.text(end, top + height + 40, f"place in the journal{scale}", "end")
-    legend = [("cost", BLUE, 1.5, "start: not told" if start is None else f"start {grouped(start)}"),
-              ("least so far", SKY, 6, f"least {grouped(report.least)}"),
-              ("lower bound", ORANGE, 2, grouped(report.bound))]
-    for row, (name, colour, width, value) in enumerate(legend):
-        y = top + 10 + 44 * row
-        picture.line(end + 14, y, end + 40, y, colour, width, "8 5" if colour == ORANGE else "")
-        picture.text(end + 48, y + 4, name)
-        picture.text(end + 48, y + 21, value, size=12)
-    if start is not None and start > report.bound:
-        part = (report.least - report.bound) / (start - report.bound)
-        picture.text(end + 48, top + 146, f"{percent(part)} of the way from", size=12)
-        picture.text(end + 48, top + 162, "start to bound is left", size=12)
-    if start is None:
-        for row, words in enumerate(("the report does not tell", "what the start costs:", "--run with the model", "and the start does")):
-            picture.text(end + 48, top + 146 + 16 * row, words, size=12)
+class CostPanel:
+    """The costs of a run over its places. `down` says how far down the picture a cost stands."""
+
+    def __init__(self, picture, report, start, axis, top, height):
+        self.picture, self.report, self.start, self.axis, self.top, self.height = picture, report, start, axis, top, height
+        self.end = picture.left + ACROSS
+
+    def draw_frame(self, heading, ticks_down, has_numbers):
+        picture, axis, bottom = self.picture, self.axis, self.top + self.height
+        picture.heading(self.top - 14, heading)
+        for y, words in ticks_down:
+            picture.line(picture.left, y, self.end, y, GRID)
+            picture.text(picture.left - 8, y + 4, words, "end", 12)
+        numbered, between = axis.marks()
+        for mark in numbered:
+            picture.line(axis.at(mark), bottom, axis.at(mark), bottom + 6)
+            if has_numbers:
+                picture.text(axis.at(mark), bottom + 20, grouped(mark), "middle", 12)
+        for mark in between:
+            picture.line(axis.at(mark), bottom, axis.at(mark), bottom + 3)
+        if has_numbers:
+            scale = ", on a logarithmic axis" if axis.unit else ""
+            picture.text(self.end, bottom + 40, f"place in the journal{scale}", "end")
+        picture.line(picture.left, self.top, picture.left, bottom)
+        picture.line(picture.left, bottom, self.end, bottom)
+
+    def draw_lines(self, down):
+        report, start = self.report, self.start
+        places, costs = report.places, report.costs
+        first = (0, start) if start is not None else (places[0], costs[0]) if places else (0, report.least)
+        self.picture.path(thinned(self.axis, down, first, *leasts(start, places, costs)), SKY, 6)
+        self.picture.path(thinned(self.axis, down, first, places, costs), BLUE, 1.5)
+
+    def draw_costs(self):
+        """The costs themselves, with the bound."""
+        picture, low, high = self.picture, *self.ends()
+        room = max(high - low, 1) // 20 + 1
+        low, high = max(low - room, 0), high + room
+        down = lambda cost: self.top + self.height * (high - cost) / (high - low)
+        self.draw_frame("cost", [(down(mark), grouped(mark)) for mark in ticks(low, high)], False)
+        picture.line(picture.left, down(self.report.bound), self.end, down(self.report.bound), ORANGE, 2, "8 5")
+        self.draw_lines(down)
+
+    def ends(self):
+        """The least and the greatest cost that is drawn."""
+        report = self.report
+        known = [report.bound, report.least] + [self.start] * (self.start is not None)
+        known += [int(max(report.costs, default=report.least)), int(min(report.costs, default=report.least))]
+        return min(known), max(known)
+
+    def draw_distances(self):
+        """How far above the bound the costs are, on a logarithmic axis, which shows the end of a long fall."""
+        bound = self.report.bound
+        high = max(self.ends()[1] - bound, 1) * 1.1
+        nearest = min((cost for cost in (*self.report.costs, self.report.least) if cost > bound), default=bound + 1) - bound
+        low = nearest / (1.1 if self.report.least > bound else 2)  # at the bound itself it stands on the axis
+        down = lambda cost: self.top + self.height * math.log(high / max(cost - bound, low)) / math.log(high / low)
+        marks = [(down(bound + mark), f"{mark:,.15g}") for mark in log_ticks(low, high)]
+        self.draw_frame("cost above the lower bound, on a logarithmic axis", marks, True)
+        self.draw_lines(down)
+
+    def draw_legend(self):
+        picture, report, start, x = self.picture, self.report, self.start, self.end + 48
+        legend = [("cost", BLUE, 1.5, "start: not told" if start is None else f"start {grouped(start)}"),
+                  ("least so far", SKY, 6, f"least {grouped(report.least)}"),
+                  ("lower bound", ORANGE, 2, grouped(report.bound))]
+        for row, (name, colour, width, value) in enumerate(legend):
+            y = self.top + 10 + 44 * row
+            picture.line(self.end + 14, y, self.end + 40, y, colour, width, "8 5" if colour == ORANGE else "")
+            picture.text(x, y + 4, name)
+            picture.text(x, y + 21, value, size=12)
+        lines = ()
+        if start is None:
+            lines = "the report does not tell", "what the start costs:", "--run with the model", "and the start does"
+        elif start > report.bound:
+            part = (report.least - report.bound) / (start - report.bound)
+            lines = f"{percent(part)} of the way from", "start to bound is left"
+        for row, words in enumerate(lines):
+            picture.text(x, self.top + 146 + 16 * row, words, size=12)
 
 
-def draw_workers(picture, report, axis, top):
-    """A strip of bars for each worker, and its sums beside it. Answers where the last strip ends."""
-    left, end, marks, count = picture.left, picture.left + ACROSS, report.marks, len(report.marks)
+def bars_of(report, axis):
+    """For each worker its bars: from place to place, how many of its entries there are done, planned earlier, and made."""
+    marks, count = report.marks, len(report.marks)
     edges = sorted({min(count, round(axis.place(bar / BARS))) for bar in range(BARS + 1)} | {0, count})
-    late_any = any(mark & LATE for mark in set(marks))
     rows = []
     for worker in range(report.workers):
         bars = []
@@ -135,6 +172,28 @@ def draw_workers(picture, report, axis, top):
             done, late, both, neither = (part.count(worker | flags) for flags in (DONE, LATE, DONE | LATE, 0))
             bars.append((one, two, done + both, late + both, done + late + both + neither))
         rows.append(bars)
+    return rows
+
+
+def axis_of(left, report, start):
+    """The axis of places: logarithmic if most of the fall comes early, unless that leaves much of a worker's strip empty."""
+    linear = Axis(left, len(report.marks), False)
+    if not is_early(report, start):
+        return linear
+    early = Axis(left, len(report.marks), True)
+    empty = lambda bars: sum(axis_width(early, bar) for bar in bars if not bar[4]) / ACROSS
+    return linear if any(empty(bars) > MOST_EMPTY for bars in bars_of(report, early)) else early
+
+
+def axis_width(axis, bar):
+    return axis.at(bar[1]) - axis.at(bar[0])
+
+
+def draw_workers(picture, report, axis, top):
+    """A strip of bars for each worker, and its sums beside it. Answers where the last strip ends."""
+    left, end = picture.left, picture.left + ACROSS
+    late_any = any(mark & LATE for mark in set(report.marks))
+    rows = bars_of(report, axis)
     # A few bars of few entries may be much higher than all others.
     parts = sorted(late / made for bars in rows for _, _, _, late, made in bars if late)
     most = parts[int(0.9 * len(parts))] if len(parts) > 20 else max(parts, default=0)
@@ -172,13 +231,17 @@ def draw_workers(picture, report, axis, top):
     return top + report.workers * step
 
 
-def draw_run(report, instance, command):
+def draw_run(report, instance, command, title=None):
     start = instance.start_cost if instance else report.start
     longest = max(len(grouped(number)) for number in (report.bound, report.least, start or 0, int(max(report.costs, default=0))))
     picture = Picture(max(88, 24 + 8 * longest))
-    axis = Axis(picture.left, len(report.marks), is_early(report, start))
-    draw_costs(picture, report, start, axis, 90, 300)
-    end = draw_workers(picture, report, axis, 490) if report.marks else 450
+    axis = axis_of(picture.left, report, start)
+    costs = CostPanel(picture, report, start, axis, 90, 240)
+    costs.draw_costs()
+    costs.draw_legend()
+    CostPanel(picture, report, start, axis, 390, 150).draw_distances()
+    end = draw_workers(picture, report, axis, 640) if report.marks else 600
     count, workers = len(report.marks), report.workers
-    title = f"{shown(report.name)}: {grouped(count)} {'entry' if count == 1 else 'entries'} of {workers} worker{'s' * (workers > 1)}"
+    if title is None:
+        title = f"{shown(report.name)}: {grouped(count)} {'entry' if count == 1 else 'entries'} of {workers} worker{'s' * (workers > 1)}"
     return picture.written(end + 4, title, command)

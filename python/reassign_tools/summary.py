@@ -1,41 +1,47 @@
-"""Sums up a report of `reassign solve`.
+"""Sums up a report of `reassign solve`, or any list, beside the start from which its processes move.
 
-It tells the cost of the start and of the end, the bound, the share of the way between start and bound that is left; the
-entries done, refused by cause, and planned at an earlier state, for each worker; the processes that moved, from where to
-where and by which services; and the fullest machines before and after. With --json it is one object for scripts, which has
-every moved process.
+First comes what one tells others: how many processes move, and how many machines are above their safety capacity of the
+resource where most of them are. Then the cost of the start and of the end, the bound, the share of the way between start and
+bound that is left; for each resource the machines above their safety capacity, and the fullest; of a report the entries done,
+refused by cause, and planned at an earlier state, for each worker; the processes that move, from where to where and by which
+services; and the fullest machines before and after. With --json it is one object for scripts, which has every process that
+moves. With --names machines, services and resources have their names, as `named pack` writes them.
 
-Each line of the report is read, the moves that were done are followed from INITIAL, and both lists are judged by `reassign
-check`. A report that is cut off or isn't one, or isn't one of these files, is told with the line, and nothing is summed up.
-If it is cut off between two entries behind its best place, nothing in it tells that: give the lots of the run with
+A list is judged by `reassign check`. Of a report each line is read, the moves that were done are followed from INITIAL, and
+both lists are judged. One that is cut off or isn't one, or isn't one of these files, is told with the line, and nothing is
+summed up. If it is cut off between two entries after its best place, nothing in it tells that: give the lots of the run with
 --lots="7:10 8:10" (and its slack, closed list and drawing in front: --lots="--slack 30 7:10"), and `reassign verify` judges
 it first. For example
 
-    $ tools/summary /tmp/report examples/sample/model examples/sample/initial"""
+    $ tools/summary examples/sample/new examples/sample/model examples/sample/initial"""
 import json
 import shlex
 import sys
 from collections import Counter
 
 from .files import Room, list_text, read_list, write_whole
+from .machine_uses import headline, uses_of
 from .models import Model, same_sizes
+from .names import Names
 from .problems import Problem
 from .program import COSTS, Program, closed_words
-from .reports import ENTRY, HEAD, STEP, STEPS, ReportHead
+from .reports import ENTRY, HEAD, STEP, STEPS, ReportHead, is_list
 from .running import run_tool
-from .words import Words, file_name, number
+from .words import Words, any_file_name, file_name, number
 
 
 def parser():
     words = Words("summary", __doc__)
     words.add_program()
-    words.add_argument("report", metavar="REPORT", type=file_name)
+    words.add_argument("report", metavar="REPORT|LIST", type=file_name)
     words.add_argument("model", metavar="MODEL", type=file_name)
     words.add_argument("initial", metavar="INITIAL", type=file_name)
     words.add_argument("--json", action="store_true", help="print one JSON object")
     words.add_argument("--top", metavar="N", type=number(1, 100_000), default=5, help="lines of each list (5)")
     words.add_argument("--closed", metavar="FILE", type=file_name, help="the closed list of the run")
-    words.add_argument("--lots", metavar="WORDS", help="the words behind INITIAL with which the report is verified")
+    words.add_argument("--lots", metavar="WORDS", help="the words after INITIAL with which the report is verified")
+    words.add_argument("--names", metavar="FILE", type=any_file_name, help="the names of the model, as `named pack` writes them")
+    words.add_argument("--title", metavar="TITLE", help="a line to print first")
     return words
 
 
@@ -117,49 +123,76 @@ def fullest(model, use, top):
 
 
 def summed(words):
-    program = Program(words.program)
-    closing = closed_words(words.closed)
+    """All that is told of a report or a list."""
+    program, closing = Program(words.program), closed_words(words.closed)
     if words.lots is not None:
-        try:
-            lots = shlex.split(words.lots)
-        except ValueError as fault:
-            raise Problem(f"--lots: {fault}", 2) from None
-        program.run("verify", words.model, words.initial, words.report, *lots)
+        verify(program, words)
     start = program.numbers("check", words.model, words.initial, words.initial, *closing)
     initial = read_list(words.initial)
-    journal = Journal(words.report, initial)
-    numbers, end = journal.head.numbers, journal.head.assignment
+    journal = None if is_list(words.report) else Journal(words.report, initial)
+    end = journal.head.assignment if journal else read_list(words.report)
+    if journal is None:
+        costs = program.numbers("check", words.model, words.initial, words.report, *closing)
     model = Model.read(words.model)
     same_sizes(model, words.report, initial, end)
-    judged = judge_end(program, words, closing, end)
-    for at, name in enumerate(COSTS, 1):
-        if judged[name] != numbers[name]:
-            raise Problem(f"{words.report}: line {at}: {name} is {judged[name]} with this model and start", 9)
+    names = Names.read(words.names, words.model) if words.names else Names.numbers(model)
     bound = program.numbers("bound", words.model, words.initial, *closing)["bound"]
-    if bound != numbers["bound"]:
-        raise Problem(f"{words.report}: line 7: the bound is {bound} with this model, start and closed list", 9)
+    if journal:
+        costs = judged_head(program, words, closing, journal.head, bound)
+    uses = uses_of(model, names, initial, end)
     moved = [(p, a, b) for p, (a, b) in enumerate(zip(initial, end)) if a != b]
     way = start["cost"] - bound
-    return {
+    found = {"title": words.title} if words.title else {}
+    found |= {
+        "sentence": headline(uses, len(moved), model.processes),
         "start": start,
-        "end": {name: numbers[name] for name in COSTS},
+        "end": costs,
         "bound": bound,
-        "way_left": (numbers["cost"] - bound) / way if way else 0.0,
-        "best_at": journal.best_at,
-        "entries": journal.places,
-        "workers": [{"entries": w.entries, "done": w.done, "refused": dict(sorted(w.refused.items())), "earlier": w.earlier}
-                    for w in journal.workers],
+        "way_left": (costs["cost"] - bound) / way if way else 0.0,
+        "resources": [use.summed() for use in uses],
         "processes": model.processes,
         "moved": [{"process": p, "service": model.service[p], "from": a, "to": b} for p, a, b in moved],
         "fullest_before": fullest(model, model.use(initial), words.top),
         "fullest_after": fullest(model, model.use(end), words.top),
     }
+    if words.names:
+        for one in found["moved"]:
+            one["names"] = [names.processes[one["process"]], names.services[one["service"]],
+                            names.machines[one["from"]], names.machines[one["to"]]]
+    return found | (summed_journal(journal) if journal else {}), names
 
 
-def judge_end(program, words, closing, end):
+def verify(program, words):
+    """Has `reassign verify` judge the report first."""
+    if is_list(words.report):
+        raise Problem(f"--lots is for a report, and {words.report} is a list", 2)
+    try:
+        lots = shlex.split(words.lots)
+    except ValueError as fault:
+        raise Problem(f"--lots: {fault}", 2) from None
+    program.run("verify", words.model, words.initial, words.report, *lots)
+
+
+def judged_head(program, words, closing, head, bound):
+    """The costs that a report tells, which have to be those of its list with this model and start."""
     with Room() as room:
-        write_whole(room("end"), [list_text(end)])
-        return program.numbers("check", words.model, words.initial, room("end"), *closing)
+        write_whole(room("end"), [list_text(head.assignment)])
+        costs = program.numbers("check", words.model, words.initial, room("end"), *closing)
+    for at, name in enumerate(COSTS, 1):
+        if costs[name] != head.numbers[name]:
+            raise Problem(f"{words.report}: line {at}: {name} is {costs[name]} with this model and start", 9)
+    if bound != head.numbers["bound"]:
+        raise Problem(f"{words.report}: line 7: the bound is {bound} with this model, start and closed list", 9)
+    return costs
+
+
+def summed_journal(journal):
+    workers = [{"entries": w.entries, "done": w.done, "refused": dict(sorted(w.refused.items())), "earlier": w.earlier}
+               for w in journal.workers]
+    return {"best_at": journal.best_at, "entries": journal.places, "workers": workers}
+
+
+# Lines
 
 
 def told_counts(counts, top, form):
@@ -169,42 +202,58 @@ def told_counts(counts, top, form):
     return told + (f", and {len(most) - top} more" if len(most) > top else "")
 
 
-def tell(found, top):
+def tell(found, names, top):
+    for line in filter(None, (found.get("title"), found["sentence"])):
+        print(line)
     start, end = found["start"]["cost"], found["end"]["cost"]
     print(f"start {start}\nend {end}\nbound {found['bound']}\nway left {100 * found['way_left']:.1f} %")
     for name in COSTS[1:]:
         print(f"{name} {found['start'][name]} > {found['end'][name]}")
+    for use in found["resources"]:
+        print(f"{use['resource']}: machines above safety {use['above_before']} > {use['above_after']}, the fullest "
+              f"{100 * use['fullest_before']:.1f} % > {100 * use['fullest_after']:.1f} %")
+    if "entries" in found:
+        tell_journal(found)
+    tell_moved(found["moved"], found["processes"], names, top)
+    for when in ("before", "after"):
+        print(f"fullest {when}: " + ", ".join(
+            f"machine {names.machines[it['machine']]} {names.resources[it['resource']]} "
+            f"{names.amount(it['resource'], it['used'])} of {names.amount(it['resource'], it['capacity'])}"
+            for it in found[f"fullest_{when}"]))
+
+
+def tell_journal(found):
     refused = Counter()
     for worker in found["workers"]:
         refused.update(worker["refused"])
     done = sum(worker["done"] for worker in found["workers"])
-    print(f"entries {found['entries']}: {done} done, {sum(refused.values())} refused; the best behind {found['best_at']}")
+    print(f"entries {found['entries']}: {done} done, {sum(refused.values())} refused; the best after {found['best_at']}")
     if refused:
         print("refused by " + told_counts(refused, len(refused), "{} {}".format))
     for at, worker in enumerate(found["workers"]):
         print(f"worker {at}: {worker['entries']} entries, {worker['done']} done, {sum(worker['refused'].values())} refused, "
               f"{worker['earlier']} planned at an earlier state")
-    moved = found["moved"]
-    print(f"moved {len(moved)} of {found['processes']} processes")
+
+
+def tell_moved(moved, processes, names, top):
+    print(f"moved {len(moved)} of {processes} processes")
     if moved:
         services = Counter(it["service"] for it in moved)
         ways = Counter((it["from"], it["to"]) for it in moved)
-        print("ways " + told_counts(ways, top, lambda way, count: f"{way[0]}>{way[1]} {count}"))
-        print("left " + told_counts(Counter(it["from"] for it in moved), top, "machine {} {}".format))
-        print("entered " + told_counts(Counter(it["to"] for it in moved), top, "machine {} {}".format))
-        print(f"services {len(services)}: " + told_counts(services, top, "service {} {}".format))
-    for when in ("before", "after"):
-        print(f"fullest {when}: " + ", ".join("machine {machine} resource {resource} {used} of {capacity}".format(**it)
-                                              for it in found[f"fullest_{when}"]))
+        of_machine = lambda machine, count: f"machine {names.machines[machine]} {count}"
+        print("ways " + told_counts(ways, top, lambda way, count: f"{names.machines[way[0]]}>{names.machines[way[1]]} {count}"))
+        print("left " + told_counts(Counter(it["from"] for it in moved), top, of_machine))
+        print("entered " + told_counts(Counter(it["to"] for it in moved), top, of_machine))
+        print(f"services {len(services)}: " + told_counts(services, top, lambda one, count: f"service {names.services[one]} {count}"))
 
 
 def work(words):
-    found = summed(words)
+    found, names = summed(words)
     if words.json:
         json.dump(found, sys.stdout)
         print()
     else:
-        tell(found, words.top)
+        tell(found, names, words.top)
 
 
 def main(words=None):

@@ -1,0 +1,296 @@
+"""Runs solvers on instances, with the same seeds and budgets, and judges every list that comes by `reassign check`.
+
+An instance is a file model_X with assignment_X beside it (with any ending), or a folder with the files `model` and `initial`.
+The program itself runs once for each slack: by `solve` if the budget is at most 1,000,000 proposals, and else, and with
+--seconds, by tools/rounds. Another program takes part by --solver 'NAME: COMMAND'. In the words of its command {model},
+{initial} and {new} stand for the files of a run, {new} is the list that it has to write, {seconds} is how long it may take,
+and {seed} is its seed. No shell reads the command. With --proposals it gets as many seconds as the program's runs took of
+processor time, without reading: the median of all seeds. It may print `proposals N`, and its curve as lines `at SECONDS COST`.
+
+    $ tools/race --instances 'data/model_*.txt' --seeds 1-10 --slack 0,30 --proposals 100000 --csv runs.csv
+    $ tools/race --instances hall --seeds 1-5 --seconds 60 --solver 'mine: ./mine {model} {initial} {new} {seconds} {seed}'
+
+Tables come on standard output: for each instance, budget, solver and slack the least, the median and the most cost, the
+spread (the most less the least, as a share of the way from the start's cost to the bound), the share of the way that is left
+at the median, the median of their times (by the clock with --seconds, else as above), and how many runs left no feasible list,
+or were late, which is a tenth of their seconds and one second more. --csv and --json have a row for each run, and --curves is a picture of the cost over
+seconds, by median and quartiles.
+
+On several machines: --list FILE writes one command a line, and puts all that they need into FOLDER, which the hosts share or
+which is copied to them. `parallel --sshloginfile HOSTS < FILE` or a Slurm array runs them; if a host has FOLDER elsewhere, its
+environment's RACE says where. A command whose runs are there already does nothing. --collect FOLDER judges what came back,
+here and by the files from which FOLDER was made; with --instances by those, so that a host that may write to FOLDER can't
+change what its lists are judged by. With --list too it writes the commands of the runs that are missing. FOLDER also keeps the
+runs of a call without --list: if it was stopped, the same call goes on."""
+import argparse
+import os
+import queue
+import shlex
+import shutil
+import sys
+import threading
+from dataclasses import replace
+
+from .files import Room, target, write_whole
+from .problems import Problem
+from .program import Program
+from .race_curves import curves
+from .race_plan import (AUTO, Instance, Plan, digest, instances_of, is_one_run, planned, proposals_of, seconds_of, seeds_of,
+                        slacks_of, solver_of)
+from .race_rows import Judge, csv_text, json_text, tables
+from .race_runs import Place, Running, run_unit, units_of
+from .running import PACKAGE, no_more_stops, run_tool, say
+from .words import MOST_LOTS, Words, file_name, number
+
+PLAN, RESULTS, TOOLS, PROGRAM, RUN = "plan.json", "results", "python", "program", "run"
+
+
+def parser():
+    words = Words("race", __doc__)
+    words.add_program()
+    words.add_argument("--instances", metavar="PATTERN", type=file_name, nargs="+", default=[],
+                       help="models by names or patterns, or folders")
+    words.add_argument("--seeds", metavar="SEEDS", type=listed(seeds_of), default=[1], help="such as 1-5,8 (1)")
+    words.add_argument("--slack", metavar="SLACKS", type=listed(slacks_of),
+                       help="of the program's runs, such as 0,30; `auto` lets tools/rounds choose (auto; 0 for runs of `solve`)")
+    budgets = words.add_mutually_exclusive_group()
+    budgets.add_argument("--proposals", metavar="N", type=listed(proposals_of), help="the budget of each run; may be several: 1000,10000")
+    budgets.add_argument("--seconds", metavar="S", type=listed(seconds_of), help="the budget of each run, by the clock; may be several")
+    words.add_argument("--workers", metavar="W", type=number(1, MOST_LOTS), default=1, help="workers of each run of the program (1)")
+    words.add_argument("--solver", metavar="WORDS", action="append", default=[], help="another program: 'NAME: COMMAND'")
+    words.add_argument("--jobs", metavar="J", type=number(1, 1000), default=1, help="runs side by side (1)")
+    words.add_argument("--csv", metavar="FILE", type=file_name, help="a row for each run")
+    words.add_argument("--json", metavar="FILE", type=file_name, help="the same, with the curves")
+    words.add_argument("--curves", metavar="FILE", type=file_name, help="a picture (SVG) of the cost over seconds")
+    words.add_argument("--folder", metavar="FOLDER", type=file_name, help="keep the plan and the runs there")
+    words.add_argument("--list", metavar="FILE", type=file_name, help="write the commands of the runs, and run nothing here")
+    words.add_argument("--collect", metavar="FOLDER", type=file_name, help="judge what came back, and run nothing")
+    words.add_argument("--run", metavar="N", type=number(0, 10**9), help="what a command of the list does: run number N of FOLDER's plan")
+    return words
+
+
+def listed(read):
+    def word(text):
+        try:
+            return read(text)
+        except ValueError:
+            raise argparse.ArgumentTypeError(f"{text!r} is no list of such numbers") from None
+    return word
+
+
+def plan_of(options):
+    """The plan that the words of a call ask for."""
+    if not options.instances:
+        raise Problem("--instances is missing; race --help shows how to call it", 2)
+    if not options.proposals and not options.seconds:
+        raise Problem("--proposals or --seconds is missing; race --help shows how to call it", 2)
+    budgets = [(proposals, None) for proposals in options.proposals or []] + [(None, seconds) for seconds in options.seconds or []]
+    solvers = [solver_of(word) for word in options.solver]
+    if len({solver.name for solver in solvers}) < len(solvers):
+        raise Problem("two solvers have one name", 2)
+    plan = planned(instances_of(options.instances), solvers, options.seeds, options.slack or [AUTO], budgets, options.workers)
+    return with_slacks(plan, options.slack)
+
+
+def with_slacks(plan, asked):
+    """A run of `solve` has a slack that is a number: 0 if none was asked for."""
+    jobs = [replace(job, slack="0") if job.slack == AUTO and is_one_run(job) else job for job in plan.jobs]
+    if asked and AUTO in asked and any(one != job for one, job in zip(jobs, plan.jobs)):
+        raise Problem("--slack auto is for --seconds, and for more than 1000000 proposals", 2)
+    plan.jobs = jobs
+    return plan
+
+
+# Here
+
+
+class Race:
+    """A plan that is run or judged here."""
+
+    def __init__(self, plan, program, folder):
+        self.plan, self.program, self.running = plan, program, Running()
+        self.place = Place(folder, program.binary(), self.running)
+        self.judge = Judge(program, plan)
+
+    def run_all(self, jobs):
+        """Makes the runs that aren't there yet, so many side by side. Answers the rows of those that are there in the end, and
+        whether it was stopped."""
+        units = units_of(self.plan)
+        waiting, done = queue.SimpleQueue(), queue.SimpleQueue()
+        for unit in units:
+            waiting.put(unit)
+        workers = [threading.Thread(target=self.work_through, args=(waiting, done), daemon=True) for _ in range(jobs)]
+        rows, is_stopped = {}, False
+        try:
+            for worker in workers:
+                worker.start()
+            for _ in units:
+                unit, fault = done.get()
+                if fault:
+                    raise fault
+                for job in unit:
+                    rows[job.number] = self.judge.row(job, self.place)
+                    say(f"{len(rows)} of {len(self.plan.jobs)}: {job.told()}: {rows[job.number].told()}")
+        except KeyboardInterrupt:
+            no_more_stops()
+            is_stopped = True
+        finally:
+            self.running.end_all()
+        for worker in workers:
+            worker.join()
+        return [rows[number] for number in sorted(rows)], is_stopped
+
+    def work_through(self, waiting, done):
+        while True:
+            try:
+                unit = waiting.get_nowait()
+            except queue.Empty:
+                return
+            try:
+                run_unit(self.plan, unit, self.place)
+                done.put((unit, None))
+            except BaseException as fault:
+                done.put((unit, fault))
+                return
+
+    def rows(self):
+        """The rows of all runs that are there."""
+        return [self.judge.row(job, self.place) for job in self.plan.jobs if self.place.has(job)]
+
+
+def raced(options):
+    """Runs a race here. Answers its rows, and the status."""
+    plan, program = plan_of(options), Program(options.program)
+    with Room() as room:
+        folder = kept_folder(options.folder, plan) if options.folder else room("")
+        rows, is_stopped = Race(plan, program, folder).run_all(options.jobs)
+    if is_stopped:
+        again = "; the same call goes on" if options.folder else ""
+        say(f"stopped after {len(rows)} of {len(plan.jobs)} runs{again}")
+    return rows, 130 if is_stopped else 0
+
+
+def kept_folder(folder, plan):
+    """The folder in which the runs of a plan are kept. One that has another plan is refused."""
+    name = os.path.join(folder, PLAN)
+    if os.path.exists(name):
+        with open(name, "rb") as file:
+            if file.read() != plan.text():
+                raise Problem(f"{folder} has another race; name another folder", 2)
+    elif os.path.isdir(folder) and os.listdir(folder):
+        raise Problem(f"{folder} has other files; name another folder", 2)
+    results = os.path.join(folder, RESULTS)
+    try:
+        os.makedirs(results, exist_ok=True)
+    except OSError as fault:
+        raise Problem(f"write fault: {folder}: {fault.strerror}", 7) from None
+    plan.write(name)
+    return results
+
+
+# Elsewhere
+
+
+def write_list(options):
+    """Puts all that the hosts need into the folder, and writes the commands."""
+    plan, program = plan_of(options), Program(options.program)
+    folder = os.path.realpath(options.folder or f"{options.list}.race")
+    kept_folder(folder, plan)
+    try:
+        for at, instance in enumerate(plan.instances.values()):
+            os.makedirs(os.path.join(folder, "instances", str(at)), exist_ok=True)
+            for file, name in (("model", instance.model), ("initial", instance.initial)):
+                shutil.copyfile(name, os.path.join(folder, "instances", str(at), file))
+        shutil.copyfile(program.binary(), os.path.join(folder, PROGRAM))
+        os.chmod(os.path.join(folder, PROGRAM), 0o755)
+        package = os.path.join(folder, TOOLS, os.path.basename(PACKAGE))
+        shutil.copytree(PACKAGE, package, dirs_exist_ok=True, ignore=shutil.ignore_patterns("__pycache__"))
+        write_whole(os.path.join(folder, RUN), [RUN_TEXT.encode()])
+        os.chmod(os.path.join(folder, RUN), 0o755)
+    except OSError as fault:
+        raise Problem(f"write fault: {folder}: {fault.strerror}", 7) from None
+    write_commands(options.list, folder, plan)
+
+
+RUN_TEXT = f"""#!/bin/sh
+# Makes a run of the race in this folder: run NUMBER
+here=$(cd "$(dirname "$0")" && pwd) && cd "$here" || exit
+exec python3 "$here/{TOOLS}/{os.path.basename(PACKAGE)}" race --folder "$here" --program "$here/{PROGRAM}" --run "$1"
+"""
+
+
+def write_commands(name, folder, plan):
+    """Writes the commands of those units of which a run is missing."""
+    place = Place(os.path.join(folder, RESULTS), "", None)
+    missing = [at for at, unit in enumerate(units_of(plan)) if not all(map(place.has, unit))]
+    start = f'"${{RACE:-{quoted(folder)}}}/{RUN}"'
+    write_whole(name, [f"{start} {at}\n".encode() for at in missing])
+    say(f"{name} has {len(missing)} commands")
+
+
+def quoted(folder):
+    """A folder's name between double quotes of the shell."""
+    if any(letter in folder for letter in '"$`\\}\n'):
+        raise Problem(f"{folder}: the name of a folder for other hosts may have no quotes, dollars, backslashes, braces or line ends", 2)
+    return folder
+
+
+def run_one(options):
+    """What a command of the list does, on any host."""
+    if not options.folder:
+        raise Problem("--run is for --folder; race --help shows how to call it", 2)
+    plan, _ = Plan.read(os.path.join(options.folder, PLAN))
+    units = units_of(plan)
+    if options.run >= len(units):
+        raise Problem(f"{options.folder} has no run {options.run}", 2)
+    at_hand = lambda at, file: os.path.join(options.folder, "instances", str(at), file)
+    plan.instances = {name: Instance(name, at_hand(at, "model"), at_hand(at, "initial")) for at, name in enumerate(plan.instances)}
+    running = Running()
+    try:
+        run_unit(plan, units[options.run], Place(os.path.join(options.folder, RESULTS), Program(options.program).binary(), running))
+    finally:
+        running.end_all()
+
+
+def collected(options):
+    """The rows of the runs that came back."""
+    plan, digests = Plan.read(os.path.join(options.collect, PLAN))
+    if options.instances:
+        named = {one.name: one for one in instances_of(options.instances)}
+        unknown = [name for name in plan.instances if name not in named]
+        if unknown:
+            raise Problem(f"{options.collect} has runs on {', '.join(unknown)}, which --instances doesn't name", 2)
+        plan.instances = {name: named[name] for name in plan.instances}
+    else:
+        for name, one in plan.instances.items():
+            if (digest(one.model), digest(one.initial)) != digests[name]:
+                raise Problem(f"{one.model} or {one.initial} is another file than when {options.collect} was made", 9)
+    race = Race(plan, Program(options.program), os.path.join(options.collect, RESULTS))
+    rows = race.rows()
+    say(f"{len(rows)} of {len(plan.jobs)} runs are there")
+    if options.list:
+        write_commands(options.list, os.path.realpath(options.collect), plan)
+    return rows, 0 if len(rows) == len(plan.jobs) else 11
+
+
+# The call
+
+
+def work(options):
+    if options.run is not None:
+        return run_one(options)
+    for name in filter(None, (options.csv, options.json, options.curves, options.list)):
+        target(name)
+    if options.list and not options.collect:
+        return write_list(options)
+    rows, status = collected(options) if options.collect else raced(options)
+    for name, text in ((options.csv, csv_text), (options.json, json_text), (options.curves, curves)):
+        if name and rows:
+            write_whole(name, text(rows))
+    if rows:
+        print(tables(rows), end="")
+    return status
+
+
+def main(words=None):
+    run_tool(parser(), work, words)

@@ -1,0 +1,221 @@
+"""What a race runs: its instances, its solvers, and a job for each run."""
+import glob
+import hashlib
+import json
+import os
+import re
+import shlex
+from dataclasses import asdict, dataclass
+
+from .files import write_whole
+from .problems import Problem
+from .words import LARGEST_SEED, MOST_PROPOSALS
+
+OWN = "reassign"  # the name of the program itself among the solvers
+AUTO = "auto"  # the slack that `rounds` chooses by itself
+FIELDS = ("model", "initial", "new", "seconds", "seed")
+NEEDED_FIELDS = ("model", "initial", "new")
+
+
+@dataclass(frozen=True)
+class Instance:
+    """A model and its true start."""
+    name: str
+    model: str
+    initial: str
+
+
+@dataclass(frozen=True)
+class Solver:
+    """Another program. In the words of its command {model}, {initial}, {new}, {seconds} and {seed} stand for those of a run."""
+    name: str
+    command: str
+
+    def words(self, values):
+        """The words of the command for one run."""
+        return [re.sub(r"\{(\w+)\}", lambda field: str(values[field[1]]), word) for word in shlex.split(self.command)]
+
+
+@dataclass(frozen=True)
+class Job:
+    """One run. `proposals` or `seconds` is its budget; slack is a number, "auto", or "" for another solver."""
+    number: int
+    instance: str
+    solver: str
+    seed: int
+    slack: str
+    proposals: int | None
+    seconds: float | None
+
+    def budget(self):
+        return f"{self.proposals:,} proposals" if self.proposals else f"{self.seconds:g} s"
+
+    def told(self):
+        slack = f", slack {self.slack}" if self.slack else ""
+        return f"{self.instance}, {self.solver}{slack}, {self.budget()}, seed {self.seed}"
+
+
+@dataclass
+class Plan:
+    """All that a race runs, in an order in which each solver meets the same load of the machine."""
+    instances: dict
+    solvers: dict
+    workers: int
+    jobs: list
+
+    def text(self):
+        """The plan as JSON, with the SHA-256 of each file."""
+        instances = [asdict(one) | {"model_sha256": digest(one.model), "initial_sha256": digest(one.initial)}
+                     for one in self.instances.values()]
+        whole = {"instances": instances, "solvers": [asdict(one) for one in self.solvers.values()], "workers": self.workers,
+                 "jobs": [asdict(one) for one in self.jobs]}
+        return json.dumps(whole, indent=1).encode() + b"\n"
+
+    def write(self, name):
+        write_whole(name, [self.text()])
+
+    @staticmethod
+    def read(name):
+        """The plan of a file, and the SHA-256 of its models and starts by the names of their instances."""
+        try:
+            with open(name, encoding="utf-8") as file:
+                whole = json.load(file)
+            digests = {one["name"]: (one.pop("model_sha256"), one.pop("initial_sha256")) for one in whole["instances"]}
+            instances = {one["name"]: Instance(**one) for one in whole["instances"]}
+            solvers = {one["name"]: Solver(**one) for one in whole["solvers"]}
+            return Plan(instances, solvers, whole["workers"], [Job(**one) for one in whole["jobs"]]), digests
+        except OSError as fault:
+            raise Problem(f"{name}: {fault.strerror}") from None
+        except (ValueError, KeyError, TypeError, AttributeError):
+            raise Problem(f"{name} is no plan of a race", 9) from None
+
+
+def digest(name):
+    """The SHA-256 of a file."""
+    try:
+        with open(name, "rb") as file:
+            return hashlib.file_digest(file, "sha256").hexdigest()
+    except OSError as fault:
+        raise Problem(f"{name}: {fault.strerror}") from None
+
+
+def planned(instances, solvers, seeds, slacks, budgets, workers):
+    """The plan of all runs. `budgets` are pairs of proposals and seconds, one of which is None."""
+    jobs = []
+    for seed in seeds:
+        for instance in instances:
+            for proposals, seconds in budgets:
+                runs = [(OWN, slack) for slack in slacks] + [(solver.name, "") for solver in solvers]
+                jobs += [Job(len(jobs) + at, instance.name, solver, seed, slack, proposals, seconds)
+                         for at, (solver, slack) in enumerate(runs)]
+    return Plan({one.name: one for one in instances}, {one.name: one for one in solvers}, workers, jobs)
+
+
+# What the words of a call name
+
+
+def instances_of(patterns):
+    """The instances that patterns of file names match: model_X with assignment_X, and folders with `model` and `initial`.
+
+    All names of which nothing can be made are told at once."""
+    found, wrong = {}, []
+    for pattern in patterns:
+        names = sorted(glob.glob(pattern)) if glob.has_magic(pattern) else [pattern]
+        some = [(name, instance_at(name)) for name in names]
+        if not any(instance for _, instance in some):
+            wrong.append(f"{pattern}: {why_none(pattern, names)}")
+        found |= {os.path.realpath(one.model): one for _, one in some if one}
+    if wrong:
+        raise Problem("; ".join(wrong))
+    return with_own_names(list(found.values()))
+
+
+def instance_at(name):
+    """The instance of a folder or a model file, or None."""
+    folder, file = os.path.split(name)
+    if os.path.isdir(name):
+        label, model, initial = os.path.basename(os.path.normpath(os.path.abspath(name))), "model", "initial"
+        folder = name
+    elif file == "model":
+        label, model, initial = os.path.basename(os.path.abspath(folder or ".")), file, "initial"
+    elif file.startswith("model_"):
+        label, model, initial = os.path.splitext(file)[0][len("model_"):], file, "assignment_" + file[len("model_"):]
+    else:
+        return None
+    model, initial = os.path.abspath(os.path.join(folder, model)), os.path.abspath(os.path.join(folder, initial))
+    return Instance(label, model, initial) if os.path.isfile(model) and os.path.isfile(initial) else None
+
+
+def why_none(pattern, names):
+    if not names or (names == [pattern] and not os.path.exists(pattern)):
+        return "there is no such file"
+    return "no instance: that is a file model_X with assignment_X beside it, or a folder with `model` and `initial`"
+
+
+def with_own_names(instances):
+    """The instances, those of which the names are the same named by their models' paths."""
+    names = [one.name for one in instances]
+    return [Instance(one.model, one.model, one.initial) if names.count(one.name) > 1 else one for one in instances]
+
+
+def numbers_of(word, most):
+    """The numbers that a word like 1-3,7 names, in their order."""
+    numbers = []
+    for part in word.split(","):
+        ends = part.split("-")
+        if not 1 <= len(ends) <= 2 or not all(re.fullmatch("[0-9]{1,20}", end) for end in ends):
+            raise ValueError
+        first, last = int(ends[0]), int(ends[-1])
+        if not first <= last <= most or last - first >= 100_000:
+            raise ValueError
+        numbers += range(first, last + 1)
+    return list(dict.fromkeys(numbers))
+
+
+def seeds_of(word):
+    return numbers_of(word, LARGEST_SEED)
+
+
+def slacks_of(word):
+    """Slacks, each a number or "auto"."""
+    parts = [part if part == AUTO else str(numbers_of(part, LARGEST_SEED)[0]) for part in word.split(",")]
+    return list(dict.fromkeys(parts))
+
+
+def proposals_of(word):
+    budgets = numbers_of(word, 10**12)
+    if not min(budgets):
+        raise ValueError
+    return budgets
+
+
+def seconds_of(word):
+    """Seconds, which needn't be whole."""
+    budgets = [float(part) for part in word.split(",") if re.fullmatch(r"[0-9]{1,9}(\.[0-9]{1,6})?", part)]
+    if len(budgets) != word.count(",") + 1 or not min(budgets):
+        raise ValueError
+    return list(dict.fromkeys(budgets))
+
+
+def solver_of(word):
+    """A solver by a word 'NAME: COMMAND'."""
+    name, colon, command = word.partition(":")
+    name, command = name.strip(), command.strip()
+    if not colon or not re.fullmatch(r"[\w.+-]{1,40}", name) or name == OWN:
+        raise Problem(f"--solver {word!r}: wanted is 'NAME: COMMAND', with a name of letters and digits other than {OWN}", 2)
+    try:
+        words = shlex.split(command)
+    except ValueError as fault:
+        raise Problem(f"--solver {name}: {fault}", 2) from None
+    fields = re.findall(r"\{(\w+)\}", command)
+    unknown = [field for field in fields if field not in FIELDS]
+    missing = [field for field in NEEDED_FIELDS if field not in fields]
+    if unknown or missing or not words:
+        what = f"there is no {{{unknown[0]}}}" if unknown else f"{{{missing[0]}}} is missing" if missing else "there is no command"
+        raise Problem(f"--solver {name}: {what}; the fields are " + ", ".join(f"{{{field}}}" for field in FIELDS), 2)
+    return Solver(name, command)
+
+
+def is_one_run(job):
+    """Whether the program's budget is that of one run, and not of `rounds`."""
+    return job.proposals is not None and job.proposals <= MOST_PROPOSALS

@@ -1,0 +1,327 @@
+"""The runs of a race: each leaves a list, which nobody has judged yet, and what it says of itself."""
+import json
+import math
+import os
+import platform
+import shlex
+import shutil
+import signal
+import subprocess
+import tempfile
+import threading
+import time
+from dataclasses import asdict, dataclass, field
+from statistics import median
+
+from . import __version__
+from .children import begin
+from .files import list_text, write_whole
+from .problems import Problem
+from .program import slack_words
+from .race_plan import OWN, digest, is_one_run
+from .running import command_of
+
+CURVE_POINTS = 150
+SHORTEST = 0.001  # seconds that another solver gets at least
+
+
+@dataclass
+class Outcome:
+    """What a run says of itself. Seconds are by the clock; `processor` is processor time, with that of `reading`."""
+    version: str = ""
+    host: str = ""
+    given: float | None = None
+    seconds: float = 0.0
+    processor: float = 0.0
+    reading: float | None = None
+    proposals: int | None = None
+    fault: str = ""
+    curve: list = field(default_factory=list)
+
+    def solving(self):
+        """The processor time without that of reading the files."""
+        return max(self.processor - (self.reading or 0.0), SHORTEST)
+
+
+# Programs that are timed
+
+
+class Running:
+    """The programs that run just now, each in a process group of its own, which can be ended together."""
+
+    def __init__(self):
+        self.lock, self.groups, self.is_over = threading.Lock(), set(), False
+
+    def start(self, words, **how):
+        with self.lock:
+            if self.is_over:
+                raise Problem("stopped", 130)
+            run = begin(words, stdout=subprocess.PIPE, **how)
+            self.groups.add(run.pid)
+        return run
+
+    def end_group(self, group):
+        try:
+            os.killpg(group, signal.SIGKILL)
+        except ProcessLookupError:
+            pass
+
+    def forget(self, group):
+        """The program ended; what it left running ends too."""
+        self.end_group(group)
+        with self.lock:
+            self.groups.discard(group)
+
+    def end_all(self):
+        with self.lock:
+            self.is_over = True
+            for group in self.groups:
+                self.end_group(group)
+
+
+@dataclass
+class Timed:
+    """How a program ended: its status, which is None if it was ended after its limit, its last error line, and its times."""
+    status: int | None
+    error: str
+    seconds: float
+    processor: float
+
+
+def timed(running, words, take=None, limit=None):
+    """Runs a program to its end, or for so many seconds as `limit`. Each line that it prints goes to `take`. What it left running
+    ends with it."""
+    with tempfile.TemporaryFile() as errors:
+        began, ended = time.monotonic(), Timed(None, "", 0.0, 0.0)
+        try:
+            run = running.start(list(map(str, words)), stderr=errors)
+        except OSError as fault:
+            return Timed(127, f"{words[0]}: {fault.strerror}", 0.0, 0.0)
+        waiting = threading.Thread(target=wait_for, args=(running, run, limit, ended), daemon=True)
+        waiting.start()
+        for line in run.stdout:
+            if take:
+                take(line)
+        waiting.join()
+        ended.seconds = time.monotonic() - began
+        run.stdout.close()
+        errors.seek(max(0, errors.seek(0, os.SEEK_END) - 4096))
+        lines = errors.read().decode(errors="replace").strip().splitlines()
+        ended.error = lines[-1] if lines else ""
+    return ended
+
+
+def wait_for(running, run, limit, ended):
+    """Waits for the end of a program, which comes after its limit at the latest."""
+    is_late = threading.Event()
+    alarm = threading.Timer(limit, lambda: (is_late.set(), running.end_group(run.pid))) if limit else None
+    if alarm:
+        alarm.start()
+    _, status, usage = os.wait4(run.pid, 0)
+    if alarm:
+        alarm.cancel()
+    running.forget(run.pid)
+    run.returncode = os.waitstatus_to_exitcode(status)
+    ended.status = None if is_late.is_set() else run.returncode
+    ended.processor = usage.ru_utime + usage.ru_stime
+
+
+def limit_of(seconds):
+    """After how many seconds a run is ended that should take so many."""
+    return 2 * seconds + 60
+
+
+# The program itself
+
+
+class Head:
+    """Takes a report line by line: the lines before its journal, and where its cost fell."""
+
+    def __init__(self):
+        self.lines, self.entries, self.least, self.falls = [], 0, None, []
+
+    def take(self, line):
+        if len(self.lines) < 10:
+            self.lines.append(line)
+            return
+        self.entries += 1
+        if b" done " in line:
+            cost = int(line[line.rindex(b" "):])
+            if self.least is None or cost < self.least:
+                self.least = cost
+                self.falls.append((self.entries, cost))
+
+    def assignment(self):
+        words = self.lines[8].split() if len(self.lines) == 10 else []
+        return list(map(int, words[1:])) if words[:1] == [b"assignment"] else None
+
+
+def thinned(points):
+    """Some of the points of a curve: the last of each of so many steps, which grow by equal factors."""
+    if len(points) <= CURVE_POINTS:
+        return points
+    last = points[-1][0]
+    first = max(points[0][0], last / 10_000)
+    width = math.log(last / first) / CURVE_POINTS or 1.0
+    by_step = {int(math.log(max(at, first) / first) / width): (at, cost) for at, cost in points}
+    return list(by_step.values())
+
+
+def run_solve(running, program, instance, job, workers, new):
+    """One run of `solve`, behind the same command with no proposal, which tells how long reading takes."""
+    first = (job.seed - 1) * workers + 1
+    shares = [job.proposals // workers + (worker < job.proposals % workers) for worker in range(workers)]
+    words = [program, "solve", instance.model, instance.initial, *slack_words(int(job.slack))]
+    lots = lambda budgets: [f"{(first + worker) % 2**64}:{budget}" for worker, budget in enumerate(budgets)]
+    idle = timed(running, words + lots([0] * workers))
+    head = Head()
+    run = timed(running, words + lots(shares), head.take)
+    outcome = Outcome(seconds=run.seconds, processor=run.processor, reading=idle.processor, proposals=head.entries)
+    found = head.assignment()
+    if run.status or found is None:
+        outcome.fault = run.error or f"status {run.status}"
+        return outcome
+    write_whole(new, [list_text(found)])
+    each = outcome.solving() / max(head.entries, 1)
+    outcome.curve = thinned([(each * place, cost) for place, cost in head.falls])
+    return outcome
+
+
+def run_rounds(running, program, instance, job, workers, new):
+    """A run of `rounds`, for a number of seconds or for more proposals than one run may have."""
+    log = f"{new}.log"
+    budget = ["--proposals", job.proposals] if job.proposals else ["--seconds", f"{job.seconds:g}"]
+    words = [*command_of("rounds"), instance.model, instance.initial, "--out", new, "--program", program, "--workers", workers,
+             "--seed", job.seed, "--slack", job.slack, "--log", log, *budget]
+    run = timed(running, words, limit=limit_of(job.seconds) if job.seconds else None)
+    outcome = Outcome(seconds=run.seconds, processor=run.processor)
+    try:
+        with open(log, encoding="utf-8") as file:
+            rounds = [json.loads(line) for line in file]
+        outcome.proposals = sum(one["proposals"] for one in rounds)
+        outcome.curve = thinned([(one["seconds"], one["cost"]) for one in rounds])
+    except (OSError, ValueError, KeyError, TypeError):
+        outcome.proposals = None
+    outcome.fault = fault_of(run)
+    return outcome
+
+
+# Another program
+
+
+class Said:
+    """Takes what another program prints: `proposals N`, and its curve as lines `at SECONDS COST`."""
+
+    def __init__(self):
+        self.proposals, self.curve = None, []
+
+    def take(self, line):
+        words = line.split(b" ") if len(line) < 200 else []
+        try:
+            if words[:1] == [b"proposals"] and len(words) == 2:
+                self.proposals = int(words[1])
+            elif words[:1] == [b"at"] and len(words) == 3:
+                at, cost = float(words[1]), int(words[2])
+                if math.isfinite(at) and at >= 0:
+                    self.curve.append((at, cost))
+        except ValueError:
+            pass
+
+
+def run_other(running, solver, instance, job, seconds, new):
+    """A run of another program, for so many seconds."""
+    values = {"model": instance.model, "initial": instance.initial, "new": new, "seconds": f"{seconds:.6g}", "seed": job.seed}
+    said = Said()
+    run = timed(running, solver.words(values), said.take, limit_of(seconds))
+    return Outcome(given=seconds, seconds=run.seconds, processor=run.processor, proposals=said.proposals, fault=fault_of(run),
+                   curve=thinned(said.curve))
+
+
+def fault_of(run):
+    if run.status is None:
+        return f"ended after {run.seconds:.0f} s"
+    return f"status {run.status}" + (f": {run.error}" if run.error else "") if run.status else ""
+
+
+def version_of(words):
+    """What tells which program ran: the first digits of the SHA-256 of the file that a command's first word names."""
+    name = shutil.which(words[0])
+    return digest(name)[:12] if name else ""
+
+
+# The jobs of a race
+
+
+@dataclass
+class Place:
+    """Where the runs of a plan leave what comes of them, and the program that they call."""
+    folder: str
+    program: str
+    running: Running
+
+    def list_name(self, job):
+        return os.path.join(self.folder, f"{job.number}.list")
+
+    def outcome_name(self, job):
+        return os.path.join(self.folder, f"{job.number}.json")
+
+    def has(self, job):
+        return os.path.exists(self.outcome_name(job))
+
+
+def units_of(plan):
+    """The jobs in groups that are run one after another. Another program that gets as long as this one took comes after all
+    runs of this one on the same instance and with the same proposals; any other job is a group of its own."""
+    timed_names = {name for name, solver in plan.solvers.items() if "{seconds}" in solver.command}
+    units = {}
+    for job in plan.jobs:
+        is_grouped = job.proposals and timed_names and (job.solver == OWN or job.solver in timed_names)
+        units.setdefault((job.instance, job.proposals) if is_grouped else job.number, []).append(job)
+    return [sorted(unit, key=lambda job: job.solver != OWN) for unit in units.values()]
+
+
+def run_unit(plan, unit, place):
+    """Makes those runs of a unit that aren't there yet. Each job's outcome is there when its list is."""
+    solving = []
+    for job in unit:
+        if not place.has(job):
+            outcome = run_job(plan, job, place, median(solving) if solving else None)
+            write_whole(place.outcome_name(job), [json.dumps(asdict(outcome)).encode() + b"\n"])
+        if job.solver == OWN:
+            solving.append(read_outcome(place.outcome_name(job)).solving())
+
+
+def run_job(plan, job, place, as_long):
+    instance, new = plan.instances[job.instance], place.list_name(job)
+    for name in (new, f"{new}.log"):
+        if os.path.exists(name):  # of a run that was stopped
+            os.unlink(name)
+    if job.solver != OWN:
+        solver = plan.solvers[job.solver]
+        seconds = job.seconds or as_long or SHORTEST
+        outcome = run_other(place.running, solver, instance, job, seconds, new)
+        outcome.version = version_of(shlex.split(solver.command))
+    else:
+        run = run_solve if is_one_run(job) else run_rounds
+        outcome = run(place.running, place.program, instance, job, plan.workers, new)
+        outcome.version = f"{__version__} {digest(place.program)[:12]}"
+    outcome.host = platform.node()
+    return outcome
+
+
+def read_outcome(name):
+    """What a run says of itself, of which nothing is believed but its form."""
+    try:
+        with open(name, encoding="utf-8") as file:
+            outcome = Outcome(**json.load(file))
+        numbers = [outcome.seconds, outcome.processor, *(number for point in outcome.curve for number in point)]
+        numbers += [number for number in (outcome.given, outcome.reading, outcome.proposals) if number is not None]
+        texts = (outcome.version, outcome.host, outcome.fault)
+        if all(isinstance(text, str) for text in texts) and all(0 <= number < math.inf for number in numbers):
+            outcome.curve = [(at, cost) for at, cost in outcome.curve]
+            return outcome
+    except OSError as fault:
+        raise Problem(f"{name}: {fault.strerror}") from None
+    except (ValueError, TypeError):
+        pass
+    raise Problem(f"{name} isn't what a run of a race leaves", 9)

@@ -1,0 +1,102 @@
+"""Which slack the next round has, and whether it goes on from the best list or begins anew at the true start."""
+import math
+from dataclasses import dataclass, field
+
+SHARES = (0.0, 0.002, 0.01, 0.03)  # of the start's cost per process
+FIRST = 2  # of these, for the first round
+ANEW_ORDER = (2, 3, 1, 0)  # in which they are tried by rounds that begin anew
+ON_ORDER = (2, 1, 0)  # and by rounds that go on: these are short of room, and the most slack brings nothing there
+AGAIN = 5  # each so many rounds anew the slack is tried that has waited longest
+FADE = 0.5  # what a round that goes on gains is worth half after each later one
+DOUBT = 0.001  # how far runs anew lie apart before any is known, as a share of the fall
+
+
+@dataclass
+class Choice:
+    """A round: whether it begins at the true start, and its slack."""
+    is_anew: bool
+    slack: int
+
+
+@dataclass
+class Slacks:
+    """The slacks to choose from, in the order in which they are tried, with what each brought."""
+    order: list
+    found: dict = field(default_factory=dict)  # the costs of runs anew, or what the last round that went on gained, by slack
+    used: list = field(default_factory=list)
+
+    def untried(self):
+        return next((slack for slack in self.order if slack not in self.found), None)
+
+    def longest_unused(self):
+        return min(self.order, key=lambda slack: max((at for at, one in enumerate(self.used) if one == slack), default=-1))
+
+
+class Chooser:
+    """Chooses rounds by what those before brought.
+
+    A round that goes on from the best list is worth what the last such ones gained. A run anew is worth what one may be expected
+    to be below the best: runs anew differ by their seeds, and their costs are taken to be spread normally. The greater one is
+    chosen. If the slack is given, only where to begin is chosen."""
+
+    def __init__(self, start_cost, processes, slack=None):
+        shares = [round(share * start_cost / max(processes, 1)) for share in SHARES]
+        named = lambda order: list(dict.fromkeys([slack] if slack is not None else (shares[at] for at in order)))
+        self.anew, self.on = Slacks(named(ANEW_ORDER)), Slacks(named(ON_ORDER))
+        self.first = slack if slack is not None else shares[FIRST]
+        self.start_cost, self.costs = start_cost, []
+        self.is_fresh = True  # whether no round went on from the best list yet
+        self.gain = None  # what a round that goes on from the best list may be expected to gain; None if none ever did
+        self.first_gain = 0  # what the last one gained that went on from a list of a run anew
+
+    def next(self, best_cost, has_list, can_begin_anew=True):
+        """The next round, if the best list so far costs so much. A list of an earlier call is gone on from first."""
+        if not has_list:
+            return Choice(True, self.slack_anew() if self.costs else self.first)
+        is_anew = can_begin_anew and self.gain is not None and self.expected_anew(best_cost) > self.gain
+        return Choice(True, self.slack_anew()) if is_anew else Choice(False, self.slack_on())
+
+    def learn(self, choice, found, before):
+        """What came: a list of cost `found` (None if there is none), where the best cost was `before`."""
+        gain = 0 if found is None else max(before - found, 0)
+        if choice.is_anew:
+            cost = self.start_cost if found is None else found
+            self.costs.append(cost)
+            self.anew.found.setdefault(choice.slack, []).append(cost)
+            self.anew.used.append(choice.slack)
+            if gain and self.gain is not None:
+                self.gain, self.is_fresh = self.first_gain, True
+            return
+        self.on.found = {slack: FADE * old for slack, old in self.on.found.items()} | {choice.slack: gain}
+        self.on.used.append(choice.slack)
+        if self.is_fresh:
+            self.gain = self.first_gain = gain
+        else:
+            self.gain = (gain + FADE * self.gain) / (1 + FADE)
+        self.is_fresh = False
+
+    def slack_anew(self):
+        slacks = self.anew
+        untried = slacks.untried()
+        if untried is not None:
+            return untried
+        if len(slacks.used) % AGAIN == AGAIN - 1:
+            return slacks.longest_unused()
+        return min(slacks.order, key=lambda slack: sum(slacks.found[slack]) / len(slacks.found[slack]))
+
+    def slack_on(self):
+        slacks = self.on
+        untried = slacks.untried()
+        return untried if untried is not None else max(slacks.order, key=lambda slack: slacks.found[slack])
+
+    def expected_anew(self, best_cost):
+        """By how much a run anew is expected to be below the best, or 0 if it isn't."""
+        if not self.costs:
+            return 0.0
+        mean = sum(self.costs) / len(self.costs)
+        doubt = DOUBT * (self.start_cost - best_cost)
+        spread = math.sqrt((doubt ** 2 + sum((cost - mean) ** 2 for cost in self.costs)) / len(self.costs))
+        if spread == 0:
+            return 0.0
+        z = (best_cost - mean) / spread
+        return (best_cost - mean) * 0.5 * (1 + math.erf(z / math.sqrt(2))) + spread * math.exp(-z * z / 2) / math.sqrt(2 * math.pi)
