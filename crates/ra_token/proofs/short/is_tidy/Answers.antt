@@ -1,6 +1,5 @@
-use Rattle.std.proofs.Common.{◌≡◌, ◌+◌, ◌-◌, ◌≤◌, true, get_or, sym, ap, ◌∙◌, rules, arith}
+use Rattle.std.proofs.Common.{◌≡◌, sym, ap, ◌∙◌, rules, arith}
 use Rattle.std.specs.Int.{bit_at}
-use Rattle.ra_token.specs.Runs.{is_blank}
 use Rattle.ra_token.proofs.BlockBits.{tidy_of}
 use Rattle.ra_token.proofs.short.is_tidy.Goals as goal
 

@@ -1,4 +1,4 @@
-use Rattle.std.proofs.Common.{◌≡◌, ◌+◌, ◌-◌, ◌<◌, ◌≤◌, length, get_or, sym, ap, ◌∙◌, arith}
+use Rattle.std.proofs.Common.{◌≡◌, ◌+◌, ◌-◌, ◌<◌, length, get_or, sym, ap, ◌∙◌, arith}
 use Rattle.ra_token.specs.Scan.{digits_worth}
 use Rattle.ra_token.specs.Short.{short_worth}
 use Rattle.ra_token.proofs.Taking.{takes_none, takes_one, takes_then, block_begins, block_after, block_other}
