@@ -1,6 +1,6 @@
 use Rattle.std.proofs.Common.{◌+◌, arith}
 use Rattle.ra_token.proofs.Taking.{takes_none, takes_one}
-use Rattle.ra_token.proofs.scan.one_run.Goals as goal
+use Rattle.ra_token.proofs.take.one_run.Goals as goal
 
 pub returns-in_default : goal.returns-in_default
 returns-in_default c = takes_none c.args.bytes.now c.args.from 1 c.args.values.now c.requires.within

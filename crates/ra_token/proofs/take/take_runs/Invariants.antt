@@ -1,6 +1,6 @@
 use Rattle.std.proofs.Common.{◌≡◌, ◌+◌, ◌-◌, length}
 use Rattle.ra_token.specs.Scan.{TakesRuns}
-use Rattle.ra_token.proofs.scan.take_runs.Given as goal
+use Rattle.ra_token.proofs.take.take_runs.Given as goal
 
 abbrev pub invariant-loop-taken : goal.invariant-loop-taken
 invariant-loop-taken l =
