@@ -4,6 +4,7 @@ ghost use Rattle.ra_model.specs.Broken.{first_broken};
 ghost use Rattle.ra_model.specs.Costs.{parts_of};
 ghost use Rattle.ra_model.specs.Feasible.{Feasible};
 ghost use Rattle.ra_model.specs.Limits.{Small, WellFormed};
+ghost use Rattle.ra_topology.specs.Fits.{IsTopologyOf};
 ghost use Rattle.ra_edit_read.specs.EditLists.{AreEditsFor};
 ghost use Rattle.ra_edit.specs.Drafts.{draft_of, instance_of};
 ghost use Rattle.ra_edit.specs.Keeping.{IsSound};
@@ -12,7 +13,6 @@ ghost use Rattle.ra_edit.specs.Replies.{barred, edit_answer, after_edit};
 ghost use Rattle.ra_edit.specs.SameLists.{AreSameLists};
 
 use crate::building::build;
-use crate::dependants::Dependants;
 use crate::edited::{Edited, Left};
 use crate::lists::{Lists, MOST_PROCESSES};
 use crate::loads::Loads;
@@ -37,7 +37,7 @@ pub struct Draft<'a> {
     lists: Lists,
     loads: Loads,
     members: Members,
-    dependants: Dependants,
+    topo: &'a Topology,
     moved: Greatest,
     parts: Parts,
 }
@@ -51,25 +51,24 @@ impl<'a> Model for Draft<'a> {
 
     ghost view = { λ d. drafted d.inst.now.tables d.lists };
 
-    ghost invariant = { λ d. IsHeld d.inst.now.tables d.lists d.loads d.members d.dependants d.moved d.parts };
+    ghost invariant = { λ d. IsHeld d.inst.now.tables d.lists d.loads d.members d.topo.now d.moved d.parts };
 }
 
 impl<'a> Draft<'a> {
-    /// The draft of a feasible current list, whose cost has these parts. The instance is lent, and nothing is read of
-    /// the topology that is lent. The time grows with the processes times the resources, or times the logarithm of
-    /// their number if that is more, with the machines times the resources, with the services and with their
-    /// dependencies. The draft keeps two numbers for each machine and resource, two for each service, at most three
-    /// counts and a number for each process, a topology of its own for the services that depend on each one, and twice
-    /// the room of the lists of the most processes that an instance may have, of which `leave` and `finish` fill the
-    /// second.
+    /// The draft of a feasible current list, whose cost has these parts. The instance and its topology are lent. The time
+    /// grows with the processes times the resources, or times the logarithm of their number if that is more, with the
+    /// machines times the resources and with the services. The draft keeps two numbers for each machine and resource, two
+    /// for each service, at most three counts and a number for each process, and twice the room of the lists of the most
+    /// processes that an instance may have, of which `leave` and `finish` fill the second.
     pub fn make(
         alloc: Global,
         inst: &'a Instance,
-        _topo: &'a Topology,
+        topo: &'a Topology,
         a0: &Assignment,
         a: &Assignment,
         start: Parts,
     ) -> Result<Draft<'a>, NoMemory>
+        requires topology { IsTopologyOf topo.now inst.now.tables }
         requires a0_fits { IsAssignment inst.now.tables a0.now.items }
         requires fits { IsAssignment inst.now.tables a.now.items }
         requires unbroken { first_broken inst.now.tables a0.now.items a.now.items ≡ None }
@@ -79,14 +78,13 @@ impl<'a> Draft<'a> {
         let lists = Lists::of(alloc, inst, a0, a)?;
         let loads = Loads::of(alloc, inst, &lists)?;
         let members = Members::of(alloc, inst, &lists)?;
-        let dependants = Dependants::of(alloc, inst)?;
         let moved = moved_counts(alloc, inst, &lists)?;
         Ok(Draft {
             inst,
             lists,
             loads,
             members,
-            dependants,
+            topo,
             moved,
             parts: start,
         })
@@ -116,7 +114,7 @@ impl<'a> Draft<'a> {
             &self.lists,
             &self.loads,
             &self.members,
-            &self.dependants,
+            self.topo,
             &self.moved,
             self.parts,
             edit,
@@ -163,7 +161,7 @@ impl<'a> Draft<'a> {
             lists,
             loads: _,
             members: _,
-            dependants: _,
+            topo: _,
             moved: _,
             parts: _,
         } = self;
@@ -195,7 +193,7 @@ impl<'a> Draft<'a> {
             lists,
             loads: _,
             members: _,
-            dependants: _,
+            topo: _,
             moved: _,
             parts: _,
         } = self;

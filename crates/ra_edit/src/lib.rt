@@ -6,7 +6,6 @@ mod base;
 mod building;
 mod costs;
 mod counts;
-mod dependants;
 mod draft;
 mod edited;
 mod growing;

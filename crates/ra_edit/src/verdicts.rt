@@ -3,7 +3,7 @@ ghost use Rattle.ra_model.specs.Limits.{Small};
 ghost use Rattle.ra_model.specs.Numbers.{resource_count, machine_count, service_count};
 ghost use Rattle.ra_model.specs.Assignments.{machine_at};
 ghost use Rattle.ra_model.specs.Costs.{parts_of};
-ghost use Rattle.ra_topology.specs.Fits.{AreDependants};
+ghost use Rattle.ra_topology.specs.Fits.{IsTopologyOf};
 ghost use Rattle.ra_edit_read.specs.EditLists.{FitsInstance};
 ghost use Rattle.ra_edit.specs.Drafts.{Drafted, instance_of};
 ghost use Rattle.ra_edit.specs.Keeping.{drafted, IsKept, IsJudged};
@@ -14,7 +14,6 @@ ghost use Rattle.ra_edit.specs.Members.{AreMembersOf};
 ghost use Rattle.ra_edit.specs.Moved.{AreMovedOf};
 
 use crate::costs::{costs_with, moved_share, summed, way_share};
-use crate::dependants::Dependants;
 use crate::judging::{added_breaks, resized_breaks, retired_breaks};
 use crate::lists::{Lists, machine_of};
 use crate::loads::Loads;
@@ -25,6 +24,7 @@ use ra_base::{Cause, Machine, NoMemory, Parts, Process, Service};
 use ra_cells::Greatest;
 use ra_edit_read::Edit;
 use ra_model::Instance;
+use ra_topology::Topology;
 use std::alloc::Global;
 
 /// What is found of the current list of a draft: the first constraint that it breaks, or what it costs.
@@ -42,7 +42,7 @@ pub(crate) fn judge(
     lists: &Lists,
     loads: &Loads,
     members: &Members,
-    dependants: &Dependants,
+    topo: &Topology,
     moved: &Greatest,
     cost: Parts,
     edit: Edit,
@@ -51,7 +51,7 @@ pub(crate) fn judge(
     requires kept { IsKept (drafted inst.now.tables lists.now) cost }
     requires loads { AreLoadsOf (drafted inst.now.tables lists.now) loads.now }
     requires members { AreMembersOf (drafted inst.now.tables lists.now) members.now }
-    requires dependants { AreDependants dependants.now inst.now.tables }
+    requires topology { IsTopologyOf topo.now inst.now.tables }
     requires moved { AreMovedOf (drafted inst.now.tables lists.now) moved.now }
     requires free { barred (length lists.now.rows.items) edit ≡ None }
     requires fits { FitsInstance inst.now.tables edit }
@@ -74,7 +74,7 @@ pub(crate) fn judge(
                 lists,
                 loads,
                 members,
-                dependants,
+                topo,
                 moved,
                 cost,
                 Process(process),
@@ -178,7 +178,7 @@ fn judge_retired(
     lists: &Lists,
     loads: &Loads,
     members: &Members,
-    dependants: &Dependants,
+    topo: &Topology,
     moved: &Greatest,
     cost: Parts,
     p: Process,
@@ -186,7 +186,7 @@ fn judge_retired(
     requires kept { IsKept (drafted inst.now.tables lists.now) cost }
     requires loads { AreLoadsOf (drafted inst.now.tables lists.now) loads.now }
     requires members { AreMembersOf (drafted inst.now.tables lists.now) members.now }
-    requires dependants { AreDependants dependants.now inst.now.tables }
+    requires topology { IsTopologyOf topo.now inst.now.tables }
     requires moved { AreMovedOf (drafted inst.now.tables lists.now) moved.now }
     requires process { p.0 < length lists.now.rows.items }
     ensures { IfOk result (λ judged. (e : Drafted) →
@@ -194,7 +194,7 @@ fn judge_retired(
 {
     let s = service_of(inst, lists, p);
     let here = machine_of(&lists.current, p);
-    if let Some(cause) = retired_breaks(inst, lists, members, dependants, p, s, here) {
+    if let Some(cause) = retired_breaks(inst, lists, members, topo, p, s, here) {
         return Ok(Judged::Refused(cause));
     }
     let parts = parts_without(alloc, inst, lists, loads, moved, cost, p, here)?;

@@ -3,6 +3,7 @@ ghost use Rattle.std.specs.Option.{option_copied};
 ghost use Rattle.ra_edit_read.specs.EditLists.{AreEditsFor};
 ghost use Rattle.ra_io.specs.Outside.{reading, writing, Took};
 ghost use Rattle.ra_model.specs.Assignments.{IsAssignment};
+ghost use Rattle.ra_topology.specs.Fits.{IsTopologyOf};
 ghost use Rattle.ra_jobs.specs.Ends.{Does, Tries};
 ghost use Rattle.ra_jobs.specs.Files.{edit_names};
 ghost use Rattle.ra_jobs.specs.Output.{output, BrokeOff};
@@ -203,6 +204,7 @@ fn outcome_over(
     requires a0_fits { IsAssignment inst.now.tables lists.now.initial.items }
     requires fits { IsAssignment inst.now.tables lists.now.changed.items }
     requires edits { AreEditsFor inst.now.tables edits.now }
+    requires topology { IsTopologyOf topo.now inst.now.tables }
     requires judged { Judged inst.now.tables lists.now.initial.items lists.now.changed.items start }
     ensures { IfOk result (IsOutcome inst.now.tables lists.now.initial.items
         lists.now.changed.items edits.now) }

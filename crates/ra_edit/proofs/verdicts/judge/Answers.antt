@@ -20,7 +20,7 @@ judge_retired-requires c = record {
   kept = c.requires.kept;
   loads = c.requires.loads;
   members = c.requires.members;
-  dependants = c.requires.dependants;
+  topology = c.requires.topology;
   moved = c.requires.moved;
   process = (free_retire _ _ (rw c.in-Retire.is at c.requires.free)).0;
 }

@@ -16,7 +16,7 @@ retired_breaks-requires c =
     record {
       sound = c.requires.kept.sound;
       members = c.requires.members;
-      dependants = c.requires.dependants;
+      topology = c.requires.topology;
       service =
           omega (arith, c.service_of-s.ensures, service_there d c.args.p.0 c.requires.kept.sound c.requires.process);
       process = c.requires.process;

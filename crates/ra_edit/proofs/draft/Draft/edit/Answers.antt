@@ -31,7 +31,7 @@ judge-requires c =
       kept = c.self.invariant.kept;
       loads = c.self.invariant.loads_are;
       members = c.self.invariant.members_are;
-      dependants = c.self.invariant.dependants_are;
+      topology = c.self.invariant.topology_is;
       moved = c.self.invariant.moved_are;
       free = sym c.barred.ensures ∙ c.in_default.is;
       fits = next_fits d c.args.self.now c.args.edits.now c.args.i c.edit-edit.result c.self.view_is c.requires.fits
@@ -118,7 +118,7 @@ invariant_of-self c = record {
   kept = c.self.invariant.kept;
   loads_are = c.self.invariant.loads_are;
   members_are = c.in_err-follow-in-Fine.ensures.memory;
-  dependants_are = c.self.invariant.dependants_are;
+  topology_is = c.self.invariant.topology_is;
   moved_are = c.self.invariant.moved_are;
   room = c.self.invariant.room;
 }
@@ -147,7 +147,7 @@ invariant_of-self-in-Fine c =
       };
       loads_are = c.follow-in-Fine.ensures next made;
       members_are = c.in_ok-follow-in-Fine.ensures.after next c.requirements_of-asked.result.now made;
-      dependants_are = c.self.invariant.dependants_are;
+      topology_is = c.self.invariant.topology_is;
       moved_are = c.follow_moved.ensures next c.requirements_of-asked.result.now made;
       room = c.edit.ensures.room;
     }
