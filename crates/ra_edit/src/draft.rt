@@ -12,7 +12,6 @@ ghost use Rattle.ra_edit.specs.Leaving.{left_in};
 ghost use Rattle.ra_edit.specs.Replies.{barred, edit_answer, after_edit};
 ghost use Rattle.ra_edit.specs.SameLists.{AreSameLists};
 
-use crate::building::build;
 use crate::edited::{Edited, Left};
 use crate::lists::{Lists, MOST_PROCESSES};
 use crate::loads::Loads;
@@ -175,7 +174,8 @@ impl<'a> Draft<'a> {
         }
     }
 
-    /// The edited instance and its two lists. It is within the limits, so its text is one of a model.
+    /// The edited instance, whose other lists are copied, and its two lists. It is within the limits, so its text is one
+    /// of a model.
     pub fn finish(self, alloc: Global) -> Result<Edited, NoMemory>
         ensures lists { IfOk result (λ e. AreSameLists (instance_of self.entry) e.instance.tables) }
         ensures initial { IfOk result (λ e. e.initial.items ≡ self.entry.initial) }
@@ -188,23 +188,8 @@ impl<'a> Draft<'a> {
             parts_of e.instance.tables e.initial.items e.current.items ≡
             parts_of (instance_of self.entry) self.entry.initial self.entry.current) }
     {
-        let Draft {
-            inst,
-            lists,
-            loads: _,
-            members: _,
-            topo: _,
-            moved: _,
-            parts: _,
-        } = self;
-        small(inst, &lists);
-        let (rows, requirements, initial, current) = lists.apart();
-        let instance = build(alloc, inst, rows, requirements)?;
-        Ok(Edited {
-            instance,
-            initial,
-            current,
-        })
+        let instance = self.inst.copied(alloc)?;
+        Ok(Edited::of(instance, self.leave()))
     }
 }
 

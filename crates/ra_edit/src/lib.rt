@@ -2,8 +2,6 @@
 //! done.
 #![tactic(auto)]
 
-mod base;
-mod building;
 mod costs;
 mod counts;
 mod draft;
