@@ -13,6 +13,7 @@ ghost use Rattle.ra_edit.specs.Replies.{barred, edit_answer, after_edit};
 ghost use Rattle.ra_edit.specs.SameLists.{AreSameLists};
 
 use crate::edited::{Edited, Left};
+use crate::keeping::Kept;
 use crate::lists::{Lists, MOST_PROCESSES};
 use crate::loads::Loads;
 use crate::members::Members;
@@ -21,7 +22,6 @@ use crate::replies::EditReply;
 use crate::scanning::small;
 use crate::verdicts::{Judged, judge};
 use ra_base::{Assignment, NoMemory, Parts};
-use ra_cells::Greatest;
 use ra_edit_read::{Edit, Edits};
 use ra_model::Instance;
 use ra_topology::Topology;
@@ -32,25 +32,18 @@ use std::marker::Model;
 /// The second is feasible at all times.
 #[derive(Drop)]
 pub struct Draft<'a> {
-    inst: &'a Instance,
-    lists: Lists,
-    loads: Loads,
-    members: Members,
-    topo: &'a Topology,
-    moved: Greatest,
-    parts: Parts,
+    kept: Kept<'a>,
 }
 
 impl<'a> Model for Draft<'a> {
     ghost use Rattle.ra_edit.specs.Drafts.{Drafted};
-    ghost use Rattle.ra_edit.specs.Keeping.{drafted};
-    ghost use Rattle.ra_edit.specs.Loads.{IsHeld};
+    ghost use Rattle.ra_edit.specs.Loads.{IsHeld, draft_in};
 
     ghost Value = { Drafted };
 
-    ghost view = { λ d. drafted d.inst.now.tables d.lists };
+    ghost view = { λ d. draft_in d.kept };
 
-    ghost invariant = { λ d. IsHeld d.inst.now.tables d.lists d.loads d.members d.topo.now d.moved d.parts };
+    ghost invariant = { λ d. IsHeld d.kept };
 }
 
 impl<'a> Draft<'a> {
@@ -79,13 +72,15 @@ impl<'a> Draft<'a> {
         let members = Members::of(alloc, inst, &lists)?;
         let moved = moved_counts(alloc, inst, &lists)?;
         Ok(Draft {
-            inst,
-            lists,
-            loads,
-            members,
-            topo,
-            moved,
-            parts: start,
+            kept: Kept {
+                inst,
+                topo,
+                lists,
+                loads,
+                members,
+                moved,
+                parts: start,
+            },
         })
     }
 
@@ -103,29 +98,22 @@ impl<'a> Draft<'a> {
         ensures origin { self.new.origin ≡ self.old.origin }
     {
         let edit = edits.edit(i);
-        if let Some(reply) = barred(&self.lists, edit) {
+        if let Some(reply) = barred(&self.kept.lists, edit) {
             return Ok(reply);
         }
         let asked = edits.requirements_of(i);
-        match judge(
-            alloc,
-            self.inst,
-            &self.lists,
-            &self.loads,
-            &self.members,
-            self.topo,
-            &self.moved,
-            self.parts,
-            edit,
-            asked,
-        )? {
+        match judge(alloc, &self.kept, edit, asked)? {
             Judged::Refused(cause) => Ok(EditReply::Broken { cause }),
             Judged::Fine(parts) => {
-                self.members.follow(self.inst, &self.lists, edit)?;
-                self.loads.follow(self.inst, &self.lists, edit, asked);
-                follow_moved(&mut self.moved, self.inst, &self.lists, edit);
-                self.lists.edit(self.inst, edit, asked);
-                self.parts = parts;
+                self.kept
+                    .members
+                    .follow(self.kept.inst, &self.kept.lists, edit)?;
+                self.kept
+                    .loads
+                    .follow(self.kept.inst, &self.kept.lists, edit, asked);
+                follow_moved(&mut self.kept.moved, self.kept.inst, &self.kept.lists, edit);
+                self.kept.lists.edit(self.kept.inst, edit, asked);
+                self.kept.parts = parts;
                 Ok(EditReply::Done { cost: parts.total })
             }
         }
@@ -136,14 +124,14 @@ impl<'a> Draft<'a> {
         ensures parts { result ≡ parts_of (instance_of self.now) self.now.initial self.now.current }
         ensures feasible { Feasible (instance_of self.now) self.now.initial self.now.current }
     {
-        self.parts
+        self.kept.parts
     }
 
     /// How many processes there are.
     pub fn processes(&self) -> u32
         ensures { result ≡ length self.now.rows }
     {
-        self.lists.rows.len() as u32
+        self.kept.lists.rows.len() as u32
     }
 
     /// The lists of the draft, which gives its instance back. The edited instance is within the limits, and all its numbers are
@@ -155,15 +143,16 @@ impl<'a> Draft<'a> {
         ensures feasible { Feasible (instance_of self.entry) self.entry.initial
             self.entry.current }
     {
-        let Draft {
+        let Draft { kept } = self;
+        let Kept {
             inst,
+            topo: _,
             lists,
             loads: _,
             members: _,
-            topo: _,
             moved: _,
             parts: _,
-        } = self;
+        } = kept;
         small(inst, &lists);
         let (rows, requirements, initial, current) = lists.apart();
         Left {
@@ -188,7 +177,7 @@ impl<'a> Draft<'a> {
             parts_of e.instance.tables e.initial.items e.current.items ≡
             parts_of (instance_of self.entry) self.entry.initial self.entry.current) }
     {
-        let instance = self.inst.copied(alloc)?;
+        let instance = self.kept.inst.copied(alloc)?;
         Ok(Edited::of(instance, self.leave()))
     }
 }

@@ -8,6 +8,7 @@ mod draft;
 mod edited;
 mod growing;
 mod judging;
+mod keeping;
 mod laws;
 mod lists;
 mod loads;
