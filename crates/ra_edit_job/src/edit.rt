@@ -1,7 +1,7 @@
-ghost use Rattle.std.specs.Prelude.{◌≡◌, ◌≢◌, ℕ, ◌≤◌, List, OnOk, IfOk, IfErr};
+ghost use Rattle.std.specs.Prelude.{◌≡◌, ◌≢◌, ◌≤◌, OnOk, IfOk, IfErr};
 ghost use Rattle.std.specs.Option.{option_copied};
 ghost use Rattle.ra_edit_read.specs.EditLists.{AreEditsFor};
-ghost use Rattle.ra_io.specs.Outside.{reading, writing, Took};
+ghost use Rattle.ra_io.specs.Outside.{LeavesFiles, reading, writing, Took};
 ghost use Rattle.ra_model.specs.Assignments.{IsAssignment};
 ghost use Rattle.ra_topology.specs.Fits.{IsTopologyOf};
 ghost use Rattle.ra_jobs.specs.Ends.{Does, Tries};
@@ -98,8 +98,7 @@ fn read_taken<F: Files>(
         (F.faults files.old) (F.faults files.new)
         (EditOwn (F.held files.old)
         (edit_names model.now initial.now current.now edits.now (option_copied closed.entry)) ⊥)) }
-    ensures kept { (other : List ℕ) → F.held files.new other ≡ F.held files.old other }
-    ensures never_fall { (other : List ℕ) → F.faults files.old other ≤ F.faults files.new other }
+    ensures leaves { LeavesFiles (reading F.Files files.old files.new) }
 {
     let inst = read_instance(alloc, files, model, closed)?;
     let lists = read_lists(alloc, files, initial, current, &inst)?;
@@ -117,8 +116,7 @@ fn take_edits<F: Files>(
     ensures read { IfOk result (λ e. HasEdits (F.held files.old) name.now inst.now.tables e) }
     ensures refused { IfErr result (EditsReason (F.held files.old) name.now inst.now.tables
         (F.faults files.old) (F.faults files.new)) }
-    ensures kept { (other : List ℕ) → F.held files.new other ≡ F.held files.old other }
-    ensures never_fall { (other : List ℕ) → F.faults files.old other ≤ F.faults files.new other }
+    ensures leaves { LeavesFiles (reading F.Files files.old files.new) }
 {
     match read_edits(alloc, files, name.as_str(), inst) {
         Ok(edits) => Ok(edits),
@@ -183,13 +181,8 @@ fn outcome_of(
         lists.now.changed.items ⊥) }
 {
     let start = judge(alloc, inst, &lists.initial, &lists.changed)?;
-    let Ok(topo) = Topology::make(alloc, inst) else {
-        return Err(Refusal::Memory);
-    };
-    match outcome_over(alloc, inst, &topo, lists, start, edits) {
-        Ok(outcome) => Ok(outcome),
-        Err(NoMemory) => Err(Refusal::Memory),
-    }
+    let topo = Topology::make(alloc, inst)?;
+    Ok(outcome_over(alloc, inst, &topo, lists, start, edits)?)
 }
 
 /// The same over the topology of the instance. The current list is feasible, and its cost has these parts.
@@ -235,11 +228,6 @@ fn write_outcome<O: Sink>(inst: Instance, outcome: Outcome, out: &mut O) -> Resu
         replies,
     } = outcome;
     let edited = Edited::of(inst, left);
-    let ended = write_edited(out, &parts, &edited, &replies);
-    drop(edited);
-    drop(replies);
-    match ended {
-        Ok(()) => Ok(()),
-        Err(_) => Err(Refusal::Write),
-    }
+    write_edited(out, &parts, &edited, &replies)?;
+    Ok(())
 }
