@@ -8,7 +8,8 @@ use Rattle.ra_base.specs.Tables.{cell}
 use Rattle.ra_model.specs.declared.raw.ProcessRow.{ProcessRow}
 use Rattle.ra_model.specs.declared.raw.Tables.{Tables}
 use Rattle.ra_model.specs.Limits.{WellFormed}
-use Rattle.ra_model.specs.Numbers.{resource_count, process_count, process_row, service_of, process_cost_of, requirement_of}
+use Rattle.ra_model.specs.Numbers.{resource_count, process_count, process_row, service_of, process_cost_of}
+use Rattle.ra_model.specs.Numbers.{requirement_of}
 use Rattle.ra_edit.proofs.RowLaws.{process_same}
 
 -- one more item

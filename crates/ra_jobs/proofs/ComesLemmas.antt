@@ -295,7 +295,8 @@ initial_stops held names before now own listed known fault refused =
     let initial = told_of held names.initial _ (known file.Initial refl) in
     let never = no_initial held names k.0 closed initial fault refused in (
       λ done. never done.tables done.a0 done.accepts.instance done.accepts.initial,
-      not_initial held names before now own listed k.1 (λ named. (known file.Closed refl named).1) (λ named. (known file.Initial refl named).1)
+      not_initial held names before now own listed k.1 (λ named. (known file.Closed refl named).1)
+          (λ named. (known file.Initial refl named).1)
           (λ f r. no_model held names.model k.0 f r refused.instance.model refused.instance.read)
           (λ f r. no_closed held names.model names.closed k.0 closed f r refused.tables refused.instance) never,
     )
@@ -311,7 +312,8 @@ changed_stops held names before now own listed known fault refused =
     let never : (i : Tables) (a0 a : List Machine) → Accepts held names i a0 a → ⊥ = λ i a0 a accepts.
     no_changed held names k.0 closed changed fault refused i a accepts.instance accepts.changed in (
       λ done. never done.tables done.a0 done.a done.accepts,
-      not_listed held names before now own listed k.1 (λ named. (known file.Closed refl named).1) (λ named. (known file.Initial refl named).1)
+      not_listed held names before now own listed k.1 (λ named. (known file.Closed refl named).1)
+          (λ named. (known file.Initial refl named).1)
           (λ named. (known file.Changed refl named).1)
           (λ f r. no_model held names.model k.0 f r refused.instance.model refused.instance.read)
           (λ f r. no_closed held names.model names.closed k.0 closed f r refused.tables refused.instance) never,
@@ -336,7 +338,8 @@ accepted_stops held names before now own stops known i a0 a accepts never =
     let closed = told_of held names.closed _ (known file.Closed refl) in
     let initial = told_of held names.initial _ (known file.Initial refl) in
     let changed = told_of held names.changed _ (known file.Changed refl) in
-    not_feasible held names before now own stops k.1 (λ named. (known file.Closed refl named).1) (λ named. (known file.Initial refl named).1)
+    not_feasible held names before now own stops k.1 (λ named. (known file.Closed refl named).1)
+    (λ named. (known file.Initial refl named).1)
     (λ named. (known file.Changed refl named).1) (λ named. (known file.Edits refl named).1)
     (λ f r. no_model held names.model k.0 f r accepts.instance.model accepts.instance.read)
     (λ f r. no_closed held names.model names.closed k.0 closed f r i accepts.instance)
@@ -348,7 +351,8 @@ initial_never : (held : Held) (names : Names) (before now : Faults) → KnownTo 
 unfolding name_of
 initial_never held names before now known cause breaks done =
     let k = known_model held names before now (known file.Model refl) in
-    no_initial_break held names k.0 (told_of held names.closed _ (known file.Closed refl)) (told_of held names.initial _ (known file.Initial refl)) cause
+    no_initial_break held names k.0 (told_of held names.closed _ (known file.Closed refl))
+    (told_of held names.initial _ (known file.Initial refl)) cause
     breaks done.listed.tables done.listed.a0 done.listed.a done.listed.accepts (done.initial breaks.named)
 
 changed_never : (held : Held) (names : Names) (before now : Faults) → KnownTo held names before now file.Edits →
@@ -356,8 +360,10 @@ changed_never : (held : Held) (names : Names) (before now : Faults) → KnownTo 
 unfolding name_of
 changed_never held names before now known cause breaks done =
     let k = known_model held names before now (known file.Model refl) in
-    no_changed_break held names k.0 (told_of held names.closed _ (known file.Closed refl)) (told_of held names.initial _ (known file.Initial refl))
-    (told_of held names.changed _ (known file.Changed refl)) cause breaks done.listed.tables done.listed.a0 done.listed.a
+    no_changed_break held names k.0 (told_of held names.closed _ (known file.Closed refl))
+    (told_of held names.initial _ (known file.Initial refl))
+    (told_of held names.changed _ (known file.Changed refl)) cause breaks done.listed.tables done.listed.a0
+    done.listed.a
     done.listed.accepts (done.changed breaks.named)
 
 breaks_never : (held : Held) (names : Names) (before now : Faults) → KnownTo held names before now file.Edits →

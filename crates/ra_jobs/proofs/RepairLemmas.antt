@@ -197,9 +197,11 @@ own_known held model closed initial before now own known i a0 accepts (Read file
 own_known held model closed initial before now own known i a0 accepts (Model fault) reason =
     absurd (no_model held model (known file.Model refl tt).0 fault reason accepts.instance.model accepts.instance.read)
 own_known held model closed initial before now own known i a0 accepts (Closed fault) reason =
-    absurd (no_closed held model closed (known file.Model refl tt).0 (told_of held closed _ (known file.Closed refl)) fault reason i accepts.instance)
+    absurd (no_closed held model closed (known file.Model refl tt).0 (told_of held closed _ (known file.Closed refl))
+    fault reason i accepts.instance)
 own_known held model closed initial before now own known i a0 accepts (Assign role.Initial fault) reason =
-    absurd (no_initial held (solve_names model initial closed) (known file.Model refl tt).0 (told_of held closed _ (known file.Closed refl))
+    absurd (no_initial held (solve_names model initial closed) (known file.Model refl tt).0
+    (told_of held closed _ (known file.Closed refl))
     (told_of held (Some initial) _ (known file.Initial refl)) fault reason i a0 accepts.instance accepts.initial)
 own_known held model closed initial before now own known i a0 accepts (Assign role.Changed fault) reason =
     absurd (let none = reason.named in cc)
@@ -227,9 +229,11 @@ broken_left : (held : Held) (model : List ℕ) (closed : Option (List ℕ)) (ini
     RepairPrinted held (solve_names model initial closed) l broken sent → LeavesBroken i a0 l left → broken ≡ left
 unfolding name_of
 broken_left held model closed initial before now l left broken sent i a0 accepts known is leaves =
-    let same = instances_same held model closed (known file.Model refl tt).0 (told_of held closed _ (known file.Closed refl)) is.tables i
+    let same = instances_same held model closed (known file.Model refl tt).0
+    (told_of held closed _ (known file.Closed refl)) is.tables i
     is.accepts.instance accepts.instance in
-    let start : is.a0 ≡ a0 = lists_same held (Some initial) (told_of held (Some initial) _ (known file.Initial refl)) refl is.tables i
+    let start : is.a0 ≡ a0 = lists_same held (Some initial) (told_of held (Some initial) _ (known file.Initial refl))
+    refl is.tables i
     is.a0 a0 is.accepts.initial accepts.initial in
     sym is.run.is ∙ broken_same is.tables i is.a0 (repair_run is.tables is.a0 is.lot).assignment same
     ∙ rw (repaired_same is.tables i same is.a0 is.lot, start) (leaves is.lot is.one)

@@ -13,4 +13,5 @@ pub ruleset copies = (copies_none, copies_more)
 
 -- a list with the items and the room of another is that list
 pub same_list : {X : Type 0} → (x y : Listed X) → x.items ≡ y.items → x.room ≡ y.room → x ≡ y
-same_list {X} x y items room = ap₂ (λ (i : List X) (r : ℕ). let made : Listed X = record { items = i; room = r } in made) items room
+same_list {X} x y items room =
+    ap₂ (λ (i : List X) (r : ℕ). let made : Listed X = record { items = i; room = r } in made) items room

@@ -60,7 +60,8 @@ overflow_add-cost c =
 pub summed-cost-requires : goal.summed-cost-requires
 summed-cost-requires c =
     let d = draft_in c.args.kept.now in
-    let has : HasParts d c.args.kept.now.parts = parts_told d c.args.kept.now.parts c.requires.held.kept c.small.ensures in
+    let has : HasParts d c.args.kept.now.parts = parts_told d c.args.kept.now.parts c.requires.held.kept
+    c.small.ensures in
     record {
       load = c.costs_with-costs.ensures.load_small;
       balance = c.costs_with-costs.ensures.balance_small;
@@ -78,7 +79,8 @@ pub returns : goal.returns
 returns c = λ e come asks.
     let d = draft_in c.args.kept.now in
     let n = length c.args.kept.now.lists.rows.items in
-    let has : HasParts d c.args.kept.now.parts = parts_told d c.args.kept.now.parts c.requires.held.kept c.small.ensures in
+    let has : HasParts d c.args.kept.now.parts = parts_told d c.args.kept.now.parts c.requires.held.kept
+    c.small.ensures in
     let costs = c.costs_with-costs.ensures.costs e come.more.origin
     (rw c.as_slice-3.ensures (c.in_ok-used.ensures.row e n come.more come.here asks)) in (
       come_broken d e c.args.kept.now.parts c.args.s.0 c.args.m.0 c.requires.held.kept come

@@ -32,7 +32,12 @@ transient_resized-requires c =
       sound = c.requires.held.kept.sound;
       loads = c.requires.held.loads_are;
       process = c.requires.process;
-      machine = omega (arith, c.machine_of-home.ensures, home_in d c.args.p.0 c.requires.held.kept.sound c.requires.process);
+      machine = omega (
+        arith,
+        c.machine_of-home.ensures,
+        home_in d c.args.p.0 c.requires.held.kept.sound
+            c.requires.process,
+      );
       there =
           or_left _ _ (eq-eqb (machine_at d.initial c.args.p.0) c.machine_of-home.result.0
           (sym c.machine_of-home.ensures));
@@ -46,7 +51,12 @@ transient_resized-requires-2 c =
       sound = c.requires.held.kept.sound;
       loads = c.requires.held.loads_are;
       process = c.requires.process;
-      machine = omega (arith, c.machine_of-here.ensures, here_in d c.args.p.0 c.requires.held.kept.sound c.requires.process);
+      machine = omega (
+        arith,
+        c.machine_of-here.ensures,
+        here_in d c.args.p.0 c.requires.held.kept.sound
+            c.requires.process,
+      );
       there =
           or_right _ _
           (eq-eqb (machine_at d.current c.args.p.0) c.machine_of-here.result.0 (sym c.machine_of-here.ensures));
@@ -57,8 +67,18 @@ pub resized_breaks-requires : goal.resized_breaks-requires
 resized_breaks-requires c =
     let d = draft_in c.args.kept.now in
     record {
-      home = omega (arith, c.machine_of-home.ensures, home_in d c.args.p.0 c.requires.held.kept.sound c.requires.process);
-      here = omega (arith, c.machine_of-here.ensures, here_in d c.args.p.0 c.requires.held.kept.sound c.requires.process);
+      home = omega (
+        arith,
+        c.machine_of-home.ensures,
+        home_in d c.args.p.0 c.requires.held.kept.sound
+            c.requires.process,
+      );
+      here = omega (
+        arith,
+        c.machine_of-here.ensures,
+        here_in d c.args.p.0 c.requires.held.kept.sound
+            c.requires.process,
+      );
       used = rw c.as_slice.ensures c.in_ok-used.ensures.one_each;
       at_home = rw c.as_slice-2.ensures c.in_ok-at_home.ensures.one_each;
       at_here = rw c.as_slice-3.ensures c.in_ok-at_here.ensures.one_each;
@@ -91,7 +111,8 @@ costs_with-costs-requires c =
 pub summed-cost-requires : goal.summed-cost-requires
 summed-cost-requires c =
     let d = draft_in c.args.kept.now in
-    let has : HasParts d c.args.kept.now.parts = parts_told d c.args.kept.now.parts c.requires.held.kept c.small.ensures in
+    let has : HasParts d c.args.kept.now.parts = parts_told d c.args.kept.now.parts c.requires.held.kept
+    c.small.ensures in
     record {
       load = c.costs_with-costs.ensures.load_small;
       balance = c.costs_with-costs.ensures.balance_small;
@@ -103,12 +124,14 @@ summed-cost-requires c =
 pub returns : goal.returns
 returns c = λ e other asks.
     let d = draft_in c.args.kept.now in
-    let has : HasParts d c.args.kept.now.parts = parts_told d c.args.kept.now.parts c.requires.held.kept c.small.ensures in
+    let has : HasParts d c.args.kept.now.parts = parts_told d c.args.kept.now.parts c.requires.held.kept
+    c.small.ensures in
     let within : c.machine_of-here.result.0 < machine_count c.args.kept.now.inst.now.tables =
     omega (arith, c.machine_of-here.ensures, here_in d c.args.p.0 c.requires.held.kept.sound c.requires.process) in
     let costs = c.costs_with-costs.ensures.costs e (other.after.origin ∙ sym other.before.origin)
     (rw c.as_slice-4.ensures (c.in_ok-used.ensures.row e other asks)) in (
-      other_broken d e c.args.kept.now.parts c.args.p.0 c.machine_of-home.result.0 c.machine_of-here.result.0 c.requires.held.kept
+      other_broken d e c.args.kept.now.parts c.args.p.0 c.machine_of-home.result.0 c.machine_of-here.result.0
+          c.requires.held.kept
           other c.machine_of-home.ensures c.machine_of-here.ensures
           ∙ sym (c.resized_breaks.ensures e (other.after.origin ∙ sym other.before.origin)
           (rw c.as_slice.ensures (c.in_ok-used.ensures.row e other asks))
@@ -117,6 +140,7 @@ returns c = λ e other asks.
           ∙ c.in_default.is,
       c.summed-cost.ensures ∙ other_parts d e c.args.kept.now.parts c.args.p.0 c.machine_of-here.result.0
           c.costs_with-costs.result.load c.costs_with-costs.result.balance costs.before costs.after
-          c.args.kept.now.inst.now.well_formed within c.machine_of-here.ensures has other costs.before_are costs.after_are
+          c.args.kept.now.inst.now.well_formed within c.machine_of-here.ensures has other costs.before_are
+          costs.after_are
           costs.load costs.balance,
     )

@@ -18,9 +18,19 @@ retired_breaks-requires c =
       members = c.requires.held.members_are;
       topology = c.requires.held.topology_is;
       service =
-          omega (arith, c.service_of-s.ensures, service_there d c.args.p.0 c.requires.held.kept.sound c.requires.process);
+          omega (
+            arith,
+            c.service_of-s.ensures,
+            service_there d c.args.p.0 c.requires.held.kept.sound
+                c.requires.process,
+          );
       process = c.requires.process;
-      machine = omega (arith, c.machine_of-here.ensures, here_in d c.args.p.0 c.requires.held.kept.sound c.requires.process);
+      machine = omega (
+        arith,
+        c.machine_of-here.ensures,
+        here_in d c.args.p.0 c.requires.held.kept.sound
+            c.requires.process,
+      );
       mine = c.service_of-s.ensures;
       here = c.machine_of-here.ensures;
     }
@@ -28,14 +38,16 @@ retired_breaks-requires c =
 pub returns-in-Some : goal.returns-in-Some
 returns-in-Some c = λ e gone. gone_broken (draft_in c.args.kept.now) e c.args.kept.now.parts c.args.p.0
     c.service_of-s.result.0 _ c.requires.held.kept gone c.service_of-s.ensures
-    (ap (neighbourhood_of c.args.kept.now.inst.now.tables) c.machine_of-here.ensures) ∙ sym (c.retired_breaks.ensures e gone)
+    (ap (neighbourhood_of c.args.kept.now.inst.now.tables) c.machine_of-here.ensures)
+    ∙ sym (c.retired_breaks.ensures e gone)
     ∙ c.in-Some.is
 
 pub returns : goal.returns
 returns c = λ e gone. (
   gone_broken (draft_in c.args.kept.now) e c.args.kept.now.parts c.args.p.0 c.service_of-s.result.0 _
       c.requires.held.kept gone c.service_of-s.ensures
-      (ap (neighbourhood_of c.args.kept.now.inst.now.tables) c.machine_of-here.ensures) ∙ sym (c.retired_breaks.ensures e gone)
+      (ap (neighbourhood_of c.args.kept.now.inst.now.tables) c.machine_of-here.ensures)
+      ∙ sym (c.retired_breaks.ensures e gone)
       ∙ c.in_default.is,
   c.in_ok-parts.ensures e gone,
 )

@@ -30,7 +30,8 @@ costs_with-costs-requires c = record {
 pub overflow_sub-process : goal.overflow_sub-process
 overflow_sub-process c =
     let d = draft_in c.args.kept.now in
-    let has : HasParts d c.args.kept.now.parts = parts_told d c.args.kept.now.parts c.requires.held.kept c.small.ensures in
+    let has : HasParts d c.args.kept.now.parts = parts_told d c.args.kept.now.parts c.requires.held.kept
+    c.small.ensures in
     omega (
       arith,
       has.process,
@@ -42,7 +43,8 @@ overflow_sub-process c =
 pub overflow_sub-machine : goal.overflow_sub-machine
 overflow_sub-machine c =
     let d = draft_in c.args.kept.now in
-    let has : HasParts d c.args.kept.now.parts = parts_told d c.args.kept.now.parts c.requires.held.kept c.small.ensures in
+    let has : HasParts d c.args.kept.now.parts = parts_told d c.args.kept.now.parts c.requires.held.kept
+    c.small.ensures in
     omega (
       arith,
       has.machine,
@@ -54,7 +56,8 @@ overflow_sub-machine c =
 pub summed-requires : goal.summed-requires
 summed-requires c =
     let d = draft_in c.args.kept.now in
-    let has : HasParts d c.args.kept.now.parts = parts_told d c.args.kept.now.parts c.requires.held.kept c.small.ensures in
+    let has : HasParts d c.args.kept.now.parts = parts_told d c.args.kept.now.parts c.requires.held.kept
+    c.small.ensures in
     record {
       load = c.costs_with-costs.ensures.load_small;
       balance = c.costs_with-costs.ensures.balance_small;
@@ -66,7 +69,8 @@ summed-requires c =
 pub returns : goal.returns
 returns c = λ e gone.
     let d = draft_in c.args.kept.now in
-    let has : HasParts d c.args.kept.now.parts = parts_told d c.args.kept.now.parts c.requires.held.kept c.small.ensures in
+    let has : HasParts d c.args.kept.now.parts = parts_told d c.args.kept.now.parts c.requires.held.kept
+    c.small.ensures in
     let within : c.args.here.0 < machine_count c.args.kept.now.inst.now.tables =
     omega (arith, c.requires.here, here_in d c.args.p.0 c.requires.held.kept.sound c.requires.process) in
     let costs = c.costs_with-costs.ensures.costs e (sym gone.fewer.origin)

@@ -31,4 +31,5 @@ returns-in_err-initial-clause-leaves g c = leaves_both c.read_instance.ensures.l
 pub returns-clause-read : goal.returns-clause-read
 returns-clause-read g c = starts (g.F.Files.held c.args.files.now) (g.F.Files.held c.read_instance.new.files)
     c.args.model.now (option_copied c.args.closed) c.args.initial.now c.in_ok-inst.inst.tables
-    c.in_ok-initial.initial.items c.read_instance.ensures.leaves.kept c.in_ok-inst.ensures.read c.in_ok-initial.ensures.read
+    c.in_ok-initial.initial.items c.read_instance.ensures.leaves.kept c.in_ok-inst.ensures.read
+    c.in_ok-initial.ensures.read

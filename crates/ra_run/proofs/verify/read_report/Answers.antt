@@ -21,7 +21,8 @@ returns-clause-refused g c = MatchResult-weaker c.count_entries-counted.result c
     c.args.model.now (option_copied c.args.closed) c.args.initial.now c.args.report.now
     c.in_ok-start.start.inst.tables c.in_ok-start.start.initial.items c.args.lots.now
     (g.F.Files.faults c.args.files.now) (g.F.Files.faults c.read_start.new.files)
-    (g.F.Files.faults c.count_entries-counted.new.files) ⊥ c.read_start.ensures.leaves.kept c.read_start.ensures.leaves.never_fall
+    (g.F.Files.faults c.count_entries-counted.new.files) ⊥ c.read_start.ensures.leaves.kept
+    c.read_start.ensures.leaves.never_fall
     c.in_ok-start.ensures.read refusal reason)
 
 pub returns-in_err-start-clause-refused : goal.returns-in_err-start-clause-refused

@@ -14,4 +14,5 @@ invariant_of-result c =
 
 pub returns-clause-stands : goal.returns-clause-stands
 returns-clause-stands c = stand_at_start c.args.inst.now.tables c.args.a0.now.items c.sum_usage.new.table.items
-    c.in_ok-between.between.items c.requires c.sum_usage.ensures.sums (ap (λ (l : Listed ℕ). l.items) c.in_ok-between.ensures)
+    c.in_ok-between.between.items c.requires c.sum_usage.ensures.sums
+    (ap (λ (l : Listed ℕ). l.items) c.in_ok-between.ensures)
