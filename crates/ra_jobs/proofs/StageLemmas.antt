@@ -1,11 +1,12 @@
 -- Why the stages of a job refuse, from what the readers answer.
 use Rattle.std.proofs.Common.{◌≡◌, ℕ, ◌<◌, ◌≤◌, ◌-◌, ◌^◌, List, Option, Some, None, IfSome, IsSome, refl, sym, subst}
-use Rattle.std.proofs.Common.{inl, inr, ⊎_elim, arith}
+use Rattle.std.proofs.Common.{inl, inr, ⊎_elim, arith, ◌∙◌, le_trans}
 use Rattle.std.specs.Prelude.{IsTrue}
 use Rattle.ra_base.specs.declared.costs.Parts.{Parts}
 use Rattle.ra_base.specs.declared.ids.Machine.{Machine}
 use Rattle.ra_bounds.specs.declared.costs.Bound.{Bound}
 use Rattle.ra_io.specs.Faults.{Rose}
+use Rattle.ra_io.specs.Outside.{LeavesFiles}
 use Rattle.ra_model.specs.declared.raw.Tables.{Tables}
 use Rattle.ra_model_read.specs.declared.faults.ModelFault.{ModelFault}
 use Rattle.ra_model_read.specs.declared.faults.ModelFault.TheVariants as reader
@@ -29,6 +30,16 @@ use Rattle.ra_jobs.specs.Refusals.{Reason, Judges, OnlyWrites, Nothing, CanTell,
 use Rattle.ra_jobs.specs.Stages.{model_as, closed_as, list_as, ModelReason, ClosedReason, SourceReason, NamedReason}
 use Rattle.ra_jobs.specs.Stages.{ListReason, ListsReason, JudgeReason, StartReason, IsClosing, IsList, IsStart}
 use Rattle.ra_jobs.specs.Stages.{ReadsLists, Passed, Judged}
+
+-- what two calls leave of files, one after the other
+pub leaves_both : {held mid last : Held} {before then now : Faults} →
+    LeavesFiles (record { held = held; held_after = mid; before = before; after = then }) →
+    LeavesFiles (record { held = mid; held_after = last; before = then; after = now }) →
+    LeavesFiles (record { held = held; held_after = last; before = before; after = now })
+leaves_both one two = record {
+  kept = λ other. two.kept other ∙ one.kept other;
+  never_fall = λ other. le_trans (one.never_fall other) (two.never_fall other);
+}
 
 pub model_reason : (held : Held) (name : List ℕ) (before now : Faults) (fault : ModelFault) →
     (fault ≡ reader.ReadFault → Rose (before name) (now name)) →

@@ -1,4 +1,4 @@
-ghost use Rattle.std.specs.Prelude.{◌≡◌, ℕ, ◌+◌, ◌-◌, ◌*◌, ◌<◌, ◌≤◌, length, slice_index, slice_index_or};
+ghost use Rattle.std.specs.Prelude.{◌≡◌, ℕ, ◌+◌, ◌-◌, ◌*◌, ◌<◌, ◌≤◌, length, slice_index, slice_index_or, IfOk};
 ghost use Rattle.std.proofs.Props.{props};
 ghost use Rattle.ra_model.specs.Limits.{WellFormed, Small, IsFlagged};
 ghost use Rattle.ra_model.specs.Numbers.{all_open, with_closed, with_processes, resource_count, machine_count, service_count, process_count, balance_count, resource_row, machine_row, service_row, process_row, balance_row, transient_at, load_weight_of, neighbourhood_of, location_of, capacity_of, safety_of, way_cost_of, spread_of, dependency_count, dependency_start, dependency_end, need_of, service_of, requirement_of, process_cost_of, process_weight_of, service_weight_of, machine_weight_of, closed_at};
@@ -7,7 +7,8 @@ use crate::raw::{
     BalanceRow, MachineRow, ProcessRow, RawInstance, ResourceRow, ServiceRow, Tables,
 };
 use crate::tables::{number_at, numbers_in};
-use ra_base::{Fixed, Machine, Process, Resource, Service, Steps};
+use ra_base::{Fixed, Machine, NoMemory, Process, Resource, Service, Steps};
+use std::alloc::Global;
 use std::sync::ledger::Ledger;
 
 /// An instance: its tables have the lengths that its counts ask for, its counts are within the limits, and all that
@@ -323,5 +324,13 @@ impl Instance {
         } else {
             self.service(Service(s.0 - 1)).dependency_end
         }
+    }
+
+    /// The same instance once more.
+    pub fn copied(&self, alloc: Global) -> Result<Instance, NoMemory>
+        ensures { IfOk result (λ copy. copy.tables ≡ self.now.tables) }
+    {
+        let tables = self.tables.copied(alloc)?;
+        Ok(Instance { tables })
     }
 }

@@ -1,5 +1,4 @@
-ghost use Rattle.std.specs.Prelude.{◌≡◌, ◌≢◌, ◌+◌, ◌<◌, ◌≤◌, length, true, false};
-ghost use Rattle.ra_base.specs.Sums.{one_if};
+ghost use Rattle.std.specs.Prelude.{◌≡◌, ◌≢◌, ◌+◌, ◌<◌, ◌≤◌, true, false};
 ghost use Rattle.ra_model.specs.Numbers.{resource_count, process_count, service_count, service_of, location_of, neighbourhood_of};
 ghost use Rattle.ra_model.specs.Assignments.{machine_at};
 ghost use Rattle.ra_model.specs.Services.{in_neighbourhood};
@@ -7,20 +6,10 @@ ghost use Rattle.ra_cells.specs.Marks.{away};
 ghost use Rattle.ra_weigh_shift.specs.Conditions.{MayLeave};
 ghost use Rattle.ra_weigh_shift.specs.Sharing.{AreRequired, locations_without};
 
-use ra_base::{Assignment, Machine, Process, Resource, Service, Steps};
+use ra_base::{Machine, Process, Resource, Service, Steps, one_when};
 use ra_model::Instance;
 use ra_world::World;
 use std::sync::ledger::Ledger;
-
-/// The machine of a process.
-#[tactic(auto, using(ra_model::proofs::TallyLemmas::machine_at_read))]
-pub(crate) fn machine_of(a: &Assignment, p: Process) -> Machine
-    requires { p.0 < length a.now.items }
-    ensures { result.0 ≡ machine_at a.now.items p.0 }
-{
-    let _count = a.len();
-    a.get(p.0 as usize)
-}
 
 /// What a process requires of each resource, and zeros behind.
 pub(crate) fn required_of<L: Ledger>(inst: &Instance, p: Process, steps: &mut Steps<L>) -> [u32; 20]
@@ -87,15 +76,6 @@ fn is_other_there(world: &World<'_>, d: Service, s: Service, neighbourhood: u32)
         return false;
     }
     world.cells().in_neighbourhood(d, neighbourhood) > 0
-}
-
-/// 1 if a test holds, and else 0.
-#[inline(always)]
-pub(crate) fn one_when(test: bool) -> u32
-    ensures value { result ≡ one_if test }
-    ensures few { result ≤ 1 }
-{
-    if test { 1 } else { 0 }
 }
 
 /// 1 for a process that isn't on its initial machine.

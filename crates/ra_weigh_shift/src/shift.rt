@@ -12,9 +12,10 @@ ghost use Rattle.ra_weigh_shift.specs.Sharing.{AreRequired, way_cost};
 
 use crate::costs::{cost_with, cost_without, way_cost};
 use crate::filter::{balance_above, load_above, saved, service_away, service_with};
-use crate::reads::{is_away, machine_of, may_leave, one_when, required_of, spread_without};
+use crate::reads::{is_away, may_leave, required_of, spread_without};
 use crate::windows::{limit_below, sums_of};
-use ra_base::{Machine, Process, Resource, Service, Steps};
+use ra_base::{Machine, Process, Resource, Service, Steps, one_when};
+use ra_model::machine_of;
 use ra_world::World;
 use std::sync::ledger::Ledger;
 

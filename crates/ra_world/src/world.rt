@@ -18,9 +18,9 @@ use crate::filters::filters_of;
 use crate::following::follow;
 use crate::kept::Kept;
 use crate::renewal::{balances_of, loads_of};
-use ra_base::{Assignment, Fixed, Machine, NoMemory, Parts, Steps};
+use ra_base::{Assignment, Machine, NoMemory, Parts, Steps};
 use ra_cells::Cells;
-use ra_model::Instance;
+use ra_model::{Instance, copied};
 use ra_moves::Move;
 use ra_rows::Rows;
 use ra_topology::Topology;
@@ -189,7 +189,7 @@ fn kept_of<'a>(
     ensures keeps { IfOk result (λ kept. Keeps kept inst.now.tables a0.now.items) }
     ensures assignment { IfOk result (λ kept. kept.assignment.items ≡ a0.now.items) }
 {
-    let assignment = copy_of(alloc, a0)?;
+    let assignment = copied(alloc, a0)?;
     let rows = Rows::make(alloc, inst, a0)?;
     let cells = Cells::make(alloc, inst, a0)?;
     let loads = loads_of(alloc, inst, &rows)?;
@@ -204,13 +204,4 @@ fn kept_of<'a>(
         filters,
         parts,
     })
-}
-
-/// A copy of an assignment.
-pub(crate) fn copy_of(alloc: Global, a: &Assignment) -> Result<Assignment, NoMemory>
-    ensures { IfOk result (λ copy. copy.items ≡ a.now.items) }
-{
-    let mut copy = Fixed::make(alloc, a.len())?;
-    copy.extend_from_slice(a.as_slice());
-    Ok(copy)
 }

@@ -13,9 +13,9 @@ ghost use Rattle.ra_moves.specs.Judging.{judge};
 ghost use Rattle.test_compare.specs.Asked.{asked};
 
 use plain_judge::judge_plainly;
-use ra_base::{Assignment, Drawing, Fixed, NoMemory, Parts, Steps};
+use ra_base::{Assignment, Drawing, NoMemory, Parts, Steps};
 use ra_check::{Scratch, first_broken, parts};
-use ra_model::Instance;
+use ra_model::{Instance, copied};
 use ra_moves::{Move, Verdict, apply, options, resolve};
 use ra_topology::Topology;
 use ra_world::World;
@@ -57,7 +57,7 @@ impl<'a> Beside<'a> {
         }
         let costs = parts(inst, a0, a0, &mut scratch);
         let world = World::make(alloc, inst, topo, a0, costs)?;
-        let other = copy_of(alloc, a0)?;
+        let other = copied(alloc, a0)?;
         Ok(Some(Beside {
             world,
             other,
@@ -133,13 +133,4 @@ impl<'a> Beside<'a> {
         let mv = resolve(assignment, words, machines, Drawing::Two, option);
         self.follow(&mv, steps)
     }
-}
-
-/// A copy of an assignment.
-fn copy_of(alloc: Global, a: &Assignment) -> Result<Assignment, NoMemory>
-    ensures { IfOk result (λ copy. copy.items ≡ a.now.items) }
-{
-    let mut copy = Fixed::make(alloc, a.len())?;
-    copy.extend_from_slice(a.as_slice());
-    Ok(copy)
 }
