@@ -27,6 +27,19 @@ option_few Shift a x m d o = omega arith
 option_few Swap a x m d o = omega arith
 option_few Chain a x m d o = omega arith
 
+-- each option has a step
+option_some : (k : MoveKind) (a : List Machine) (x : List ℕ) (m : ℕ) (d : Drawing) (o : ℕ) →
+    0 < length (option_of k a x m d o).steps
+unfolding option_of shift_of swap_of chain_of
+option_some Shift a x m d o = omega arith
+option_some Swap a x m d o = omega arith
+option_some Chain a x m d o = omega arith
+
+pub plan_some : (i : Tables) (a0 a : List Machine) (x : List ℕ) (d : Drawing) (rise : ℕ) →
+    0 < length (plan_of i a0 a x d rise).steps
+unfolding plan_of option_at
+plan_some i a0 a x d rise = option_some (kind_of x) a x (machine_count i) d (plan_place i a0 a x d rise)
+
 pub plan_offered : (i : Tables) (a0 a : List Machine) (x : List ℕ) (d : Drawing) (rise : ℕ) → WellFormed i →
     IsAssignment i a → IsOffered i a (plan_of (situation i a0 a) x d rise).steps
 unfolding plan_of option_at
@@ -44,7 +57,7 @@ plan_offered i a0 a x d rise limits fits = λ none.
     }
 
 -- a machine that a step leaves is an end of the move
-left_is_end : (steps : List Step) (j : ℕ) → j < length steps → ends_at steps (from_in steps j) ≡ true
+pub left_is_end : (steps : List Step) (j : ℕ) → j < length steps → ends_at steps (from_in steps j) ≡ true
 unfolding ends_at
 left_is_end steps j within = or_left _ _ (is_named_at (length steps) j (from_in steps) (from_in steps j) within refl)
 

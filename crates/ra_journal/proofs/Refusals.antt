@@ -28,7 +28,7 @@ broken_in None local counts = refl
 broken_in (Some cause) local counts = refl
 
 -- the cause that a weighing tells
-broken_of : (i : Tables) (a0 a : List Machine) (steps : List Step) →
+pub broken_of : (i : Tables) (a0 a : List Machine) (steps : List Step) →
     (weighed_of (situation i a0 a) steps).broken ≡ broken_by (situation i a0 a) steps
 unfolding weighed_of
 broken_of i a0 a steps = broken_in _ _ _
