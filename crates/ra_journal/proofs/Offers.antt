@@ -36,9 +36,9 @@ option_some Swap a x m d o = omega arith
 option_some Chain a x m d o = omega arith
 
 pub plan_some : (i : Tables) (a0 a : List Machine) (x : List ℕ) (d : Drawing) (rise : ℕ) →
-    0 < length (plan_of i a0 a x d rise).steps
+    0 < length (plan_of (situation i a0 a) x d rise).steps
 unfolding plan_of option_at
-plan_some i a0 a x d rise = option_some (kind_of x) a x (machine_count i) d (plan_place i a0 a x d rise)
+plan_some i a0 a x d rise = option_some (kind_of x) a x (machine_count i) d (plan_place (situation i a0 a) x d rise)
 
 pub plan_offered : (i : Tables) (a0 a : List Machine) (x : List ℕ) (d : Drawing) (rise : ℕ) → WellFormed i →
     IsAssignment i a → IsOffered i a (plan_of (situation i a0 a) x d rise).steps

@@ -20,6 +20,7 @@ use Rattle.ra_model.specs.Broken.{cause_if}
 use Rattle.ra_model.specs.Costs.{service_cost, objective}
 use Rattle.ra_model.specs.Numbers.{service_count, service_weight_of}
 use Rattle.ra_model.specs.Services.{moved_of}
+use Rattle.ra_model.specs.Situations.{situation}
 use Rattle.ra_moves.specs.declared.steps.Step.{Step}
 use Rattle.ra_moves.specs.declared.verdicts.Plan.{Plan}
 use Rattle.ra_moves.specs.declared.verdicts.Weighed.{Weighed}
@@ -59,31 +60,32 @@ falls_some : (count : Option MovedCount) (c : MovedCount) (n : ℕ) →
 falls_some count c n falls is = rw is at falls
 
 falls_at : (i : Tables) (a0 a : List Machine) (steps : List Step) (fall k : ℕ) (c : MovedCount) → k < 3 →
-    IfSome (changed_count i a0 a steps 0) (λ (d : MovedCount). d.before ≤ d.after + fall) →
-    IfSome (changed_count i a0 a steps 1) (λ (d : MovedCount). d.before ≤ d.after + fall) →
-    IfSome (changed_count i a0 a steps 2) (λ (d : MovedCount). d.before ≤ d.after + fall) →
-    changed_count i a0 a steps k ≡ Some c → c.before ≤ c.after + fall
-falls_at i a0 a steps fall zero c few first second third is = falls_some (changed_count i a0 a steps 0) c fall first is
+    IfSome (changed_count (situation i a0 a) steps 0) (λ (d : MovedCount). d.before ≤ d.after + fall) →
+    IfSome (changed_count (situation i a0 a) steps 1) (λ (d : MovedCount). d.before ≤ d.after + fall) →
+    IfSome (changed_count (situation i a0 a) steps 2) (λ (d : MovedCount). d.before ≤ d.after + fall) →
+    changed_count (situation i a0 a) steps k ≡ Some c → c.before ≤ c.after + fall
+falls_at i a0 a steps fall zero c few first second third is =
+    falls_some (changed_count (situation i a0 a) steps 0) c fall first is
 falls_at i a0 a steps fall (suc zero) c few first second third is =
-    falls_some (changed_count i a0 a steps 1) c fall second is
+    falls_some (changed_count (situation i a0 a) steps 1) c fall second is
 falls_at i a0 a steps fall (suc (suc zero)) c few first second third is =
-    falls_some (changed_count i a0 a steps 2) c fall third is
+    falls_some (changed_count (situation i a0 a) steps 2) c fall third is
 falls_at i a0 a steps fall (suc (suc (suc k))) c few first second third is = absurd (omega arith)
 
 module _ (i : Tables) (a0 a : List Machine) (steps : List Step) (fall : ℕ) (move : IsMove i a steps)
-    (first : IfSome (changed_count i a0 a steps 0) (λ (d : MovedCount). d.before ≤ d.after + fall))
-    (second : IfSome (changed_count i a0 a steps 1) (λ (d : MovedCount). d.before ≤ d.after + fall))
-    (third : IfSome (changed_count i a0 a steps 2) (λ (d : MovedCount). d.before ≤ d.after + fall)) where
+    (first : IfSome (changed_count (situation i a0 a) steps 0) (λ (d : MovedCount). d.before ≤ d.after + fall))
+    (second : IfSome (changed_count (situation i a0 a) steps 1) (λ (d : MovedCount). d.before ≤ d.after + fall))
+    (third : IfSome (changed_count (situation i a0 a) steps 2) (λ (d : MovedCount). d.before ≤ d.after + fall)) where
   -- no service's moved count falls by more
   each_falls : (s : ℕ) → moved_of i a0 a s ≤ moved_of i a0 (applied a steps) s + fall
   unfolding moves_service changed_count moved_count
   each_falls s = ⊎_elim
       (λ (moves : is_named (length steps) (service_in i steps) s ≡ true).
       let placed = services_placed i steps (length steps) s moves in
-      falls_at i a0 a steps fall placed.place (moved_count i a0 a steps s)
+      falls_at i a0 a steps fall placed.place (moved_count (situation i a0 a) steps s)
       (omega (arith, placed.within, services_few i steps (length steps), move.few)) first second third
-      (count_there i a0 a steps (services_moved i steps (length steps)) placed.place placed.within
-      ∙ ap (λ (t : ℕ). Some (moved_count i a0 a steps t)) placed.here))
+      (count_there (situation i a0 a) steps (services_moved i steps (length steps)) placed.place placed.within
+      ∙ ap (λ (t : ℕ). Some (moved_count (situation i a0 a) steps t)) placed.here))
       (λ (stays : is_named (length steps) (service_in i steps) s ≡ false).
       omega (arith, moved_stays i a0 a steps s move stays))
       (cases_Bool (is_named (length steps) (service_in i steps) s))
@@ -102,33 +104,36 @@ module _ (i : Tables) (a0 a : List Machine) (steps : List Step) (fall : ℕ) (mo
 
 -- the cost rises by more than is allowed
 cost_rises : (i : Tables) (a0 a b : List Machine) (rise fall : ℕ) →
-    pos (rise + service_weight_of i * fall) <ℤ (pos (local_cost i a0 b) -ℤ pos (local_cost i a0 a)) →
+    pos (rise + service_weight_of i * fall)
+    <ℤ (pos (local_cost (situation i a0 b)) -ℤ pos (local_cost (situation i a0 a))) →
     greatest (service_count i) (moved_of i a0 a) ≤ greatest (service_count i) (moved_of i a0 b) + fall →
     objective i a0 a + rise < objective i a0 b
 unfolding objective local_cost service_cost
 cost_rises i a0 a b rise fall more falls =
     omega (arith, ints, mul-le-mul_left (service_weight_of i) falls)
 
-judged_rise : (i : Tables) (a0 a : List Machine) (steps : List Step) (rise : ℕ) → broken_by i a0 a steps ≡ None →
+judged_rise : (i : Tables) (a0 a : List Machine) (steps : List Step) (rise : ℕ) →
+    broken_by (situation i a0 a) steps ≡ None →
     objective i a0 a + rise < objective i a0 (applied a steps) →
-    Refused (Rise rise (objective i a0 a) (objective i a0 (applied a steps))) ≡ judge i a0 a steps rise
+    Refused (Rise rise (objective i a0 a) (objective i a0 (applied a steps))) ≡ judge (situation i a0 a) steps rise
 unfolding judge or_else verdict_of rise_test cause_if
 judged_rise i a0 a steps rise none more =
     rw (none, lt-ltb (objective i a0 a + rise) (objective i a0 (applied a steps)) more) refl
 
 -- a move of an assignment that is too dear
 dear_rises : (i : Tables) (a0 a : List Machine) (steps : List Step) (rise : ℕ) (weighed : Weighed) →
-    broken_by i a0 a steps ≡ None → IsMove i a steps → weighed ≡ weighed_of i a0 a steps → IsDear i rise weighed →
+    broken_by (situation i a0 a) steps ≡ None → IsMove i a steps →
+    weighed ≡ weighed_of (situation i a0 a) steps → IsDear i rise weighed →
     objective i a0 a + rise < objective i a0 (applied a steps)
 unfolding local_change
 dear_rises i a0 a steps rise weighed none move is dear =
     let whole = is ∙ whole_is i a0 a steps none in
     let falls : FallsBy (record {
       broken = None;
-      local = local_change i a0 a steps;
-      first = changed_count i a0 a steps 0;
-      second = changed_count i a0 a steps 1;
-      third = changed_count i a0 a steps 2;
+      local = local_change (situation i a0 a) steps;
+      first = changed_count (situation i a0 a) steps 0;
+      second = changed_count (situation i a0 a) steps 1;
+      third = changed_count (situation i a0 a) steps 2;
     }) dear.fall = subst (λ (x : Weighed). FallsBy x dear.fall) whole dear.falls in
     cost_rises i a0 a (applied a steps) rise dear.fall
     (subst (λ (x : Weighed). pos (rise + service_weight_of i * dear.fall) <ℤ x.local) whole dear.above)
@@ -144,7 +149,7 @@ dear_is_refused i a0 l h w plan start legal commit none dear =
     let steps = plan.mv.steps in
     let rise = allowed l w plan.k in
     let end = planned_at_end i a0 l h w plan start legal commit none in
-    let unbroken : broken_by i a0 a steps ≡ None =
+    let unbroken : broken_by (situation i a0 a) steps ≡ None =
     sym (broken_of i a0 a steps) ∙ (ap (λ (x : Weighed). x.broken) (sym end.weighed) ∙ dear.unbroken) in
     let move : IsMove i a steps = end.offered (left_none (repeat_of steps) _ unbroken) in
     let more = dear_rises i a0 a steps rise plan.weighed unbroken move end.weighed dear in

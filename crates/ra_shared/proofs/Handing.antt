@@ -175,7 +175,8 @@ pub may_give_refused : (o : Opening) (h xs : List Entry) (w : ℕ) (plan : Plan)
     → xs ≡ (committed_in o h w plan.q).journal → MayGive o grips w h xs
 may_give_refused o h xs w plan grips start legal commit refused is = ⊎_elim
     (λ stale. inl (is ∙ stale.1.journal))
-    (λ done. let told = refused_at_end o.inst.tables o.a0.items o.lots h w plan start legal commit done.1.none refused in
+    (λ done.
+    let told = refused_at_end o.inst.tables o.a0.items o.lots h w plan start legal commit done.1.none refused in
     inr (
       done.0,
       is ∙ done.1.journal,

@@ -128,7 +128,8 @@ release-requires-clause-version g t c =
     let next = next_guard s plan guards c.args.k p c.requires.may c.requires.guards c.requires.held _ number inside in
     let holds = holds_next s plan guards c.args.k p c.requires.may c.requires.guards c.requires.held _ v q number inside
     pass.0 pass.1 pass.2 gripped in
-    let has = still_held s plan guards c.args.k p c.number_of-guard.result v q r c.commit_from-reply.result gripped.grips e.some e.none in
+    let has = still_held s plan guards c.args.k p c.number_of-guard.result v q r c.commit_from-reply.result
+    gripped.grips e.some e.none in
     let own : KnowsOwn q.number (seen_by q) (made_by q) =
     subst (λ (w : ℕ). KnowsOwn w (seen_by q) (made_by q)) q.numbered q.owned in
     let before : IsVersion (touching entry_touches o (number_at o.inst.tables guards c.args.k)) (seen_by q) v =
