@@ -12,10 +12,12 @@ use Rattle.ra_journal.specs.declared.entries.Entry.{Entry}
 use Rattle.ra_journal.specs.Entries.{entry_at, entries_of, budget, made_by, proposal_count}
 use Rattle.ra_journal.specs.Legal.{Legal}
 use Rattle.ra_journal.specs.States.{state, after_made}
+use Rattle.ra_journal.proofs.QuietLemmas.{state_passed}
 use Rattle.ra_journal.proofs.RoomLemmas.{AreNumbered, entries_few, proposals_few}
 use Rattle.ra_worker.specs.declared.replica.Replica.{Replica}
 use Rattle.ra_worker.specs.Following.{IsJudged}
-use Rattle.ra_worker.specs.Replicas.{IsAt, ArePartOf, AreNext, HasTaken}
+use Rattle.ra_world.specs.declared.world.World.{World}
+use Rattle.ra_worker.specs.Replicas.{IsAt, ArePartOf, AreNext, HasTaken, ArePassed}
 use Rattle.ra_worker.proofs.FollowingLemmas.{entry_judged, next_state, next_count}
 
 -- at place 0
@@ -124,3 +126,18 @@ place_few before r b h j next taken within =
     let l = before.proposals.lots.now in
     let numbered : AreNumbered l h (length h) = record { each = λ k there. (next.legal.each k there).numbered } in
     omega (arith, place_there before r b h j next taken within, entries_few l h (length h) numbered, proposals_few l)
+
+-- entries that are passed over
+pub passed_at : (r s : Replica) (to : ℕ) (h : List Entry) → s.world ≡ r.world → s.proposals.lots.now ≡ r.proposals.lots.now →
+    s.proposals.worker ≡ r.proposals.worker → s.proposals.number ≡ r.proposals.number + 1 → s.place ≡ to →
+    ArePassed r to h →
+    IsAt r.world.inst.now.tables r.world.start.now.items r.proposals.lots.now h s
+passed_at r s to h world lots worker number place are = record {
+  instance = ap (λ (w : World). w.inst.now.tables) world;
+  initial = ap (λ (w : World). w.start.now.items) world;
+  lots = lots;
+  place = omega (arith, place, are.within);
+  state = rw place (ap (λ (w : World). w.kept.assignment.items) world ∙ are.here.state
+      ∙ sym (state_passed r.world.start.now.items h r.place to are.from are.refused));
+  number = rw (place, worker) (number ∙ sym are.own);
+}

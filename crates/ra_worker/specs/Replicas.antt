@@ -10,6 +10,7 @@ use Rattle.ra_moves.specs.Weighing.{weighed_of}
 use Rattle.ra_journal.specs.declared.entries.Entry.{Entry}
 use Rattle.ra_journal.specs.Entries.{entry_at, entries_of, budget, words, allowed, made_by}
 use Rattle.ra_journal.specs.Legal.{Legal}
+use Rattle.ra_journal.specs.Quiet.{AreRefused}
 use Rattle.ra_journal.specs.States.{state, after_made}
 use Rattle.ra_worker.specs.declared.replica.Replica.{Replica}
 
@@ -99,4 +100,26 @@ pub record HasTaken (before after : Replica) (entries : List Entry) (n : ℕ) : 
   pub worker : worker_at after ≡ worker_at before
   pub place : place_at after ≡ place_at before + n
   pub at : (h : List Entry) → AreNext before entries h
+      → IsAt (tables_at before) (start_at before) (lots_at before) h after
+
+-- a replica is at a state of a journal, whose entries from its place on, before another place, are refused; one of
+-- these is its worker's
+pub record ArePassed (r : Replica) (to : ℕ) (h : List Entry) : Type 0 where
+  pub here : IsAt (tables_at r) (start_at r) (lots_at r) h r
+  pub from : place_at r ≤ to
+  pub within : to ≤ length h
+  pub refused : AreRefused h (place_at r) to
+  pub own : entries_of h to (worker_at r) ≡ next_at r + 1
+
+-- a replica has passed over the entries before a place: it stands for the assignment for which it stood, and is at a
+-- state of each journal of which that is so
+pub record HasPassed (before after : Replica) (to : ℕ) : Type 0 where
+  pub instance : instance_at after ≡ instance_at before
+  pub initial : initial_at after ≡ initial_at before
+  pub here : here_at after ≡ here_at before
+  pub lots : lots_at after ≡ lots_at before
+  pub worker : worker_at after ≡ worker_at before
+  pub number : next_at after ≡ next_at before + 1
+  pub place : place_at after ≡ to
+  pub at : (h : List Entry) → ArePassed before to h
       → IsAt (tables_at before) (start_at before) (lots_at before) h after
