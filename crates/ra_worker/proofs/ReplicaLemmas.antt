@@ -7,6 +7,7 @@ use Rattle.ra_base.proofs.Counts.{count_none}
 use Rattle.ra_draws.specs.declared.budgets.Lots.{Lots}
 use Rattle.ra_model.specs.declared.raw.Tables.{Tables}
 use Rattle.ra_model.specs.Limits.{WellFormed}
+use Rattle.ra_model.specs.Situations.{Situation}
 use Rattle.ra_model.specs.Assignments.{IsAssignment}
 use Rattle.ra_journal.specs.declared.entries.Entry.{Entry}
 use Rattle.ra_journal.specs.Entries.{entry_at, entries_of, budget, made_by, proposal_count}
@@ -16,7 +17,6 @@ use Rattle.ra_journal.proofs.QuietLemmas.{state_passed}
 use Rattle.ra_journal.proofs.RoomLemmas.{AreNumbered, entries_few, proposals_few}
 use Rattle.ra_worker.specs.declared.replica.Replica.{Replica}
 use Rattle.ra_worker.specs.Following.{IsJudged}
-use Rattle.ra_world.specs.declared.world.World.{World}
 use Rattle.ra_worker.specs.Replicas.{IsAt, ArePartOf, AreNext, HasTaken, ArePassed}
 use Rattle.ra_worker.proofs.FollowingLemmas.{entry_judged, next_state, next_count}
 
@@ -128,16 +128,17 @@ place_few before r b h j next taken within =
     omega (arith, place_there before r b h j next taken within, entries_few l h (length h) numbered, proposals_few l)
 
 -- entries that are passed over
-pub passed_at : (r s : Replica) (to : ℕ) (h : List Entry) → s.world ≡ r.world → s.proposals.lots.now ≡ r.proposals.lots.now →
+pub passed_at : (r s : Replica) (to : ℕ) (h : List Entry) → s.world ≡ r.world →
+    s.proposals.lots.now ≡ r.proposals.lots.now →
     s.proposals.worker ≡ r.proposals.worker → s.proposals.number ≡ r.proposals.number + 1 → s.place ≡ to →
     ArePassed r to h →
-    IsAt r.world.inst.now.tables r.world.start.now.items r.proposals.lots.now h s
+    IsAt r.world.tables r.world.start r.proposals.lots.now h s
 passed_at r s to h world lots worker number place are = record {
-  instance = ap (λ (w : World). w.inst.now.tables) world;
-  initial = ap (λ (w : World). w.start.now.items) world;
+  instance = ap (λ (st : Situation). st.tables) world;
+  initial = ap (λ (st : Situation). st.start) world;
   lots = lots;
   place = omega (arith, place, are.within);
-  state = rw place (ap (λ (w : World). w.kept.assignment.items) world ∙ are.here.state
-      ∙ sym (state_passed r.world.start.now.items h r.place to are.from are.refused));
+  state = rw place (ap (λ (st : Situation). st.here) world ∙ are.here.state
+      ∙ sym (state_passed r.world.start h r.place to are.from are.refused));
   number = rw (place, worker) (number ∙ sym are.own);
 }

@@ -114,8 +114,8 @@ pub record ArePassed (r : Replica) (to : ℕ) (h : List Entry) : Type 0 where
 -- a replica has passed over the entries before a place: it stands for the assignment for which it stood, and is at a
 -- state of each journal of which that is so
 pub record HasPassed (before after : Replica) (to : ℕ) : Type 0 where
-  pub instance : instance_at after ≡ instance_at before
-  pub initial : initial_at after ≡ initial_at before
+  pub instance : tables_at after ≡ tables_at before
+  pub initial : start_at after ≡ start_at before
   pub here : here_at after ≡ here_at before
   pub lots : lots_at after ≡ lots_at before
   pub worker : worker_at after ≡ worker_at before
