@@ -21,7 +21,7 @@ use ra_draws::Lots;
 use ra_io::{Files, Gate, Sink};
 use ra_jobs::{JobFiles, Refusal, Status, bound_from, finish, judge_start, read_start};
 use ra_model::Instance;
-use ra_report::{WriteFault, write_report};
+use ra_report::{Desks, WriteFault, write_report_at};
 use ra_topology::Topology;
 use ra_worker_crew::{Prepared, Solved as Run};
 use std::alloc::Global;
@@ -142,11 +142,14 @@ fn run_over<R: Threads + Wait + Sync, O: Sink, G: Gate>(
     let Ok(bound) = bound_from(alloc, inst, initial) else {
         return Err(Refusal::Memory);
     };
+    let Ok(mut desks) = Desks::make(alloc, lots.len()) else {
+        return Err(Refusal::Memory);
+    };
     let Ok(prepared) = Prepared::make(alloc, inst, topo, initial, start, lots) else {
         return Err(Refusal::Memory);
     };
     let run = prepared.solve(rt, gate);
-    let ended = report(out, &bound, &run);
+    let ended = report(rt, &mut desks, out, &bound, &run);
     drop(run);
     match ended {
         Ok(()) => Ok(()),
@@ -154,8 +157,14 @@ fn run_over<R: Threads + Wait + Sync, O: Sink, G: Gate>(
     }
 }
 
-/// Writes the report of a run, which tells this bound.
-fn report<O: Sink>(out: &mut O, bound: &Bound, run: &Run<'_>) -> Result<(), WriteFault>
+/// Writes the report of a run, which tells this bound, at all desks.
+fn report<R: Threads + Sync, O: Sink>(
+    rt: &R,
+    desks: &mut Desks,
+    out: &mut O,
+    bound: &Bound,
+    run: &Run<'_>,
+) -> Result<(), WriteFault>
     requires bound { bound.now ≡ pinned_bound_of run.now.journal.inst.now.tables
         run.now.journal.a0.now.items }
     requires best { run.now.best.items ≡ best_state run.now.journal }
@@ -163,5 +172,13 @@ fn report<O: Sink>(out: &mut O, bound: &Bound, run: &Run<'_>) -> Result<(), Writ
     ensures part { OnErr result (BrokeOff (writing O.Sink out.old out.new) (text_of run.now.journal)) }
     ensures out_never_falls { O.faults out.old ≤ O.faults out.new }
 {
-    write_report(out, run.best(), &run.parts(), bound, run.journal())
+    write_report_at(
+        rt,
+        desks,
+        out,
+        run.best(),
+        &run.parts(),
+        bound,
+        run.journal(),
+    )
 }
