@@ -105,15 +105,12 @@ impl<'a> Draft<'a> {
         match judge(alloc, &self.kept, edit, asked)? {
             Judged::Refused(cause) => Ok(EditReply::Broken { cause }),
             Judged::Fine(parts) => {
-                self.kept
-                    .members
-                    .follow(self.kept.inst, &self.kept.lists, edit)?;
-                self.kept
-                    .loads
-                    .follow(self.kept.inst, &self.kept.lists, edit, asked);
-                follow_moved(&mut self.kept.moved, self.kept.inst, &self.kept.lists, edit);
-                self.kept.lists.edit(self.kept.inst, edit, asked);
-                self.kept.parts = parts;
+                let kept = &mut self.kept;
+                kept.members.follow(kept.inst, &kept.lists, edit)?;
+                kept.loads.follow(kept.inst, &kept.lists, edit, asked);
+                follow_moved(&mut kept.moved, kept.inst, &kept.lists, edit);
+                kept.lists.edit(kept.inst, edit, asked);
+                kept.parts = parts;
                 Ok(EditReply::Done { cost: parts.total })
             }
         }

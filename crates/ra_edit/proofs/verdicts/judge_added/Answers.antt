@@ -46,8 +46,8 @@ costs_with-costs-requires c = record {
   one_each = rw c.as_slice-3.ensures c.in_ok-used.ensures.one_each;
 }
 
-pub overflow_add-cost : goal.overflow_add-cost
-overflow_add-cost c =
+pub overflow_add-kept : goal.overflow_add-kept
+overflow_add-kept c =
     let has : HasParts (draft_in c.args.kept.now) c.args.kept.now.parts =
     parts_told (draft_in c.args.kept.now) c.args.kept.now.parts c.requires.held.kept c.small.ensures in
     omega (

@@ -42,4 +42,4 @@ returns-in_err-taken g c =
     c.from_residual.ensures
     (reason_untaken held names (g.F.Files.faults c.args.files.now) (g.F.Files.faults c.read_taken.new.files)
     (Edited held names (BrokeOff out.sink)) _ c.in_err-taken.ensures.refused)
-    refl (c.read_taken.ensures.leaves) (omega arith)
+    refl c.read_taken.ensures.leaves (omega arith)

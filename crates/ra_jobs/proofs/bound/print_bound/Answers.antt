@@ -45,4 +45,4 @@ returns-in_err-bound g c =
     (reading g.F.Files c.args.files.now c.read_bound.new.files) out _ _ c.from_residual.ensures
     (reason_anywhere held names (g.F.Files.faults c.args.files.now) (g.F.Files.faults c.read_bound.new.files)
     (OnlyWrites (BoundPrinted held names (BrokeOff out.sink))) _ c.in_err-bound.ensures.refused)
-    refl (c.read_bound.ensures.leaves) (omega arith)
+    refl c.read_bound.ensures.leaves (omega arith)

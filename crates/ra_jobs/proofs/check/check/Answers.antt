@@ -40,4 +40,4 @@ returns-in_err-parts g c =
     (reading g.F.Files c.args.files.now c.read_parts.new.files) out _ _ c.from_residual.ensures
     (reason_unwritten held names (g.F.Files.faults c.args.files.now) (g.F.Files.faults c.read_parts.new.files)
     (CheckPrinted held names (BrokeOff out.sink)) _ c.in_err-parts.ensures.refused)
-    refl (c.read_parts.ensures.leaves) (omega arith)
+    refl c.read_parts.ensures.leaves (omega arith)

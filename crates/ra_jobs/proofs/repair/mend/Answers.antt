@@ -52,4 +52,4 @@ returns-in_err-start g c =
     (reason_anywhere held names (g.F.Files.faults c.args.files.now) (g.F.Files.faults c.read_start.new.files)
     ((repaired names (These c.args.lots.now)).refuses held (Took out.sink) (BrokeOff out.sink)) _
     c.in_err-start.ensures.refused)
-    refl (c.read_start.ensures.leaves) (omega arith)
+    refl c.read_start.ensures.leaves (omega arith)

@@ -55,4 +55,4 @@ returns-in_err-entries g c =
     (reason_these_lots held names lots before now (BrokeOff out.sink) _
     (reason_unwritten_verdict held names before now lots (VerifyPrinted held names lots (BrokeOff out.sink)) _
     c.in_err-entries.ensures.refused))
-    refl (c.read_report.ensures.leaves) (omega arith)
+    refl c.read_report.ensures.leaves (omega arith)
