@@ -28,7 +28,8 @@ pub short : (bits : ℕ) → bits < 2 ^ 64
 short bits small none k l one two three =
     let clear : ℕ = 18446744073709551615 - bits in
     let pair : ℕ = bit_and clear (clear / 2) in
-    let is_clear : (j : ℕ) → j < 64 → bit_at clear j ≡ 1 - bit_at bits j = λ j below. bit_at_not w64 bits j small below in
+    let is_clear : (j : ℕ) → j < 64 → bit_at clear j ≡ 1 - bit_at bits j =
+    λ j below. bit_at_not w64 bits j small below in
     let is_pair : (j : ℕ) → bit_at pair j ≡ min (bit_at clear j) (bit_at clear (j + 1)) =
     λ j. bit_at_and clear (clear / 2) j ∙ ap (min (bit_at clear j)) (moved clear j) in
     let halves : pair / 4 ≡ pair / 2 / 2 = omega arith in

@@ -25,7 +25,8 @@ HasLanes-greater a b p q =
       many = length-sel_l _ b a (long ∙ sym q) (long ∙ sym p) ∙ long;
       each = λ k l.
           get_or-sel_l _ b a k 0 (omega arith) (omega arith) (omega arith)
-          ∙ ap (λ t. cond t (get_or b k 0) (get_or a k 0)) (get_or-zip2 ltb a b k 0 0 false (omega arith) (omega arith));
+          ∙ ap (λ t. cond t (get_or b k 0) (get_or a k 0))
+          (get_or-zip2 ltb a b k 0 0 false (omega arith) (omega arith));
     }
 
 rest_by : (x y : ℕ) → x < 256 → y < 256 → (b : Bool) → ltb x y ≡ b → (cond b y x + (256 - y)) % 256 ≡ x - y

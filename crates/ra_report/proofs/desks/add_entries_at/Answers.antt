@@ -34,7 +34,8 @@ returns-then-has_failed g c =
     rw rest.1
     (adds_more g.O.Sink.taken g.O.Sink.faults c.args.text.now c.loop-next.text c.loop-next.text
     (entries_text h c.loop-next.next) rest.0 c.loop-next.invariant.added
-    (adds_failed g.O.Sink.taken g.O.Sink.faults c.loop-next.text rest.0 (sym c.has_failed.ensures ∙ c.if-has_failed.true)))
+    (adds_failed g.O.Sink.taken g.O.Sink.faults c.loop-next.text rest.0
+    (sym c.has_failed.ensures ∙ c.if-has_failed.true)))
 
 pub returns : goal.returns
 returns g c =
