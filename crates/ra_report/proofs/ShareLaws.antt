@@ -83,7 +83,6 @@ rest_after h m zero within = rw (let same : m ≡ 0 = omega arith in same) ([], 
 rest_after h m (suc n) within =
     ⊎_elim (λ (same : m ≡ suc n). rw same ([], lines_none h (suc n)))
     (λ (less : m < suc n).
-        let before = rest_after h m n (omega arith) in
-        (before.0 ++ entry_line n (entry_at h n),
-        lines_more h m n (suc n) before.0 (entry_line n (entry_at h n)) before.1 refl))
+    let before = rest_after h m n (omega arith) in
+    (before.0 ++ entry_line n (entry_at h n), lines_more h m n (suc n) before.0 (entry_line n (entry_at h n)) before.1 refl))
     (eq-or-lt_of_le within)

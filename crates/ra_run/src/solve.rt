@@ -108,13 +108,18 @@ fn run_from<R: Threads + Wait + Sync, O: Sink, G: Gate>(
     let Ok(topo) = Topology::make(alloc, inst) else {
         return Err(Refusal::Memory);
     };
-    let ended = run_over(rt, alloc, inst, &topo, initial, lots, start, out, gate);
+    let Ok(mut desks) = Desks::make(alloc, lots.len()) else {
+        return Err(Refusal::Memory);
+    };
+    let ended = run_over(
+        rt, alloc, inst, &topo, initial, lots, start, &mut desks, out, gate,
+    );
     drop(topo);
     ended
 }
 
-/// The run and its report, over the topology of the instance. The start has these parts. The bound is made before the memory
-/// of the run is taken, so that after it only writing can refuse.
+/// The run and its report, over the topology of the instance. The start has these parts, and the report is written at these
+/// desks. The bound is made before the memory of the run is taken, so that after it only writing can refuse.
 fn run_over<R: Threads + Wait + Sync, O: Sink, G: Gate>(
     rt: &R,
     alloc: Global,
@@ -123,6 +128,7 @@ fn run_over<R: Threads + Wait + Sync, O: Sink, G: Gate>(
     initial: &Assignment,
     lots: &Lots,
     start: Parts,
+    desks: &mut Desks,
     out: &mut O,
     gate: &G,
 ) -> Result<(), Refusal>
@@ -142,14 +148,11 @@ fn run_over<R: Threads + Wait + Sync, O: Sink, G: Gate>(
     let Ok(bound) = bound_from(alloc, inst, initial) else {
         return Err(Refusal::Memory);
     };
-    let Ok(mut desks) = Desks::make(alloc, lots.len()) else {
-        return Err(Refusal::Memory);
-    };
     let Ok(prepared) = Prepared::make(alloc, inst, topo, initial, start, lots) else {
         return Err(Refusal::Memory);
     };
     let run = prepared.solve(rt, gate);
-    let ended = report(rt, &mut desks, out, &bound, &run);
+    let ended = report(rt, desks, out, &bound, &run);
     drop(run);
     match ended {
         Ok(()) => Ok(()),
@@ -157,7 +160,7 @@ fn run_over<R: Threads + Wait + Sync, O: Sink, G: Gate>(
     }
 }
 
-/// Writes the report of a run, which tells this bound, at all desks.
+/// Writes the report of a run at these desks. It tells this bound.
 fn report<R: Threads + Sync, O: Sink>(
     rt: &R,
     desks: &mut Desks,
