@@ -8,8 +8,8 @@ returns-in-Done c = taken_done c.args.inst.now.tables c.args.plan.now.mv.steps c
     c.args.verdict.now c.in-Done.cost c.len-version.result c.args.book.now _ c.in-Done.is refl refl
     c.len-version.ensures.value c.touch.ensures (record {
       each = λ a0 a moves unbroken weighed before.
-          c.change_counts.ensures.counts (situation c.args.inst.now.tables a0 a)
-          c.args.plan.now.mv.steps moves unbroken weighed before;
+          c.change_counts.ensures.counts (situation c.args.inst.now.tables a0 a) c.args.plan.now.mv.steps moves unbroken
+          weighed before;
     }) refl refl refl
 
 pub returns-in-Refused : goal.returns-in-Refused

@@ -47,4 +47,4 @@ returns-clause-feasible c = same_feasible (left_in c.args.instance.tables c.args
 pub returns-clause-parts : goal.returns-clause-parts
 returns-clause-parts c = same_parts (instance_of (left_in c.args.instance.tables c.args.left))
     c.with_processes.result.tables c.args.left.initial.items c.args.left.current.items
-    (rw (c.with_processes.ensures) (same_lists c.args.instance.tables c.args.left)).lists
+    (rw (c.with_processes.ensures) (same_lists c.args.instance.tables c.args.left).lists)
