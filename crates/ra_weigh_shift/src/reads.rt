@@ -4,7 +4,6 @@ ghost use Rattle.ra_model.specs.Numbers.{resource_count, process_count, service_
 ghost use Rattle.ra_model.specs.Assignments.{machine_at};
 ghost use Rattle.ra_model.specs.Services.{in_neighbourhood};
 ghost use Rattle.ra_cells.specs.Marks.{away};
-ghost use Rattle.ra_world.specs.Worlds.{tables_of, here_of};
 ghost use Rattle.ra_weigh_shift.specs.Conditions.{MayLeave};
 ghost use Rattle.ra_weigh_shift.specs.Sharing.{AreRequired, locations_without};
 
@@ -38,11 +37,10 @@ pub(crate) fn required_of<L: Ledger>(inst: &Instance, p: Process, steps: &mut St
 
 /// In how many locations there is another process of the service of a process.
 pub(crate) fn spread_without(world: &World<'_>, p: Process, s: Service, location: u32) -> u32
-    requires process { p.0 < process_count (tables_of world.now) }
-    requires service { s.0 ≡ service_of (tables_of world.now) p.0 }
-    requires location { location ≡
-        location_of (tables_of world.now) (machine_at (here_of world.now) p.0) }
-    ensures value { result ≡ locations_without (tables_of world.now) (here_of world.now) p.0 }
+    requires process { p.0 < process_count world.now.tables }
+    requires service { s.0 ≡ service_of world.now.tables p.0 }
+    requires location { location ≡ location_of world.now.tables (machine_at world.now.here p.0) }
+    ensures value { result ≡ locations_without world.now.tables world.now.here p.0 }
     ensures few { result ≤ 50000 }
 {
     let cells = world.cells();
@@ -57,12 +55,12 @@ pub(crate) fn spread_without(world: &World<'_>, p: Process, s: Service, location
 /// Whether a process may leave its neighbourhood: it isn't the last of its service there, or no other service there
 /// depends on it.
 pub(crate) fn may_leave(world: &World<'_>, p: Process, s: Service, neighbourhood: u32) -> bool
-    requires process { p.0 < process_count (tables_of world.now) }
-    requires service { s.0 ≡ service_of (tables_of world.now) p.0 }
+    requires process { p.0 < process_count world.now.tables }
+    requires service { s.0 ≡ service_of world.now.tables p.0 }
     requires neighbourhood { neighbourhood ≡
-        neighbourhood_of (tables_of world.now) (machine_at (here_of world.now) p.0) }
-    ensures may { result ≡ true → MayLeave (tables_of world.now) (here_of world.now) p.0 }
-    ensures may_not { result ≡ false → MayLeave (tables_of world.now) (here_of world.now) p.0 → ⊥ }
+        neighbourhood_of world.now.tables (machine_at world.now.here p.0) }
+    ensures may { result ≡ true → MayLeave world.now.tables world.now.here p.0 }
+    ensures may_not { result ≡ false → MayLeave world.now.tables world.now.here p.0 → ⊥ }
 {
     if world.cells().in_neighbourhood(s, neighbourhood) > 1 {
         return true;
@@ -78,12 +76,12 @@ pub(crate) fn may_leave(world: &World<'_>, p: Process, s: Service, neighbourhood
 
 /// Whether a service is another one and has a process in a neighbourhood.
 fn is_other_there(world: &World<'_>, d: Service, s: Service, neighbourhood: u32) -> bool
-    requires { d.0 < service_count (tables_of world.now) }
+    requires { d.0 < service_count world.now.tables }
     ensures other { result ≡ true → d.0 ≢ s.0 }
     ensures there { result ≡ true →
-        0 < in_neighbourhood (tables_of world.now) (here_of world.now) d.0 neighbourhood }
+        0 < in_neighbourhood world.now.tables world.now.here d.0 neighbourhood }
     ensures none { result ≡ false → d.0 ≢ s.0 →
-        in_neighbourhood (tables_of world.now) (here_of world.now) d.0 neighbourhood ≡ 0 }
+        in_neighbourhood world.now.tables world.now.here d.0 neighbourhood ≡ 0 }
 {
     if d.0 == s.0 {
         return false;
