@@ -8,6 +8,7 @@ use Rattle.ra_model.specs.declared.raw.Tables.{Tables}
 use Rattle.ra_model.specs.Limits.{WellFormed}
 use Rattle.ra_model.specs.Numbers.{machine_count}
 use Rattle.ra_model.specs.Assignments.{IsAssignment, machine_at}
+use Rattle.ra_model.specs.Situations.{situation}
 use Rattle.ra_moves.specs.declared.steps.MoveKind.{MoveKind}
 use Rattle.ra_moves.specs.declared.steps.MoveKind.TheVariants.{Shift, Swap, Chain}
 use Rattle.ra_moves.specs.declared.steps.Step.{Step}
@@ -27,10 +28,10 @@ option_few Swap a x m d o = omega arith
 option_few Chain a x m d o = omega arith
 
 pub plan_offered : (i : Tables) (a0 a : List Machine) (x : List ℕ) (d : Drawing) (rise : ℕ) → WellFormed i →
-    IsAssignment i a → IsOffered i a (plan_of i a0 a x d rise).steps
+    IsAssignment i a → IsOffered i a (plan_of (situation i a0 a) x d rise).steps
 unfolding plan_of option_at
 plan_offered i a0 a x d rise limits fits = λ none.
-    let place = plan_place i a0 a x d rise in
+    let place = plan_place (situation i a0 a) x d rise in
     let some : 0 < length a = omega (arith, fits.one_each, limits.some_process) in
     let machines : 0 < machine_count i = omega (arith, limits.some_machine) in
     record {
