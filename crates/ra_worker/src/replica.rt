@@ -6,7 +6,7 @@ ghost use Rattle.ra_journal.specs.declared.entries.Entry.{Entry as Recorded};
 ghost use Rattle.ra_journal.specs.Entries.{worker_count, budget};
 ghost use Rattle.ra_topology.specs.Starts.{IsFeasibleStart};
 ghost use Rattle.ra_worker.specs.Following.{IsJudged};
-ghost use Rattle.ra_worker.specs.Replicas.{tables_at, start_at, here_at, lots_at, worker_at, next_at, budget_at, place_at, IsNextPlan, HasFollowed, IsAt, AreTold, HasTaken};
+ghost use Rattle.ra_worker.specs.Replicas.{tables_at, start_at, lots_at, worker_at, next_at, budget_at, place_at, IsNextPlan, HasFollowed, IsAt, AreTold, HasTaken};
 
 use crate::following::follow;
 use crate::proposals::Proposals;
@@ -131,6 +131,8 @@ impl<'a> Replica<'a> {
         requires told { AreTold self.old batch.now }
         ensures { HasTaken self.old self.new batch.now (length batch.now) }
     {
+        // What is known of every world.
+        let _known = self.world.instance();
         for j in 0..batch.len() {
             let entry = batch.entry(j);
             self.take_entry(&entry, steps);
@@ -143,13 +145,14 @@ impl<'a> Replica<'a> {
         requires told { AreTold self.old (entry.now ∷ []) }
         ensures { HasTaken self.old self.new (entry.now ∷ []) 1 }
     {
+        // What is known of every world.
+        let _known = self.world.instance();
         self.take_entry(entry, steps);
     }
 
     /// Takes in one entry, which was judged at the state for which it stands.
     pub fn take_entry<L: Ledger>(&mut self, entry: &Entry, steps: &mut Steps<L>)
-        requires judged { IsJudged (tables_at self.old) (start_at self.old) (here_at self.old)
-            entry.now.mv.steps entry.now.verdict }
+        requires judged { IsJudged self.old.world entry.now.mv.steps entry.now.verdict }
         requires left { entry.now.worker ≡ worker_at self.old →
             next_at self.old < budget_at self.old }
         requires few { place_at self.old < 2 ^ 63 }

@@ -1,4 +1,4 @@
-use Rattle.std.proofs.Common.{◌<◌, length, List, [], ◌∷◌, refl, arith}
+use Rattle.std.proofs.Common.{◌<◌, length, [], ◌∷◌, refl, arith}
 use Rattle.ra_journal.specs.declared.entries.Entry.{Entry}
 use Rattle.ra_journal.specs.Entries.{entry_at}
 use Rattle.ra_worker.proofs.ReplicaLemmas.{taken_none, taken_more, next_judged, next_left, place_few}
@@ -8,7 +8,8 @@ pub take_entry-requires-clause-judged : goal.take_entry-requires-clause-judged
 unfolding entry_at
 take_entry-requires-clause-judged g c =
     let r = c.args.self.now in let e : Entry = c.args.entry.now in
-    next_judged r r (e ∷ []) c.requires.told.journal 0 e r.world.inst.now.well_formed r.world.fits c.requires.told.next
+    next_judged r r (e ∷ []) c.requires.told.journal 0 e c.instance-known.ensures.sound.well_formed
+    c.instance-known.ensures.sound.starts c.requires.told.next
     (taken_none r (e ∷ [])) (omega arith) refl
 
 pub take_entry-requires-clause-left : goal.take_entry-requires-clause-left
