@@ -1,5 +1,5 @@
 -- A turn in which a worker hands in its plan, from what the lock tells of it.
-use Rattle.std.proofs.Common.{◌≡◌, ℕ, ◌-◌, ◌<◌, ◌≤◌, true, Some, List, ◌++◌, length, drop, ap, ap₂}
+use Rattle.std.proofs.Common.{◌≡◌, ℕ, ◌-◌, ◌<◌, ◌≤◌, true, List, ◌++◌, length, drop, ap, ap₂}
 use Rattle.std.proofs.Common.{sym, subst, ◌∙◌, ⊎_elim, arith}
 use Rattle.std.proofs.lemmas.List.{length_push}
 use Rattle.std.proofs.lemmas.Option.{slice_get_within}

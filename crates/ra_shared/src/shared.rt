@@ -110,8 +110,9 @@ impl<'a> Shared<'a> {
         self.hand_in(rt, pass, plan, &mut Nothing)
     }
 
-    /// The same, and that turn fills the batch with the entries from the plan's place on. It leaves the batch empty if
-    /// all of these are known at once to be refused: then they change nothing, and the worker may pass over them.
+    /// Hands in a plan as `commit` does, and in that turn fills the batch with the entries from the plan's place on. The
+    /// batch is empty if all of these are known at once to be refused: they change nothing, so the worker may pass over
+    /// them.
     pub fn commit_and_copy<R: Wait>(
         &self,
         rt: &R,
