@@ -1,8 +1,8 @@
-ghost use Rattle.std.specs.Prelude.{IfOk, IfErr};
+ghost use Rattle.std.specs.Prelude.{None, IfOk, IfErr};
 ghost use Rattle.std.specs.Option.{option_copied};
 ghost use Rattle.ra_io.specs.Outside.{LeavesFiles, reading};
 ghost use Rattle.ra_jobs.specs.Files.{ModelIs, InstanceIs};
-ghost use Rattle.ra_jobs.specs.Stages.{ModelReason, ClosedReason, SourceReason, IsClosing};
+ghost use Rattle.ra_jobs.specs.Stages.{ClosedReason, SourceReason, IsClosing};
 
 use crate::refusals::Refusal;
 use ra_assign::read_closed;
@@ -40,8 +40,8 @@ pub(crate) fn read_open<F: Files>(
     model: &Name,
 ) -> Result<Instance, Refusal>
     ensures read { IfOk result (λ inst. ModelIs (F.held files.old) model.now inst.tables) }
-    ensures refused { IfErr result (ModelReason (F.held files.old) model.now (F.faults files.old)
-        (F.faults files.new)) }
+    ensures refused { IfErr result (SourceReason (F.held files.old) model.now None
+        (F.faults files.old) (F.faults files.new)) }
     ensures leaves { LeavesFiles (reading F.Files files.old files.new) }
 {
     Ok(read_model(alloc, files, model.as_str())?)
