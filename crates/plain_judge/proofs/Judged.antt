@@ -7,6 +7,7 @@ use Rattle.ra_base.proofs.Searches.{or_else_some, or_else_assoc, left_none, righ
 use Rattle.ra_model.specs.declared.raw.Tables.{Tables}
 use Rattle.ra_model.specs.Broken.{first_broken}
 use Rattle.ra_model.specs.Costs.{objective}
+use Rattle.ra_model.specs.Situations.{situation}
 use Rattle.ra_moves.specs.declared.steps.Step.{Step}
 use Rattle.ra_moves.specs.declared.verdicts.Verdict.TheVariants.{Refused}
 use Rattle.ra_moves.specs.Replacing.{applied}
@@ -16,7 +17,7 @@ use Rattle.ra_moves.specs.Judging.{repeat_of, same_of, broken_by, rise_test, ver
 
 -- a flaw of the steps
 pub judge_flaw : (i : Tables) (a0 a : List Machine) (steps : List Step) (allowed : ℕ) (cause : Cause) →
-    or_else (repeat_of steps) (same_of steps) ≡ Some cause → Refused cause ≡ judge i a0 a steps allowed
+    or_else (repeat_of steps) (same_of steps) ≡ Some cause → Refused cause ≡ judge (situation i a0 a) steps allowed
 unfolding judge broken_by verdict_of
 judge_flaw i a0 a steps allowed cause found =
     rw (
@@ -34,7 +35,7 @@ flawless_distinct steps none = distinct_from_none steps (left_none (repeat_of st
 pub judge_outcome : (i : Tables) (a0 a after : List Machine) (steps : List Step) (before allowed : ℕ) →
     or_else (repeat_of steps) (same_of steps) ≡ None → after ≡ applied a steps → before ≡ objective i a0 a →
     verdict_of (or_else (first_broken i a0 after) (rise_test before (objective i a0 after) allowed))
-    (objective i a0 after) ≡ judge i a0 a steps allowed
+    (objective i a0 after) ≡ judge (situation i a0 a) steps allowed
 unfolding judge broken_by or_else
 judge_outcome i a0 a after steps before allowed none made cost =
     rw (left_none (repeat_of steps) (same_of steps) none, right_none (repeat_of steps) (same_of steps) none, made, cost)

@@ -4,6 +4,7 @@ ghost use Rattle.ra_model.specs.Numbers.{machine_count};
 ghost use Rattle.ra_model.specs.Assignments.{IsAssignment};
 ghost use Rattle.ra_model.specs.Broken.{first_broken};
 ghost use Rattle.ra_model.specs.Costs.{objective};
+ghost use Rattle.ra_model.specs.Situations.{situation};
 ghost use Rattle.ra_check.specs.Made.{IsMadeFor};
 ghost use Rattle.ra_moves.specs.Steps.{StandsAt, from_in, to_in};
 ghost use Rattle.ra_moves.specs.Judging.{judge, rise_test, verdict_of};
@@ -33,7 +34,8 @@ pub fn judge_plainly(
     requires stands { StandsAt from_in mv.now.steps a.old.items }
     requires reaches { (j : ℕ) → j < length mv.now.steps →
         to_in mv.now.steps j < machine_count inst.now.tables }
-    ensures verdict { result ≡ judge inst.now.tables a0.now.items a.old.items mv.now.steps allowed }
+    ensures verdict { result ≡ judge (situation inst.now.tables a0.now.items a.old.items)
+        mv.now.steps allowed }
     ensures unchanged { a.new ≡ a.old }
     ensures kept { IsMadeFor scratch.new inst.now.tables }
 {

@@ -3,6 +3,7 @@ ghost use Rattle.ra_base.specs.Searches.{is_better};
 ghost use Rattle.ra_model.specs.Numbers.{machine_count};
 ghost use Rattle.ra_model.specs.Assignments.{IsAssignment};
 ghost use Rattle.ra_model.specs.Costs.{objective};
+ghost use Rattle.ra_model.specs.Situations.{situation};
 ghost use Rattle.ra_check.specs.Made.{IsMadeFor};
 ghost use Rattle.ra_moves.specs.Steps.{StandsAt, Distinct, from_in, to_in};
 ghost use Rattle.ra_moves.specs.Judging.{judge, repeat_of};
@@ -43,9 +44,9 @@ pub fn plan_plainly(
     requires made { IsMadeFor scratch.old inst.now.tables }
     requires before { before ≡ objective inst.now.tables a0.now.items a.now.items }
     ensures planned { result.mv ≡
-        plan_of inst.now.tables a0.now.items a.now.items words.now drawing allowed }
+        plan_of (situation inst.now.tables a0.now.items a.now.items) words.now drawing allowed }
     ensures judged { result.verdict ≡
-        judge inst.now.tables a0.now.items a.now.items result.mv.steps allowed }
+        judge (situation inst.now.tables a0.now.items a.now.items) result.mv.steps allowed }
     ensures stands { StandsAt from_in result.mv.steps a.now.items }
     ensures reaches { (j : ℕ) → j < length result.mv.steps →
         to_in result.mv.steps j < machine_count inst.now.tables }

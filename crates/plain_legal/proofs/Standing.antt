@@ -15,6 +15,7 @@ use Rattle.ra_model.specs.declared.raw.Tables.{Tables}
 use Rattle.ra_model.specs.Numbers.{machine_count, service_of}
 use Rattle.ra_model.specs.Limits.{WellFormed}
 use Rattle.ra_model.specs.Assignments.{IsAssignment, machine_at}
+use Rattle.ra_model.specs.Situations.{situation}
 use Rattle.ra_moves.specs.declared.steps.Step.{Step}
 use Rattle.ra_moves.specs.declared.verdicts.Verdict.{Verdict}
 use Rattle.ra_moves.specs.declared.verdicts.Verdict.TheVariants.{Done, Refused}
@@ -80,9 +81,9 @@ unmoved_since i a0 h q (suc n) steps j apart since within = ⊎_elim
 
 -- a plan's processes are in their places where it was planned
 plan_stands : (i : Tables) (a0 a : List Machine) (x : List ℕ) (d : Drawing) (rise : ℕ) → WellFormed i →
-    IsAssignment i a → StandsAt from_in (plan_of i a0 a x d rise).steps a
+    IsAssignment i a → StandsAt from_in (plan_of (situation i a0 a) x d rise).steps a
 unfolding plan_of
-plan_stands i a0 a x d rise limits fits = option_stands a x (machine_count i) d (plan_place i a0 a x d rise)
+plan_stands i a0 a x d rise limits fits = option_stands a x (machine_count i) d (plan_place (situation i a0 a) x d rise)
     (omega (arith, fits.one_each, limits.some_process)) (omega (arith, limits.some_machine))
 
 -- what is known of an entry's move: its processes and the machines that it enters exist, and its processes are in their
@@ -93,7 +94,7 @@ pub record IsPlanAt (i : Tables) (a : List Machine) (steps : List Step) : Type 0
   pub stands : StandsAt from_in steps a
 
 pub plan_at : (i : Tables) (a0 a : List Machine) (x : List ℕ) (d : Drawing) (rise : ℕ) (mv : MoveSteps) → WellFormed i →
-    IsAssignment i a → mv ≡ plan_of i a0 a x d rise → IsPlanAt i a mv.steps
+    IsAssignment i a → mv ≡ plan_of (situation i a0 a) x d rise → IsPlanAt i a mv.steps
 plan_at i a0 a x d rise mv limits fits is = subst (λ (m : MoveSteps). IsPlanAt i a m.steps) (sym is) (record {
   known = plan_known i a0 a x d rise limits fits;
   reaches = plan_reaches i a0 a x d rise limits fits;
@@ -143,7 +144,7 @@ states_fit i a0 l h limits fits (suc n) legal k below = ⊎_elim
 -- what is known of an entry's move at its own place j, by the clauses before its verdict
 pub move_at : (i : Tables) (a0 : List Machine) (l : Lots) (h : List Entry) (j : ℕ) (e : Entry) → WellFormed i →
     IsAssignment i a0 → IsLegal i a0 l h j → e.q ≤ j →
-    e.mv ≡ plan_of i a0 (state a0 h e.q) (words l e.worker e.k) l.drawing (allowed l e.worker e.k) →
+    e.mv ≡ plan_of (situation i a0 (state a0 h e.q)) (words l e.worker e.k) l.drawing (allowed l e.worker e.k) →
     IsPlanAt i (state a0 h e.q) e.mv.steps
 move_at i a0 l h j e limits fits legal place planned = plan_at i a0 (state a0 h e.q) (words l e.worker e.k) l.drawing
     (allowed l e.worker e.k) e.mv limits (states_fit i a0 l h limits fits j legal e.q place) planned
@@ -171,7 +172,7 @@ done_none None x cost is = refl
 done_none (Some cause) x cost is = absurd (cc)
 
 done_distinct : (i : Tables) (a0 a : List Machine) (steps : List Step) (rise cost : ℕ) (verdict : Verdict) →
-    verdict ≡ judge i a0 a steps rise → verdict ≡ Done cost → Distinct steps
+    verdict ≡ judge (situation i a0 a) steps rise → verdict ≡ Done cost → Distinct steps
 unfolding judge broken_by
 done_distinct i a0 a steps rise cost verdict is done =
     distinct_from_none steps (left_none (repeat_of steps) _ (left_none _ _ (done_none _ _ cost (sym is ∙ done))))

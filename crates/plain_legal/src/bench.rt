@@ -1,6 +1,7 @@
 ghost use Rattle.std.specs.Prelude.{◌≡◌, ℕ, ◌<◌, ◌≤◌, length, IfOk};
 ghost use Rattle.ra_model.specs.Numbers.{process_count, machine_count};
 ghost use Rattle.ra_model.specs.Assignments.{IsAssignment};
+ghost use Rattle.ra_model.specs.Situations.{situation};
 ghost use Rattle.ra_moves.specs.Judging.{judge};
 ghost use Rattle.ra_moves.specs.Options.{plan_of};
 ghost use Rattle.ra_moves.specs.Steps.{StandsAt, from_in, to_in};
@@ -56,8 +57,8 @@ impl Bench {
         requires before { IsLegal inst.now.tables a0.now.items lots.now entries.now e.now.q }
         requires worker { e.now.worker < worker_count lots.now }
         requires left { e.now.k < budget lots.now e.now.worker }
-        ensures planned { result ≡ plan_of inst.now.tables a0.now.items
-            (state a0.now.items entries.now e.now.q)
+        ensures planned { result ≡ plan_of (situation inst.now.tables a0.now.items
+            (state a0.now.items entries.now e.now.q))
             (words lots.now e.now.worker e.now.k) lots.now.drawing
             (allowed lots.now e.now.worker e.now.k) }
         ensures kept { IsBenchFor self.new inst.now.tables }
@@ -100,8 +101,8 @@ impl Bench {
         requires stands { StandsAt from_in e.now.mv.steps (state a0.now.items entries.now j) }
         requires reaches { (n : ℕ) → n < length e.now.mv.steps →
             to_in e.now.mv.steps n < machine_count inst.now.tables }
-        ensures judged { result ≡ judge inst.now.tables a0.now.items
-            (state a0.now.items entries.now j) e.now.mv.steps
+        ensures judged { result ≡ judge (situation inst.now.tables a0.now.items
+            (state a0.now.items entries.now j)) e.now.mv.steps
             (allowed lots.now e.now.worker e.now.k) }
         ensures kept { IsBenchFor self.new inst.now.tables }
     {

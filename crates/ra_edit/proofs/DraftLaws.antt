@@ -29,7 +29,7 @@ use Rattle.ra_edit.proofs.RowLaws.{process_same}
 use Rattle.ra_edit.specs.Kinds.{IsEdited}
 use Rattle.ra_edit.proofs.SoundLaws.{edited_sound, few_of, AreFew}
 use Rattle.ra_edit.proofs.VerdictLaws.{edited_is}
-use Rattle.ra_edit.proofs.SameLaws.{same_well, same_fits, same_broken, same_parts}
+use Rattle.ra_edit.proofs.SameLaws.{same_well, same_fits, same_broken}
 
 -- a row with a small move cost is a process
 pub row_is : (row : ProcessRow) → row ≡ process_of row.service row.move_cost
@@ -138,15 +138,6 @@ unfolding broken_in
 kept_feasible d parts h =
     feasible_from_unbroken (instance_of d) d.initial d.current h.sound.well_formed h.sound.current h.unbroken
 
--- and feasible in the instance that is built
-pub built_feasible : (d : Drafted) (parts : Parts) (j : Tables) → IsKept d parts → AreSameLists (instance_of d) j →
-    Feasible j d.initial d.current
-unfolding broken_in
-built_feasible d parts j h same =
-    feasible_from_unbroken j d.initial d.current (same_well (instance_of d) j same.lists h.sound.well_formed)
-    (same_fits (instance_of d) j d.current same.lists h.sound.current)
-    (same_broken (instance_of d) j d.initial d.current same h.sound.current ∙ h.unbroken)
-
 -- and in one with the same lists
 pub same_feasible : (d : Drafted) (j : Tables) → IsSound d → Feasible (instance_of d) d.initial d.current →
     AreSameLists (instance_of d) j → Feasible j d.initial d.current
@@ -155,10 +146,6 @@ same_feasible d j sound feasible same =
     (same_fits (instance_of d) j d.current same.lists sound.current)
     (same_broken (instance_of d) j d.initial d.current same sound.current
     ∙ unbroken_from_feasible (instance_of d) d.initial d.current feasible)
-
-pub built_parts : (d : Drafted) (j : Tables) → AreSameLists (instance_of d) j →
-    parts_of j d.initial d.current ≡ parts_of (instance_of d) d.initial d.current
-built_parts d j same = same_parts (instance_of d) j d.initial d.current same.lists
 
 -- what an edit makes of a draft is sound
 pub next_sound : (d old next : Drafted) (e : EditLists) (k : ℕ) → d ≡ old → IsSound d → AreEditsFor old.origin e →

@@ -1,7 +1,6 @@
 pub mod RowLaws
 pub mod CopyLaws
 pub mod SameLaws
-pub mod BuildLaws
 pub mod ListLaws
 pub mod SoundLaws
 pub mod DraftLaws

@@ -1,19 +1,14 @@
 -- What is kept of the use of the machines while edits change it.
 use Rattle.std.specs.Prelude.{◌≡◌, ℕ, ◌+◌, ◌<◌, if◌then◌else◌, ◌==◌, ◌||◌, true, List, length, slice_index}
 use Rattle.ra_base.specs.Tables.{cell}
-use Rattle.ra_base.specs.declared.costs.Parts.{Parts}
-use Rattle.ra_base.specs.declared.ids.Service.{Service}
-use Rattle.ra_model.specs.declared.raw.Tables.{Tables}
 use Rattle.ra_model.specs.Numbers.{resource_count}
 use Rattle.ra_model.specs.Assignments.{machine_at}
 use Rattle.ra_model.specs.Usage.{use_share, use_of, transient_share, transient_of}
 use Rattle.ra_check.specs.Made.{IsGrid}
 use Rattle.ra_check.specs.Stands.{IsTally}
-use Rattle.ra_topology.specs.Fits.{AreDependants}
-use Rattle.ra_cells.specs.MovedCounts.{MovedCounts}
-use Rattle.ra_edit.specs.declared.lists.Lists.{Lists}
+use Rattle.ra_topology.specs.Fits.{IsTopologyOf}
+use Rattle.ra_edit.specs.declared.keeping.Kept.{Kept}
 use Rattle.ra_edit.specs.declared.loads.Loads.{Loads}
-use Rattle.ra_edit.specs.declared.members.Members.{Members}
 use Rattle.ra_edit.specs.Drafts.{Drafted, instance_of}
 use Rattle.ra_edit.specs.Keeping.{drafted, HasRoom, IsKept}
 use Rattle.ra_edit.specs.Members.{AreMembersOf}
@@ -66,13 +61,16 @@ pub record IsTransientRow (d : Drafted) (m : ℕ) (row : List ℕ) : Type 0 wher
 abbrev pub IsThere : Drafted → ℕ → ℕ → Type 0
 IsThere d p m = ((machine_at d.initial p == m) || (machine_at d.current p == m)) ≡ true
 
--- what a draft holds: its lists, the cost of the current one, what the processes use, where they are by
--- service, which services depend on each one, and how many processes have moved
-pub record IsHeld (i : Tables) (lists : Lists) (loads : Loads) (members : Members)
-    (dependants : List (List Service)) (moved : MovedCounts) (parts : Parts) : Type 0 where
-  pub kept : IsKept (drafted i lists) parts
-  pub loads_are : AreLoadsOf (drafted i lists) loads
-  pub members_are : AreMembersOf (drafted i lists) members
-  pub dependants_are : AreDependants dependants i
-  pub moved_are : AreMovedOf (drafted i lists) moved
-  pub room : HasRoom i lists
+-- the draft that is kept
+abbrev pub draft_in : Kept → Drafted
+draft_in k = drafted k.inst.now.tables k.lists
+
+-- what is kept is that of one draft: the cost of its current list, what its processes use, where they are by service,
+-- the topology of its instance, and how many processes have moved
+pub record IsHeld (k : Kept) : Type 0 where
+  pub kept : IsKept (draft_in k) k.parts
+  pub loads_are : AreLoadsOf (draft_in k) k.loads
+  pub members_are : AreMembersOf (draft_in k) k.members
+  pub topology_is : IsTopologyOf k.topo.now k.inst.now.tables
+  pub moved_are : AreMovedOf (draft_in k) k.moved
+  pub room : HasRoom k.inst.now.tables k.lists

@@ -4,6 +4,7 @@ ghost use Rattle.ra_model.specs.Broken.{first_broken};
 ghost use Rattle.ra_model.specs.Costs.{parts_of};
 ghost use Rattle.ra_model.specs.Feasible.{Feasible};
 ghost use Rattle.ra_model.specs.Limits.{Small, WellFormed};
+ghost use Rattle.ra_topology.specs.Fits.{IsTopologyOf};
 ghost use Rattle.ra_edit_read.specs.EditLists.{AreEditsFor};
 ghost use Rattle.ra_edit.specs.Drafts.{draft_of, instance_of};
 ghost use Rattle.ra_edit.specs.Keeping.{IsSound};
@@ -11,9 +12,8 @@ ghost use Rattle.ra_edit.specs.Leaving.{left_in};
 ghost use Rattle.ra_edit.specs.Replies.{barred, edit_answer, after_edit};
 ghost use Rattle.ra_edit.specs.SameLists.{AreSameLists};
 
-use crate::building::build;
-use crate::dependants::Dependants;
 use crate::edited::{Edited, Left};
+use crate::keeping::Kept;
 use crate::lists::{Lists, MOST_PROCESSES};
 use crate::loads::Loads;
 use crate::members::Members;
@@ -22,7 +22,6 @@ use crate::replies::EditReply;
 use crate::scanning::small;
 use crate::verdicts::{Judged, judge};
 use ra_base::{Assignment, NoMemory, Parts};
-use ra_cells::Greatest;
 use ra_edit_read::{Edit, Edits};
 use ra_model::Instance;
 use ra_topology::Topology;
@@ -33,43 +32,35 @@ use std::marker::Model;
 /// The second is feasible at all times.
 #[derive(Drop)]
 pub struct Draft<'a> {
-    inst: &'a Instance,
-    lists: Lists,
-    loads: Loads,
-    members: Members,
-    dependants: Dependants,
-    moved: Greatest,
-    parts: Parts,
+    kept: Kept<'a>,
 }
 
 impl<'a> Model for Draft<'a> {
     ghost use Rattle.ra_edit.specs.Drafts.{Drafted};
-    ghost use Rattle.ra_edit.specs.Keeping.{drafted};
-    ghost use Rattle.ra_edit.specs.Loads.{IsHeld};
+    ghost use Rattle.ra_edit.specs.Loads.{IsHeld, draft_in};
 
     ghost Value = { Drafted };
 
-    ghost view = { λ d. drafted d.inst.now.tables d.lists };
+    ghost view = { λ d. draft_in d.kept };
 
-    ghost invariant = { λ d. IsHeld d.inst.now.tables d.lists d.loads d.members d.dependants d.moved d.parts };
+    ghost invariant = { λ d. IsHeld d.kept };
 }
 
 impl<'a> Draft<'a> {
-    /// The draft of a feasible current list, whose cost has these parts. The instance is lent, and nothing is read of
-    /// the topology that is lent. The time grows with the processes times the resources, or times the logarithm of
-    /// their number if that is more, with the machines times the resources, with the services and with their
-    /// dependencies. The draft keeps two numbers for each machine and resource, two for each service, at most three
-    /// counts and a number for each process, a topology of its own for the services that depend on each one, and twice
-    /// the room of the lists of the most processes that an instance may have, of which `leave` and `finish` fill the
-    /// second.
+    /// The draft of a feasible current list, whose cost has these parts. The instance and its topology are lent. The time
+    /// grows with the processes times the resources, or times the logarithm of their number if that is more, with the
+    /// machines times the resources and with the services. The draft keeps two numbers for each machine and resource, two
+    /// for each service, at most three counts and a number for each process, and twice the room of the lists of the most
+    /// processes that an instance may have, of which `leave` and `finish` fill the second.
     pub fn make(
         alloc: Global,
         inst: &'a Instance,
-        _topo: &'a Topology,
+        topo: &'a Topology,
         a0: &Assignment,
         a: &Assignment,
         start: Parts,
     ) -> Result<Draft<'a>, NoMemory>
+        requires topology { IsTopologyOf topo.now inst.now.tables }
         requires a0_fits { IsAssignment inst.now.tables a0.now.items }
         requires fits { IsAssignment inst.now.tables a.now.items }
         requires unbroken { first_broken inst.now.tables a0.now.items a.now.items ≡ None }
@@ -79,16 +70,17 @@ impl<'a> Draft<'a> {
         let lists = Lists::of(alloc, inst, a0, a)?;
         let loads = Loads::of(alloc, inst, &lists)?;
         let members = Members::of(alloc, inst, &lists)?;
-        let dependants = Dependants::of(alloc, inst)?;
         let moved = moved_counts(alloc, inst, &lists)?;
         Ok(Draft {
-            inst,
-            lists,
-            loads,
-            members,
-            dependants,
-            moved,
-            parts: start,
+            kept: Kept {
+                inst,
+                topo,
+                lists,
+                loads,
+                members,
+                moved,
+                parts: start,
+            },
         })
     }
 
@@ -106,29 +98,19 @@ impl<'a> Draft<'a> {
         ensures origin { self.new.origin ≡ self.old.origin }
     {
         let edit = edits.edit(i);
-        if let Some(reply) = barred(&self.lists, edit) {
+        if let Some(reply) = barred(&self.kept.lists, edit) {
             return Ok(reply);
         }
         let asked = edits.requirements_of(i);
-        match judge(
-            alloc,
-            self.inst,
-            &self.lists,
-            &self.loads,
-            &self.members,
-            &self.dependants,
-            &self.moved,
-            self.parts,
-            edit,
-            asked,
-        )? {
+        match judge(alloc, &self.kept, edit, asked)? {
             Judged::Refused(cause) => Ok(EditReply::Broken { cause }),
             Judged::Fine(parts) => {
-                self.members.follow(self.inst, &self.lists, edit)?;
-                self.loads.follow(self.inst, &self.lists, edit, asked);
-                follow_moved(&mut self.moved, self.inst, &self.lists, edit);
-                self.lists.edit(self.inst, edit, asked);
-                self.parts = parts;
+                let kept = &mut self.kept;
+                kept.members.follow(kept.inst, &kept.lists, edit)?;
+                kept.loads.follow(kept.inst, &kept.lists, edit, asked);
+                follow_moved(&mut kept.moved, kept.inst, &kept.lists, edit);
+                kept.lists.edit(kept.inst, edit, asked);
+                kept.parts = parts;
                 Ok(EditReply::Done { cost: parts.total })
             }
         }
@@ -139,14 +121,14 @@ impl<'a> Draft<'a> {
         ensures parts { result ≡ parts_of (instance_of self.now) self.now.initial self.now.current }
         ensures feasible { Feasible (instance_of self.now) self.now.initial self.now.current }
     {
-        self.parts
+        self.kept.parts
     }
 
     /// How many processes there are.
     pub fn processes(&self) -> u32
         ensures { result ≡ length self.now.rows }
     {
-        self.lists.rows.len() as u32
+        self.kept.lists.rows.len() as u32
     }
 
     /// The lists of the draft, which gives its instance back. The edited instance is within the limits, and all its numbers are
@@ -158,15 +140,16 @@ impl<'a> Draft<'a> {
         ensures feasible { Feasible (instance_of self.entry) self.entry.initial
             self.entry.current }
     {
-        let Draft {
+        let Draft { kept } = self;
+        let Kept {
             inst,
+            topo: _,
             lists,
             loads: _,
             members: _,
-            dependants: _,
             moved: _,
             parts: _,
-        } = self;
+        } = kept;
         small(inst, &lists);
         let (rows, requirements, initial, current) = lists.apart();
         Left {
@@ -177,7 +160,8 @@ impl<'a> Draft<'a> {
         }
     }
 
-    /// The edited instance and its two lists. It is within the limits, so its text is one of a model.
+    /// The edited instance, whose other lists are copied, and its two lists. It is within the limits, so its text is one
+    /// of a model.
     pub fn finish(self, alloc: Global) -> Result<Edited, NoMemory>
         ensures lists { IfOk result (λ e. AreSameLists (instance_of self.entry) e.instance.tables) }
         ensures initial { IfOk result (λ e. e.initial.items ≡ self.entry.initial) }
@@ -190,23 +174,8 @@ impl<'a> Draft<'a> {
             parts_of e.instance.tables e.initial.items e.current.items ≡
             parts_of (instance_of self.entry) self.entry.initial self.entry.current) }
     {
-        let Draft {
-            inst,
-            lists,
-            loads: _,
-            members: _,
-            dependants: _,
-            moved: _,
-            parts: _,
-        } = self;
-        small(inst, &lists);
-        let (rows, requirements, initial, current) = lists.apart();
-        let instance = build(alloc, inst, rows, requirements)?;
-        Ok(Edited {
-            instance,
-            initial,
-            current,
-        })
+        let instance = self.kept.inst.copied(alloc)?;
+        Ok(Edited::of(instance, self.leave()))
     }
 }
 

@@ -2,15 +2,13 @@
 ghost use Rattle.std.specs.Prelude.{◌≡◌};
 ghost use Rattle.ra_model.specs.Costs.{parts_of};
 ghost use Rattle.ra_model.specs.Feasible.{Feasible};
-ghost use Rattle.ra_model.specs.Limits.{WellFormed};
-ghost use Rattle.ra_edit.specs.Drafts.{with_processes, instance_of};
+ghost use Rattle.ra_edit.specs.Drafts.{instance_of};
 ghost use Rattle.ra_edit.specs.Keeping.{IsSound};
 ghost use Rattle.ra_edit.specs.Leaving.{left_in};
 ghost use Rattle.ra_edit.specs.SameLists.{AreSameLists};
 
-use crate::scanning::small_numbers;
 use ra_base::{Assignment, Fixed};
-use ra_model::{Instance, ProcessRow, Tables};
+use ra_model::{Instance, ProcessRow};
 
 /// What is left of a draft without its instance: the processes, what they require by process, then resource, and the two
 /// lists of machines.
@@ -53,33 +51,9 @@ impl Edited {
             current,
         } = left;
         Edited {
-            instance: instance_with(instance, rows, requirements),
+            instance: instance.with_processes(rows, requirements),
             initial,
             current,
         }
     }
-}
-
-/// An instance with other processes, which is within the limits.
-fn instance_with(inst: Instance, rows: Fixed<ProcessRow>, requirements: Fixed<u32>) -> Instance
-    requires { WellFormed (with_processes inst.tables rows.items requirements.items) }
-    ensures { AreSameLists (with_processes inst.tables rows.items requirements.items)
-        result.tables }
-{
-    let Instance { tables } = inst;
-    let tables = tables_with(tables, rows, requirements);
-    small_numbers(tables.raw.capacities.as_slice());
-    small_numbers(tables.raw.safeties.as_slice());
-    small_numbers(tables.raw.move_costs.as_slice());
-    small_numbers(tables.raw.requirements.as_slice());
-    Instance { tables }
-}
-
-/// The numbers of an instance with other processes. The same machines are closed.
-fn tables_with(mut tables: Tables, rows: Fixed<ProcessRow>, requirements: Fixed<u32>) -> Tables
-    ensures { AreSameLists (with_processes tables rows.items requirements.items) result }
-{
-    tables.raw.processes = rows;
-    tables.raw.requirements = requirements;
-    tables
 }

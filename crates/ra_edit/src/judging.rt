@@ -6,7 +6,7 @@ ghost use Rattle.ra_model.specs.Broken.{capacity_test, row_capacity, transient_t
 ghost use Rattle.ra_model.specs.Usage.{use_of, transient_of};
 ghost use Rattle.ra_model.specs.Assignments.{machine_at};
 ghost use Rattle.ra_model.specs.Services.{locations_of};
-ghost use Rattle.ra_topology.specs.Fits.{AreDependants};
+ghost use Rattle.ra_topology.specs.Fits.{IsTopologyOf};
 ghost use Rattle.ra_edit.specs.Keeping.{drafted, tables_with, IsSound};
 ghost use Rattle.ra_edit.specs.Drafts.{Drafted, instance_of};
 ghost use Rattle.ra_edit.specs.Kinds.{HasCome, HasGone, IsLeft};
@@ -14,11 +14,11 @@ ghost use Rattle.ra_edit.specs.Members.{AreMembersOf};
 ghost use Rattle.ra_edit.specs.Loads.{IsUseRow, IsTransientRow};
 ghost use Rattle.ra_edit.specs.Touched.{far_from, added_breaks, left_alone, left_by, retired_breaks, resized_breaks};
 
-use crate::dependants::Dependants;
 use crate::lists::Lists;
 use crate::members::{Members, Spot};
 use ra_base::{Cause, Machine, Process, Resource, Service};
 use ra_model::Instance;
+use ra_topology::Topology;
 
 /// What a process more breaks, which stands on its initial machine, with which this much is used there.
 pub(crate) fn added_breaks(
@@ -54,14 +54,14 @@ pub(crate) fn retired_breaks(
     inst: &Instance,
     lists: &Lists,
     members: &Members,
-    dependants: &Dependants,
+    topo: &Topology,
     p: Process,
     s: Service,
     at: Machine,
 ) -> Option<Cause>
     requires sound { IsSound (drafted inst.now.tables lists.now) }
     requires members { AreMembersOf (drafted inst.now.tables lists.now) members.now }
-    requires dependants { AreDependants dependants.now inst.now.tables }
+    requires topology { IsTopologyOf topo.now inst.now.tables }
     requires service { s.0 < service_count inst.now.tables }
     requires process { p.0 < length lists.now.rows.items }
     requires machine { at.0 < machine_count inst.now.tables }
@@ -73,7 +73,7 @@ pub(crate) fn retired_breaks(
     if let Some(cause) = spread_test(inst, lists, members, p, s, at) {
         return Some(cause);
     }
-    first_left(inst, lists, members, dependants, p, s, at)
+    first_left(inst, lists, members, topo, p, s, at)
 }
 
 /// What other requirements of a process break, with which this much is used of its machine, and in between of that and
@@ -335,13 +335,13 @@ fn first_left(
     inst: &Instance,
     lists: &Lists,
     members: &Members,
-    dependants: &Dependants,
+    topo: &Topology,
     p: Process,
     s: Service,
     at: Machine,
 ) -> Option<Cause>
     requires members { AreMembersOf (drafted inst.now.tables lists.now) members.now }
-    requires dependants { AreDependants dependants.now inst.now.tables }
+    requires topology { IsTopologyOf topo.now inst.now.tables }
     requires service { s.0 < service_count inst.now.tables }
     requires machine { at.0 < machine_count inst.now.tables }
     requires mine { s.0 ≡ service_of (tables_with inst.now.tables lists.now) p.0 }
@@ -354,7 +354,7 @@ fn first_left(
     if 1 < members.at(s, Spot::InNeighbourhood(label)) {
         return None;
     }
-    let services = dependants.of_service(s);
+    let services = topo.dependants(s);
     for k in 0..services.len() {
         if let Some(cause) = left_alone(members, s, label, services[k]) {
             return Some(cause);

@@ -2,15 +2,13 @@
 //! done.
 #![tactic(auto)]
 
-mod base;
-mod building;
 mod costs;
 mod counts;
-mod dependants;
 mod draft;
 mod edited;
 mod growing;
 mod judging;
+mod keeping;
 mod laws;
 mod lists;
 mod loads;

@@ -452,29 +452,32 @@ own_known : (held : Held) (model : List ℕ) (closed : Option (List ℕ)) (initi
     ⊎ (status_of refusal ≡ NoMemory)
 unfolding status_of name_of
 own_known held model closed initial current edits before now own known i a0 a accepts (Read file.Model) reason =
-    absurd ((known.0 tt).1 reason.rose)
+    absurd ((known file.Model refl tt).1 reason.rose)
 own_known held model closed initial current edits before now own known i a0 a accepts (Read file.Closed) reason =
-    absurd ((known.1 reason.named).1 reason.rose)
+    absurd ((known file.Closed refl reason.named).1 reason.rose)
 own_known held model closed initial current edits before now own known i a0 a accepts (Read file.Initial) reason =
-    absurd ((known.2 reason.named).1 reason.rose)
+    absurd ((known file.Initial refl reason.named).1 reason.rose)
 own_known held model closed initial current edits before now own known i a0 a accepts (Read file.Changed) reason =
-    absurd ((known.3 reason.named).1 reason.rose)
+    absurd ((known file.Changed refl reason.named).1 reason.rose)
 own_known held model closed initial current edits before now own known i a0 a accepts (Read file.Report) reason =
     absurd (let none = reason.named in cc)
 own_known held model closed initial current edits before now own known i a0 a accepts (Read file.Edits) reason =
-    absurd ((known.4 reason.named).1 reason.rose)
+    absurd ((known file.Edits refl reason.named).1 reason.rose)
 own_known held model closed initial current edits before now own known i a0 a accepts (Model fault) reason =
-    absurd (no_model held model (known.0 tt).0 fault reason accepts.instance.model accepts.instance.read)
+    absurd (no_model held model (known file.Model refl tt).0 fault reason accepts.instance.model accepts.instance.read)
 own_known held model closed initial current edits before now own known i a0 a accepts (Closed fault) reason =
-    absurd (no_closed held model closed (known.0 tt).0 (told_of held closed _ known.1) fault reason i accepts.instance)
+    absurd (no_closed held model closed (known file.Model refl tt).0 (told_of held closed _ (known file.Closed refl))
+    fault reason i accepts.instance)
 own_known held model closed initial current edits before now own known i a0 a accepts (Assign role.Initial fault)
     reason = absurd
-    (no_initial held (edit_names model initial current edits closed) (known.0 tt).0 (told_of held closed _ known.1)
-    (told_of held (Some initial) _ known.2) fault reason i a0 accepts.instance accepts.initial)
+    (no_initial held (edit_names model initial current edits closed) (known file.Model refl tt).0
+    (told_of held closed _ (known file.Closed refl))
+    (told_of held (Some initial) _ (known file.Initial refl)) fault reason i a0 accepts.instance accepts.initial)
 own_known held model closed initial current edits before now own known i a0 a accepts (Assign role.Changed fault)
     reason = absurd
-    (no_changed held (edit_names model initial current edits closed) (known.0 tt).0 (told_of held closed _ known.1)
-    (told_of held (Some current) _ known.3) fault reason i a accepts.instance accepts.changed)
+    (no_changed held (edit_names model initial current edits closed) (known file.Model refl tt).0
+    (told_of held closed _ (known file.Closed refl))
+    (told_of held (Some current) _ (known file.Changed refl)) fault reason i a accepts.instance accepts.changed)
 own_known held model closed initial current edits before now own known i a0 a accepts Memory reason = inr refl
 own_known held model closed initial current edits before now own known i a0 a accepts refusal reason = inl reason
 
@@ -490,9 +493,10 @@ not_both : (held : Held) (model : List ℕ) (closed : Option (List ℕ)) (initia
     EditsAccepted held (edit_names model initial current edits closed) → ⊥
 unfolding name_of
 not_both held model closed initial current edits before now known fault refused accepted =
-    let same = instances_same held model closed (known.0 tt).0 (told_of held closed _ known.1) refused.tables
+    let same = instances_same held model closed (known file.Model refl tt).0
+    (told_of held closed _ (known file.Closed refl)) refused.tables
     accepted.tables refused.accepts.instance accepted.accepts.instance in
-    told_not (held edits) (known.4 refl).0 (λ bytes. edits_refusal bytes refused.tables ≡ Some fault)
+    told_not (held edits) (known file.Edits refl refl).0 (λ bytes. edits_refusal bytes refused.tables ≡ Some fault)
     (λ bytes. edits_refusal bytes accepted.tables ≡ None)
     (λ bytes some none. let both : None ≡ Some fault = sym none
     ∙ (sym (edits_same bytes refused.tables accepted.tables same) ∙ some) in cc)
@@ -521,11 +525,15 @@ broken_not : (held : Held) (model : List ℕ) (closed : Option (List ℕ)) (init
     Edited held (edit_names model initial current edits closed) sent → ⊥
 unfolding name_of
 broken_not held model closed initial current edits before now sent known role.Initial cause breaks is =
-    no_initial_break held (edit_names model initial current edits closed) (known.0 tt).0 (told_of held closed _ known.1)
-    (told_of held (Some initial) _ known.2) cause breaks is.tables is.a0 is.a is.taken.accepts is.run.start
+    no_initial_break held (edit_names model initial current edits closed) (known file.Model refl tt).0
+    (told_of held closed _ (known file.Closed refl))
+    (told_of held (Some initial) _ (known file.Initial refl)) cause breaks is.tables is.a0 is.a is.taken.accepts
+    is.run.start
 broken_not held model closed initial current edits before now sent known role.Changed cause breaks is =
-    no_changed_break held (edit_names model initial current edits closed) (known.0 tt).0 (told_of held closed _ known.1)
-    (told_of held (Some initial) _ known.2) (told_of held (Some current) _ known.3) cause breaks is.tables is.a0 is.a
+    no_changed_break held (edit_names model initial current edits closed) (known file.Model refl tt).0
+    (told_of held closed _ (known file.Closed refl))
+    (told_of held (Some initial) _ (known file.Initial refl))
+    (told_of held (Some current) _ (known file.Changed refl)) cause breaks is.tables is.a0 is.a
     is.taken.accepts is.run.current
 
 broken_own : (held : Held) (model : List ℕ) (closed : Option (List ℕ)) (initial current edits : List ℕ)

@@ -1,8 +1,9 @@
-ghost use Rattle.std.specs.Prelude.{◌≡◌, ◌≢◌, ℕ, ◌≤◌, List, OnOk, IfOk, IfErr};
+ghost use Rattle.std.specs.Prelude.{◌≡◌, ◌≢◌, ◌≤◌, OnOk, IfOk, IfErr};
 ghost use Rattle.std.specs.Option.{option_copied};
 ghost use Rattle.ra_edit_read.specs.EditLists.{AreEditsFor};
-ghost use Rattle.ra_io.specs.Outside.{reading, writing, Took};
+ghost use Rattle.ra_io.specs.Outside.{LeavesFiles, reading, writing, Took};
 ghost use Rattle.ra_model.specs.Assignments.{IsAssignment};
+ghost use Rattle.ra_topology.specs.Fits.{IsTopologyOf};
 ghost use Rattle.ra_jobs.specs.Ends.{Does, Tries};
 ghost use Rattle.ra_jobs.specs.Files.{edit_names};
 ghost use Rattle.ra_jobs.specs.Output.{output, BrokeOff};
@@ -97,8 +98,7 @@ fn read_taken<F: Files>(
         (F.faults files.old) (F.faults files.new)
         (EditOwn (F.held files.old)
         (edit_names model.now initial.now current.now edits.now (option_copied closed.entry)) ⊥)) }
-    ensures kept { (other : List ℕ) → F.held files.new other ≡ F.held files.old other }
-    ensures never_fall { (other : List ℕ) → F.faults files.old other ≤ F.faults files.new other }
+    ensures leaves { LeavesFiles (reading F.Files files.old files.new) }
 {
     let inst = read_instance(alloc, files, model, closed)?;
     let lists = read_lists(alloc, files, initial, current, &inst)?;
@@ -116,8 +116,7 @@ fn take_edits<F: Files>(
     ensures read { IfOk result (λ e. HasEdits (F.held files.old) name.now inst.now.tables e) }
     ensures refused { IfErr result (EditsReason (F.held files.old) name.now inst.now.tables
         (F.faults files.old) (F.faults files.new)) }
-    ensures kept { (other : List ℕ) → F.held files.new other ≡ F.held files.old other }
-    ensures never_fall { (other : List ℕ) → F.faults files.old other ≤ F.faults files.new other }
+    ensures leaves { LeavesFiles (reading F.Files files.old files.new) }
 {
     match read_edits(alloc, files, name.as_str(), inst) {
         Ok(edits) => Ok(edits),
@@ -182,13 +181,8 @@ fn outcome_of(
         lists.now.changed.items ⊥) }
 {
     let start = judge(alloc, inst, &lists.initial, &lists.changed)?;
-    let Ok(topo) = Topology::make(alloc, inst) else {
-        return Err(Refusal::Memory);
-    };
-    match outcome_over(alloc, inst, &topo, lists, start, edits) {
-        Ok(outcome) => Ok(outcome),
-        Err(NoMemory) => Err(Refusal::Memory),
-    }
+    let topo = Topology::make(alloc, inst)?;
+    Ok(outcome_over(alloc, inst, &topo, lists, start, edits)?)
 }
 
 /// The same over the topology of the instance. The current list is feasible, and its cost has these parts.
@@ -203,6 +197,7 @@ fn outcome_over(
     requires a0_fits { IsAssignment inst.now.tables lists.now.initial.items }
     requires fits { IsAssignment inst.now.tables lists.now.changed.items }
     requires edits { AreEditsFor inst.now.tables edits.now }
+    requires topology { IsTopologyOf topo.now inst.now.tables }
     requires judged { Judged inst.now.tables lists.now.initial.items lists.now.changed.items start }
     ensures { IfOk result (IsOutcome inst.now.tables lists.now.initial.items
         lists.now.changed.items edits.now) }
@@ -233,11 +228,6 @@ fn write_outcome<O: Sink>(inst: Instance, outcome: Outcome, out: &mut O) -> Resu
         replies,
     } = outcome;
     let edited = Edited::of(inst, left);
-    let ended = write_edited(out, &parts, &edited, &replies);
-    drop(edited);
-    drop(replies);
-    match ended {
-        Ok(()) => Ok(()),
-        Err(_) => Err(Refusal::Write),
-    }
+    write_edited(out, &parts, &edited, &replies)?;
+    Ok(())
 }

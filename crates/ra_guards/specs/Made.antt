@@ -5,6 +5,7 @@ use Rattle.ra_model.specs.declared.raw.Tables.{Tables}
 use Rattle.ra_model.specs.Numbers.{machine_count}
 use Rattle.ra_model.specs.Assignments.{IsAssignment}
 use Rattle.ra_model.specs.Broken.{first_broken}
+use Rattle.ra_model.specs.Situations.{situation}
 use Rattle.ra_moves.specs.declared.steps.Step.{Step}
 use Rattle.ra_moves.specs.Steps.{from_in, to_in, StandsAt, Distinct}
 use Rattle.ra_moves.specs.Replacing.{applied}
@@ -49,4 +50,5 @@ pub record IsRightLater (i : Tables) (a0 : List Machine) (made : List (Option (L
   pub alike : HeldAlike i steps (made_state a0 made q) (made_state a0 made n)
   pub offered : IsOffered i (made_state a0 made n) steps
   pub weighed :
-      weighed_of i a0 (made_state a0 made q) steps ≡ weighed_of i a0 (made_state a0 made n) steps
+      weighed_of (situation i a0 (made_state a0 made q)) steps
+      ≡ weighed_of (situation i a0 (made_state a0 made n)) steps

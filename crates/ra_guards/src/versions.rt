@@ -65,7 +65,7 @@ impl Versions {
     }
 
     /// Whether it is known at once that no guard has a version above a number.
-    pub(crate) fn is_at_most(&self, version: u64) -> bool
+    pub fn is_at_most(&self, version: u64) -> bool
         ensures { result ≡ true → AreAtMost version self.now }
     {
         self.newest <= version

@@ -266,7 +266,7 @@ model_stops : (held : Held) (names : Names) (before now : Faults) (own : Refusal
     ((r : Refusal) → own r → Listed held names) → KnownTo held names before now file.Model → (fault : ModelFault) →
     ModelRefused held names.model fault → Stops held names before now own BadModel
 model_stops held names before now own listed known fault refused =
-    let k = known_model held names before now known in
+    let k = known_model held names before now (known file.Model refl) in
     let never = no_model held names.model k.0 fault refused in (
       λ done. never done.accepts.instance.model done.accepts.instance.read,
       not_model held names before now own listed k.1 never,
@@ -277,11 +277,11 @@ closed_stops : (held : Held) (names : Names) (before now : Faults) (own : Refusa
     ClosedRefused held names.model names.closed fault → Stops held names before now own BadClosed
 unfolding name_of
 closed_stops held names before now own listed known fault refused =
-    let k = known_model held names before now known.0 in
-    let closed = told_of held names.closed _ known.1 in
+    let k = known_model held names before now (known file.Model refl) in
+    let closed = told_of held names.closed _ (known file.Closed refl) in
     let never = no_closed held names.model names.closed k.0 closed fault refused in (
       λ done. never done.tables done.accepts.instance,
-      not_closed held names before now own listed k.1 (λ named. (known.1 named).1)
+      not_closed held names before now own listed k.1 (λ named. (known file.Closed refl named).1)
           (λ f r. no_model held names.model k.0 f r refused.model refused.read) never,
     )
 
@@ -290,12 +290,13 @@ initial_stops : (held : Held) (names : Names) (before now : Faults) (own : Refus
     InitialRefused held names fault → Stops held names before now own BadAssignment
 unfolding name_of
 initial_stops held names before now own listed known fault refused =
-    let k = known_model held names before now known.0 in
-    let closed = told_of held names.closed _ known.1 in
-    let initial = told_of held names.initial _ known.2 in
+    let k = known_model held names before now (known file.Model refl) in
+    let closed = told_of held names.closed _ (known file.Closed refl) in
+    let initial = told_of held names.initial _ (known file.Initial refl) in
     let never = no_initial held names k.0 closed initial fault refused in (
       λ done. never done.tables done.a0 done.accepts.instance done.accepts.initial,
-      not_initial held names before now own listed k.1 (λ named. (known.1 named).1) (λ named. (known.2 named).1)
+      not_initial held names before now own listed k.1 (λ named. (known file.Closed refl named).1)
+          (λ named. (known file.Initial refl named).1)
           (λ f r. no_model held names.model k.0 f r refused.instance.model refused.instance.read)
           (λ f r. no_closed held names.model names.closed k.0 closed f r refused.tables refused.instance) never,
     )
@@ -305,14 +306,15 @@ changed_stops : (held : Held) (names : Names) (before now : Faults) (own : Refus
     ChangedRefused held names fault → Stops held names before now own BadAssignment
 unfolding name_of
 changed_stops held names before now own listed known fault refused =
-    let k = known_model held names before now known.0 in
-    let closed = told_of held names.closed _ known.1 in
-    let changed = told_of held names.changed _ known.3 in
+    let k = known_model held names before now (known file.Model refl) in
+    let closed = told_of held names.closed _ (known file.Closed refl) in
+    let changed = told_of held names.changed _ (known file.Changed refl) in
     let never : (i : Tables) (a0 a : List Machine) → Accepts held names i a0 a → ⊥ = λ i a0 a accepts.
     no_changed held names k.0 closed changed fault refused i a accepts.instance accepts.changed in (
       λ done. never done.tables done.a0 done.a done.accepts,
-      not_listed held names before now own listed k.1 (λ named. (known.1 named).1) (λ named. (known.2 named).1)
-          (λ named. (known.3 named).1)
+      not_listed held names before now own listed k.1 (λ named. (known file.Closed refl named).1)
+          (λ named. (known file.Initial refl named).1)
+          (λ named. (known file.Changed refl named).1)
           (λ f r. no_model held names.model k.0 f r refused.instance.model refused.instance.read)
           (λ f r. no_closed held names.model names.closed k.0 closed f r refused.tables refused.instance) never,
     )
@@ -332,12 +334,13 @@ accepted_stops : (held : Held) (names : Names) (before now : Faults) (own : Refu
     Reason held names before now own refusal → (status_of refusal ≡ Infeasible) ⊎ (status_of refusal ≡ NoMemory)
 unfolding name_of
 accepted_stops held names before now own stops known i a0 a accepts never =
-    let k = known_model held names before now known.0 in
-    let closed = told_of held names.closed _ known.1 in
-    let initial = told_of held names.initial _ known.2 in
-    let changed = told_of held names.changed _ known.3 in
-    not_feasible held names before now own stops k.1 (λ named. (known.1 named).1) (λ named. (known.2 named).1)
-    (λ named. (known.3 named).1) (λ named. (known.4 named).1)
+    let k = known_model held names before now (known file.Model refl) in
+    let closed = told_of held names.closed _ (known file.Closed refl) in
+    let initial = told_of held names.initial _ (known file.Initial refl) in
+    let changed = told_of held names.changed _ (known file.Changed refl) in
+    not_feasible held names before now own stops k.1 (λ named. (known file.Closed refl named).1)
+    (λ named. (known file.Initial refl named).1)
+    (λ named. (known file.Changed refl named).1) (λ named. (known file.Edits refl named).1)
     (λ f r. no_model held names.model k.0 f r accepts.instance.model accepts.instance.read)
     (λ f r. no_closed held names.model names.closed k.0 closed f r i accepts.instance)
     (λ which f r. no_role held names k.0 closed initial changed which f r i a0 a accepts) never
@@ -347,17 +350,20 @@ initial_never : (held : Held) (names : Names) (before now : Faults) → KnownTo 
     (cause : Cause) → InitialBreaks held names cause → Went held names → ⊥
 unfolding name_of
 initial_never held names before now known cause breaks done =
-    let k = known_model held names before now known.0 in
-    no_initial_break held names k.0 (told_of held names.closed _ known.1) (told_of held names.initial _ known.2) cause
+    let k = known_model held names before now (known file.Model refl) in
+    no_initial_break held names k.0 (told_of held names.closed _ (known file.Closed refl))
+    (told_of held names.initial _ (known file.Initial refl)) cause
     breaks done.listed.tables done.listed.a0 done.listed.a done.listed.accepts (done.initial breaks.named)
 
 changed_never : (held : Held) (names : Names) (before now : Faults) → KnownTo held names before now file.Edits →
     (cause : Cause) → ChangedBreaks held names cause → Went held names → ⊥
 unfolding name_of
 changed_never held names before now known cause breaks done =
-    let k = known_model held names before now known.0 in
-    no_changed_break held names k.0 (told_of held names.closed _ known.1) (told_of held names.initial _ known.2)
-    (told_of held names.changed _ known.3) cause breaks done.listed.tables done.listed.a0 done.listed.a
+    let k = known_model held names before now (known file.Model refl) in
+    no_changed_break held names k.0 (told_of held names.closed _ (known file.Closed refl))
+    (told_of held names.initial _ (known file.Initial refl))
+    (told_of held names.changed _ (known file.Changed refl)) cause breaks done.listed.tables done.listed.a0
+    done.listed.a
     done.listed.accepts (done.changed breaks.named)
 
 breaks_never : (held : Held) (names : Names) (before now : Faults) → KnownTo held names before now file.Edits →

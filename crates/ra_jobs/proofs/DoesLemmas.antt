@@ -39,6 +39,18 @@ not_tried c files out ended refusal exit reason same left counts = record {
   never_falls = counts;
 }
 
+-- the end of a stage at a `?`, if the output broke off
+pub not_written_whole : (c : Command) (files : Reading) (out : Output) (ended : Result (Unit {0}) Refusal) →
+    IsErr ended × IsErrAnd ended (λ e. e ≡ Write) → c.refuses files (Took out.sink) (BrokeOff out.sink) Write →
+    LeavesFiles files → out.sink.before ≤ out.sink.after → Tries c files out ended
+not_written_whole c files out ended exit reason left counts = record {
+  printed = not_ok ended (c.prints files.held (Took out.sink)) exit.0;
+  refused = at_exit ended (c.refuses files (Took out.sink) (BrokeOff out.sink)) Write exit reason;
+  no_output = at_exit ended (λ r. puts_first r ≡ false → out.same) Write exit (λ first. absurd cc);
+  leaves = left;
+  never_falls = counts;
+}
+
 -- from how it ends: `listed` says of its output and of its own refusals that they come behind all lists
 pub does_so : (c : OverFiles) (files : Reading) (out err : Output) (status : Status) → EndsOver c files out err status →
     (c.prints files.held (Took out.sink) → Listed files.held c.names) →

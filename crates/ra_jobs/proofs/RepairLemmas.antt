@@ -183,11 +183,11 @@ own_known : (held : Held) (model : List ℕ) (closed : Option (List ℕ)) (initi
     Reason held (solve_names model initial closed) before now own refusal → own refusal ⊎ (status_of refusal ≡ NoMemory)
 unfolding status_of name_of
 own_known held model closed initial before now own known i a0 accepts (Read file.Model) reason =
-    absurd ((known.0 tt).1 reason.rose)
+    absurd ((known file.Model refl tt).1 reason.rose)
 own_known held model closed initial before now own known i a0 accepts (Read file.Closed) reason =
-    absurd ((known.1 reason.named).1 reason.rose)
+    absurd ((known file.Closed refl reason.named).1 reason.rose)
 own_known held model closed initial before now own known i a0 accepts (Read file.Initial) reason =
-    absurd ((known.2 reason.named).1 reason.rose)
+    absurd ((known file.Initial refl reason.named).1 reason.rose)
 own_known held model closed initial before now own known i a0 accepts (Read file.Changed) reason =
     absurd (let none = reason.named in cc)
 own_known held model closed initial before now own known i a0 accepts (Read file.Report) reason =
@@ -195,12 +195,14 @@ own_known held model closed initial before now own known i a0 accepts (Read file
 own_known held model closed initial before now own known i a0 accepts (Read file.Edits) reason =
     absurd (let none = reason.named in cc)
 own_known held model closed initial before now own known i a0 accepts (Model fault) reason =
-    absurd (no_model held model (known.0 tt).0 fault reason accepts.instance.model accepts.instance.read)
+    absurd (no_model held model (known file.Model refl tt).0 fault reason accepts.instance.model accepts.instance.read)
 own_known held model closed initial before now own known i a0 accepts (Closed fault) reason =
-    absurd (no_closed held model closed (known.0 tt).0 (told_of held closed _ known.1) fault reason i accepts.instance)
+    absurd (no_closed held model closed (known file.Model refl tt).0 (told_of held closed _ (known file.Closed refl))
+    fault reason i accepts.instance)
 own_known held model closed initial before now own known i a0 accepts (Assign role.Initial fault) reason =
-    absurd (no_initial held (solve_names model initial closed) (known.0 tt).0 (told_of held closed _ known.1)
-    (told_of held (Some initial) _ known.2) fault reason i a0 accepts.instance accepts.initial)
+    absurd (no_initial held (solve_names model initial closed) (known file.Model refl tt).0
+    (told_of held closed _ (known file.Closed refl))
+    (told_of held (Some initial) _ (known file.Initial refl)) fault reason i a0 accepts.instance accepts.initial)
 own_known held model closed initial before now own known i a0 accepts (Assign role.Changed fault) reason =
     absurd (let none = reason.named in cc)
 own_known held model closed initial before now own known i a0 accepts Memory reason = inr refl
@@ -227,9 +229,11 @@ broken_left : (held : Held) (model : List ℕ) (closed : Option (List ℕ)) (ini
     RepairPrinted held (solve_names model initial closed) l broken sent → LeavesBroken i a0 l left → broken ≡ left
 unfolding name_of
 broken_left held model closed initial before now l left broken sent i a0 accepts known is leaves =
-    let same = instances_same held model closed (known.0 tt).0 (told_of held closed _ known.1) is.tables i
+    let same = instances_same held model closed (known file.Model refl tt).0
+    (told_of held closed _ (known file.Closed refl)) is.tables i
     is.accepts.instance accepts.instance in
-    let start : is.a0 ≡ a0 = lists_same held (Some initial) (told_of held (Some initial) _ known.2) refl is.tables i
+    let start : is.a0 ≡ a0 = lists_same held (Some initial) (told_of held (Some initial) _ (known file.Initial refl))
+    refl is.tables i
     is.a0 a0 is.accepts.initial accepts.initial in
     sym is.run.is ∙ broken_same is.tables i is.a0 (repair_run is.tables is.a0 is.lot).assignment same
     ∙ rw (repaired_same is.tables i same is.a0 is.lot, start) (leaves is.lot is.one)

@@ -1,11 +1,12 @@
 -- Why the stages of a job refuse, from what the readers answer.
 use Rattle.std.proofs.Common.{◌≡◌, ℕ, ◌<◌, ◌≤◌, ◌-◌, ◌^◌, List, Option, Some, None, IfSome, IsSome, refl, sym, subst}
-use Rattle.std.proofs.Common.{inl, inr, ⊎_elim, arith}
+use Rattle.std.proofs.Common.{inl, inr, ⊎_elim, arith, ◌∙◌, le_trans}
 use Rattle.std.specs.Prelude.{IsTrue}
 use Rattle.ra_base.specs.declared.costs.Parts.{Parts}
 use Rattle.ra_base.specs.declared.ids.Machine.{Machine}
 use Rattle.ra_bounds.specs.declared.costs.Bound.{Bound}
 use Rattle.ra_io.specs.Faults.{Rose}
+use Rattle.ra_io.specs.Outside.{LeavesFiles}
 use Rattle.ra_model.specs.declared.raw.Tables.{Tables}
 use Rattle.ra_model_read.specs.declared.faults.ModelFault.{ModelFault}
 use Rattle.ra_model_read.specs.declared.faults.ModelFault.TheVariants as reader
@@ -26,16 +27,26 @@ use Rattle.ra_jobs.specs.Files.{Held, Faults, Names, name_of, check_names, solve
 use Rattle.ra_jobs.specs.Files.{InstanceIs, Accepts}
 use Rattle.ra_jobs.specs.Outputs.{CheckPrinted, BoundIs, BoundRead}
 use Rattle.ra_jobs.specs.Refusals.{Reason, Judges, OnlyWrites, Nothing, CanTell, ReadFailed, RoleRefused}
-use Rattle.ra_jobs.specs.Stages.{model_as, closed_as, list_as, ModelReason, ClosedReason, SourceReason, NamedReason}
+use Rattle.ra_jobs.specs.Stages.{model_as, closed_as, list_as, ClosedReason, SourceReason, NamedReason}
 use Rattle.ra_jobs.specs.Stages.{ListReason, ListsReason, JudgeReason, StartReason, IsClosing, IsList, IsStart}
 use Rattle.ra_jobs.specs.Stages.{ReadsLists, Passed, Judged}
+
+-- what two calls leave of files, one after the other
+pub leaves_both : {held mid last : Held} {before then now : Faults} →
+    LeavesFiles (record { held = held; held_after = mid; before = before; after = then }) →
+    LeavesFiles (record { held = mid; held_after = last; before = then; after = now }) →
+    LeavesFiles (record { held = held; held_after = last; before = before; after = now })
+leaves_both one two = record {
+  kept = λ other. two.kept other ∙ one.kept other;
+  never_fall = λ other. le_trans (one.never_fall other) (two.never_fall other);
+}
 
 pub model_reason : (held : Held) (name : List ℕ) (before now : Faults) (fault : ModelFault) →
     (fault ≡ reader.ReadFault → Rose (before name) (now name)) →
     (IsTrue (is_by_content fault) → IfSome (held name) (λ bytes. model_refusal bytes ≡ Some fault)) →
-    ModelReason held name before now (model_as fault)
-unfolding is_by_content
-model_reason held name before now reader.ReadFault rose told = rose refl
+    SourceReason held name None before now (model_as fault)
+unfolding is_by_content name_of
+model_reason held name before now reader.ReadFault rose told = record { earlier = tt; named = tt; rose = rose refl }
 model_reason held name before now (reader.BadByte at byte) rose told = record {
   in_file = (λ e. cc, λ e. cc);
   refused = told refl;
@@ -115,10 +126,21 @@ instance_closed held later name closed list model i same named read closing = re
   closed = rw named (closing.0, closing.1, rw (sym (same list)) closing.2);
 }
 
+-- what was refused before the closed list was read
 pub source_model : (held : Held) (name : List ℕ) (closed : Option (List ℕ)) (before now : Faults) (refusal : Refusal) →
-    ModelReason held name before now refusal → SourceReason held name closed before now refusal
-source_model held name closed before now (Read file.Model) reason = reason
+    SourceReason held name None before now refusal → SourceReason held name closed before now refusal
+unfolding name_of
+source_model held name closed before now (Read file.Model) reason =
+    record { earlier = tt; named = tt; rose = reason.rose }
+source_model held name closed before now (Read file.Closed) reason = absurd (let none = reason.named in cc)
+source_model held name closed before now (Read file.Initial) reason = absurd (let none = reason.named in cc)
+source_model held name closed before now (Read file.Changed) reason = absurd (let none = reason.named in cc)
+source_model held name closed before now (Read file.Report) reason = absurd (let none = reason.named in cc)
+source_model held name closed before now (Read file.Edits) reason = absurd (let none = reason.named in cc)
 source_model held name closed before now (Model fault) reason = reason
+source_model held name closed before now (Closed fault) reason = absurd (let none = reason.named in cc)
+source_model held name closed before now (Assign role.Initial fault) reason = absurd (let none = reason.named in cc)
+source_model held name closed before now (Assign role.Changed fault) reason = absurd (let none = reason.named in cc)
 source_model held name closed before now Memory reason = tt
 source_model held name closed before now refusal reason = absurd reason
 
@@ -127,13 +149,12 @@ pub source_closed : (held later : Held) (name : List ℕ) (closed : Option (List
     ((other : List ℕ) → first other ≤ before other) → closed ≡ Some list → ModelIs held name model →
     (refusal : Refusal) → ClosedReason later list model before now refusal →
     SourceReason held name closed first now refusal
+unfolding name_of
 source_closed held later name closed list model first before now same never_fell named read (Read file.Closed) reason =
     record {
-      tables = model;
-      read = read;
-      name = list;
-      named = named;
-      rose = rose_later (first list) (before list) (now list) (never_fell list) reason;
+      earlier = (model, read);
+      named = rw named refl;
+      rose = rw named (rose_later (first list) (before list) (now list) (never_fell list) reason);
     }
 source_closed held later name closed list model first before now same never_fell named read (Closed fault) reason =
     record {
@@ -151,14 +172,18 @@ source_closed held later name closed list model first before now same never_fell
 pub reason_source : (held : Held) (names : Names) (before now : Faults) (own : Refusal → Type 0) → (refusal : Refusal) →
     SourceReason held names.model names.closed before now refusal → Reason held names before now own refusal
 unfolding name_of
-reason_source held names before now own (Read file.Model) reason = record { earlier = tt; named = tt; rose = reason }
-reason_source held names before now own (Read file.Closed) reason = record {
-  earlier = (reason.tables, reason.read);
-  named = rw reason.named refl;
-  rose = rw reason.named reason.rose;
-}
+reason_source held names before now own (Read file.Model) reason =
+    record { earlier = tt; named = tt; rose = reason.rose }
+reason_source held names before now own (Read file.Closed) reason =
+    record { earlier = reason.earlier; named = reason.named; rose = reason.rose }
+reason_source held names before now own (Read file.Initial) reason = absurd (let none = reason.named in cc)
+reason_source held names before now own (Read file.Changed) reason = absurd (let none = reason.named in cc)
+reason_source held names before now own (Read file.Report) reason = absurd (let none = reason.named in cc)
+reason_source held names before now own (Read file.Edits) reason = absurd (let none = reason.named in cc)
 reason_source held names before now own (Model fault) reason = reason
 reason_source held names before now own (Closed fault) reason = reason
+reason_source held names before now own (Assign role.Initial fault) reason = absurd (let none = reason.named in cc)
+reason_source held names before now own (Assign role.Changed fault) reason = absurd (let none = reason.named in cc)
 reason_source held names before now own Memory reason = tt
 reason_source held names before now own refusal reason = absurd reason
 

@@ -1,5 +1,5 @@
 -- When each status comes. Its cause is the reason of a refusal.
-use Rattle.std.specs.Prelude.{◌≡◌, ◌≢◌, ◌⊎◌, IsSome}
+use Rattle.std.specs.Prelude.{◌≡◌, ◌≢◌, ◌⊎◌, ℕ, Bool, true, nat_le, IsSome}
 use Rattle.ra_base.specs.declared.causes.Cause.{Cause}
 use Rattle.ra_io.specs.Faults.{Rose}
 use Rattle.ra_model_read.specs.declared.faults.ModelFault.{ModelFault}
@@ -23,24 +23,23 @@ IsKnown held names before now f =
     → IsSome (held (name_of names f))
     × (Rose (before (name_of names f)) (now (name_of names f)) → ⊥)
 
+-- the order in which a job reads its files
+abbrev pub rank_of : File → ℕ
+rank_of file.Model = 0
+rank_of file.Closed = 1
+rank_of file.Initial = 2
+rank_of file.Changed = 3
+rank_of file.Edits = 4
+rank_of file.Report = 5
+
+-- a file is read no later than another one
+abbrev pub is_up_to : File → File → Bool
+is_up_to f last = nat_le (rank_of f) (rank_of last)
+
 -- so it is with all files that are read up to this one
 abbrev pub KnownTo : Held → Names → Faults → Faults → File → Type 0
-KnownTo held names before now file.Model = IsKnown held names before now file.Model
-KnownTo held names before now file.Closed =
-    IsKnown held names before now file.Model × IsKnown held names before now file.Closed
-KnownTo held names before now file.Initial =
-    IsKnown held names before now file.Model × IsKnown held names before now file.Closed
-    × IsKnown held names before now file.Initial
-KnownTo held names before now file.Changed =
-    IsKnown held names before now file.Model × IsKnown held names before now file.Closed
-    × IsKnown held names before now file.Initial × IsKnown held names before now file.Changed
-KnownTo held names before now file.Edits =
-    IsKnown held names before now file.Model × IsKnown held names before now file.Closed
-    × IsKnown held names before now file.Initial × IsKnown held names before now file.Changed
-    × IsKnown held names before now file.Edits
-KnownTo held names before now file.Report =
-    IsKnown held names before now file.Model × IsKnown held names before now file.Closed
-    × IsKnown held names before now file.Initial × IsKnown held names before now file.Report
+KnownTo held names before now last =
+    (f : File) → is_up_to f last ≡ true → IsKnown held names before now f
 
 -- a status comes only if its cause stands; and if that stands, over files that are known, no other status comes but
 -- that of refused memory

@@ -21,8 +21,8 @@ use Rattle.ra_jobs.specs.declared.refusals.Refusal.{Refusal}
 use Rattle.ra_jobs.specs.declared.refusals.Refusal.TheVariants.{Read, Model, Closed, Assign, Broken, Memory}
 use Rattle.ra_jobs.specs.declared.refusals.Role.{Role}
 use Rattle.ra_jobs.specs.declared.refusals.Role.TheVariants as role
-use Rattle.ra_jobs.specs.Files.{Held, Faults, Names, file_of, ModelIs, CloseIs, ListIs, Accepts, Passes}
-use Rattle.ra_jobs.specs.Refusals.{ModelRefused, ListRefused, ClosedRefused}
+use Rattle.ra_jobs.specs.Files.{Held, Faults, Names, bound_names, file_of, CloseIs, ListIs, Accepts, Passes}
+use Rattle.ra_jobs.specs.Refusals.{Reason, Nothing, ListRefused}
 
 -- the instance with the machines of a told closed list closed
 abbrev pub IsClosing : Held → List ℕ → Tables → Tables → Type 0
@@ -38,12 +38,6 @@ model_as reader.ReadFault = Read file.Model
 model_as reader.NoMemory = Memory
 model_as fault = Model fault
 
-abbrev pub ModelReason : Held → List ℕ → Faults → Faults → Refusal → Type 0
-ModelReason held name before now (Read file.Model) = Rose (before name) (now name)
-ModelReason held name before now (Model fault) = ModelRefused held name fault
-ModelReason held name before now Memory = Unit {0}
-ModelReason held name before now refusal = ⊥
-
 -- a refusal of the reader of closed lists, as one of a job
 abbrev pub closed_as : ClosedFault → Refusal
 closed_as closer.ReadFault = Read file.Closed
@@ -57,24 +51,10 @@ ClosedReason held name i before now (Closed fault) =
 ClosedReason held name i before now Memory = Unit {0}
 ClosedReason held name i before now refusal = ⊥
 
--- the model was read, and reading the closed list failed
-pub record ClosedFailed (held : Held) (model : List ℕ) (closed : Option (List ℕ))
-    (before now : Faults) : Type 0 where
-  pub tables : Tables
-  pub read : ModelIs held model tables
-  pub name : List ℕ
-  pub named : closed ≡ Some name
-  pub rose : Rose (before name) (now name)
-
--- the model file and the closed list
+-- the model file, and the closed list if it is named: as a job that has no other files
 abbrev pub SourceReason : Held → List ℕ → Option (List ℕ) → Faults → Faults → Refusal → Type 0
-SourceReason held model closed before now (Read file.Model) = Rose (before model) (now model)
-SourceReason held model closed before now (Read file.Closed) =
-    ClosedFailed held model closed before now
-SourceReason held model closed before now (Model fault) = ModelRefused held model fault
-SourceReason held model closed before now (Closed fault) = ClosedRefused held model closed fault
-SourceReason held model closed before now Memory = Unit {0}
-SourceReason held model closed before now refusal = ⊥
+SourceReason held model closed before now =
+    Reason held (bound_names model None closed) before now Nothing
 
 -- a refusal of the reader of lists, as one of a job
 abbrev pub list_as : Role → AssignFault → Refusal

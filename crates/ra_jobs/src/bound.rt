@@ -1,7 +1,7 @@
-ghost use Rattle.std.specs.Prelude.{◌≡◌, ℕ, ◌≤◌, List, Some, IfOk, IfErr};
+ghost use Rattle.std.specs.Prelude.{◌≡◌, Some, IfOk, IfErr};
 ghost use Rattle.std.specs.Option.{option_copied};
 ghost use Rattle.ra_bounds.specs.PinnedBounds.{pinned_bound_of};
-ghost use Rattle.ra_io.specs.Outside.{reading};
+ghost use Rattle.ra_io.specs.Outside.{LeavesFiles, reading};
 ghost use Rattle.ra_model.specs.Assignments.{IsAssignment};
 ghost use Rattle.ra_jobs.specs.Ends.{Does, Tries};
 ghost use Rattle.ra_jobs.specs.Files.{bound_names};
@@ -66,10 +66,8 @@ fn print_bound<F: Files, O: Sink>(
         (reading F.Files files.old files.new) (output O.Sink out.old out.new) result }
 {
     let bound = read_bound(alloc, model, initial, closed, files)?;
-    match write_bound(out, &bound) {
-        Ok(()) => Ok(()),
-        Err(_) => Err(Refusal::Write),
-    }
+    write_bound(out, &bound)?;
+    Ok(())
 }
 
 /// The bound of the files.
@@ -85,8 +83,7 @@ fn read_bound<F: Files>(
     ensures refused { IfErr result (Reason (F.held files.old)
         (bound_names model.now (option_copied initial.entry) (option_copied closed.entry))
         (F.faults files.old) (F.faults files.new) Nothing) }
-    ensures kept { (other : List ℕ) → F.held files.new other ≡ F.held files.old other }
-    ensures never_fall { (other : List ℕ) → F.faults files.old other ≤ F.faults files.new other }
+    ensures leaves { LeavesFiles (reading F.Files files.old files.new) }
 {
     let inst = read_instance(alloc, files, model, closed)?;
     let ended = bound_over(alloc, files, initial, &inst);
@@ -105,8 +102,7 @@ fn bound_over<F: Files>(
         (option_copied initial.entry) inst.now.tables) }
     ensures refused { IfErr result (NamedReason (F.held files.old)
         (option_copied initial.entry) inst.now.tables (F.faults files.old) (F.faults files.new)) }
-    ensures kept { (other : List ℕ) → F.held files.new other ≡ F.held files.old other }
-    ensures never_fall { (other : List ℕ) → F.faults files.old other ≤ F.faults files.new other }
+    ensures leaves { LeavesFiles (reading F.Files files.old files.new) }
 {
     match initial {
         None => Ok(bound(inst)),
@@ -124,14 +120,10 @@ fn bound_with<F: Files>(
     ensures read { IfOk result (BoundIs (F.held files.old) (Some initial.now) inst.now.tables) }
     ensures refused { IfErr result (ListReason Role.Initial (F.held files.old) initial.now
         inst.now.tables (F.faults files.old) (F.faults files.new)) }
-    ensures kept { (other : List ℕ) → F.held files.new other ≡ F.held files.old other }
-    ensures never_fall { (other : List ℕ) → F.faults files.old other ≤ F.faults files.new other }
+    ensures leaves { LeavesFiles (reading F.Files files.old files.new) }
 {
     let a0 = read_list(alloc, files, Role::Initial, initial, inst)?;
-    match bound_from(alloc, inst, &a0) {
-        Ok(bound) => Ok(bound),
-        Err(NoMemory) => Err(Refusal::Memory),
-    }
+    Ok(bound_from(alloc, inst, &a0)?)
 }
 
 /// The bound of an instance and a start, which counts the load of the pinned processes. The pins are made for it, and let

@@ -1,6 +1,6 @@
-ghost use Rattle.std.specs.Prelude.{◌≡◌, ℕ, ◌≤◌, List, IfOk, IfErr};
+ghost use Rattle.std.specs.Prelude.{IfOk, IfErr};
 ghost use Rattle.std.specs.Option.{option_copied};
-ghost use Rattle.ra_io.specs.Outside.{reading};
+ghost use Rattle.ra_io.specs.Outside.{LeavesFiles, reading};
 ghost use Rattle.ra_jobs.specs.Ends.{Does, Tries};
 ghost use Rattle.ra_jobs.specs.Files.{check_names};
 ghost use Rattle.ra_jobs.specs.Output.{output};
@@ -63,10 +63,8 @@ fn check<F: Files, O: Sink>(
         (reading F.Files files.old files.new) (output O.Sink out.old out.new) result }
 {
     let parts = read_parts(alloc, model, initial, changed, closed, files)?;
-    match write_parts(out, &parts) {
-        Ok(()) => Ok(()),
-        Err(_) => Err(Refusal::Write),
-    }
+    write_parts(out, &parts)?;
+    Ok(())
 }
 
 /// The parts of the new list, if all files are accepted and both lists are feasible.
@@ -84,8 +82,7 @@ fn read_parts<F: Files>(
         (check_names model.now initial.now changed.now (option_copied closed.entry))
         (F.faults files.old) (F.faults files.new) (Judges (F.held files.old)
         (check_names model.now initial.now changed.now (option_copied closed.entry)) ⊥)) }
-    ensures kept { (other : List ℕ) → F.held files.new other ≡ F.held files.old other }
-    ensures never_fall { (other : List ℕ) → F.faults files.old other ≤ F.faults files.new other }
+    ensures leaves { LeavesFiles (reading F.Files files.old files.new) }
 {
     let inst = read_instance(alloc, files, model, closed)?;
     let lists = read_lists(alloc, files, initial, changed, &inst)?;

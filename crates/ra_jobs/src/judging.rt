@@ -42,9 +42,7 @@ pub fn judge_start(alloc: Global, inst: &Instance, initial: &Assignment) -> Resu
     ensures made { IfOk result (λ scratch. IsMadeFor scratch inst.now.tables) }
     ensures refused { IfErr result (StartReason inst.now.tables initial.now.items) }
 {
-    let Ok(mut scratch) = Scratch::make(alloc, inst) else {
-        return Err(Refusal::Memory);
-    };
+    let mut scratch = Scratch::make(alloc, inst)?;
     match first_broken(inst, initial, initial, &mut scratch) {
         Some(cause) => Err(Refusal::Broken(Role::Initial, cause)),
         None => Ok(scratch),

@@ -1,4 +1,5 @@
-ghost use Rattle.std.specs.Prelude.{◌≡◌, ℕ, ◌≤◌, List, IfOk, IfErr};
+ghost use Rattle.std.specs.Prelude.{◌≡◌, IfOk, IfErr};
+ghost use Rattle.ra_io.specs.Outside.{LeavesFiles, reading};
 ghost use Rattle.ra_jobs.specs.Stages.{list_as, ListReason, IsList, ReadsLists, ListsReason};
 
 use crate::refusals::{Refusal, Role};
@@ -19,8 +20,7 @@ pub(crate) fn read_list<F: Files>(
     ensures read { IfOk result (λ a. IsList (F.held files.old) name.now inst.now.tables a.items) }
     ensures refused { IfErr result (ListReason role (F.held files.old) name.now inst.now.tables
         (F.faults files.old) (F.faults files.new)) }
-    ensures kept { (other : List ℕ) → F.held files.new other ≡ F.held files.old other }
-    ensures never_fall { (other : List ℕ) → F.faults files.old other ≤ F.faults files.new other }
+    ensures leaves { LeavesFiles (reading F.Files files.old files.new) }
 {
     match read_assignment(alloc, files, name.as_str(), inst) {
         Ok(list) => Ok(list),
@@ -60,8 +60,7 @@ pub fn read_lists<F: Files>(
     ensures refused { IfErr result (ListsReason
         (F.held files.old) initial.now changed.now inst.now.tables (F.faults files.old)
         (F.faults files.new)) }
-    ensures kept { (other : List ℕ) → F.held files.new other ≡ F.held files.old other }
-    ensures never_fall { (other : List ℕ) → F.faults files.old other ≤ F.faults files.new other }
+    ensures leaves { LeavesFiles (reading F.Files files.old files.new) }
 {
     let initial = read_list(alloc, files, Role::Initial, initial, inst)?;
     let changed = read_list(alloc, files, Role::Changed, changed, inst)?;

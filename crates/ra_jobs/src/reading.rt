@@ -1,14 +1,15 @@
-ghost use Rattle.std.specs.Prelude.{◌≡◌, ℕ, ◌≤◌, List, IfOk, IfErr};
+ghost use Rattle.std.specs.Prelude.{None, IfOk, IfErr};
 ghost use Rattle.std.specs.Option.{option_copied};
+ghost use Rattle.ra_io.specs.Outside.{LeavesFiles, reading};
 ghost use Rattle.ra_jobs.specs.Files.{ModelIs, InstanceIs};
-ghost use Rattle.ra_jobs.specs.Stages.{model_as, closed_as, ModelReason, ClosedReason, SourceReason, IsClosing};
+ghost use Rattle.ra_jobs.specs.Stages.{ClosedReason, SourceReason, IsClosing};
 
-use crate::refusals::{File, Refusal};
-use ra_assign::{ClosedFault, read_closed};
+use crate::refusals::Refusal;
+use ra_assign::read_closed;
 use ra_base::Name;
 use ra_io::Files;
 use ra_model::Instance;
-use ra_model_read::{ModelFault, read_model};
+use ra_model_read::read_model;
 use std::alloc::Global;
 
 /// The instance of the model file, with the machines of the closed list closed, if one is named. Else the first of the
@@ -23,8 +24,7 @@ pub fn read_instance<F: Files>(
         (option_copied closed.entry) inst.tables) }
     ensures refused { IfErr result (SourceReason (F.held files.old) model.now
         (option_copied closed.entry) (F.faults files.old) (F.faults files.new)) }
-    ensures kept { (other : List ℕ) → F.held files.new other ≡ F.held files.old other }
-    ensures never_fall { (other : List ℕ) → F.faults files.old other ≤ F.faults files.new other }
+    ensures leaves { LeavesFiles (reading F.Files files.old files.new) }
 {
     let inst = read_open(alloc, files, model)?;
     match closed {
@@ -40,26 +40,11 @@ pub(crate) fn read_open<F: Files>(
     model: &Name,
 ) -> Result<Instance, Refusal>
     ensures read { IfOk result (λ inst. ModelIs (F.held files.old) model.now inst.tables) }
-    ensures refused { IfErr result (ModelReason (F.held files.old) model.now (F.faults files.old)
-        (F.faults files.new)) }
-    ensures kept { (other : List ℕ) → F.held files.new other ≡ F.held files.old other }
-    ensures never_fall { (other : List ℕ) → F.faults files.old other ≤ F.faults files.new other }
+    ensures refused { IfErr result (SourceReason (F.held files.old) model.now None
+        (F.faults files.old) (F.faults files.new)) }
+    ensures leaves { LeavesFiles (reading F.Files files.old files.new) }
 {
-    match read_model(alloc, files, model.as_str()) {
-        Ok(inst) => Ok(inst),
-        Err(fault) => Err(model_refused(fault)),
-    }
-}
-
-/// A refusal of the model reader, as one of a job.
-fn model_refused(fault: ModelFault) -> Refusal
-    ensures { result ≡ model_as fault }
-{
-    match fault {
-        ModelFault::ReadFault => Refusal::Read(File::Model),
-        ModelFault::NoMemory => Refusal::Memory,
-        fault => Refusal::Model(fault),
-    }
+    Ok(read_model(alloc, files, model.as_str())?)
 }
 
 /// The same instance with the machines of a closed list closed.
@@ -72,22 +57,8 @@ pub(crate) fn close<F: Files>(
     ensures read { IfOk result (λ i. IsClosing (F.held files.old) closed.now inst.tables i.tables) }
     ensures refused { IfErr result (ClosedReason (F.held files.old) closed.now inst.tables
         (F.faults files.old) (F.faults files.new)) }
-    ensures kept { (other : List ℕ) → F.held files.new other ≡ F.held files.old other }
-    ensures never_fall { (other : List ℕ) → F.faults files.old other ≤ F.faults files.new other }
+    ensures leaves { LeavesFiles (reading F.Files files.old files.new) }
 {
-    match read_closed(alloc, files, closed.as_str(), &inst) {
-        Ok(flags) => Ok(inst.closing(flags)),
-        Err(fault) => Err(closed_refused(fault)),
-    }
-}
-
-/// A refusal of the reader of closed lists, as one of a job.
-fn closed_refused(fault: ClosedFault) -> Refusal
-    ensures { result ≡ closed_as fault }
-{
-    match fault {
-        ClosedFault::ReadFault => Refusal::Read(File::Closed),
-        ClosedFault::NoMemory => Refusal::Memory,
-        fault => Refusal::Closed(fault),
-    }
+    let flags = read_closed(alloc, files, closed.as_str(), &inst)?;
+    Ok(inst.closing(flags))
 }

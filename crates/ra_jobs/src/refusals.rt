@@ -2,9 +2,10 @@ ghost use Rattle.std.specs.Prelude.{◌≡◌};
 ghost use Rattle.ra_jobs.specs.Files.{file_of, name_of, names_of, IsNamed};
 
 use ra_assign::{AssignFault, ClosedFault};
-use ra_base::{Cause, Name};
+use ra_base::{Cause, Name, NoMemory};
 use ra_edit_read::EditsFault;
 use ra_model_read::ModelFault;
+use ra_report::WriteFault;
 
 /// A file of a job.
 #[derive(Clone, Copy)]
@@ -60,6 +61,58 @@ pub enum Refusal {
     Write,
     /// Memory was refused.
     Memory,
+}
+
+impl From<NoMemory> for Refusal {
+    ghost use Rattle.std.specs.Prelude.{◌≡◌};
+    ghost use Rattle.ra_jobs.specs.declared.refusals.Refusal.TheVariants.{Memory};
+
+    ghost from_gives = { λ _ refusal. refusal ≡ Memory };
+
+    fn from(_: NoMemory) -> Refusal {
+        Refusal::Memory
+    }
+}
+
+impl From<WriteFault> for Refusal {
+    ghost use Rattle.std.specs.Prelude.{◌≡◌};
+    ghost use Rattle.ra_jobs.specs.declared.refusals.Refusal.TheVariants.{Write};
+
+    ghost from_gives = { λ _ refusal. refusal ≡ Write };
+
+    fn from(_: WriteFault) -> Refusal {
+        Refusal::Write
+    }
+}
+
+impl From<ModelFault> for Refusal {
+    ghost use Rattle.std.specs.Prelude.{◌≡◌};
+    ghost use Rattle.ra_jobs.specs.Stages.{model_as};
+
+    ghost from_gives = { λ fault refusal. refusal ≡ model_as fault };
+
+    fn from(fault: ModelFault) -> Refusal {
+        match fault {
+            ModelFault::ReadFault => Refusal::Read(File::Model),
+            ModelFault::NoMemory => Refusal::Memory,
+            fault => Refusal::Model(fault),
+        }
+    }
+}
+
+impl From<ClosedFault> for Refusal {
+    ghost use Rattle.std.specs.Prelude.{◌≡◌};
+    ghost use Rattle.ra_jobs.specs.Stages.{closed_as};
+
+    ghost from_gives = { λ fault refusal. refusal ≡ closed_as fault };
+
+    fn from(fault: ClosedFault) -> Refusal {
+        match fault {
+            ClosedFault::ReadFault => Refusal::Read(File::Closed),
+            ClosedFault::NoMemory => Refusal::Memory,
+            fault => Refusal::Closed(fault),
+        }
+    }
 }
 
 /// The names of a job's files, lent from it. Those that it doesn't have are not there.

@@ -92,12 +92,8 @@ fn try_from<O: Sink>(
     ensures no_output { IfErr result (λ refusal. puts_first refusal ≡ false → out.new ≡ out.old) }
     ensures out_never_falls { O.faults out.old ≤ O.faults out.new }
 {
-    let Ok(mut scratch) = Scratch::make(alloc, inst) else {
-        return Err(Refusal::Memory);
-    };
-    let Ok(topo) = Topology::make(alloc, inst) else {
-        return Err(Refusal::Memory);
-    };
+    let mut scratch = Scratch::make(alloc, inst)?;
+    let topo = Topology::make(alloc, inst)?;
     let ended = try_over(alloc, inst, &topo, initial, lot, &mut scratch, out);
     drop(topo);
     ended
@@ -124,9 +120,7 @@ fn try_over<O: Sink>(
     ensures no_output { IfErr result (λ refusal. puts_first refusal ≡ false → out.new ≡ out.old) }
     ensures out_never_falls { O.faults out.old ≤ O.faults out.new }
 {
-    let Ok(mut repair) = Repair::make(alloc, inst, topo, initial, lot) else {
-        return Err(Refusal::Memory);
-    };
+    let mut repair = Repair::make(alloc, inst, topo, initial, lot)?;
     repair.run();
     let broken = first_broken(inst, initial, repair.assignment(), scratch);
     let ended = write_repair(out, broken.as_ref(), &repair);

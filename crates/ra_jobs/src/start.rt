@@ -1,5 +1,6 @@
-ghost use Rattle.std.specs.Prelude.{◌≡◌, ℕ, ◌≤◌, List, IfOk, IfErr};
+ghost use Rattle.std.specs.Prelude.{IfOk, IfErr};
 ghost use Rattle.std.specs.Option.{option_copied};
+ghost use Rattle.ra_io.specs.Outside.{LeavesFiles, reading};
 ghost use Rattle.ra_jobs.specs.Files.{solve_names};
 ghost use Rattle.ra_jobs.specs.Refusals.{Reason, Nothing};
 ghost use Rattle.ra_jobs.specs.Stages.{IsStart};
@@ -33,8 +34,7 @@ pub fn read_start<F: Files>(
     ensures refused { IfErr result (Reason (F.held files.old)
         (solve_names model.now initial.now (option_copied closed.entry)) (F.faults files.old)
         (F.faults files.new) Nothing) }
-    ensures kept { (other : List ℕ) → F.held files.new other ≡ F.held files.old other }
-    ensures never_fall { (other : List ℕ) → F.faults files.old other ≤ F.faults files.new other }
+    ensures leaves { LeavesFiles (reading F.Files files.old files.new) }
 {
     let inst = read_instance(alloc, files, model, closed)?;
     let initial = read_list(alloc, files, Role::Initial, initial, &inst)?;

@@ -3,6 +3,7 @@ use Rattle.std.proofs.Common.{◌≡◌, ℕ, List, [], ◌∷◌, ◌++◌, Opt
 use Rattle.ra_base.specs.declared.ids.Machine.{Machine}
 use Rattle.ra_draws.specs.declared.budgets.Lots.{Lots}
 use Rattle.ra_model.specs.declared.raw.Tables.{Tables}
+use Rattle.ra_model.specs.Situations.{situation}
 use Rattle.ra_model.proofs.BrokenLemmas.{unbroken_from_feasible}
 use Rattle.ra_moves.specs.declared.verdicts.Plan.{Plan}
 use Rattle.ra_moves.specs.Weighing.{weighed_of}
@@ -23,7 +24,7 @@ next_plan i a0 l h w q = let mv = next_move i a0 l h w q in record {
   q = q;
   k = next_number h w;
   mv = mv;
-  weighed = weighed_of i a0 (state a0 h q) mv.steps;
+  weighed = weighed_of (situation i a0 (state a0 h q)) mv.steps;
 }
 
 next_commit : (i : Tables) (a0 : List Machine) (l : Lots) (h : List Entry) (w q : ℕ) → MayCommit l h w q →

@@ -8,6 +8,7 @@ use Rattle.ra_model.specs.Limits.{WellFormed}
 use Rattle.ra_model.specs.Numbers.{machine_count}
 use Rattle.ra_model.specs.Assignments.{IsAssignment}
 use Rattle.ra_model.specs.Broken.{first_broken}
+use Rattle.ra_model.specs.Situations.{situation}
 use Rattle.ra_model.proofs.BrokenLemmas.{feasible_from_unbroken, unbroken_from_feasible}
 use Rattle.ra_moves.specs.declared.steps.Step.{Step}
 use Rattle.ra_moves.specs.declared.verdicts.Plan.{Plan}
@@ -53,10 +54,10 @@ unbroken_at i a0 l h j start legal within =
 
 -- what is planned at an assignment has processes and machines of the instance
 plan_within : (i : Tables) (a0 a : List Machine) (x : List ℕ) (d : Drawing) (rise : ℕ) → WellFormed i →
-    IsAssignment i a → AreWithin i (plan_of i a0 a x d rise).steps
+    IsAssignment i a → AreWithin i (plan_of (situation i a0 a) x d rise).steps
 unfolding plan_of
 plan_within i a0 a x d rise limits fits =
-    let place = plan_place i a0 a x d rise in
+    let place = plan_place (situation i a0 a) x d rise in
     let some : 0 < length a = omega (arith, fits.one_each, limits.some_process) in
     let machines : 0 < machine_count i = omega (arith, limits.some_machine) in
     let stands = option_stands a x (machine_count i) d place some machines in
@@ -108,7 +109,7 @@ are_sound i a0 l h n start legal within = record {
 -- what was right of a move at place q is right at place n, if its guards were not touched
 record IsRightAt (i : Tables) (a0 : List Machine) (h : List Entry) (q n : ℕ) (steps : List Step) : Type 0 where
   offered : IsOffered i (state a0 h n) steps
-  weighed : weighed_of i a0 (state a0 h q) steps ≡ weighed_of i a0 (state a0 h n) steps
+  weighed : weighed_of (situation i a0 (state a0 h q)) steps ≡ weighed_of (situation i a0 (state a0 h n)) steps
 
 right_later : (i : Tables) (a0 : List Machine) (l : Lots) (h : List Entry) (q n : ℕ) (steps : List Step) →
     IsStart i a0 → Legal i a0 l h → q ≤ n → n ≤ length h → IsOffered i (state a0 h q) steps →
@@ -120,15 +121,15 @@ right_later i a0 l h q n steps start legal few within offered untouched =
     stand few (subst (λ a. IsOffered i a steps) (state_is_made a0 h q) offered) untouched in
     record {
       offered = subst (λ a. IsOffered i a steps) (sym (state_is_made a0 h n)) right.offered;
-      weighed = ap (λ a. weighed_of i a0 a steps) (state_is_made a0 h q) ∙ right.weighed
-          ∙ ap (λ a. weighed_of i a0 a steps) (sym (state_is_made a0 h n));
+      weighed = ap (λ a. weighed_of (situation i a0 a) steps) (state_is_made a0 h q) ∙ right.weighed
+          ∙ ap (λ a. weighed_of (situation i a0 a) steps) (sym (state_is_made a0 h n));
     }
 
 -- the plan at the end
 pub record IsPlannedAtEnd (i : Tables) (a0 : List Machine) (l : Lots) (h : List Entry) (plan : Plan) : Type 0 where
   pub untouched : Untouched i (made_in h) plan.q (length h) plan.mv.steps
   pub offered : IsOffered i (state a0 h (length h)) plan.mv.steps
-  pub weighed : plan.weighed ≡ weighed_of i a0 (state a0 h (length h)) plan.mv.steps
+  pub weighed : plan.weighed ≡ weighed_of (situation i a0 (state a0 h (length h))) plan.mv.steps
 
 pub planned_at_end : (i : Tables) (a0 : List Machine) (l : Lots) (h : List Entry) (w : ℕ) (plan : Plan) → IsStart i a0 →
     Legal i a0 l h → IsCommit i a0 l h w plan → newer_since i h plan.q plan.mv.steps ≡ None →
@@ -145,7 +146,8 @@ planned_at_end i a0 l h w plan start legal commit none =
 pub settling_now : (i : Tables) (a0 : List Machine) (l : Lots) (book : Book) (w : ℕ) (plan : Plan) → IsStart i a0 →
     IsKept i a0 l book → IsCommit i a0 l book.entries.items w plan →
     newer_since i book.entries.items plan.q plan.mv.steps ≡ None →
-    IsSettling i a0 (state a0 book.entries.items (length book.entries.items)) plan.mv.steps book.greatest book.kept
+    IsSettling (situation i a0 (state a0 book.entries.items (length book.entries.items))) plan.mv.steps book.greatest
+    book.kept
     plan.weighed
 unfolding cost_at
 settling_now i a0 l book w plan start kept commit none =
@@ -162,7 +164,8 @@ settling_now i a0 l book w plan start kept commit none =
     }
 
 pub has_settling : (i : Tables) (a0 a : List Machine) (steps : List Step) (book : Book) (plan : Plan) →
-    IsSettling i a0 a steps book.greatest book.kept plan.weighed → HasSettling i book.greatest book.kept plan.weighed
+    IsSettling (situation i a0 a) steps book.greatest book.kept plan.weighed →
+    HasSettling i book.greatest book.kept plan.weighed
 has_settling i a0 a steps book plan settling = record {
   initial = a0;
   assignment = a;
@@ -176,7 +179,7 @@ pub next_is_planned : (i : Tables) (a0 : List Machine) (l : Lots) (h : List Entr
     IsCommit i a0 l h w plan → next_move i a0 l h w plan.q ≡ plan.mv
 unfolding next_move
 next_is_planned i a0 l h w plan commit =
-    ap (λ k. plan_of i a0 (state a0 h plan.q) (words l w k) l.drawing (allowed l w k)) (sym commit.number)
+    ap (λ k. plan_of (situation i a0 (state a0 h plan.q)) (words l w k) l.drawing (allowed l w k)) (sym commit.number)
     ∙ sym commit.planned
 
 -- a record by its fields
@@ -186,7 +189,8 @@ same_entry : (w k q : ℕ) (mv nv : MoveSteps) (n : ℕ) (v u : Verdict) → k �
 same_entry w k q mv nv n v u number move verdict = rw (number, move, verdict) refl
 
 pub next_entry_is : (i : Tables) (a0 : List Machine) (l : Lots) (h : List Entry) (w : ℕ) (plan : Plan)
-    (verdict : Verdict) → IsCommit i a0 l h w plan → verdict ≡ judge i a0 (state a0 h (length h)) plan.mv.steps
+    (verdict : Verdict) → IsCommit i a0 l h w plan → verdict ≡ judge (situation i a0 (state a0 h (length h)))
+    plan.mv.steps
     (allowed l w plan.k) → (let e : Entry = record {
       worker = w;
       k = plan.k;
@@ -198,16 +202,16 @@ unfolding next_entry
 next_entry_is i a0 l h w plan verdict commit judged =
     let move = sym (next_is_planned i a0 l h w plan commit) in
     same_entry w plan.k plan.q plan.mv (next_move i a0 l h w plan.q) (next_number h w) verdict
-    (judge i a0 (state a0 h (length h)) (next_move i a0 l h w plan.q).steps (allowed l w (next_number h w)))
+    (judge (situation i a0 (state a0 h (length h))) (next_move i a0 l h w plan.q).steps (allowed l w (next_number h w)))
     commit.number move
-    (judged ∙ ap (λ (mv : MoveSteps). judge i a0 (state a0 h (length h)) mv.steps (allowed l w plan.k)) move
-    ∙ ap (λ k. judge i a0 (state a0 h (length h)) (next_move i a0 l h w plan.q).steps (allowed l w k))
+    (judged ∙ ap (λ (mv : MoveSteps). judge (situation i a0 (state a0 h (length h))) mv.steps (allowed l w plan.k)) move
+    ∙ ap (λ k. judge (situation i a0 (state a0 h (length h))) (next_move i a0 l h w plan.q).steps (allowed l w k))
     commit.number)
 
 -- it may stand at the end
 pub next_is_legal : (i : Tables) (a0 : List Machine) (l : Lots) (h : List Entry) (w : ℕ) (plan : Plan) (e : Entry) →
     IsCommit i a0 l h w plan → IsPlannedAtEnd i a0 l h plan → e.worker ≡ w → e.k ≡ plan.k → e.q ≡ plan.q →
-    e.mv ≡ plan.mv → e.verdict ≡ judge i a0 (state a0 h (length h)) plan.mv.steps (allowed l w plan.k) →
+    e.mv ≡ plan.mv → e.verdict ≡ judge (situation i a0 (state a0 h (length h))) plan.mv.steps (allowed l w plan.k) →
     IsLegalAt i a0 l h (length h) e
 unfolding next_number
 next_is_legal i a0 l h w plan e commit end worker k q mv judged = record {

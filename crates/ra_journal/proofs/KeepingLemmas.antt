@@ -9,6 +9,7 @@ use Rattle.ra_base.specs.declared.causes.Cause.{Cause}
 use Rattle.ra_base.specs.declared.ids.Machine.{Machine}
 use Rattle.ra_draws.specs.declared.budgets.Lots.{Lots}
 use Rattle.ra_model.specs.declared.raw.Tables.{Tables}
+use Rattle.ra_model.specs.Situations.{situation}
 use Rattle.ra_moves.specs.declared.steps.Step.{Step}
 use Rattle.ra_moves.specs.declared.verdicts.Verdict.{Verdict}
 use Rattle.ra_moves.specs.declared.verdicts.Verdict.TheVariants.{Done, Refused}
@@ -128,13 +129,14 @@ versions_kept i h e before after versions is = record {
 
 -- the moved counts
 moved_after : (i : Tables) (a0 a : List Machine) (steps : List Step) (before after : MovedCounts) (verdict : Verdict) →
-    AreMovedOf i a0 a before → ((cost : ℕ) → verdict ≡ Done cost → AreMovedOf i a0 (applied a steps) after) →
+    AreMovedOf (situation i a0 a) before → ((cost : ℕ) → verdict ≡ Done cost →
+    AreMovedOf (situation i a0 (applied a steps)) after) →
     ((cause : Cause) → verdict ≡ Refused cause → after ≡ before) →
-    AreMovedOf i a0 (after_made a (steps_made verdict steps)) after
+    AreMovedOf (situation i a0 (after_made a (steps_made verdict steps))) after
 unfolding after_made steps_made
 moved_after i a0 a steps before after (Done cost) moved done refused = done cost refl
 moved_after i a0 a steps before after (Refused cause) moved done refused =
-    subst (AreMovedOf i a0 a) (sym (refused cause refl)) moved
+    subst (AreMovedOf (situation i a0 a)) (sym (refused cause refl)) moved
 
 -- what is known of the entry and its weighing
 pub record IsNext (i : Tables) (a0 : List Machine) (l : Lots) (h : List Entry) (e : Entry) (weighed : Weighed) : Type 0
@@ -142,13 +144,13 @@ pub record IsNext (i : Tables) (a0 : List Machine) (l : Lots) (h : List Entry) (
     pub legal : IsLegalAt i a0 l h (length h) e
     pub exists : e.worker < 16
     pub offered : IsOffered i (state a0 h (length h)) e.mv.steps
-    pub weighing : weighed ≡ weighed_of i a0 (state a0 h (length h)) e.mv.steps
+    pub weighing : weighed ≡ weighed_of (situation i a0 (state a0 h (length h))) e.mv.steps
 
 -- all at the longer journal g
 record IsKeptAt (i : Tables) (a0 : List Machine) (l : Lots) (g : List Entry) (n : ℕ) (f : Book) : Type 0 where
   legal : Legal i a0 l g
   versions : AreVersions i (made_in g) n f.versions
-  moved : AreMovedOf i a0 (state a0 g n) f.greatest
+  moved : AreMovedOf (situation i a0 (state a0 g n)) f.greatest
   made : AreMadeBy l g f.made
   cost : f.kept ≡ kept_cost i a0 g n
   best_at : f.best_at ≡ best_place i a0 g n
@@ -161,7 +163,8 @@ best_cost_is false i a0 g n p x y x_is y_is = y_is
 
 moved_if_done : (i : Tables) (a0 : List Machine) (l : Lots) (e : Entry) (weighed : Weighed) (b f : Book) →
     IsKept i a0 l b → IsNext i a0 l b.entries.items e weighed → IsRecorded i e weighed b f → (cost : ℕ) →
-    e.verdict ≡ Done cost → AreMovedOf i a0 (applied (state a0 b.entries.items (length b.entries.items)) e.mv.steps)
+    e.verdict ≡ Done cost → AreMovedOf (situation i a0
+    (applied (state a0 b.entries.items (length b.entries.items)) e.mv.steps))
     f.greatest
 moved_if_done i a0 l e weighed b f kept next recorded = λ cost done.
     let a = state a0 b.entries.items (length b.entries.items) in
@@ -191,7 +194,7 @@ kept_at i a0 l e weighed b f start kept next recorded =
     record {
       legal = legal;
       versions = versions_kept i h e b.versions f.versions kept.versions recorded.versions;
-      moved = subst (λ a. AreMovedOf i a0 a f.greatest) (sym (state_added a0 h e))
+      moved = subst (λ a. AreMovedOf (situation i a0 a) f.greatest) (sym (state_added a0 h e))
           (moved_after i a0 (state a0 h n) e.mv.steps b.greatest f.greatest e.verdict kept.moved
           (moved_if_done i a0 l e weighed b f kept next recorded) recorded.refused);
       made = made_kept l h e b.made f.made kept.made (omega (arith, next.exists, kept.made.long)) recorded.made;
@@ -217,8 +220,9 @@ kept_more i a0 l e weighed b f start kept next recorded =
       versions = subst (λ n. AreVersions i (made_in f.entries.items) n f.versions) long
           (subst (λ (h : List Entry). AreVersions i (made_in h) (suc (length b.entries.items)) f.versions) is
           at.versions);
-      moved = subst (λ n. AreMovedOf i a0 (state a0 f.entries.items n) f.greatest) long
-          (subst (λ (h : List Entry). AreMovedOf i a0 (state a0 h (suc (length b.entries.items))) f.greatest) is
+      moved = subst (λ n. AreMovedOf (situation i a0 (state a0 f.entries.items n)) f.greatest) long
+          (subst (λ (h : List Entry). AreMovedOf (situation i a0 (state a0 h (suc (length b.entries.items))))
+          f.greatest) is
           at.moved);
       made = subst (λ (h : List Entry). AreMadeBy l h f.made) is at.made;
       cost = at.cost ∙ ap₂ (kept_cost i a0) is long;

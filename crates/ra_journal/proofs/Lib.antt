@@ -19,4 +19,6 @@ pub mod StartLemmas
 pub mod PackingLemmas
 pub mod SoloLemmas
 pub mod Refusals
+pub mod RisesLemmas
+pub mod QuietLemmas
 pub mod AllowedLemmas

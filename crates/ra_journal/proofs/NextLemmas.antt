@@ -5,6 +5,7 @@ use Rattle.std.proofs.lemmas.Bool.{cases_lt}
 use Rattle.ra_base.specs.declared.ids.Machine.{Machine}
 use Rattle.ra_draws.specs.declared.budgets.Lots.{Lots}
 use Rattle.ra_model.specs.declared.raw.Tables.{Tables}
+use Rattle.ra_model.specs.Situations.{situation}
 use Rattle.ra_moves.specs.Judging.{judge}
 use Rattle.ra_moves.specs.Options.{plan_of}
 use Rattle.ra_journal.specs.declared.entries.Entry.{Entry}
@@ -27,12 +28,14 @@ carried i a0 l h g j e same legal = record {
     place = legal.placed.place;
     seen = λ n before own. legal.placed.seen n before (ap (λ (x : Entry). x.worker) (same.each n before) ∙ own);
   };
-  planned = legal.planned ∙ ap (λ a. plan_of i a0 a (words l e.worker e.k) l.drawing (allowed l e.worker e.k))
+  planned = legal.planned ∙ ap (λ a. plan_of (situation i a0 a) (words l e.worker e.k) l.drawing
+      (allowed l e.worker e.k))
       (same_state a0 e.q h g (same_fewer e.q j h g legal.placed.place same));
   untouched = record {
     each = λ guard read. omega (arith, same_version i j h g guard same, legal.untouched.each guard read);
   };
-  judged = legal.judged ∙ ap (λ a. judge i a0 a e.mv.steps (allowed l e.worker e.k)) (same_state a0 j h g same);
+  judged = legal.judged ∙ ap (λ a. judge (situation i a0 a) e.mv.steps (allowed l e.worker e.k))
+      (same_state a0 j h g same);
 }
 
 pub next_legal : NextKeepsLegal

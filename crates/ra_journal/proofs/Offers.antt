@@ -8,6 +8,7 @@ use Rattle.ra_model.specs.declared.raw.Tables.{Tables}
 use Rattle.ra_model.specs.Limits.{WellFormed}
 use Rattle.ra_model.specs.Numbers.{machine_count}
 use Rattle.ra_model.specs.Assignments.{IsAssignment, machine_at}
+use Rattle.ra_model.specs.Situations.{situation}
 use Rattle.ra_moves.specs.declared.steps.MoveKind.{MoveKind}
 use Rattle.ra_moves.specs.declared.steps.MoveKind.TheVariants.{Shift, Swap, Chain}
 use Rattle.ra_moves.specs.declared.steps.Step.{Step}
@@ -26,11 +27,24 @@ option_few Shift a x m d o = omega arith
 option_few Swap a x m d o = omega arith
 option_few Chain a x m d o = omega arith
 
+-- each option has a step
+option_some : (k : MoveKind) (a : List Machine) (x : List ℕ) (m : ℕ) (d : Drawing) (o : ℕ) →
+    0 < length (option_of k a x m d o).steps
+unfolding option_of shift_of swap_of chain_of
+option_some Shift a x m d o = omega arith
+option_some Swap a x m d o = omega arith
+option_some Chain a x m d o = omega arith
+
+pub plan_some : (i : Tables) (a0 a : List Machine) (x : List ℕ) (d : Drawing) (rise : ℕ) →
+    0 < length (plan_of (situation i a0 a) x d rise).steps
+unfolding plan_of option_at
+plan_some i a0 a x d rise = option_some (kind_of x) a x (machine_count i) d (plan_place (situation i a0 a) x d rise)
+
 pub plan_offered : (i : Tables) (a0 a : List Machine) (x : List ℕ) (d : Drawing) (rise : ℕ) → WellFormed i →
-    IsAssignment i a → IsOffered i a (plan_of i a0 a x d rise).steps
+    IsAssignment i a → IsOffered i a (plan_of (situation i a0 a) x d rise).steps
 unfolding plan_of option_at
 plan_offered i a0 a x d rise limits fits = λ none.
-    let place = plan_place i a0 a x d rise in
+    let place = plan_place (situation i a0 a) x d rise in
     let some : 0 < length a = omega (arith, fits.one_each, limits.some_process) in
     let machines : 0 < machine_count i = omega (arith, limits.some_machine) in
     record {
@@ -43,7 +57,7 @@ plan_offered i a0 a x d rise limits fits = λ none.
     }
 
 -- a machine that a step leaves is an end of the move
-left_is_end : (steps : List Step) (j : ℕ) → j < length steps → ends_at steps (from_in steps j) ≡ true
+pub left_is_end : (steps : List Step) (j : ℕ) → j < length steps → ends_at steps (from_in steps j) ≡ true
 unfolding ends_at
 left_is_end steps j within = or_left _ _ (is_named_at (length steps) j (from_in steps) (from_in steps j) within refl)
 

@@ -61,6 +61,9 @@ pub unpacked_at : (packed : List Packed) (n : ℕ) (p : Packed) → n < length p
 unfolding entry_at
 unpacked_at packed n p within is = ap unpacked is ∙ sym (get_or-map unpacked packed n p _ within)
 
+pub unpacked_none : (packed : List Packed) → packed ≡ [] → map unpacked packed ≡ []
+unpacked_none packed none = ap (λ (ps : List Packed). map unpacked ps) none
+
 pub unpacked_part : (packed : List Packed) (at number : ℕ) → number ≡ min 1024 (length packed - at) →
     map unpacked (slice_range packed at (at + number)) ≡ batch_from (map unpacked packed) at
 unpacked_part packed at number is =

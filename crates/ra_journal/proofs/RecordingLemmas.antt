@@ -5,6 +5,7 @@ use Rattle.ra_base.specs.declared.ids.Machine.{Machine}
 use Rattle.ra_draws.specs.declared.budgets.Lots.{Lots}
 use Rattle.ra_model.specs.declared.raw.Tables.{Tables}
 use Rattle.ra_model.specs.Limits.{WellFormed}
+use Rattle.ra_model.specs.Situations.{situation}
 use Rattle.ra_moves.specs.declared.steps.Step.{Step}
 use Rattle.ra_moves.specs.declared.verdicts.Plan.{Plan}
 use Rattle.ra_moves.specs.declared.verdicts.Verdict.{Verdict}
@@ -94,9 +95,10 @@ small_next i a0 l book plan e start kept commit number place mv = record {
 
 -- the moved counts of a weighing are changes of those before it
 pub counts_fit : (i : Tables) (a0 a : List Machine) (steps : List Step) (moved : MovedCounts) (kept : ℕ)
-    (weighed : Weighed) → WellFormed i → IsSettling i a0 a steps moved kept weighed → AreChangesOf moved weighed
+    (weighed : Weighed) → WellFormed i → IsSettling (situation i a0 a) steps moved kept weighed →
+    AreChangesOf moved weighed
 counts_fit i a0 a steps moved kept weighed limits settling =
-    let are = changes i a0 a steps moved kept weighed limits settling in
+    let are = changes (situation i a0 a) steps moved kept weighed limits settling in
     record { first = are.first; second = are.second; third = are.third }
 
 -- what is taken in of a verdict
@@ -143,7 +145,7 @@ pub is_next : (i : Tables) (a0 : List Machine) (l : Lots) (book : Book) (w : ℕ
       q = plan.q;
       mv = plan.mv;
       verdict = e.verdict;
-    } → e.verdict ≡ judge i a0 (state a0 book.entries.items (length book.entries.items)) plan.mv.steps
+    } → e.verdict ≡ judge (situation i a0 (state a0 book.entries.items (length book.entries.items))) plan.mv.steps
     (allowed l w plan.k) → IsNext i a0 l book.entries.items e plan.weighed
 is_next i a0 l book w plan e start kept commit none is judged =
     let h = book.entries.items in
@@ -155,5 +157,6 @@ is_next i a0 l book w plan e start kept commit none is judged =
           (ap (λ (d : Entry). d.q) is) mv judged;
       exists = omega (arith, worker, worker_below l w commit.worker);
       offered = subst (λ (m : MoveSteps). IsOffered i (state a0 h (length h)) m.steps) (sym mv) end.offered;
-      weighing = end.weighed ∙ ap (λ (m : MoveSteps). weighed_of i a0 (state a0 h (length h)) m.steps) (sym mv);
+      weighing = end.weighed ∙ ap (λ (m : MoveSteps). weighed_of (situation i a0 (state a0 h (length h))) m.steps)
+          (sym mv);
     }

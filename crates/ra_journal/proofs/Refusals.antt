@@ -6,6 +6,7 @@ use Rattle.ra_base.specs.declared.costs.MovedCount.{MovedCount}
 use Rattle.ra_base.specs.declared.ids.Machine.{Machine}
 use Rattle.ra_draws.specs.declared.budgets.Lots.{Lots}
 use Rattle.ra_model.specs.declared.raw.Tables.{Tables}
+use Rattle.ra_model.specs.Situations.{situation}
 use Rattle.ra_moves.specs.declared.steps.Step.{Step}
 use Rattle.ra_moves.specs.declared.verdicts.Plan.{Plan}
 use Rattle.ra_moves.specs.declared.verdicts.Weighed.{Weighed}
@@ -27,8 +28,8 @@ broken_in None local counts = refl
 broken_in (Some cause) local counts = refl
 
 -- the cause that a weighing tells
-broken_of : (i : Tables) (a0 a : List Machine) (steps : List Step) →
-    (weighed_of i a0 a steps).broken ≡ broken_by i a0 a steps
+pub broken_of : (i : Tables) (a0 a : List Machine) (steps : List Step) →
+    (weighed_of (situation i a0 a) steps).broken ≡ broken_by (situation i a0 a) steps
 unfolding weighed_of
 broken_of i a0 a steps = broken_in _ _ _
 
@@ -48,8 +49,8 @@ broken_is_refused i a0 l h w plan cause start legal commit none is =
     let a = state a0 h (length h) in
     let end = planned_at_end i a0 l h w plan start legal commit none in
     let move : next_move i a0 l h w plan.q ≡ plan.mv = next_is_planned i a0 l h w plan commit in
-    let told : broken_by i a0 a plan.mv.steps ≡ Some cause = sym (broken_of i a0 a plan.mv.steps)
+    let told : broken_by (situation i a0 a) plan.mv.steps ≡ Some cause = sym (broken_of i a0 a plan.mv.steps)
     ∙ (ap (λ (x : Weighed). x.broken) (sym end.weighed) ∙ is) in
-    let broken : broken_by i a0 a (next_move i a0 l h w plan.q).steps ≡ Some cause =
-    ap (λ (mv : MoveSteps). broken_by i a0 a mv.steps) move ∙ told in
+    let broken : broken_by (situation i a0 a) (next_move i a0 l h w plan.q).steps ≡ Some cause =
+    ap (λ (mv : MoveSteps). broken_by (situation i a0 a) mv.steps) move ∙ told in
     refused_for _ _ cause _ broken

@@ -9,6 +9,7 @@ use Rattle.ra_base.proofs.Counts.{count_all}
 use Rattle.ra_base.proofs.Greatest.{greatest_least}
 use Rattle.ra_draws.specs.declared.budgets.Lots.{Lots}
 use Rattle.ra_model.specs.declared.raw.Tables.{Tables}
+use Rattle.ra_model.specs.Situations.{situation}
 use Rattle.ra_moves.specs.declared.verdicts.Verdict.{Verdict}
 use Rattle.ra_moves.specs.MoveSteps.{MoveSteps}
 use Rattle.ra_moves.specs.Options.{plan_of}
@@ -166,7 +167,7 @@ legal_solo i a0 l h j e workers own legal =
     let number : e.k ≡ j = legal.numbered.number ∙ ap (entries_of h j) own ∙ one_workers_count h j workers in
     let place : e.q ≡ j =
     place_is j e.q legal.placed.place (λ n before. legal.placed.seen n before (workers.each n before ∙ sym own)) in
-    let move : e.mv ≡ plan_of i a0 (state a0 h j) (words l 0 j) l.drawing (allowed l 0 j) =
+    let move : e.mv ≡ plan_of (situation i a0 (state a0 h j)) (words l 0 j) l.drawing (allowed l 0 j) =
     rw (own, number, place) at legal.planned in
     let verdict = rw (own, number, move) at legal.judged in
     same_entry e (solo_entry i a0 l h j) own number place move verdict

@@ -16,6 +16,7 @@ use Rattle.ra_model.specs.Assignments.{IsAssignment, machine_at}
 use Rattle.ra_model.specs.Broken.{first_broken}
 use Rattle.ra_model.specs.Costs.{objective}
 use Rattle.ra_model.specs.Feasible.{Feasible}
+use Rattle.ra_model.specs.Situations.{situation}
 use Rattle.ra_model.proofs.BrokenLemmas.{feasible_from_unbroken}
 use Rattle.ra_moves.specs.declared.steps.Step.{Step}
 use Rattle.ra_moves.specs.declared.verdicts.Verdict.{Verdict}
@@ -74,20 +75,20 @@ applied_fits i a steps reaches fits = record {
 
 -- what is planned at an assignment enters machines of the instance
 pub plan_reaches : (i : Tables) (a0 a : List Machine) (x : List ℕ) (d : Drawing) (rise : ℕ) → WellFormed i →
-    IsAssignment i a → Reaches (machine_count i) (plan_of i a0 a x d rise).steps
+    IsAssignment i a → Reaches (machine_count i) (plan_of (situation i a0 a) x d rise).steps
 unfolding plan_of
 plan_reaches i a0 a x d rise limits fits = record {
-  each = λ j within. option_reaches a x (machine_count i) d (plan_place i a0 a x d rise)
+  each = λ j within. option_reaches a x (machine_count i) d (plan_place (situation i a0 a) x d rise)
       (omega (arith, fits.one_each, limits.some_process)) (omega (arith, limits.some_machine))
       (λ p there. fits.in_range p (omega (arith, fits.one_each))) j within;
 }
 
 -- and its processes are those of the instance
 pub plan_known : (i : Tables) (a0 a : List Machine) (x : List ℕ) (d : Drawing) (rise : ℕ) → WellFormed i →
-    IsAssignment i a → AreKnown i (plan_of i a0 a x d rise).steps
+    IsAssignment i a → AreKnown i (plan_of (situation i a0 a) x d rise).steps
 unfolding plan_of
 plan_known i a0 a x d rise limits fits =
-    let stands = option_stands a x (machine_count i) d (plan_place i a0 a x d rise)
+    let stands = option_stands a x (machine_count i) d (plan_place (situation i a0 a) x d rise)
     (omega (arith, fits.one_each, limits.some_process)) (omega (arith, limits.some_machine)) in
     record { each = λ j within. omega (arith, stands.known j within, fits.one_each) }
 
@@ -99,7 +100,7 @@ pub record IsGood (i : Tables) (a0 a : List Machine) (cost : ℕ) : Type 0 where
 
 -- what is not refused for a broken constraint is feasible after the move
 pub applied_good : (i : Tables) (a0 a : List Machine) (steps : List Step) (rise : Option Cause) → WellFormed i →
-    IsAssignment i a → Reaches (machine_count i) steps → or_else (broken_by i a0 a steps) rise ≡ None →
+    IsAssignment i a → Reaches (machine_count i) steps → or_else (broken_by (situation i a0 a) steps) rise ≡ None →
     IsGood i a0 (applied a steps) (objective i a0 (applied a steps))
 unfolding broken_by
 applied_good i a0 a steps rise limits fits reaches none =
@@ -122,7 +123,8 @@ after_cause i a0 a steps cost None done before = done refl
 after_cause i a0 a steps cost (Some cause) done before = before
 
 pub after_verdict : (i : Tables) (a0 a : List Machine) (steps : List Step) (rise cost : ℕ) (verdict : Verdict) →
-    WellFormed i → Reaches (machine_count i) steps → verdict ≡ judge i a0 a steps rise → IsGood i a0 a cost →
+    WellFormed i → Reaches (machine_count i) steps → verdict ≡ judge (situation i a0 a) steps rise →
+    IsGood i a0 a cost →
     IsGood i a0 (after_made a (steps_made verdict steps)) (cost_then cost verdict)
 unfolding judge
 after_verdict i a0 a steps rise cost verdict limits reaches is before =

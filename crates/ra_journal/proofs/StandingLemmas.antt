@@ -10,6 +10,7 @@ use Rattle.ra_draws.specs.declared.budgets.Lots.{Lots}
 use Rattle.ra_model.specs.declared.raw.Tables.{Tables}
 use Rattle.ra_model.specs.Limits.{WellFormed}
 use Rattle.ra_model.specs.Assignments.{IsAssignment}
+use Rattle.ra_model.specs.Situations.{situation}
 use Rattle.ra_moves.specs.declared.steps.Step.{Step}
 use Rattle.ra_moves.specs.declared.verdicts.Verdict.{Verdict}
 use Rattle.ra_moves.specs.declared.verdicts.Verdict.TheVariants.{Done, Refused}
@@ -48,13 +49,13 @@ done_none None x cost is = refl
 done_none (Some cause) x cost is = absurd (cc)
 
 pub unbroken_if_done : (i : Tables) (a0 a : List Machine) (steps : List Step) (rise cost : ℕ) (verdict : Verdict) →
-    verdict ≡ judge i a0 a steps rise → verdict ≡ Done cost → broken_by i a0 a steps ≡ None
+    verdict ≡ judge (situation i a0 a) steps rise → verdict ≡ Done cost → broken_by (situation i a0 a) steps ≡ None
 unfolding judge
 unbroken_if_done i a0 a steps rise cost verdict is done =
-    left_none (broken_by i a0 a steps) _ (done_none _ _ cost (sym is ∙ done))
+    left_none (broken_by (situation i a0 a) steps) _ (done_none _ _ cost (sym is ∙ done))
 
 pub done_no_repeat : (i : Tables) (a0 a : List Machine) (steps : List Step) (rise cost : ℕ) (verdict : Verdict) →
-    verdict ≡ judge i a0 a steps rise → verdict ≡ Done cost → repeat_of steps ≡ None
+    verdict ≡ judge (situation i a0 a) steps rise → verdict ≡ Done cost → repeat_of steps ≡ None
 unfolding broken_by
 done_no_repeat i a0 a steps rise cost verdict is done =
     left_none (repeat_of steps) _ (unbroken_if_done i a0 a steps rise cost verdict is done)

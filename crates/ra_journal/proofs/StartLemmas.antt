@@ -8,6 +8,7 @@ use Rattle.ra_draws.specs.declared.budgets.Lots.{Lots}
 use Rattle.ra_model.specs.declared.raw.Tables.{Tables}
 use Rattle.ra_model.specs.Costs.{objective}
 use Rattle.ra_model.specs.Numbers.{machine_count, service_count, process_count}
+use Rattle.ra_model.specs.Situations.{situation}
 use Rattle.ra_weigh_settle.specs.Settling.{AreMovedOf}
 use Rattle.ra_guards.specs.Kept.{AreZero}
 use Rattle.ra_journal.specs.declared.book.Book.{Book}
@@ -40,7 +41,7 @@ kept_start i a0 l book entries room zero_versions counts limit made kept best_at
         sized = record { machines = zero_versions.count_machines; services = zero_versions.count_services };
         each = λ g known. omega (arith, zero_versions.each g, none, version_few i (made_in h) (length h) g);
       };
-      moved = subst (λ n. AreMovedOf i a0 (state a0 h n) book.greatest) none (record {
+      moved = subst (λ n. AreMovedOf (situation i a0 (state a0 h n)) book.greatest) none (record {
         one_each = ap (λ (xs : List ℕ). length xs) counts ∙ length-replicate (service_count i) 0;
         each = λ s within. ap (λ (xs : List ℕ). get_or xs s 0) counts ∙ get_or-replicate (service_count i) s 0 0 within
             ∙ sym (moved_none i a0 s);

@@ -5,6 +5,7 @@ use Rattle.ra_base.specs.declared.ids.Guard.{Guard}
 use Rattle.ra_base.specs.declared.ids.Machine.{Machine}
 use Rattle.ra_draws.specs.declared.budgets.Lots.{Lots}
 use Rattle.ra_model.specs.declared.raw.Tables.{Tables}
+use Rattle.ra_model.specs.Situations.{situation}
 use Rattle.ra_moves.specs.declared.steps.Step.{Step}
 use Rattle.ra_moves.specs.declared.verdicts.Plan.{Plan}
 use Rattle.ra_moves.specs.MoveSteps.{MoveSteps}
@@ -28,7 +29,8 @@ next_number h w = entries_of h (length h) w
 -- its move, planned at the state of place q
 unfoldable pub next_move : Tables → List Machine → Lots → List Entry → ℕ → ℕ → MoveSteps
 next_move i a0 l h w q =
-    let k = next_number h w in plan_of i a0 (state a0 h q) (words l w k) l.drawing (allowed l w k)
+    let k = next_number h w in
+    plan_of (situation i a0 (state a0 h q)) (words l w k) l.drawing (allowed l w k)
 
 -- its entry, judged at the end of the journal
 unfoldable pub next_entry : Tables → List Machine → Lots → List Entry → ℕ → ℕ → Entry
@@ -40,7 +42,7 @@ next_entry i a0 l h w q =
       k = k;
       q = q;
       mv = mv;
-      verdict = judge i a0 (state a0 h (length h)) mv.steps (allowed l w k);
+      verdict = judge (situation i a0 (state a0 h (length h))) mv.steps (allowed l w k);
     }
 
 -- the first guard of a move that the journal has touched since place q, with the place of the last entry that touched
@@ -73,8 +75,9 @@ pub record IsCommit (i : Tables) (a0 : List Machine) (l : Lots) (h : List Entry)
   pub place : plan.q ≤ length h
   pub seen : (j : ℕ) → j < length h → (entry_at h j).worker ≡ w → j < plan.q
   pub planned :
-      plan.mv ≡ plan_of i a0 (state a0 h plan.q) (words l w plan.k) l.drawing (allowed l w plan.k)
-  pub weighed : plan.weighed ≡ weighed_of i a0 (state a0 h plan.q) plan.mv.steps
+      plan.mv ≡ plan_of (situation i a0 (state a0 h plan.q)) (words l w plan.k) l.drawing
+      (allowed l w plan.k)
+  pub weighed : plan.weighed ≡ weighed_of (situation i a0 (state a0 h plan.q)) plan.mv.steps
 
 -- no write guard of a move was touched since place q
 pub record AreHeld (i : Tables) (h : List Entry) (q : ℕ) (steps : List Step) : Type 0 where

@@ -6,6 +6,7 @@ use Rattle.ra_model.specs.declared.raw.Tables.{Tables}
 use Rattle.ra_model.specs.Limits.{WellFormed}
 use Rattle.ra_model.specs.Assignments.{IsAssignment}
 use Rattle.ra_model.specs.Broken.{first_broken}
+use Rattle.ra_model.specs.Situations.{situation}
 use Rattle.ra_weigh_settle.specs.Settling.{AreMovedOf}
 use Rattle.ra_guards.specs.Kept.{AreVersions}
 use Rattle.ra_journal.specs.declared.book.Book.{Book}
@@ -33,7 +34,8 @@ pub record IsKept (i : Tables) (a0 : List Machine) (l : Lots) (book : Book) : Ty
   pub versions :
       AreVersions i (made_in book.entries.items) (length book.entries.items) book.versions
   pub moved :
-      AreMovedOf i a0 (state a0 book.entries.items (length book.entries.items)) book.greatest
+      AreMovedOf (situation i a0 (state a0 book.entries.items (length book.entries.items)))
+      book.greatest
   pub made : AreMadeBy l book.entries.items book.made
   pub cost : book.kept ≡ kept_cost i a0 book.entries.items (length book.entries.items)
   pub best_at : book.best_at ≡ best_of i a0 book.entries.items

@@ -4,6 +4,7 @@ use Rattle.std.specs.Prelude.{◌≡◌, ℕ, ◌<◌, ◌≤◌, List, length}
 use Rattle.ra_base.specs.declared.ids.Machine.{Machine}
 use Rattle.ra_draws.specs.declared.budgets.Lots.{Lots}
 use Rattle.ra_model.specs.declared.raw.Tables.{Tables}
+use Rattle.ra_model.specs.Situations.{situation}
 use Rattle.ra_moves.specs.Judging.{judge}
 use Rattle.ra_moves.specs.Options.{plan_of}
 use Rattle.ra_guards.specs.Versions.{Untouched}
@@ -31,11 +32,12 @@ pub record IsLegalAt (i : Tables) (a0 : List Machine) (l : Lots) (h : List Entry
   pub placed : IsPlaced h j e
   -- its move is the plan at the state of place q, for its words and its allowance
   pub planned :
-      e.mv ≡ plan_of i a0 (state a0 h e.q) (words l e.worker e.k) l.drawing (allowed l e.worker e.k)
+      e.mv ≡ plan_of (situation i a0 (state a0 h e.q)) (words l e.worker e.k) l.drawing
+      (allowed l e.worker e.k)
   -- no guard of its move was touched from place q on
   pub untouched : Untouched i (made_in h) e.q j e.mv.steps
   -- its verdict is the judge's at the state of its own place
-  pub judged : e.verdict ≡ judge i a0 (state a0 h j) e.mv.steps (allowed l e.worker e.k)
+  pub judged : e.verdict ≡ judge (situation i a0 (state a0 h j)) e.mv.steps (allowed l e.worker e.k)
 
 -- the first n entries are legal
 pub record IsLegal (i : Tables) (a0 : List Machine) (l : Lots) (h : List Entry) (n : ℕ) : Type 0

@@ -7,7 +7,9 @@ pub mod Keeping
 pub mod Laws
 pub mod Legal
 pub mod Packing
+pub mod Quiet
 pub mod Recording
+pub mod Refusing
 pub mod SmallSteps
 pub mod Solo
 pub mod States

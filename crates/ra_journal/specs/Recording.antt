@@ -6,6 +6,7 @@ use Rattle.ra_base.specs.declared.ids.Guard.{Guard}
 use Rattle.ra_base.specs.declared.ids.Machine.{Machine}
 use Rattle.ra_draws.specs.declared.budgets.Lots.{Lots}
 use Rattle.ra_model.specs.declared.raw.Tables.{Tables}
+use Rattle.ra_model.specs.Situations.{situation}
 use Rattle.ra_moves.specs.declared.steps.Step.{Step}
 use Rattle.ra_moves.specs.declared.verdicts.Plan.{Plan}
 use Rattle.ra_moves.specs.declared.verdicts.Verdict.{Verdict}
@@ -68,9 +69,9 @@ pub record AreChangesOf (moved : MovedCounts) (weighed : Weighed) : Type 0 where
 -- after them
 pub record AreChangedBy (i : Tables) (steps : List Step) (weighed : Weighed)
     (before after : MovedCounts) : Type 0 where
-  pub each : (a0 a : List Machine) → IsMove i a steps → broken_by i a0 a steps ≡ None
-      → weighed ≡ weighed_of i a0 a steps → AreMovedOf i a0 a before
-      → AreMovedOf i a0 (applied a steps) after
+  pub each : (a0 a : List Machine) → IsMove i a steps → broken_by (situation i a0 a) steps ≡ None
+      → weighed ≡ weighed_of (situation i a0 a) steps → AreMovedOf (situation i a0 a) before
+      → AreMovedOf (situation i a0 (applied a steps)) after
 
 -- the guards that are touched have a version, and the others keep theirs
 pub record AreTouched (i : Tables) (made : Option (List Step)) (number : ℕ)

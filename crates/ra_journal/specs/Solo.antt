@@ -3,6 +3,7 @@ use Rattle.std.specs.Prelude.{ℕ, zero, suc, List, [], ◌∷◌, ◌++◌}
 use Rattle.ra_base.specs.declared.ids.Machine.{Machine}
 use Rattle.ra_draws.specs.declared.budgets.Lots.{Lots}
 use Rattle.ra_model.specs.declared.raw.Tables.{Tables}
+use Rattle.ra_model.specs.Situations.{situation}
 use Rattle.ra_moves.specs.Judging.{judge}
 use Rattle.ra_moves.specs.Options.{plan_of}
 use Rattle.ra_journal.specs.declared.entries.Entry.{Entry}
@@ -13,8 +14,14 @@ use Rattle.ra_journal.specs.States.{state}
 unfoldable pub solo_entry : Tables → List Machine → Lots → List Entry → ℕ → Entry
 solo_entry i a0 l h k =
     let a = state a0 h k in
-    let mv = plan_of i a0 a (words l 0 k) l.drawing (allowed l 0 k) in
-    record { worker = 0; k = k; q = k; mv = mv; verdict = judge i a0 a mv.steps (allowed l 0 k) }
+    let mv = plan_of (situation i a0 a) (words l 0 k) l.drawing (allowed l 0 k) in
+    record {
+      worker = 0;
+      k = k;
+      q = k;
+      mv = mv;
+      verdict = judge (situation i a0 a) mv.steps (allowed l 0 k);
+    }
 
 -- its first n proposals
 unfoldable pub solo_entries : Tables → List Machine → Lots → ℕ → List Entry

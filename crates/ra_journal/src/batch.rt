@@ -53,6 +53,13 @@ impl Batch {
         self.entries.get(i as usize)
     }
 
+    /// Takes all entries out.
+    pub fn clear(&mut self)
+        ensures { self.new ≡ [] }
+    {
+        self.entries.clear();
+    }
+
     /// Replaces all entries by those of a list from a place on, as many as there is room for, and tells their number.
     pub(crate) fn fill(&mut self, entries: &Entries, at: usize) -> u64
         requires { at ≤ length entries.now.items }

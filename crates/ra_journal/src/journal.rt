@@ -12,7 +12,7 @@ use crate::replies::Reply;
 use ra_base::{Assignment, NoMemory, Parts};
 use ra_cells::Greatest;
 use ra_draws::Lots;
-use ra_guards::{Newer, Versions, WriteGuards, first_newer, first_newer_read};
+use ra_guards::{Newer, Versions, WriteGuards, first_newer, first_newer_read, writes};
 use ra_model::Instance;
 use ra_moves::Plan;
 use ra_topology::Topology;
@@ -33,11 +33,13 @@ pub struct Journal<'a> {
 }
 
 impl<'a> Journal<'a> {
-    ghost use Rattle.std.specs.Prelude.{◌≡◌, ◌-◌, ◌<◌, ◌≤◌, min, length, option_copied, IfSome, IfOk};
+    ghost use Rattle.std.specs.Prelude.{◌≡◌, ◌-◌, ◌<◌, ◌≤◌, true, min, length, option_copied, IfSome, IfOk};
     ghost use Rattle.ra_journal.specs.Batches.{batch_from};
     ghost use Rattle.ra_journal.specs.Best.{best_of};
+    ghost use Rattle.ra_journal.specs.Committing.{AreHeld};
     ghost use Rattle.ra_journal.specs.Entries.{entry_at, entries_of, worker_count};
     ghost use Rattle.ra_journal.specs.Journals.{instance_in, tables_in, topology_in, start_in, lots_in, list_in, entries_in, newer_in, MayHandIn, HasHeld, IsOpened, Answers};
+    ghost use Rattle.ra_journal.specs.Quiet.{AreRefused};
     ghost use Rattle.ra_topology.specs.Starts.{IsFeasibleStart};
     ghost use Rattle.ra_journal.specs.States.{kept_cost, cost_at};
 
@@ -83,6 +85,18 @@ impl<'a> Journal<'a> {
         self.commit_with(worker, plan, None)
     }
 
+    /// The same for a worker that holds the write guards of the move, none of which was touched since it was planned:
+    /// the other guards alone are compared.
+    pub fn commit_held(&mut self, worker: u32, plan: &Plan) -> Reply
+        requires commit { MayHandIn self.old worker plan.now }
+        requires held { AreHeld (tables_in self.old) (entries_in self.old) plan.now.q
+            plan.now.mv.steps }
+        ensures { Answers self.old self.new worker plan.now result }
+    {
+        let guards = writes(self.topo, self.inst, &plan.mv);
+        self.commit_with(worker, plan, Some(&guards))
+    }
+
     /// The same for a worker that may hold guards. If it gives the write guards of the move, none of which was touched
     /// since the move was planned, the other guards alone are compared, and the write guards aren't gathered again.
     pub fn commit_with(&mut self, worker: u32, plan: &Plan, held: Option<&WriteGuards>) -> Reply
@@ -119,6 +133,15 @@ impl<'a> Journal<'a> {
             Some(_) => first_newer_read(self.topo, self.inst, &plan.mv, versions, plan.q),
             None => first_newer(self.topo, self.inst, &plan.mv, versions, plan.q),
         }
+    }
+
+    /// Whether it is known at once that all entries from a place on are refused, so that the state there is the state
+    /// after all of them.
+    pub fn is_quiet_from(&self, at: u64) -> bool
+        ensures { result ≡ true → AreRefused (entries_in self.now) at
+            (length (entries_in self.now)) }
+    {
+        self.book.versions.is_at_most(at)
     }
 
     /// Fills a batch with the entries from a place on, as many as it has room for, and tells their number.

@@ -76,6 +76,15 @@ impl Entries {
         self.packed.room()
     }
 
+    /// Takes all entries out. The room stays.
+    #[tactic(auto, using(crate::proofs::PackingLemmas::unpacked_none))]
+    pub(crate) fn clear(&mut self)
+        ensures items { self.new.items ≡ [] }
+        ensures room { self.new.room ≡ self.old.room }
+    {
+        self.packed.clear();
+    }
+
     /// Replaces all entries by those of another list from a place on, as many as a batch has, and tells their number.
     #[tactic(auto, using(crate::proofs::PackingLemmas::unpacked_length, crate::proofs::PackingLemmas::unpacked_part))]
     pub(crate) fn refill(&mut self, from: &Entries, at: usize) -> usize

@@ -9,6 +9,7 @@ ghost use Rattle.ra_journal.specs.Keeping.{IsStart, IsKept};
 ghost use Rattle.ra_journal.specs.Packing.{IsSmall};
 ghost use Rattle.ra_journal.specs.Recording.{MayRecord, HasRecorded, IsAdded, AreChangesOf, AreTouched, IsTakenIn, IsBestKept};
 ghost use Rattle.ra_journal.specs.States.{state};
+ghost use Rattle.ra_model.specs.Situations.{situation};
 
 use crate::allowances::allowed;
 use crate::book::Book;
@@ -72,8 +73,8 @@ fn judge_now(
     requires next { MayRecord inst.now.tables a0.now.items lots.now book.now.entries.items worker
         plan.now }
     ensures { result ≡
-        judge inst.now.tables a0.now.items
-        (state a0.now.items book.now.entries.items (length book.now.entries.items))
+        judge (situation inst.now.tables a0.now.items (state a0.now.items book.now.entries.items
+        (length book.now.entries.items)))
         plan.now.mv.steps (allowed lots.now worker plan.now.k) }
 {
     let rise = allowed(lots, worker, plan.k);

@@ -15,6 +15,7 @@ use Rattle.ra_journal.specs.Solo.{solo_entry, solo_entries, solo}
 use Rattle.ra_journal.specs.States.{state}
 use Rattle.ra_model.specs.declared.raw.RawInstance.{RawInstance}
 use Rattle.ra_model.specs.declared.raw.Tables.{Tables}
+use Rattle.ra_model.specs.Situations.{situation}
 use Rattle.ra_model_read.specs.Lists.{lists_of}
 use Rattle.ra_moves.specs.Judging.{broken_by, judge}
 use Rattle.ra_moves.specs.Options.{option_cost, plan_place, plan_of}
@@ -45,8 +46,15 @@ solo_bare raw (Some flags) a0 l = refl
 entry_from : Tables → List Machine → ℕ → Drawing → List Lot → List Entry → ℕ → Entry
 entry_from i a0 slack drawing lots h k =
     let a = state a0 h k in
-    let mv = plan_of i a0 a (words_of lots 0 k) drawing (allowance_of slack lots 0 k) in
-    record { worker = 0; k = k; q = k; mv = mv; verdict = judge i a0 a mv.steps (allowance_of slack lots 0 k) }
+    let mv = plan_of (situation i a0 a) (words_of lots 0 k) drawing (allowance_of slack lots 0 k) in
+    record {
+      worker = 0;
+      k = k;
+      q = k;
+      mv = mv;
+      verdict =
+          judge (situation i a0 a) mv.steps (allowance_of slack lots 0 k);
+    }
 
 entries_from : Tables → List Machine → ℕ → Drawing → List Lot → ℕ → List Entry
 entries_from i a0 slack drawing lots zero = []

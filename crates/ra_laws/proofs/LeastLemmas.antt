@@ -3,6 +3,7 @@ use Rattle.std.proofs.Common.{◌≡◌, ℕ, suc, ◌+◌, ◌<◌, ◌≤◌, 
 use Rattle.ra_base.specs.Searches.{least_place, IsLeast}
 use Rattle.ra_base.proofs.Least.{least_means, least_none_from, least_there}
 use Rattle.ra_model.specs.Numbers.{machine_count}
+use Rattle.ra_model.specs.Situations.{situation}
 use Rattle.ra_moves.specs.Options.{option_count, option_cost, plan_place, plan_of}
 use Rattle.ra_journal.specs.States.{cost_at}
 use Rattle.ra_journal.specs.Best.{best_place, best_of}
@@ -34,8 +35,12 @@ least_of_all n cost =
 
 pub plan_is_least : PlanIsLeast
 unfolding plan_of plan_place
-plan_is_least i a0 a x d allowed =
-    (least_place (option_count x (machine_count i) d) (option_cost i a0 a x d allowed), refl, first_least _ _)
+plan_is_least i a0 a x d allowed = (
+  least_place (option_count x (machine_count i) d) (option_cost (situation i a0 a) x d allowed),
+  refl,
+  first_least _
+      _,
+)
 
 pub best_is_least : BestIsLeast
 unfolding best_of best_place

@@ -14,6 +14,7 @@ use Rattle.ra_journal.specs.Solo.{solo}
 use Rattle.ra_model.specs.declared.raw.Tables.{Tables}
 use Rattle.ra_model.specs.Broken.{first_broken}
 use Rattle.ra_model.specs.Costs.{parts_of}
+use Rattle.ra_model.specs.Situations.{situation}
 use Rattle.ra_model_read.specs.Lists.{lists_of}
 use Rattle.ra_moves.specs.declared.steps.Step.{Step}
 use Rattle.ra_moves.specs.Judging.{judge}
@@ -52,9 +53,9 @@ pub record RunAlike (i j : Tables) : Type 0 where
   pub bound : bound_of i ≡ bound_of j
   pub pinned_bound : (a0 : List Machine) → pinned_bound_of i a0 ≡ pinned_bound_of j a0
   pub planned : (a0 a : List Machine) (x : List ℕ) (drawing : Drawing) (allowed : ℕ)
-      → plan_of i a0 a x drawing allowed ≡ plan_of j a0 a x drawing allowed
+      → plan_of (situation i a0 a) x drawing allowed ≡ plan_of (situation j a0 a) x drawing allowed
   pub judged : (a0 a : List Machine) (steps : List Step) (allowed : ℕ)
-      → judge i a0 a steps allowed ≡ judge j a0 a steps allowed
+      → judge (situation i a0 a) steps allowed ≡ judge (situation j a0 a) steps allowed
   pub legal : (a0 : List Machine) (l : Lots) (h : List Entry) → Legal i a0 l h → Legal j a0 l h
   pub report : (a0 : List Machine) (l : Lots) (h : List Entry)
       → report_text i a0 l h ≡ report_text j a0 l h

@@ -5,6 +5,7 @@ use Rattle.ra_base.specs.declared.causes.Drawing.{Drawing}
 use Rattle.ra_base.specs.declared.ids.Machine.{Machine}
 use Rattle.ra_model.specs.declared.raw.Tables.{Tables}
 use Rattle.ra_model.specs.Numbers.{machine_count}
+use Rattle.ra_model.specs.Situations.{situation}
 use Rattle.ra_moves.specs.Options.{option_count, option_at, option_cost, plan_of}
 use Rattle.ra_journal.specs.declared.entries.Entry.{Entry}
 use Rattle.ra_journal.specs.States.{cost_at}
@@ -21,8 +22,8 @@ pub record IsChosen (n : ℕ) (f : ℕ → Option ℕ) (p : ℕ) : Type 0 where
 abbrev pub PlanIsLeast : Type 0
 PlanIsLeast =
     (i : Tables) (a0 a : List Machine) (x : List ℕ) (d : Drawing) (allowed : ℕ)
-    → (p : ℕ) × (plan_of i a0 a x d allowed ≡ option_at a x (machine_count i) d p)
-    × IsChosen (option_count x (machine_count i) d) (option_cost i a0 a x d allowed) p
+    → (p : ℕ) × (plan_of (situation i a0 a) x d allowed ≡ option_at a x (machine_count i) d p)
+    × IsChosen (option_count x (machine_count i) d) (option_cost (situation i a0 a) x d allowed) p
 
 -- the best state of a journal is the first of least cost among all its states, that of place 0 included
 abbrev pub BestIsLeast : Type 0

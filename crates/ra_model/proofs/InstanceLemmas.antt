@@ -5,7 +5,8 @@ use Rattle.std.proofs.lemmas.List.{get_or_read, get_or-take, get_or-drop}
 use Rattle.std.proofs.Math.ListN.{take, drop}
 use Rattle.std.proofs.Common.{refl, ap, ◌∙◌, ◌+◌, ◌-◌, ◌*◌, ◌≡◌, ℕ, zero, suc, ◌<◌, ◌≤◌, length, length-take}
 use Rattle.std.proofs.Common.{length-drop, List, Bool, arith}
-use Rattle.std.specs.Prelude.{slice_index, slice_index_or}
+use Rattle.std.specs.Coded.{le_prop}
+use Rattle.std.specs.Prelude.{slice_index, slice_index_or, ◌^◌}
 use Rattle.ra_base.specs.Listed.{Listed}
 use Rattle.ra_base.specs.declared.ids.Service.{Service}
 use Rattle.ra_base.specs.Tables.{cell}
@@ -13,10 +14,11 @@ use Rattle.ra_model.specs.declared.raw.Tables.{Tables}
 use Rattle.ra_model.specs.declared.raw.BalanceRow.{BalanceRow}
 use Rattle.ra_model.specs.declared.raw.MachineRow.{MachineRow}
 use Rattle.ra_model.specs.declared.raw.ProcessRow.{ProcessRow}
+use Rattle.ra_model.specs.declared.raw.RawInstance.{RawInstance}
 use Rattle.ra_model.specs.declared.raw.ResourceRow.{ResourceRow}
 use Rattle.ra_model.specs.declared.raw.ServiceRow.{ServiceRow}
-use Rattle.ra_model.specs.Limits.{WellFormed, Small, IsSmallTable}
-use Rattle.ra_model.specs.Numbers.{with_closed, resource_row, machine_row, service_row, process_row, balance_row}
+use Rattle.ra_model.specs.Limits.{WellFormed, Small, IsSmallTable, most_processes}
+use Rattle.ra_model.specs.Numbers.{with_closed, with_processes, resource_row, machine_row, service_row, process_row, balance_row}
 use Rattle.ra_model.specs.Numbers.{resource_count, machine_count, service_count, process_count, balance_count}
 use Rattle.ra_model.specs.Numbers.{load_weight_of, neighbourhood_of, location_of, capacity_of, safety_of, way_cost_of}
 use Rattle.ra_model.specs.Numbers.{spread_of, dependency_end, dependency_start, need_at, need_of, dependency_count}
@@ -69,6 +71,42 @@ small_closed i flags h = record {
   machine_weight = h.machine_weight;
 }
 
+-- other processes change no other number
+pub small_processes : (i : Tables) (rows : Listed ProcessRow) (requirements : Listed ℕ) → Small i →
+    IsSmallTable requirements.items → Small (with_processes i rows requirements)
+unfolding cell resource_count machine_count resource_row machine_row service_row process_row balance_row
+    load_weight_of neighbourhood_of location_of capacity_of safety_of way_cost_of spread_of dependency_end
+    requirement_of process_cost_of target_of balance_weight_of process_weight_of service_weight_of machine_weight_of
+small_processes i rows requirements h table = record {
+  load_weights = h.load_weights;
+  neighbourhoods = h.neighbourhoods;
+  locations = h.locations;
+  capacities = h.capacities;
+  safeties = h.safeties;
+  way_costs = h.way_costs;
+  spreads = h.spreads;
+  dependency_ends = h.dependency_ends;
+  requirements = λ p r. table.each _;
+  process_costs = λ p. (process_row (with_processes i rows requirements) p).small;
+  targets = h.targets;
+  balance_weights = h.balance_weights;
+  process_weight = h.process_weight;
+  service_weight = h.service_weight;
+  machine_weight = h.machine_weight;
+}
+
+-- lists with the same weights, of which it is proved anew that they are small
+abbrev pub with_bounds : (x : RawInstance) → x.process_weight < 2 ^ 32 → x.service_weight < 2 ^ 32 →
+    x.machine_weight < 2 ^ 32 → RawInstance
+with_bounds x a b c = record x { small_process_weight = a; small_service_weight = b; small_machine_weight = c }
+
+pub same_weights : (x : RawInstance) (a : x.process_weight < 2 ^ 32) (b : x.service_weight < 2 ^ 32)
+    (c : x.machine_weight < 2 ^ 32) → with_bounds x a b c ≡ x
+same_weights x a b c =
+    ap (λ a. with_bounds x a b c) (le_prop a x.small_process_weight)
+    ∙ ap (λ b. with_bounds x x.small_process_weight b c) (le_prop b x.small_service_weight)
+    ∙ ap (with_bounds x x.small_process_weight x.small_service_weight) (le_prop c x.small_machine_weight)
+
 -- j with the lists of i, but for the processes and what they require
 abbrev pub with_lists : Tables → Tables → Tables
 with_lists i j = record j {
@@ -85,7 +123,7 @@ with_lists i j = record j {
 }
 
 -- j is well formed if its lists are those of i, but for processes that fit
-pub well_formed_with : (i j : Tables) → WellFormed i → 1 ≤ process_count j → process_count j ≤ 50000 →
+pub well_formed_with : (i j : Tables) → WellFormed i → 1 ≤ process_count j → process_count j ≤ most_processes →
     length j.raw.requirements.items ≡ process_count j * resource_count i →
     ((p : ℕ) → p < process_count j → service_of j p < service_count i) → WellFormed (with_lists i j)
 unfolding resource_count machine_count service_count process_count balance_count service_row process_row balance_row

@@ -13,6 +13,7 @@ pub mod PlaceLists
 pub mod Places
 pub mod Relations
 pub mod Services
+pub mod Situations
 pub mod Sorting
 pub mod Usage
 pub mod WholeCosts

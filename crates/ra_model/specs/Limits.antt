@@ -1,5 +1,5 @@
 -- The limits of an instance.
-use Rattle.std.specs.Prelude.{◌≡◌, ℕ, ◌*◌, ◌^◌, ◌<◌, ◌≤◌, List, length, slice_index_or}
+use Rattle.std.specs.Prelude.{◌≡◌, ℕ, ◌*◌, ◌^◌, ◌<◌, ◌≤◌, List, length, slice_index_or, IfSome}
 use Rattle.ra_model.specs.declared.raw.Tables.{Tables}
 use Rattle.ra_model.specs.Numbers.{resource_count, machine_count, service_count, process_count, balance_count}
 use Rattle.ra_model.specs.Numbers.{load_weight_of, neighbourhood_of, location_of, capacity_of, safety_of, way_cost_of}
@@ -7,19 +7,38 @@ use Rattle.ra_model.specs.Numbers.{spread_of, dependency_end, dependency_start, 
 use Rattle.ra_model.specs.Numbers.{process_cost_of, first_of, second_of, target_of, balance_weight_of}
 use Rattle.ra_model.specs.Numbers.{process_weight_of, service_weight_of, machine_weight_of}
 
+-- the most that an instance has of each
+abbrev pub most_resources : ℕ
+most_resources = 20
+
+abbrev pub most_machines : ℕ
+most_machines = 5000
+
+abbrev pub most_services : ℕ
+most_services = 50000
+
+abbrev pub most_processes : ℕ
+most_processes = 50000
+
+abbrev pub most_balances : ℕ
+most_balances = 10
+
+abbrev pub most_dependencies : ℕ
+most_dependencies = 100000
+
 -- the tables have the lengths that the counts ask for, the counts are within the limits, and the
 -- services, machines and resources that are named exist
 pub record WellFormed (i : Tables) : Type 0 where
   pub some_resource : 1 ≤ resource_count i
-  pub few_resources : resource_count i ≤ 20
+  pub few_resources : resource_count i ≤ most_resources
   pub some_machine : 1 ≤ machine_count i
-  pub few_machines : machine_count i ≤ 5000
+  pub few_machines : machine_count i ≤ most_machines
   pub some_service : 1 ≤ service_count i
-  pub few_services : service_count i ≤ 50000
+  pub few_services : service_count i ≤ most_services
   pub some_process : 1 ≤ process_count i
-  pub few_processes : process_count i ≤ 50000
-  pub few_balances : balance_count i ≤ 10
-  pub few_dependencies : length i.raw.dependencies.items ≤ 100000
+  pub few_processes : process_count i ≤ most_processes
+  pub few_balances : balance_count i ≤ most_balances
+  pub few_dependencies : length i.raw.dependencies.items ≤ most_dependencies
   pub capacities : length i.raw.capacities.items ≡ machine_count i * resource_count i
   pub safeties : length i.raw.safeties.items ≡ machine_count i * resource_count i
   pub way_costs : length i.raw.move_costs.items ≡ machine_count i * machine_count i
@@ -50,6 +69,10 @@ pub record Small (i : Tables) : Type 0 where
   pub process_weight : process_weight_of i < 2 ^ 32
   pub service_weight : service_weight_of i < 2 ^ 32
   pub machine_weight : machine_weight_of i < 2 ^ 32
+
+-- a flag for each machine, unless no flags are there
+abbrev pub IsFlagged : Tables → Type 0
+IsFlagged i = IfSome i.closed (λ flags. length flags.items ≡ machine_count i)
 
 -- each number of a table is below 2^32
 pub record IsSmallTable (table : List ℕ) : Type 0 where

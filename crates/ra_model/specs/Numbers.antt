@@ -169,3 +169,8 @@ all_open raw = record { raw = raw; closed = None }
 -- the same instance with these machines closed
 abbrev pub with_closed : Tables → Listed Bool → Tables
 with_closed i flags = record { raw = i.raw; closed = Some flags }
+
+-- the same instance with other processes, which require these numbers
+abbrev pub with_processes : Tables → Listed ProcessRow → Listed ℕ → Tables
+with_processes i rows requirements =
+    record i { raw = record i.raw { processes = rows; requirements = requirements } }

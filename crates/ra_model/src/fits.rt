@@ -1,6 +1,6 @@
 ghost use Rattle.std.specs.Prelude.{◌≡◌, ℕ, ◌*◌, ◌<◌, ◌≤◌, true, length};
 ghost use Rattle.std.specs.Bool.{Decides};
-ghost use Rattle.ra_model.specs.Limits.{WellFormed};
+ghost use Rattle.ra_model.specs.Limits.{WellFormed, most_resources, most_machines, most_services, most_processes, most_balances, most_dependencies};
 ghost use Rattle.ra_model.specs.Numbers.{all_open, resource_count, machine_count, service_count, process_count, balance_count, dependency_start, dependency_end, need_at, service_of, first_of, second_of};
 ghost use Rattle.ra_model.specs.Assignments.{IsAssignment};
 
@@ -52,15 +52,15 @@ fn is_within(count: usize, least: usize, most: usize) -> bool
 #[tactic(auto, unfolding(crate::specs::Numbers::resource_count, crate::specs::Numbers::machine_count, crate::specs::Numbers::service_count, crate::specs::Numbers::process_count, crate::specs::Numbers::balance_count))]
 fn counts_fit(raw: &RawInstance) -> bool
     ensures resources { result ≡ true → (1 ≤ resource_count (all_open raw.now)) ×
-        (resource_count (all_open raw.now) ≤ 20) }
+        (resource_count (all_open raw.now) ≤ most_resources) }
     ensures machines { result ≡ true → (1 ≤ machine_count (all_open raw.now)) ×
-        (machine_count (all_open raw.now) ≤ 5000) }
+        (machine_count (all_open raw.now) ≤ most_machines) }
     ensures services { result ≡ true → (1 ≤ service_count (all_open raw.now)) ×
-        (service_count (all_open raw.now) ≤ 50000) }
+        (service_count (all_open raw.now) ≤ most_services) }
     ensures processes { result ≡ true → (1 ≤ process_count (all_open raw.now)) ×
-        (process_count (all_open raw.now) ≤ 50000) }
-    ensures balances { result ≡ true → balance_count (all_open raw.now) ≤ 10 }
-    ensures dependencies { result ≡ true → length raw.now.dependencies.items ≤ 100000 }
+        (process_count (all_open raw.now) ≤ most_processes) }
+    ensures balances { result ≡ true → balance_count (all_open raw.now) ≤ most_balances }
+    ensures dependencies { result ≡ true → length raw.now.dependencies.items ≤ most_dependencies }
     ensures only { WellFormed (all_open raw.now) → result ≡ true }
 {
     is_within(raw.resources.len(), 1, 20)
@@ -74,9 +74,9 @@ fn counts_fit(raw: &RawInstance) -> bool
 /// Whether the tables have the lengths that the counts ask for.
 #[tactic(auto, unfolding(crate::specs::Numbers::resource_count, crate::specs::Numbers::machine_count, crate::specs::Numbers::process_count))]
 fn tables_fit(raw: &RawInstance) -> bool
-    requires resources { resource_count (all_open raw.now) ≤ 20 }
-    requires machines { machine_count (all_open raw.now) ≤ 5000 }
-    requires processes { process_count (all_open raw.now) ≤ 50000 }
+    requires resources { resource_count (all_open raw.now) ≤ most_resources }
+    requires machines { machine_count (all_open raw.now) ≤ most_machines }
+    requires processes { process_count (all_open raw.now) ≤ most_processes }
     ensures capacities { result ≡ true → length raw.now.capacities.items ≡
         machine_count (all_open raw.now) * resource_count (all_open raw.now) }
     ensures safeties { result ≡ true → length raw.now.safeties.items ≡

@@ -16,7 +16,7 @@ mod raw;
 mod tables;
 
 pub use assigned::machine_of;
-pub use copying::copies;
+pub use copying::{copied, copies};
 pub use labels::Places;
 pub use members::Members;
 pub use numbers::Instance;

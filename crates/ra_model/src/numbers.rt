@@ -1,22 +1,25 @@
-ghost use Rattle.std.specs.Prelude.{◌≡◌, ℕ, ◌+◌, ◌-◌, ◌*◌, ◌<◌, ◌≤◌, length, slice_index, slice_index_or};
-ghost use Rattle.ra_model.specs.Limits.{WellFormed, Small};
-ghost use Rattle.ra_model.specs.Numbers.{all_open, with_closed, resource_count, machine_count, service_count, process_count, balance_count, resource_row, machine_row, service_row, process_row, balance_row, transient_at, load_weight_of, neighbourhood_of, location_of, capacity_of, safety_of, way_cost_of, spread_of, dependency_count, dependency_start, dependency_end, need_of, service_of, requirement_of, process_cost_of, process_weight_of, service_weight_of, machine_weight_of, closed_at};
+ghost use Rattle.std.specs.Prelude.{◌≡◌, ℕ, ◌+◌, ◌-◌, ◌*◌, ◌<◌, ◌≤◌, length, slice_index, slice_index_or, IfOk};
+ghost use Rattle.std.proofs.Props.{props};
+ghost use Rattle.ra_model.specs.Limits.{WellFormed, Small, IsFlagged};
+ghost use Rattle.ra_model.specs.Numbers.{all_open, with_closed, with_processes, resource_count, machine_count, service_count, process_count, balance_count, resource_row, machine_row, service_row, process_row, balance_row, transient_at, load_weight_of, neighbourhood_of, location_of, capacity_of, safety_of, way_cost_of, spread_of, dependency_count, dependency_start, dependency_end, need_of, service_of, requirement_of, process_cost_of, process_weight_of, service_weight_of, machine_weight_of, closed_at};
 
 use crate::raw::{
     BalanceRow, MachineRow, ProcessRow, RawInstance, ResourceRow, ServiceRow, Tables,
 };
 use crate::tables::{number_at, numbers_in};
-use ra_base::{Fixed, Machine, Process, Resource, Service, Steps};
+use ra_base::{Fixed, Machine, NoMemory, Process, Resource, Service, Steps};
+use std::alloc::Global;
 use std::sync::ledger::Ledger;
 
 /// An instance: its tables have the lengths that its counts ask for, its counts are within the limits, and all that
 /// is named in it exists.
 #[derive(Drop)]
 pub struct Instance {
-    /// The numbers themselves. What their lists hold is read by the methods.
-    pub tables: Tables,
+    /// The numbers themselves. What their lists hold is read by the methods alone.
+    tables: Tables,
     pub ghost well_formed: { WellFormed tables },
     pub ghost small: { Small tables },
+    pub ghost flagged: { IsFlagged tables } by { Prim.hlevel props },
 }
 
 impl Instance {
@@ -43,6 +46,19 @@ impl Instance {
         let Instance { tables } = self;
         Instance {
             tables: tables.closing(flags),
+        }
+    }
+
+    /// The same instance with other processes, which require these numbers. The same machines are closed.
+    pub fn with_processes(self, rows: Fixed<ProcessRow>, requirements: Fixed<u32>) -> Instance
+        requires { WellFormed (with_processes self.tables rows requirements) }
+        ensures { result.tables ≡ with_processes self.tables rows requirements }
+    {
+        // Each requirement is below 2^32, by its type.
+        let _requirements = numbers_in(&requirements);
+        let Instance { tables } = self;
+        Instance {
+            tables: tables.with_processes(rows, requirements),
         }
     }
 
@@ -308,5 +324,13 @@ impl Instance {
         } else {
             self.service(Service(s.0 - 1)).dependency_end
         }
+    }
+
+    /// The same instance once more.
+    pub fn copied(&self, alloc: Global) -> Result<Instance, NoMemory>
+        ensures { IfOk result (λ copy. copy.tables ≡ self.now.tables) }
+    {
+        let tables = self.tables.copied(alloc)?;
+        Ok(Instance { tables })
     }
 }

@@ -119,7 +119,7 @@ impl Drop for Tables {
 }
 
 impl Tables {
-    ghost use Rattle.ra_model.specs.Numbers.{with_closed};
+    ghost use Rattle.ra_model.specs.Numbers.{with_closed, with_processes};
 
     /// The same lists with exactly the flagged machines closed.
     pub(crate) fn closing(self, flags: Fixed<bool>) -> Tables
@@ -130,5 +130,15 @@ impl Tables {
             raw,
             closed: Some(flags),
         }
+    }
+
+    /// The same lists with other processes, which require these numbers. The same machines are closed.
+    pub(crate) fn with_processes(self, rows: Fixed<ProcessRow>, requirements: Fixed<u32>) -> Tables
+        ensures { result ≡ with_processes self rows requirements }
+    {
+        let Tables { mut raw, closed } = self;
+        raw.processes = rows;
+        raw.requirements = requirements;
+        Tables { raw, closed }
     }
 }

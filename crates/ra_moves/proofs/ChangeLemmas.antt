@@ -13,6 +13,7 @@ use Rattle.ra_model.specs.Assignments.{tally}
 use Rattle.ra_model.specs.Usage.{use_of}
 use Rattle.ra_model.specs.Costs.{load_cost, balance_cost, process_share, process_cost, way_share, machine_cost}
 use Rattle.ra_model.specs.MachineCosts.{machine_load, machine_balance}
+use Rattle.ra_model.specs.Situations.{situation}
 use Rattle.ra_model.proofs.MachineLemmas.{load_by_machine, balance_by_machine, row_load_same, row_balance_same}
 use Rattle.ra_moves.specs.declared.steps.Step.{Step}
 use Rattle.ra_moves.specs.Replacing.{applied}
@@ -128,8 +129,9 @@ machine_change i a0 a b steps one other =
 -- all four together
 
 pub local_balance : (i : Tables) (a0 a b : List Machine) (steps : List Step) → WellFormed i → IsMove i a steps →
-    IsMove i b steps → HeldAlike i steps a b → local_cost i a0 (applied a steps) + local_cost i a0 b ≡
-    local_cost i a0 (applied b steps) + local_cost i a0 a
+    IsMove i b steps → HeldAlike i steps a b → local_cost (situation i a0 (applied a steps))
+    + local_cost (situation i a0 b) ≡
+    local_cost (situation i a0 (applied b steps)) + local_cost (situation i a0 a)
 unfolding local_cost
 local_balance i a0 a b steps limits one other alike =
     omega (
@@ -141,10 +143,13 @@ local_balance i a0 a b steps limits one other alike =
     )
 
 pub change_same : (i : Tables) (a0 a b : List Machine) (steps : List Step) → WellFormed i → IsMove i a steps →
-    IsMove i b steps → HeldAlike i steps a b → local_change i a0 a steps ≡ local_change i a0 b steps
+    IsMove i b steps → HeldAlike i steps a b → local_change (situation i a0 a) steps ≡ local_change (situation i a0 b)
+    steps
 unfolding local_change
-change_same i a0 a b steps limits one other alike = signed (local_cost i a0 (applied a steps)) (local_cost i a0 a)
-    (local_cost i a0 (applied b steps)) (local_cost i a0 b) (local_balance i a0 a b steps limits one other alike)
+change_same i a0 a b steps limits one other alike = signed (local_cost (situation i a0 (applied a steps)))
+    (local_cost (situation i a0 a))
+    (local_cost (situation i a0 (applied b steps))) (local_cost (situation i a0 b))
+    (local_balance i a0 a b steps limits one other alike)
   where
     signed : (x u y v : ℕ) → x + v ≡ y + u → (pos x -ℤ pos u) ≡ (pos y -ℤ pos v)
     signed x u y v same = omega (arith, ints)

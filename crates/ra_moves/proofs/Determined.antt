@@ -7,6 +7,7 @@ use Rattle.ra_base.specs.declared.ids.Machine.{Machine}
 use Rattle.ra_model.specs.declared.raw.Tables.{Tables}
 use Rattle.ra_model.specs.Limits.{WellFormed}
 use Rattle.ra_model.specs.Broken.{first_broken}
+use Rattle.ra_model.specs.Situations.{situation}
 use Rattle.ra_model.proofs.BrokenLemmas.{fine_from_unbroken}
 use Rattle.ra_moves.specs.declared.steps.Step.{Step}
 use Rattle.ra_moves.specs.declared.verdicts.Weighed.{Weighed}
@@ -101,8 +102,9 @@ both_move i a0 a b steps one other one_fine other_fine alike once = record {
 
 same_parts : (i : Tables) (a0 a b : List Machine) (steps : List Step) → WellFormed i → BothMove i a0 a b steps →
     SameParts (or_else (same_of steps) (first_broken i a0 (applied a steps)))
-    (or_else (same_of steps) (first_broken i a0 (applied b steps))) (local_change i a0 a steps)
-    (local_change i a0 b steps) (changed_count i a0 a steps) (changed_count i a0 b steps)
+    (or_else (same_of steps) (first_broken i a0 (applied b steps))) (local_change (situation i a0 a) steps)
+    (local_change (situation i a0 b) steps) (changed_count (situation i a0 a) steps)
+    (changed_count (situation i a0 b) steps)
 same_parts i a0 a b steps limits both = record {
   causes = ap (or_else (same_of steps)) (broken_same i a0 a b steps both);
   changes = change_same i a0 a b steps limits both.one both.other both.alike;
@@ -113,6 +115,7 @@ pub weighing_is_determined : WeighingIsDetermined
 unfolding weighed_of broken_by
 weighing_is_determined i a0 a b steps limits one other one_fine other_fine alike =
     unless_repeated (repeat_of steps) (or_else (same_of steps) (first_broken i a0 (applied a steps)))
-    (or_else (same_of steps) (first_broken i a0 (applied b steps))) (local_change i a0 a steps)
-    (local_change i a0 b steps) (changed_count i a0 a steps) (changed_count i a0 b steps)
+    (or_else (same_of steps) (first_broken i a0 (applied b steps))) (local_change (situation i a0 a) steps)
+    (local_change (situation i a0 b) steps) (changed_count (situation i a0 a) steps)
+    (changed_count (situation i a0 b) steps)
     (λ once. same_parts i a0 a b steps limits (both_move i a0 a b steps one other one_fine other_fine alike once))

@@ -8,6 +8,7 @@ use Rattle.ra_base.specs.Sums.{is_named}
 use Rattle.ra_base.specs.declared.ids.Machine.{Machine}
 use Rattle.ra_base.proofs.Named.{is_named_none, is_named_at, is_named_from}
 use Rattle.ra_model.specs.declared.raw.Tables.{Tables}
+use Rattle.ra_model.specs.Situations.{Situation}
 use Rattle.ra_moves.specs.declared.steps.Step.{Step}
 use Rattle.ra_moves.specs.Touched.{service_in}
 use Rattle.ra_moves.specs.Weighing.{moved_count, is_new_service, services_moved, count_at}
@@ -151,16 +152,16 @@ services_apart i steps (suc n) j k before within = ⊎_elim
 
 -- the counts by place
 
-pub count_there : (i : Tables) (a0 a : List Machine) (steps : List Step) (services : List ℕ) (k : ℕ) →
-    k < length services → count_at i a0 a steps services k ≡ Some (moved_count i a0 a steps (get_or services k 0))
+pub count_there : (st : Situation) (steps : List Step) (services : List ℕ) (k : ℕ) → k < length services →
+    count_at st steps services k ≡ Some (moved_count st steps (get_or services k 0))
 unfolding count_at
-count_there i a0 a steps [] k within = absurd (omega arith)
-count_there i a0 a steps (s ∷ rest) zero within = refl
-count_there i a0 a steps (s ∷ rest) (suc k) within = count_there i a0 a steps rest k (omega arith)
+count_there st steps [] k within = absurd (omega arith)
+count_there st steps (s ∷ rest) zero within = refl
+count_there st steps (s ∷ rest) (suc k) within = count_there st steps rest k (omega arith)
 
-pub count_past : (i : Tables) (a0 a : List Machine) (steps : List Step) (services : List ℕ) (k : ℕ) →
-    length services ≤ k → count_at i a0 a steps services k ≡ None
+pub count_past : (st : Situation) (steps : List Step) (services : List ℕ) (k : ℕ) → length services ≤ k →
+    count_at st steps services k ≡ None
 unfolding count_at
-count_past i a0 a steps [] k behind = refl
-count_past i a0 a steps (s ∷ rest) zero behind = absurd (omega arith)
-count_past i a0 a steps (s ∷ rest) (suc k) behind = count_past i a0 a steps rest k (omega arith)
+count_past st steps [] k behind = refl
+count_past st steps (s ∷ rest) zero behind = absurd (omega arith)
+count_past st steps (s ∷ rest) (suc k) behind = count_past st steps rest k (omega arith)

@@ -3,17 +3,15 @@
 use Rattle.std.specs.Prelude.{ℕ, ◌+◌, List, length, Option, Some, None, nat_lt, ◌==◌}
 use Rattle.ra_base.specs.Searches.{or_else, first}
 use Rattle.ra_base.specs.Sums.{is_named}
-use Rattle.ra_base.specs.declared.ids.Machine.{Machine}
 use Rattle.ra_base.specs.declared.causes.Cause.{Cause}
 use Rattle.ra_base.specs.declared.causes.Cause.TheVariants.{Repeat, Same, Rise}
-use Rattle.ra_model.specs.declared.raw.Tables.{Tables}
-use Rattle.ra_model.specs.Broken.{cause_if, first_broken}
-use Rattle.ra_model.specs.Costs.{objective}
+use Rattle.ra_model.specs.Broken.{cause_if}
+use Rattle.ra_model.specs.Situations.{Situation, broken_at, cost_at}
 use Rattle.ra_moves.specs.declared.steps.Step.{Step}
 use Rattle.ra_moves.specs.declared.verdicts.Verdict.{Verdict}
 use Rattle.ra_moves.specs.declared.verdicts.Verdict.TheVariants.{Done, Refused}
 use Rattle.ra_moves.specs.Steps.{process_in, from_in, to_in}
-use Rattle.ra_moves.specs.Replacing.{applied}
+use Rattle.ra_moves.specs.Replacing.{after_move}
 
 -- step j names a process of an earlier step
 unfoldable pub repeat_test : List Step → ℕ → Option Cause
@@ -32,10 +30,10 @@ same_test steps j =
 unfoldable pub same_of : List Step → Option Cause
 same_of steps = first (length steps) (same_test steps)
 
--- the cause other than Rise for which a move of assignment a, reached from a0, is refused
-unfoldable pub broken_by : Tables → List Machine → List Machine → List Step → Option Cause
-broken_by i a0 a steps =
-    or_else (repeat_of steps) (or_else (same_of steps) (first_broken i a0 (applied a steps)))
+-- the cause other than Rise for which a move is refused
+unfoldable pub broken_by : Situation → List Step → Option Cause
+broken_by st steps =
+    or_else (repeat_of steps) (or_else (same_of steps) (broken_at (after_move st steps)))
 
 -- the cost rises from before to after, which is by more than is allowed
 unfoldable pub rise_test : ℕ → ℕ → ℕ → Option Cause
@@ -47,8 +45,8 @@ unfoldable pub verdict_of : Option Cause → ℕ → Verdict
 verdict_of None cost = Done cost
 verdict_of (Some cause) cost = Refused cause
 
--- the verdict on a move of assignment a
-unfoldable pub judge : Tables → List Machine → List Machine → List Step → ℕ → Verdict
-judge i a0 a steps allowed =
-    let after = objective i a0 (applied a steps) in
-    verdict_of (or_else (broken_by i a0 a steps) (rise_test (objective i a0 a) after allowed)) after
+-- the verdict on a move
+unfoldable pub judge : Situation → List Step → ℕ → Verdict
+judge st steps allowed =
+    let after = cost_at (after_move st steps) in
+    verdict_of (or_else (broken_by st steps) (rise_test (cost_at st) after allowed)) after

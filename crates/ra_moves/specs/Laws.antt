@@ -8,6 +8,7 @@ use Rattle.ra_model.specs.Numbers.{machine_count, service_count, process_count, 
 use Rattle.ra_model.specs.Limits.{WellFormed}
 use Rattle.ra_model.specs.Broken.{first_broken, row_capacity, row_transient, conflict_test, service_conflict}
 use Rattle.ra_model.specs.Broken.{spread_test, pair_dependency, service_dependency, closed_test}
+use Rattle.ra_model.specs.Situations.{situation}
 use Rattle.ra_moves.specs.declared.steps.Step.{Step}
 use Rattle.ra_moves.specs.Steps.{process_in}
 use Rattle.ra_moves.specs.Replacing.{applied}
@@ -51,4 +52,4 @@ abbrev pub WeighingIsDetermined : Type 0
 WeighingIsDetermined =
     (i : Tables) (a0 a b : List Machine) (steps : List Step) → WellFormed i → IsOffered i a steps
     → IsOffered i b steps → first_broken i a0 a ≡ None → first_broken i a0 b ≡ None
-    → HeldAlike i steps a b → weighed_of i a0 a steps ≡ weighed_of i a0 b steps
+    → HeldAlike i steps a b → weighed_of (situation i a0 a) steps ≡ weighed_of (situation i a0 b) steps

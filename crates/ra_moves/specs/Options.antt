@@ -5,9 +5,9 @@ use Rattle.ra_base.specs.Searches.{least_place}
 use Rattle.ra_base.specs.declared.ids.Machine.{Machine}
 use Rattle.ra_base.specs.declared.causes.Drawing.{Drawing}
 use Rattle.ra_base.specs.declared.causes.Drawing.TheVariants.{One, Two}
-use Rattle.ra_model.specs.declared.raw.Tables.{Tables}
 use Rattle.ra_model.specs.Numbers.{machine_count}
 use Rattle.ra_model.specs.Assignments.{machine_at}
+use Rattle.ra_model.specs.Situations.{Situation}
 use Rattle.ra_moves.specs.declared.steps.MoveKind.{MoveKind}
 use Rattle.ra_moves.specs.declared.steps.MoveKind.TheVariants.{Shift, Swap, Chain}
 use Rattle.ra_moves.specs.declared.steps.Step.{Step}
@@ -84,15 +84,15 @@ done_cost (Done cost) = Some cost
 done_cost (Refused cause) = None
 
 -- the cost of option k, if it is judged Done
-unfoldable pub option_cost : Tables → List Machine → List Machine → List ℕ → Drawing → ℕ → ℕ
-    → Option ℕ
-option_cost i a0 a x d allowed k =
-    done_cost (judge i a0 a (option_at a x (machine_count i) d k).steps allowed)
+unfoldable pub option_cost : Situation → List ℕ → Drawing → ℕ → ℕ → Option ℕ
+option_cost st x d allowed k =
+    done_cost (judge st (option_at st.here x (machine_count st.tables) d k).steps allowed)
 
 -- the first option of least cost among those that are judged Done, and option 0 if there is none
-unfoldable pub plan_place : Tables → List Machine → List Machine → List ℕ → Drawing → ℕ → ℕ
-plan_place i a0 a x d allowed =
-    least_place (option_count x (machine_count i) d) (option_cost i a0 a x d allowed)
+unfoldable pub plan_place : Situation → List ℕ → Drawing → ℕ → ℕ
+plan_place st x d allowed =
+    least_place (option_count x (machine_count st.tables) d) (option_cost st x d allowed)
 
-unfoldable pub plan_of : Tables → List Machine → List Machine → List ℕ → Drawing → ℕ → MoveSteps
-plan_of i a0 a x d allowed = option_at a x (machine_count i) d (plan_place i a0 a x d allowed)
+unfoldable pub plan_of : Situation → List ℕ → Drawing → ℕ → MoveSteps
+plan_of st x d allowed =
+    option_at st.here x (machine_count st.tables) d (plan_place st x d allowed)

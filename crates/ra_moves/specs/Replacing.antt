@@ -2,6 +2,7 @@
 use Rattle.std.specs.Prelude.{◌≡◌, ◌≢◌, ℕ, zero, suc, ◌<◌, List, length, map, slice_set}
 use Rattle.ra_base.specs.declared.ids.Machine.{Machine}
 use Rattle.ra_model.specs.Assignments.{machine_at}
+use Rattle.ra_model.specs.Situations.{Situation}
 use Rattle.ra_moves.specs.declared.steps.Step.{Step}
 use Rattle.ra_moves.specs.Steps.{step_at, process_in, to_in}
 
@@ -21,6 +22,10 @@ after_steps a steps (suc n) =
 -- a after all steps
 unfoldable pub applied : List Machine → List Step → List Machine
 applied a steps = after_steps a steps (length steps)
+
+-- the situation after a move
+abbrev pub after_move : Situation → List Step → Situation
+after_move st steps = record st { here = applied st.here steps }
 
 -- the way back of a step, and of all
 unfoldable pub turned_step : Step → Step

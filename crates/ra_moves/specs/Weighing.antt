@@ -5,31 +5,32 @@ use Rattle.std.specs.Prelude.{None, if◌then◌else◌}
 use Rattle.ra_base.specs.Sums.{is_named}
 use Rattle.ra_base.specs.declared.causes.Cause.{Cause}
 use Rattle.ra_base.specs.declared.costs.MovedCount.{MovedCount}
-use Rattle.ra_base.specs.declared.ids.Machine.{Machine}
 use Rattle.ra_model.specs.declared.raw.Tables.{Tables}
-use Rattle.ra_model.specs.Services.{moved_of}
-use Rattle.ra_model.specs.Costs.{load_cost, balance_cost, process_cost, machine_cost}
+use Rattle.ra_model.specs.Costs.{load_cost, balance_cost}
+use Rattle.ra_model.specs.Situations.{Situation, moved_at, process_cost_at, machine_cost_at}
 use Rattle.ra_moves.specs.declared.steps.Step.{Step}
 use Rattle.ra_moves.specs.declared.verdicts.Weighed.{Weighed}
-use Rattle.ra_moves.specs.Replacing.{applied}
+use Rattle.ra_moves.specs.Replacing.{after_move}
 use Rattle.ra_moves.specs.Judging.{broken_by}
 use Rattle.ra_moves.specs.Touched.{service_in}
 
 -- load, balance, process and machine cost together
-unfoldable pub local_cost : Tables → List Machine → List Machine → ℕ
-local_cost i a0 a = load_cost i a + balance_cost i a + process_cost i a0 a + machine_cost i a0 a
+unfoldable pub local_cost : Situation → ℕ
+local_cost st =
+    load_cost st.tables st.here + balance_cost st.tables st.here + process_cost_at st
+    + machine_cost_at st
 
 -- how much of it a move adds or takes away
-unfoldable pub local_change : Tables → List Machine → List Machine → List Step → ℤ
-local_change i a0 a steps = pos (local_cost i a0 (applied a steps)) -ℤ pos (local_cost i a0 a)
+unfoldable pub local_change : Situation → List Step → ℤ
+local_change st steps = pos (local_cost (after_move st steps)) -ℤ pos (local_cost st)
 
 -- a service with its moved counts before and after a move
-unfoldable pub moved_count : Tables → List Machine → List Machine → List Step → ℕ → MovedCount
-moved_count i a0 a steps s =
+unfoldable pub moved_count : Situation → List Step → ℕ → MovedCount
+moved_count st steps s =
     record {
       service = record { 0 = s };
-      before = moved_of i a0 a s;
-      after = moved_of i a0 (applied a steps) s;
+      before = moved_at st s;
+      after = moved_at (after_move st steps) s;
     }
 
 -- no step before step j moves its service
@@ -44,16 +45,14 @@ services_moved i steps (suc n) =
     else services_moved i steps n
 
 -- the moved counts of service k of some, if there are as many
-unfoldable pub count_at : Tables → List Machine → List Machine → List Step → List ℕ → ℕ
-    → Option MovedCount
-count_at i a0 a steps [] k = None
-count_at i a0 a steps (s ∷ rest) zero = Some (moved_count i a0 a steps s)
-count_at i a0 a steps (s ∷ rest) (suc k) = count_at i a0 a steps rest k
+unfoldable pub count_at : Situation → List Step → List ℕ → ℕ → Option MovedCount
+count_at st steps [] k = None
+count_at st steps (s ∷ rest) zero = Some (moved_count st steps s)
+count_at st steps (s ∷ rest) (suc k) = count_at st steps rest k
 
 -- the moved counts of the different services of a move, in the order of its steps
-unfoldable pub changed_count : Tables → List Machine → List Machine → List Step → ℕ
-    → Option MovedCount
-changed_count i a0 a steps k = count_at i a0 a steps (services_moved i steps (length steps)) k
+unfoldable pub changed_count : Situation → List Step → ℕ → Option MovedCount
+changed_count st steps k = count_at st steps (services_moved st.tables steps (length steps)) k
 
 -- if a cause is there, nothing else is told
 unfoldable pub weighed_by : Option Cause → ℤ → (ℕ → Option MovedCount) → Weighed
@@ -62,8 +61,8 @@ weighed_by None local counts =
 weighed_by (Some cause) local counts =
     record { broken = Some cause; local = pos 0; first = None; second = None; third = None }
 
--- the weighing of a move of assignment a, reached from a0: the cause other than Rise for which it is refused; else the
+-- the weighing of a move: the cause other than Rise for which it is refused; else the
 -- change of load, balance, process and machine cost together, and the moved counts of the different services
-unfoldable pub weighed_of : Tables → List Machine → List Machine → List Step → Weighed
-weighed_of i a0 a steps =
-    weighed_by (broken_by i a0 a steps) (local_change i a0 a steps) (changed_count i a0 a steps)
+unfoldable pub weighed_of : Situation → List Step → Weighed
+weighed_of st steps =
+    weighed_by (broken_by st steps) (local_change st steps) (changed_count st steps)

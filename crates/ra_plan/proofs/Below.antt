@@ -4,27 +4,25 @@ use Rattle.std.proofs.Common.{sym, ap, ap₂, ◌∙◌}
 use Rattle.std.proofs.lemmas.Bool.{both_ways}
 use Rattle.ra_base.specs.Searches.{is_better, least, or_else}
 use Rattle.ra_base.specs.declared.causes.Drawing.{Drawing}
-use Rattle.ra_base.specs.declared.ids.Machine.{Machine}
 use Rattle.ra_base.proofs.Least.{least_better, least_kept}
 use Rattle.ra_base.proofs.Searches.{right_none}
-use Rattle.ra_model.specs.declared.raw.Tables.{Tables}
-use Rattle.ra_model.specs.Broken.{first_broken}
+use Rattle.ra_model.specs.Situations.{Situation, broken_at, cost_at}
 use Rattle.ra_model.proofs.BrokenLemmas.{fine_from_unbroken}
 use Rattle.ra_moves.specs.declared.steps.Step.{Step}
 use Rattle.ra_moves.specs.Judging.{repeat_of, same_of, broken_by}
-use Rattle.ra_moves.specs.Replacing.{applied}
-use Rattle.ra_moves.specs.Moving.{IsMove}
+use Rattle.ra_moves.specs.Replacing.{applied, after_move}
+use Rattle.ra_moves.specs.Moving.{MayMove}
 use Rattle.ra_weigh_changes.specs.Room.{HaveRoom}
 use Rattle.ra_weigh_changes.proofs.RoomLemmas.{room_kept}
 use Rattle.ra_weigh_shift.specs.Arriving.{cost_now}
-use Rattle.ra_world.specs.declared.world.World.{World}
 use Rattle.ra_plan.specs.Choosing.{IsBest, cost_in, steps_in, bound_of}
-use Rattle.ra_plan.specs.Deciding.{IsMoveBelow, cause_at, cost_at}
+use Rattle.ra_plan.specs.Deciding.{IsMoveBelow, cause_at}
 use Rattle.ra_plan.specs.declared.best.Best.{Best}
 use Rattle.ra_plan.proofs.Bests.{worse_at, better_at, best_within, cost_means, cost_comes}
 
 -- no cost, and a cost
-pub none_below : (w : World) (steps : List Step) (bound : ℕ) → (cause_at w steps ≡ None → bound ≤ cost_at w steps) →
+pub none_below : (w : Situation) (steps : List Step) (bound : ℕ) →
+    (cause_at w steps ≡ None → bound ≤ cost_at (after_move w steps)) →
     IsMoveBelow w steps bound None
 none_below w steps bound high = record {
   free = λ n is. absurd (cc);
@@ -33,7 +31,8 @@ none_below w steps bound high = record {
   none = λ is free. high free;
 }
 
-pub some_below : (w : World) (steps : List Step) (bound cost : ℕ) → cause_at w steps ≡ None → cost ≡ cost_at w steps →
+pub some_below : (w : Situation) (steps : List Step) (bound cost : ℕ) → cause_at w steps ≡ None →
+    cost ≡ cost_at (after_move w steps) →
     cost < bound → IsMoveBelow w steps bound (Some cost)
 some_below w steps bound cost free is low = record {
   free = λ n same. free;
@@ -43,23 +42,23 @@ some_below w steps bound cost free is low = record {
 }
 
 -- if nothing is broken, there is room
-pub room_free : (i : Tables) (a0 a : List Machine) (steps : List Step) → IsMove i a steps →
-    broken_by i a0 a steps ≡ None → HaveRoom i (applied a steps) steps (length steps)
+pub room_free : (st : Situation) (steps : List Step) → MayMove st steps →
+    broken_by st steps ≡ None → HaveRoom st.tables (applied st.here steps) steps (length steps)
 unfolding broken_by
-room_free i a0 a steps move none =
-    let rest = right_none (repeat_of steps) (or_else (same_of steps) (first_broken i a0 (applied a steps))) none in
-    let fine = fine_from_unbroken i a0 (applied a steps)
-    (right_none (same_of steps) (first_broken i a0 (applied a steps)) rest) in
-    room_kept i a steps move fine.capacity
+room_free st steps move none =
+    let rest = right_none (repeat_of steps) (or_else (same_of steps) (broken_at (after_move st steps))) none in
+    let fine = fine_from_unbroken st.tables st.start (applied st.here steps)
+    (right_none (same_of steps) (broken_at (after_move st steps)) rest) in
+    room_kept st.tables st.here steps move fine.capacity
 
 -- a test that fails though it holds if nothing is broken
-pub unfit_below : {Fits : Type 0} (w : World) (steps : List Step) (bound : ℕ) (fits : Bool) → (fits ≡ true) ↔ Fits →
+pub unfit_below : {Fits : Type 0} (w : Situation) (steps : List Step) (bound : ℕ) (fits : Bool) → (fits ≡ true) ↔ Fits →
     fits ≡ false → (cause_at w steps ≡ None → Fits) → IsMoveBelow w steps bound None
 unfit_below w steps bound fits (gives, back) unfit holds =
     none_below w steps bound (λ none. absurd (both_ways fits unfit (back (holds none))))
 
 -- a move without a cost below the bound changes nothing
-pub move_stays : (w : World) (x : List ℕ) (d : Drawing) (allowed n : ℕ) (steps : List Step) (best : Best)
+pub move_stays : (w : Situation) (x : List ℕ) (d : Drawing) (allowed n : ℕ) (steps : List Step) (best : Best)
     (found : Option ℕ) → IsBest w x d allowed n best → steps_in w x d n ≡ steps →
     IsMoveBelow w steps (bound_of best.cost (cost_now w + allowed + 1)) found → found ≡ None →
     IsBest w x d allowed (n + 1) best
@@ -76,7 +75,7 @@ move_stays w x d allowed n steps best found is same below none =
     record { cost = is.cost ∙ sym kept.0; option = is.option ∙ sym kept.1 }
 
 -- and one with such a cost is the best
-pub move_found : (w : World) (x : List ℕ) (d : Drawing) (allowed n cost : ℕ) (steps : List Step) (best : Best)
+pub move_found : (w : Situation) (x : List ℕ) (d : Drawing) (allowed n cost : ℕ) (steps : List Step) (best : Best)
     (found : Option ℕ) → IsBest w x d allowed n best → steps_in w x d n ≡ steps →
     IsMoveBelow w steps (bound_of best.cost (cost_now w + allowed + 1)) found → found ≡ Some cost →
     IsBest w x d allowed (n + 1) (record { cost = found; option = n })
@@ -85,7 +84,7 @@ move_found w x d allowed n cost steps best found is same below some =
     let most = cost_now w + allowed + 1 in
     let value = below.found cost some in
     let under = below.below cost some in
-    let low : cost_at w steps ≤ cost_now w + allowed =
+    let low : cost_at (after_move w steps) ≤ cost_now w + allowed =
     omega (arith, value, under, best_within w x d allowed n best is) in
     let here : f n ≡ Some cost = cost_comes w x d allowed n steps same (below.free cost some) low
     ∙ ap (λ (c : ℕ). Some c) (sym value) in

@@ -19,11 +19,10 @@ use Rattle.ra_moves.specs.declared.verdicts.Verdict.{Verdict}
 use Rattle.ra_moves.specs.declared.verdicts.Weighed.{Weighed}
 use Rattle.ra_moves.specs.declared.verdicts.Verdict.TheVariants.{Done, Refused}
 use Rattle.ra_model.specs.Broken.{cause_if}
-use Rattle.ra_model.specs.Costs.{objective}
+use Rattle.ra_model.specs.Situations.{Situation, cost_at, IsSound}
 use Rattle.ra_model.proofs.BoundLemmas.{objective_under}
 use Rattle.ra_model.proofs.BrokenLemmas.{cause_free}
 use Rattle.ra_moves.specs.Judging.{judge, broken_by, rise_test, verdict_of}
-use Rattle.ra_moves.specs.Replacing.{applied}
 use Rattle.ra_weigh_shift.specs.Arriving.{cost_after, cost_now, IsCostBelow}
 use Rattle.ra_moves.proofs.Repeats.{distinct_from_none}
 use Rattle.ra_moves.proofs.OptionLemmas.{option_stands, option_reaches}
@@ -32,14 +31,14 @@ use Rattle.ra_moves.specs.MoveSteps.{MoveSteps}
 use Rattle.ra_moves.specs.declared.steps.MoveKind.TheVariants.{Shift}
 use Rattle.ra_moves.specs.Options.{kind_of, option_count, drawn, target, leaving, option_at, option_cost, done_cost}
 use Rattle.ra_moves.specs.Options.{plan_place, plan_of}
-use Rattle.ra_world.specs.declared.world.World.{World}
+use Rattle.ra_moves.specs.Replacing.{after_move}
 use Rattle.ra_plan.specs.Choosing.{IsBest, cost_in, steps_in, bound_of}
 use Rattle.ra_plan.specs.Deciding.{IsPlanned}
 use Rattle.ra_plan.specs.declared.best.Best.{Best}
 use Rattle.ra_plan.proofs.OptionSizes.{option_few, option_some, shift_steps, least_place_below}
 
 -- no option so far
-pub best_none : (w : World) (x : List ℕ) (d : Drawing) (allowed : ℕ) (best : Best) → best.cost ≡ None →
+pub best_none : (w : Situation) (x : List ℕ) (d : Drawing) (allowed : ℕ) (best : Best) → best.cost ≡ None →
     best.option ≡ 0 → IsBest w x d allowed 0 best
 best_none w x d allowed best cost option = record {
   cost = cost ∙ sym (least_none (cost_in w x d allowed));
@@ -47,8 +46,8 @@ best_none w x d allowed best cost option = record {
 }
 
 -- the cost of an option from the verdict on it
-cost_of : (w : World) (x : List ℕ) (d : Drawing) (allowed n : ℕ) (verdict : Verdict) →
-    verdict ≡ judge w.inst.now.tables w.start.now.items w.kept.assignment.items (steps_in w x d n) allowed →
+cost_of : (w : Situation) (x : List ℕ) (d : Drawing) (allowed n : ℕ) (verdict : Verdict) →
+    verdict ≡ judge w (steps_in w x d n) allowed →
     cost_in w x d allowed n ≡ done_cost verdict
 unfolding cost_in option_cost steps_in
 cost_of w x d allowed n verdict is = ap done_cost (sym is)
@@ -57,7 +56,8 @@ true_is_not : true ≡ false → ⊥
 true_is_not is = absurd (cc is)
 
 -- an option that isn't done changes nothing
-pub best_skipped : (w : World) (x : List ℕ) (d : Drawing) (allowed n : ℕ) (best : Best) → IsBest w x d allowed n best →
+pub best_skipped : (w : Situation) (x : List ℕ) (d : Drawing) (allowed n : ℕ) (best : Best) →
+    IsBest w x d allowed n best →
     cost_in w x d allowed n ≡ None → IsBest w x d allowed (n + 1) best
 best_skipped w x d allowed n best is none =
     let f : ℕ → Option ℕ = cost_in w x d allowed in
@@ -67,16 +67,16 @@ best_skipped w x d allowed n best is none =
       option = is.option ∙ sym (least_place_more n f ∙ ap (λ (b : Bool). cond b n (least_place n f)) worse);
     }
 
-pub best_refused : (w : World) (x : List ℕ) (d : Drawing) (allowed n : ℕ) (best : Best) (cause : Cause) →
-    IsBest w x d allowed n best → Refused cause ≡ judge w.inst.now.tables w.start.now.items w.kept.assignment.items
+pub best_refused : (w : Situation) (x : List ℕ) (d : Drawing) (allowed n : ℕ) (best : Best) (cause : Cause) →
+    IsBest w x d allowed n best → Refused cause ≡ judge w
     (steps_in w x d n) allowed → IsBest w x d allowed (n + 1) best
 unfolding done_cost
 best_refused w x d allowed n best cause is verdict =
     best_skipped w x d allowed n best is (cost_of w x d allowed n (Refused cause) verdict)
 
 -- one that is done at a lower cost is the best from then on
-pub best_done : (w : World) (x : List ℕ) (d : Drawing) (allowed n cost : ℕ) (best : Best) →
-    IsBest w x d allowed n best → Done cost ≡ judge w.inst.now.tables w.start.now.items w.kept.assignment.items
+pub best_done : (w : Situation) (x : List ℕ) (d : Drawing) (allowed n cost : ℕ) (best : Best) →
+    IsBest w x d allowed n best → Done cost ≡ judge w
     (steps_in w x d n) allowed →
     IsBest w x d allowed (n + 1) (cond (is_better (Some cost) best.cost) (record { cost = Some cost; option = n }) best)
 unfolding done_cost
@@ -109,16 +109,16 @@ unfolding or_else verdict_of done_cost
 refused_cost None rise after there = absurd (there refl)
 refused_cost (Some cause) rise after there = refl
 
-pub broken_cost : (w : World) (x : List ℕ) (d : Drawing) (allowed n : ℕ) →
-    broken_by w.inst.now.tables w.start.now.items w.kept.assignment.items (steps_in w x d n) ≢ None →
+pub broken_cost : (w : Situation) (x : List ℕ) (d : Drawing) (allowed n : ℕ) →
+    broken_by w (steps_in w x d n) ≢ None →
     cost_in w x d allowed n ≡ None
 unfolding cost_in option_cost steps_in judge
 broken_cost w x d allowed n broken = refused_cost _ _ _ broken
 
 -- the same, of an option that a test has found broken
-pub best_broken : (w : World) (x : List ℕ) (d : Drawing) (allowed n : ℕ) (best : Best) (steps : List Step)
+pub best_broken : (w : Situation) (x : List ℕ) (d : Drawing) (allowed n : ℕ) (best : Best) (steps : List Step)
     (unbroken : Bool) →
-    (unbroken ≡ true) ↔ (broken_by w.inst.now.tables w.start.now.items w.kept.assignment.items steps ≡ None) →
+    (unbroken ≡ true) ↔ (broken_by w steps ≡ None) →
     unbroken ≡ false → IsBest w x d allowed n best → steps_in w x d n ≡ steps → IsBest w x d allowed (n + 1) best
 best_broken w x d allowed n best steps unbroken (gives, back) unfit is same =
     best_skipped w x d allowed n best is
@@ -139,47 +139,42 @@ option_offered i a x d k formed fits once =
     }
 
 -- the same of steps that are those of an option
-pub steps_offered : (w : World) (x : List ℕ) (d : Drawing) (k : ℕ) (steps : List Step) → steps_in w x d k ≡ steps →
-    IsOffered w.inst.now.tables w.kept.assignment.items steps
-unfolding steps_in
-steps_offered w x d k steps same = rw (← same) (option_offered _ _ x d k w.inst.now.well_formed w.keeps.stand.fits)
-
 -- what is told of the steps of an option is told of the option
-pub judged_in : (w : World) (x : List ℕ) (d : Drawing) (allowed n : ℕ) (steps : List Step) (verdict : Verdict) →
-    steps_in w x d n ≡ steps → verdict ≡ judge w.inst.now.tables w.start.now.items w.kept.assignment.items steps
-    allowed → verdict ≡ judge w.inst.now.tables w.start.now.items w.kept.assignment.items (steps_in w x d n) allowed
+pub judged_in : (w : Situation) (x : List ℕ) (d : Drawing) (allowed n : ℕ) (steps : List Step) (verdict : Verdict) →
+    steps_in w x d n ≡ steps → verdict ≡ judge w steps
+    allowed → verdict ≡ judge w (steps_in w x d n) allowed
 judged_in w x d allowed n steps verdict same is = rw same is
 
 -- what is resolved over m machines is the option
-pub option_in : (w : World) (x : List ℕ) (d : Drawing) (m k : ℕ) (mv : MoveSteps) →
-    m ≡ machine_count w.inst.now.tables → mv ≡ option_at w.kept.assignment.items x m d k → steps_in w x d k ≡ mv.steps
+pub option_in : (w : Situation) (x : List ℕ) (d : Drawing) (m k : ℕ) (mv : MoveSteps) →
+    m ≡ machine_count w.tables → mv ≡ option_at w.here x m d k → steps_in w x d k ≡ mv.steps
 unfolding steps_in
 option_in w x d m k mv machines is = ap (λ (v : MoveSteps). v.steps) (sym (rw machines at is))
 
-pub shift_in : (w : World) (x : List ℕ) (d : Drawing) (m k p to : ℕ) → m ≡ machine_count w.inst.now.tables →
-    kind_of x ≡ Shift → p ≡ drawn w.kept.assignment.items x 1 → to ≡ target d x m k →
-    steps_in w x d k ≡ leaving w.kept.assignment.items p to ∷ []
+pub shift_in : (w : Situation) (x : List ℕ) (d : Drawing) (m k p to : ℕ) → m ≡ machine_count w.tables →
+    kind_of x ≡ Shift → p ≡ drawn w.here x 1 → to ≡ target d x m k →
+    steps_in w x d k ≡ leaving w.here p to ∷ []
 unfolding steps_in
 shift_in w x d m k p to machines is process machine = shift_steps _ x _ d k p to is process (rw machines at machine)
 
 -- the best of all options is the plan
-pub best_planned : (w : World) (x : List ℕ) (d : Drawing) (allowed m : ℕ) (best : Best) (mv : MoveSteps) →
-    m ≡ machine_count w.inst.now.tables → IsBest w x d allowed (option_count x (machine_count w.inst.now.tables) d)
-    best → mv ≡ option_at w.kept.assignment.items x m d best.option →
-    mv ≡ plan_of w.inst.now.tables w.start.now.items w.kept.assignment.items x d allowed
+pub best_planned : (w : Situation) (x : List ℕ) (d : Drawing) (allowed m : ℕ) (best : Best) (mv : MoveSteps) →
+    m ≡ machine_count w.tables → IsBest w x d allowed (option_count x (machine_count w.tables) d)
+    best → mv ≡ option_at w.here x m d best.option →
+    mv ≡ plan_of w x d allowed
 unfolding plan_of plan_place cost_in
 best_planned w x d allowed m best mv machines is option = rw (machines, is.option) at option
 
 -- a plan of a move is one of the same move
-pub planned_same : (w : World) (x : List ℕ) (d : Drawing) (allowed : ℕ) (mv same : MoveSteps) (weighed : Weighed) →
+pub planned_same : (w : Situation) (x : List ℕ) (d : Drawing) (allowed : ℕ) (mv same : MoveSteps) (weighed : Weighed) →
     mv ≡ same → IsPlanned w x d allowed same weighed → IsPlanned w x d allowed mv weighed
 planned_same w x d allowed mv same weighed is planned =
     subst (λ (m : MoveSteps). IsPlanned w x d allowed m weighed) (sym is) planned
 
 -- and it is one of them
-pub best_below : (w : World) (x : List ℕ) (d : Drawing) (allowed m : ℕ) (best : Best) →
-    m ≡ machine_count w.inst.now.tables → 1 ≤ m →
-    IsBest w x d allowed (option_count x (machine_count w.inst.now.tables) d) best → best.option < option_count x m d
+pub best_below : (w : Situation) (x : List ℕ) (d : Drawing) (allowed m : ℕ) (best : Best) →
+    m ≡ machine_count w.tables → 1 ≤ m →
+    IsBest w x d allowed (option_count x (machine_count w.tables) d) best → best.option < option_count x m d
 best_below w x d allowed m best machines some is =
     let n : ℕ = option_count x m d in
     let place : best.option ≡ least_place n (cost_in w x d allowed) = rw machines is.option in
@@ -217,54 +212,56 @@ done_within before after allowed low = ap (λ (o : Option Cause). done_cost (ver
     (not_above (before + allowed) after (ltb (before + allowed) after) refl low))
 
 -- an option with a cost breaks nothing, and the cost is that after it and rises by no more than is allowed
-pub cost_means : (w : World) (x : List ℕ) (d : Drawing) (allowed n cost : ℕ) (steps : List Step) →
+pub cost_means : (w : Situation) (x : List ℕ) (d : Drawing) (allowed n cost : ℕ) (steps : List Step) →
     steps_in w x d n ≡ steps → cost_in w x d allowed n ≡ Some cost →
-    (broken_by w.inst.now.tables w.start.now.items w.kept.assignment.items steps ≡ None)
-    × (cost ≡ objective w.inst.now.tables w.start.now.items (applied w.kept.assignment.items steps))
+    (broken_by w steps ≡ None)
+    × (cost ≡ cost_at (after_move w steps))
     × (cost ≤ cost_now w + allowed)
 unfolding cost_in option_cost steps_in judge
 cost_means w x d allowed n cost steps same is =
     let here = ap (λ (s : List Step).
-    done_cost (judge w.inst.now.tables w.start.now.items w.kept.assignment.items s allowed)) (sym same) ∙ is in
-    by_cause (broken_by w.inst.now.tables w.start.now.items w.kept.assignment.items steps) (cost_now w)
-    (objective w.inst.now.tables w.start.now.items (applied w.kept.assignment.items steps)) allowed cost here
+    done_cost (judge w s allowed)) (sym same) ∙ is in
+    by_cause (broken_by w steps) (cost_now w)
+    (cost_at (after_move w steps)) allowed cost here
 
 -- and one that does so has that cost
-pub cost_comes : (w : World) (x : List ℕ) (d : Drawing) (allowed n : ℕ) (steps : List Step) → steps_in w x d n ≡ steps →
-    broken_by w.inst.now.tables w.start.now.items w.kept.assignment.items steps ≡ None →
-    objective w.inst.now.tables w.start.now.items (applied w.kept.assignment.items steps) ≤ cost_now w + allowed →
+pub cost_comes : (w : Situation) (x : List ℕ) (d : Drawing) (allowed n : ℕ) (steps : List Step) →
+    steps_in w x d n ≡ steps →
+    broken_by w steps ≡ None →
+    cost_at (after_move w steps) ≤ cost_now w + allowed →
     cost_in w x d allowed n ≡
-    Some (objective w.inst.now.tables w.start.now.items (applied w.kept.assignment.items steps))
+    Some (cost_at (after_move w steps))
 unfolding cost_in option_cost steps_in judge
 cost_comes w x d allowed n steps same none low =
-    let after = objective w.inst.now.tables w.start.now.items (applied w.kept.assignment.items steps) in
-    ap (λ (s : List Step). done_cost (judge w.inst.now.tables w.start.now.items w.kept.assignment.items s allowed)) same
+    let after = cost_at (after_move w steps) in
+    ap (λ (s : List Step). done_cost (judge w s allowed)) same
     ∙ ap (λ (o : Option Cause). done_cost (verdict_of (or_else o (rise_test (cost_now w) after allowed)) after)) none
     ∙ done_within (cost_now w) after allowed low
 
 -- the best so far is one of them
-pub best_means : (w : World) (x : List ℕ) (d : Drawing) (allowed n cost : ℕ) (best : Best) (steps : List Step) →
+pub best_means : (w : Situation) (x : List ℕ) (d : Drawing) (allowed n cost : ℕ) (best : Best) (steps : List Step) →
     IsBest w x d allowed n best → steps_in w x d best.option ≡ steps → best.cost ≡ Some cost →
-    (broken_by w.inst.now.tables w.start.now.items w.kept.assignment.items steps ≡ None)
-    × (cost ≡ objective w.inst.now.tables w.start.now.items (applied w.kept.assignment.items steps))
+    (broken_by w steps ≡ None)
+    × (cost ≡ cost_at (after_move w steps))
     × (cost ≤ cost_now w + allowed)
 best_means w x d allowed n cost best steps is same there =
     let found = least_means n cost (cost_in w x d allowed) (sym is.cost ∙ there) in
-    cost_means w x d allowed best.option cost steps same (ap (cost_in w x d allowed) is.option ∙ found.answer)
+    cost_means w x d allowed best.option cost steps same
+    (ap (cost_in w x d allowed) is.option ∙ found.answer)
 
-pub best_unbroken : (w : World) (x : List ℕ) (d : Drawing) (allowed n cost : ℕ) (best : Best) (steps : List Step) →
+pub best_unbroken : (w : Situation) (x : List ℕ) (d : Drawing) (allowed n cost : ℕ) (best : Best) (steps : List Step) →
     IsBest w x d allowed n best → steps_in w x d best.option ≡ steps → best.cost ≡ Some cost →
-    broken_by w.inst.now.tables w.start.now.items w.kept.assignment.items steps ≡ None
+    broken_by w steps ≡ None
 best_unbroken w x d allowed n cost best steps is same there =
     (best_means w x d allowed n cost best steps is same there).0
 
-pub best_free : (w : World) (x : List ℕ) (d : Drawing) (allowed n : ℕ) (best : Best) (steps : List Step) →
+pub best_free : (w : Situation) (x : List ℕ) (d : Drawing) (allowed n : ℕ) (best : Best) (steps : List Step) →
     IsBest w x d allowed n best → steps_in w x d best.option ≡ steps → is_some best.cost ≡ true →
-    broken_by w.inst.now.tables w.start.now.items w.kept.assignment.items steps ≡ None
+    broken_by w steps ≡ None
 best_free w x d allowed n best steps is same some = by_cost best.cost refl some
   where
     by_cost : (o : Option ℕ) → best.cost ≡ o → is_some o ≡ true →
-        broken_by w.inst.now.tables w.start.now.items w.kept.assignment.items steps ≡ None
+        broken_by w steps ≡ None
     by_cost None e there = absurd (omega (arith, ap (λ (b : Bool). cond {A = ℕ} b 1 0) there))
     by_cost (Some cost) e there = best_unbroken w x d allowed n cost best steps is same e
 
@@ -274,21 +271,26 @@ unfolding bound_of
 bound_low None most low = omega arith
 bound_low (Some b) most low = omega (arith, low b refl)
 
-pub best_within : (w : World) (x : List ℕ) (d : Drawing) (allowed n : ℕ) (best : Best) → IsBest w x d allowed n best →
+pub best_within : (w : Situation) (x : List ℕ) (d : Drawing) (allowed n : ℕ) (best : Best) →
+    IsBest w x d allowed n best →
     bound_of best.cost (cost_now w + allowed + 1) ≤ cost_now w + allowed + 1
 best_within w x d allowed n best is =
     bound_low best.cost (cost_now w + allowed + 1)
-    (λ b there. omega (arith, (best_means w x d allowed n b best (steps_in w x d best.option) is refl there).2))
+    (λ b there. omega (
+      arith,
+      (best_means w x d allowed n b best (steps_in w x d best.option) is refl
+          there).2,
+    ))
 
-pub bound_fits : (w : World) (x : List ℕ) (d : Drawing) (allowed n most : ℕ) (best : Best) →
-    IsBest w x d allowed n best → most ≡ cost_now w + allowed + 1 → allowed < 2 ^ 64 → bound_of best.cost most ≤ 2 ^ 120
-bound_fits w x d allowed n most best is most_is few =
+pub bound_fits : (w : Situation) (x : List ℕ) (d : Drawing) (allowed n most : ℕ) (best : Best) →
+    IsSound w → IsBest w x d allowed n best → most ≡ cost_now w + allowed + 1 → allowed < 2 ^ 64 →
+    bound_of best.cost most ≤ 2 ^ 120
+bound_fits w x d allowed n most best sound is most_is few =
     rw most_is (omega (
       arith,
       best_within w x d allowed n best is,
       few,
-      objective_under w.inst.now.tables w.start.now.items w.kept.assignment.items w.inst.now.well_formed
-          w.inst.now.small,
+      objective_under w.tables w.start w.here sound.well_formed sound.small,
     ))
 
 -- an option without a cost below the bound changes nothing
@@ -304,15 +306,16 @@ unfolding bound_of is_better
 better_at None c most below = refl
 better_at (Some b) c most below = is_above c b (ltb c b) refl below
 
-pub best_stays : (w : World) (x : List ℕ) (d : Drawing) (allowed n p to : ℕ) (best : Best) (found : Option ℕ) →
-    IsBest w x d allowed n best → steps_in w x d n ≡ leaving w.kept.assignment.items p to ∷ [] →
+pub best_stays : (w : Situation) (x : List ℕ) (d : Drawing) (allowed n p to : ℕ) (best : Best)
+    (found : Option ℕ) →
+    IsBest w x d allowed n best → steps_in w x d n ≡ leaving w.here p to ∷ [] →
     IsCostBelow w p to (bound_of best.cost (cost_now w + allowed + 1)) found → found ≡ None →
     IsBest w x d allowed (n + 1) best
 best_stays w x d allowed n p to best found is same below none =
     let f : ℕ → Option ℕ = cost_in w x d allowed in
     let most = cost_now w + allowed + 1 in
     let above = λ (c : ℕ) (here : f n ≡ Some c).
-    let means = cost_means w x d allowed n c (leaving w.kept.assignment.items p to ∷ []) same here in
+    let means = cost_means w x d allowed n c (leaving w.here p to ∷ []) same here in
     let low = below.none none means.0 in
     let under : bound_of (least n f) most ≤ c = omega (arith, ap (λ o. bound_of o most) is.cost, low, means.1) in
     let both : (bound_of (least n f) most ≤ c) × (c < most) = (under, omega (arith, means.2)) in
@@ -321,8 +324,9 @@ best_stays w x d allowed n p to best found is same below none =
     record { cost = is.cost ∙ sym kept.0; option = is.option ∙ sym kept.1 }
 
 -- and one with such a cost is the best
-pub best_found : (w : World) (x : List ℕ) (d : Drawing) (allowed n p to cost : ℕ) (best : Best) (found : Option ℕ) →
-    IsBest w x d allowed n best → steps_in w x d n ≡ leaving w.kept.assignment.items p to ∷ [] →
+pub best_found : (w : Situation) (x : List ℕ) (d : Drawing) (allowed n p to cost : ℕ) (best : Best)
+    (found : Option ℕ) →
+    IsBest w x d allowed n best → steps_in w x d n ≡ leaving w.here p to ∷ [] →
     IsCostBelow w p to (bound_of best.cost (cost_now w + allowed + 1)) found → found ≡ Some cost →
     IsBest w x d allowed (n + 1) (record { cost = found; option = n })
 best_found w x d allowed n p to cost best found is same below some =
@@ -332,13 +336,13 @@ best_found w x d allowed n p to cost best found is same below some =
     let under = below.below cost some in
     let low : cost_after w p to ≤ cost_now w + allowed =
     omega (arith, value, under, best_within w x d allowed n best is) in
-    let here : f n ≡ Some cost = cost_comes w x d allowed n (leaving w.kept.assignment.items p to ∷ []) same
+    let here : f n ≡ Some cost = cost_comes w x d allowed n (leaving w.here p to ∷ []) same
     (below.free cost some) low ∙ ap (λ (c : ℕ). Some c) (sym value) in
     let better = least_better n f (ap₂ is_better here (sym is.cost) ∙ better_at best.cost cost most under) in
     record { cost = some ∙ sym here ∙ sym better.0; option = sym better.1 }
 
 -- a cost that was found is the next bound, and lower than the one before
-pub bound_falls : (w : World) (p to most cost : ℕ) (least found : Option ℕ) →
+pub bound_falls : (w : Situation) (p to most cost : ℕ) (least found : Option ℕ) →
     IsCostBelow w p to (bound_of least most) found → found ≡ Some cost → bound_of found most ≤ bound_of least most
 unfolding bound_of
 bound_falls w p to most cost least found below some =
@@ -349,5 +353,5 @@ none_at : (o : Option ℕ) (most : ℕ) → o ≡ None → bound_of o most ≤ m
 unfolding bound_of
 none_at o most none = rw none (omega arith)
 
-pub none_low : (w : World) (best : Best) (most : ℕ) → IsBest w [] Two 0 0 best → bound_of best.cost most ≤ most
+pub none_low : (w : Situation) (best : Best) (most : ℕ) → IsBest w [] Two 0 0 best → bound_of best.cost most ≤ most
 none_low w best most is = none_at best.cost most (is.cost ∙ least_none (cost_in w [] Two 0))

@@ -5,10 +5,9 @@ use Rattle.std.specs.Int.{bit_at}
 use Rattle.ra_base.specs.declared.causes.Drawing.TheVariants.{Two}
 use Rattle.ra_model.specs.Numbers.{machine_count}
 use Rattle.ra_model.specs.Assignments.{machine_at}
+use Rattle.ra_model.specs.Situations.{Situation}
 use Rattle.ra_weigh_shift.specs.Arriving.{cost_now, sum_at, IsCostBelow}
 use Rattle.ra_weigh_shift.specs.Lanes.{machine_in, AreMarked}
-use Rattle.ra_world.specs.Worlds.{tables_of, start_of, here_of}
-use Rattle.ra_world.specs.declared.world.World.{World}
 use Rattle.ra_plan.specs.Choosing.{IsBest, IsWindowOf, bound_of}
 use Rattle.ra_plan.specs.declared.best.Best.{Best}
 use Rattle.std.specs.Prelude.{slice_index}
@@ -18,7 +17,7 @@ use Rattle.ra_plan.proofs.OptionSizes.{window_target}
 use Rattle.ra_plan.proofs.Bests.{best_stays, shift_in}
 
 -- what costs a bound costs a lower one
-lower_none : (w : World) (p to most bound : ℕ) → IsCostBelow w p to most None → bound ≤ most →
+lower_none : (w : Situation) (p to most bound : ℕ) → IsCostBelow w p to most None → bound ≤ most →
     IsCostBelow w p to bound None
 lower_none w p to most bound below low = record {
   free = λ n is. absurd (cc);
@@ -28,7 +27,7 @@ lower_none w p to most bound below low = record {
 }
 
 -- options that cost too much are passed over
-skips_by : (d : ℕ) (w : World) (x : List ℕ) (allowed p first most from : ℕ) (best : Best) →
+skips_by : (d : ℕ) (w : Situation) (x : List ℕ) (allowed p first most from : ℕ) (best : Best) →
     most ≡ cost_now w + allowed + 1 → IsWindowOf w x p first → bound_of best.cost most ≤ most →
     ((k : ℕ) → from ≤ k → k < from + d → IsCostBelow w p (machine_in w first k) most None) →
     IsBest w x Two allowed from best → IsBest w x Two allowed (from + d) best
@@ -43,7 +42,7 @@ skips_by (suc d) w x allowed p first most from best is window low dear best_is =
     subst (λ n. IsBest w x Two allowed n best) (omega arith)
     (best_stays w x Two allowed (from + d) p to best None so_far (window.each (from + d)) here refl)
 
-pub skips : (w : World) (x : List ℕ) (allowed p first most from end : ℕ) (best : Best) →
+pub skips : (w : Situation) (x : List ℕ) (allowed p first most from end : ℕ) (best : Best) →
     most ≡ cost_now w + allowed + 1 → IsWindowOf w x p first → bound_of best.cost most ≤ most → from ≤ end →
     ((k : ℕ) → from ≤ k → k < end → IsCostBelow w p (machine_in w first k) most None) →
     IsBest w x Two allowed from best → IsBest w x Two allowed end best
@@ -54,12 +53,12 @@ skips w x allowed p first most from end best is window low within dear best_is =
     (λ k after before. dear k after (omega arith)) best_is)
 
 -- the marks of a window with one for the initial machine
-pub record HasHome (w : World) (p first count marks all : ℕ) : Type 0 where
-  pub here : (k : ℕ) → k < count → machine_in w first k ≡ machine_at (start_of w) p → bit_at all k ≡ 1
-  pub others : (k : ℕ) → k < count → machine_in w first k ≢ machine_at (start_of w) p → bit_at all k ≡ bit_at marks k
+pub record HasHome (w : Situation) (p first count marks all : ℕ) : Type 0 where
+  pub here : (k : ℕ) → k < count → machine_in w first k ≡ machine_at w.start p → bit_at all k ≡ 1
+  pub others : (k : ℕ) → k < count → machine_in w first k ≢ machine_at w.start p → bit_at all k ≡ bit_at marks k
 
-pub with_home : (w : World) (p first count home machines marks all : ℕ) → home ≡ machine_at (start_of w) p →
-    machines ≡ machine_count (tables_of w) → count ≡ min machines 64 →
+pub with_home : (w : Situation) (p first count home machines marks all : ℕ) → home ≡ machine_at w.start p →
+    machines ≡ machine_count w.tables → count ≡ min machines 64 →
     ((k : ℕ) → k < 64 → k < machines → (first + k) % machines ≡ home → bit_at all k ≡ 1) →
     ((k : ℕ) → k < 64 → k < machines → (first + k) % machines ≢ home → bit_at all k ≡ bit_at marks k) →
     HasHome w p first count marks all
@@ -69,24 +68,24 @@ with_home w p first count home machines marks all home_is machines_is count_is h
       (λ same. apart (ap (λ m. (first + k) % m) (sym machines_is) ∙ same ∙ home_is));
 }
 
-pub unmarked_dear : (w : World) (p first most count marks all k : ℕ) (sums : List ℕ) →
+pub unmarked_dear : (w : Situation) (p first most count marks all k : ℕ) (sums : List ℕ) →
     AreMarked w p first most marks sums → HasHome w p first count marks all → count ≤ 64 → k < count →
     bit_at all k ≢ 1 → IsCostBelow w p (machine_in w first k) most None
 unmarked_dear w p first most count marks all k sums marked home few below unset =
-    let apart : machine_in w first k ≢ machine_at (start_of w) p = λ same. unset (home.here k below same) in
+    let apart : machine_in w first k ≢ machine_at w.start p = λ same. unset (home.here k below same) in
     marked.dear k (omega arith) (λ set. unset (home.others k below apart ∙ set)) (λ same. apart (sym same))
 
-pub marked_sum : (w : World) (p first most count marks all k : ℕ) (sums : List ℕ) →
+pub marked_sum : (w : Situation) (p first most count marks all k : ℕ) (sums : List ℕ) →
     AreMarked w p first most marks sums → HasHome w p first count marks all → count ≤ 64 → k < count →
-    bit_at all k ≡ 1 → machine_at (start_of w) p ≢ machine_in w first k →
+    bit_at all k ≡ 1 → machine_at w.start p ≢ machine_in w first k →
     get_or sums k 0 ≡ sum_at w p (machine_in w first k)
 marked_sum w p first most count marks all k sums marked home few below set apart =
     marked.each k (omega arith) (sym (home.others k below (λ same. apart (sym same))) ∙ set) apart
 
 -- the options of a window
-pub window_of : (w : World) (x : List ℕ) (m first p : ℕ) → m ≡ machine_count (tables_of w) → kind_of x ≡ Shift →
-    p ≡ drawn (here_of w) x 1 → first ≡ slice_index x 2 % m → IsWindowOf w x p first
+pub window_of : (w : Situation) (x : List ℕ) (m first p : ℕ) → m ≡ machine_count w.tables → kind_of x ≡ Shift →
+    p ≡ drawn w.here x 1 → first ≡ slice_index x 2 % m → IsWindowOf w x p first
 window_of w x m first p machines is process first_is = record {
   each = λ k. shift_in w x Two m k p (machine_in w first k) machines is process
-      (window_target x m (machine_count (tables_of w)) first k machines first_is);
+      (window_target x m (machine_count w.tables) first k machines first_is);
 }

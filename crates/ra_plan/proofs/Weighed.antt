@@ -9,82 +9,83 @@ use Rattle.ra_base.proofs.Searches.{or_else_none, or_else_some, or_else_assoc, l
 use Rattle.ra_model.specs.declared.raw.Tables.{Tables}
 use Rattle.ra_model.specs.Numbers.{resource_count, machine_count, service_count, process_count}
 use Rattle.ra_model.specs.Assignments.{IsAssignment}
-use Rattle.ra_model.specs.Broken.{first_broken}
 use Rattle.ra_model.specs.Costs.{parts_of}
+use Rattle.ra_model.specs.Situations.{Situation, broken_at, parts_at}
 use Rattle.ra_cells.specs.MovedCounts.{MovedCounts}
 use Rattle.ra_cells.specs.Stands.{StandFor}
 use Rattle.ra_cells.specs.declared.cells.Cells.{Cells}
 use Rattle.ra_moves.specs.declared.steps.Step.{Step}
 use Rattle.ra_moves.specs.declared.verdicts.Weighed.{Weighed}
 use Rattle.ra_moves.specs.Judging.{repeat_of, same_of, broken_by}
-use Rattle.ra_moves.specs.Replacing.{applied}
 use Rattle.ra_moves.specs.Options.{leaving}
 use Rattle.ra_moves.specs.Steps.{process_in, step_at, to_in}
-use Rattle.ra_moves.specs.Moving.{IsMove, IsOffered}
+use Rattle.ra_moves.specs.Moving.{IsMove, IsOffered, MayMove}
 use Rattle.ra_moves.specs.Weighing.{weighed_of}
+use Rattle.ra_moves.specs.Replacing.{after_move}
 use Rattle.ra_weigh_shift.specs.Finding.{IsFinding, cause_of}
 use Rattle.ra_weigh_shift.specs.declared.finding.Finding.TheVariants.{Broken, Unbroken}
 use Rattle.ra_weigh_shift.proofs.AllowLaws.{no_repeat}
-use Rattle.ra_world.specs.Worlds.{here_of}
-use Rattle.ra_world.specs.declared.world.World.{World}
 use Rattle.ra_weigh_settle.specs.Settling.{AreMovedOf, IsSettling, HasSettling}
 use Rattle.ra_plan.specs.Deciding.{IsShiftOf}
 use Rattle.ra_plan.specs.Weighings.{IsWeighing}
 
 -- the counts that cells keep are the moved counts of their assignment
-pub counts_of_cells : (i : Tables) (a0 a : List Machine) (cells : Cells) (moved : MovedCounts) → StandFor cells i a0 a →
-    moved ≡ cells.greatest → AreMovedOf i a0 a moved
-counts_of_cells i a0 a cells moved stand is = rw is (record {
+pub counts_of_cells : (st : Situation) (cells : Cells) (moved : MovedCounts) →
+    StandFor cells st.tables st.start st.here →
+    moved ≡ cells.greatest → AreMovedOf st moved
+counts_of_cells st cells moved stand is = rw is (record {
   one_each = cells.counts_there ∙ ap service_count stand.instance;
   each = stand.moved;
   limit = cells.limit_there ∙ ap process_count stand.instance;
 })
 
-pub settling_of : (i : Tables) (a0 a : List Machine) (steps : List Step) (cells : Cells) (moved : MovedCounts)
-    (parts : Parts) (weighed : Weighed) → IsAssignment i a0 → IsAssignment i a → StandFor cells i a0 a →
-    moved ≡ cells.greatest → parts ≡ parts_of i a0 a → IsOffered i a steps → weighed ≡ weighed_of i a0 a steps →
-    IsSettling i a0 a steps moved parts.total weighed
+pub settling_of : (st : Situation) (steps : List Step) (cells : Cells) (moved : MovedCounts)
+    (parts : Parts) (weighed : Weighed) → IsAssignment st.tables st.start → IsAssignment st.tables st.here →
+    StandFor cells st.tables st.start st.here →
+    moved ≡ cells.greatest → parts ≡ parts_at st → IsOffered st.tables st.here steps → weighed ≡ weighed_of st steps →
+    IsSettling st steps moved parts.total weighed
 unfolding parts_of
-settling_of i a0 a steps cells moved parts weighed start fits stand is costs offered weighing = record {
+settling_of st steps cells moved parts weighed start fits stand is costs offered weighing = record {
   start = start;
   fits = fits;
   moves = offered;
-  counts = counts_of_cells i a0 a cells moved stand is;
+  counts = counts_of_cells st cells moved stand is;
   cost = ap (λ (x : Parts). x.total) costs;
   weighing = weighing;
 }
 
-pub has_settling : (i : Tables) (a0 a : List Machine) (cells : Cells) (moved : MovedCounts) (parts : Parts)
-    (weighed : Weighed) → IsAssignment i a0 → IsAssignment i a → StandFor cells i a0 a → moved ≡ cells.greatest →
-    parts ≡ parts_of i a0 a → IsWeighing i a0 a weighed → HasSettling i moved parts.total weighed
-has_settling i a0 a cells moved parts weighed start fits stand is costs some = record {
-  initial = a0;
-  assignment = a;
+pub has_settling : (st : Situation) (cells : Cells) (moved : MovedCounts) (parts : Parts)
+    (weighed : Weighed) → IsAssignment st.tables st.start → IsAssignment st.tables st.here →
+    StandFor cells st.tables st.start st.here → moved ≡ cells.greatest →
+    parts ≡ parts_at st → IsWeighing st weighed → HasSettling st.tables moved parts.total weighed
+has_settling st cells moved parts weighed start fits stand is costs some = record {
+  initial = st.start;
+  assignment = st.here;
   steps = some.steps;
-  settling = settling_of i a0 a some.steps cells moved parts weighed start fits stand is costs some.offered some.is;
+  settling = settling_of st some.steps cells moved parts weighed start fits stand is costs some.offered some.is;
 }
 
 -- a move that is refused for no cause names no process twice
-pub move_of : (i : Tables) (a0 a : List Machine) (steps : List Step) → IsOffered i a steps →
-    broken_by i a0 a steps ≡ None → IsMove i a steps
+pub move_of : (st : Situation) (steps : List Step) → IsOffered st.tables st.here steps →
+    broken_by st steps ≡ None → MayMove st steps
 unfolding broken_by
-move_of i a0 a steps offered none = offered (left_none (repeat_of steps) _ none)
+move_of st steps offered none = offered (left_none (repeat_of steps) _ none)
 
 -- a move that is refused for itself, and one that isn't
-pub flawed : (i : Tables) (a0 a : List Machine) (steps : List Step) (cause : Cause) →
-    Some cause ≡ or_else (repeat_of steps) (same_of steps) → broken_by i a0 a steps ≡ Some cause
+pub flawed : (st : Situation) (steps : List Step) (cause : Cause) →
+    Some cause ≡ or_else (repeat_of steps) (same_of steps) → broken_by st steps ≡ Some cause
 unfolding broken_by
-flawed i a0 a steps cause is =
-    sym (or_else_assoc (repeat_of steps) (same_of steps) (first_broken i a0 (applied a steps)))
-    ∙ ap (λ o. or_else o (first_broken i a0 (applied a steps))) (sym is)
-    ∙ or_else_some cause (first_broken i a0 (applied a steps))
+flawed st steps cause is =
+    sym (or_else_assoc (repeat_of steps) (same_of steps) (broken_at (after_move st steps)))
+    ∙ ap (λ o. or_else o (broken_at (after_move st steps))) (sym is)
+    ∙ or_else_some cause (broken_at (after_move st steps))
 
-pub flawless : (i : Tables) (a0 a : List Machine) (steps : List Step) →
-    None ≡ or_else (repeat_of steps) (same_of steps) → broken_by i a0 a steps ≡ first_broken i a0 (applied a steps)
+pub flawless : (st : Situation) (steps : List Step) →
+    None ≡ or_else (repeat_of steps) (same_of steps) → broken_by st steps ≡ broken_at (after_move st steps)
 unfolding broken_by
-flawless i a0 a steps none = sym (or_else_assoc (repeat_of steps) (same_of steps) (first_broken i a0 (applied a steps)))
-    ∙ ap (λ o. or_else o (first_broken i a0 (applied a steps))) (sym none)
-    ∙ or_else_none (first_broken i a0 (applied a steps))
+flawless st steps none = sym (or_else_assoc (repeat_of steps) (same_of steps) (broken_at (after_move st steps)))
+    ∙ ap (λ o. or_else o (broken_at (after_move st steps))) (sym none)
+    ∙ or_else_none (broken_at (after_move st steps))
 
 pub flawless_move : (i : Tables) (a : List Machine) (steps : List Step) → IsOffered i a steps →
     None ≡ or_else (repeat_of steps) (same_of steps) → IsMove i a steps
@@ -107,18 +108,18 @@ pub processes_known : (i : Tables) (a : List Machine) (steps : List Step) → Is
 processes_known i a steps move j within = omega (arith, move.stands.known j within, move.fits.one_each)
 
 -- what is so of a shift of a world is so of the move that is this shift
-pub shift_same : {X : Type 0} (f : World → List Step → X) (w v : World) (p to : ℕ) (steps : List Step) → v ≡ w →
-    IsShiftOf w p steps → (step_at steps 0).to.0 ≡ to → f v (leaving (here_of v) p to ∷ []) ≡ f w steps
+pub shift_same : {X : Type 0} (f : Situation → List Step → X) (w v : Situation) (p to : ℕ) (steps : List Step) → v ≡ w →
+    IsShiftOf w p steps → (step_at steps 0).to.0 ≡ to → f v (leaving v.here p to ∷ []) ≡ f w steps
 shift_same f w v p to steps same is to_is =
-    ap (λ (u : World). f u (leaving (here_of u) p to ∷ [])) same
-    ∙ ap (f w) (ap (λ (t : ℕ). leaving (here_of w) p t ∷ []) (sym to_is) ∙ sym is)
+    ap (λ (u : Situation). f u (leaving u.here p to ∷ [])) same
+    ∙ ap (f w) (ap (λ (t : ℕ). leaving w.here p t ∷ []) (sym to_is) ∙ sym is)
 
 -- what is found
-pub cause_found : (w : World) (p to : ℕ) (cause : Cause) → IsFinding w p to (Broken cause) →
+pub cause_found : (w : Situation) (p to : ℕ) (cause : Cause) → IsFinding w p to (Broken cause) →
     cause_of w p to ≡ Some cause
 unfolding IsFinding
 cause_found w p to cause found = found
 
-pub unbroken_found : (w : World) (p to : ℕ) → IsFinding w p to Unbroken → cause_of w p to ≡ None
+pub unbroken_found : (w : Situation) (p to : ℕ) → IsFinding w p to Unbroken → cause_of w p to ≡ None
 unfolding IsFinding
 unbroken_found w p to found = found

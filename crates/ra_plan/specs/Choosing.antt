@@ -4,21 +4,19 @@ use Rattle.ra_base.specs.Searches.{least, least_place}
 use Rattle.ra_base.specs.declared.causes.Drawing.{Drawing}
 use Rattle.ra_base.specs.declared.causes.Drawing.TheVariants.{Two}
 use Rattle.ra_model.specs.Numbers.{machine_count}
+use Rattle.ra_model.specs.Situations.{Situation}
 use Rattle.ra_moves.specs.Options.{leaving, option_at, option_cost}
 use Rattle.ra_moves.specs.declared.steps.Step.{Step}
 use Rattle.ra_weigh_shift.specs.Lanes.{machine_in}
-use Rattle.ra_world.specs.Worlds.{tables_of, start_of, here_of}
-use Rattle.ra_world.specs.declared.world.World.{World}
 use Rattle.ra_plan.specs.declared.best.Best.{Best}
 
 -- the cost of option k, if it is judged Done on the assignment of a world
-unfoldable pub cost_in : World → List ℕ → Drawing → ℕ → ℕ → Option ℕ
-cost_in w x d allowed k =
-    option_cost (tables_of w) (start_of w) (here_of w) x d allowed k
+unfoldable pub cost_in : Situation → List ℕ → Drawing → ℕ → ℕ → Option ℕ
+cost_in st x d allowed k = option_cost st x d allowed k
 
 -- its steps
-unfoldable pub steps_in : World → List ℕ → Drawing → ℕ → List Step
-steps_in w x d k = (option_at (here_of w) x (machine_count (tables_of w)) d k).steps
+unfoldable pub steps_in : Situation → List ℕ → Drawing → ℕ → List Step
+steps_in st x d k = (option_at st.here x (machine_count st.tables) d k).steps
 
 -- what a cost has to be below: that of the best so far, or else the first that is too high
 unfoldable pub bound_of : Option ℕ → ℕ → ℕ
@@ -26,11 +24,11 @@ bound_of None most = most
 bound_of (Some least) most = least
 
 -- the first of least cost among the first n options that are judged Done, with its cost
-pub record IsBest (w : World) (x : List ℕ) (d : Drawing) (allowed n : ℕ) (best : Best) : Type 0
+pub record IsBest (st : Situation) (x : List ℕ) (d : Drawing) (allowed n : ℕ) (best : Best) : Type 0
   where
-    pub cost : best.cost ≡ least n (cost_in w x d allowed)
-    pub option : best.option ≡ least_place n (cost_in w x d allowed)
+    pub cost : best.cost ≡ least n (cost_in st x d allowed)
+    pub option : best.option ≡ least_place n (cost_in st x d allowed)
 
 -- option k of the words x is that process p goes to the k-th machine from a first one on
-pub record IsWindowOf (w : World) (x : List ℕ) (p first : ℕ) : Type 0 where
-  pub each : (k : ℕ) → steps_in w x Two k ≡ leaving (here_of w) p (machine_in w first k) ∷ []
+pub record IsWindowOf (st : Situation) (x : List ℕ) (p first : ℕ) : Type 0 where
+  pub each : (k : ℕ) → steps_in st x Two k ≡ leaving st.here p (machine_in st first k) ∷ []

@@ -1,11 +1,10 @@
 ghost use Rattle.std.specs.Prelude.{◌≡◌, ℕ, ◌+◌, ◌≤◌, List, [], ◌∷◌, Option, Some, None, if◌then◌else◌};
 ghost use Rattle.ra_base.specs.Searches.{is_better};
 ghost use Rattle.ra_base.specs.declared.causes.Drawing.{Drawing};
+ghost use Rattle.ra_model.specs.Situations.{Situation};
 ghost use Rattle.ra_moves.specs.Judging.{judge};
 ghost use Rattle.ra_moves.specs.Options.{leaving};
 ghost use Rattle.ra_weigh_shift.specs.Arriving.{cost_now, IsCostBelow};
-ghost use Rattle.ra_world.specs.declared.world.World.{World};
-ghost use Rattle.ra_world.specs.Worlds.{tables_of, start_of, here_of};
 ghost use Rattle.ra_plan.specs.Choosing.{IsBest, steps_in, bound_of};
 
 use ra_moves::Verdict;
@@ -22,7 +21,7 @@ pub(crate) struct Best {
 impl Best {
     /// No option so far.
     pub(crate) fn none() -> Best
-        ensures { (w : World) (x : List ℕ) (d : Drawing) (allowed : ℕ) → IsBest w x d allowed 0
+        ensures { (st : Situation) (x : List ℕ) (d : Drawing) (allowed : ℕ) → IsBest st x d allowed 0
             result }
     {
         Best {
@@ -47,13 +46,13 @@ impl Best {
     /// Takes the next option, if a cost below the bound was found for it.
     #[inline(always)]
     pub(crate) fn or_found(self, option: u32, found: Option<u128>) -> Best
-        ensures best { (w : World) (x : List ℕ) (d : Drawing) (allowed p to : ℕ)
-            → IsBest w x d allowed option self
-            → steps_in w x d option ≡ leaving (here_of w) p to ∷ []
-            → IsCostBelow w p to (bound_of self.cost (cost_now w + allowed + 1)) found
-            → IsBest w x d allowed (option + 1) result }
-        ensures bound { (w : World) (p to most : ℕ)
-            → IsCostBelow w p to (bound_of self.cost most) found
+        ensures best { (st : Situation) (x : List ℕ) (d : Drawing) (allowed p to : ℕ)
+            → IsBest st x d allowed option self
+            → steps_in st x d option ≡ leaving st.here p to ∷ []
+            → IsCostBelow st p to (bound_of self.cost (cost_now st + allowed + 1)) found
+            → IsBest st x d allowed (option + 1) result }
+        ensures bound { (st : Situation) (p to most : ℕ)
+            → IsCostBelow st p to (bound_of self.cost most) found
             → bound_of result.cost most ≤ bound_of self.cost most }
     {
         match found {
@@ -68,11 +67,10 @@ impl Best {
     /// Takes the next option, with its verdict, if it is done at a lower cost.
     #[inline(always)]
     pub(crate) fn consider(self, option: u32, verdict: &Verdict) -> Best
-        ensures { (w : World) (x : List ℕ) (d : Drawing) (allowed : ℕ)
-            → IsBest w x d allowed option self
-            → verdict.now ≡ judge (tables_of w) (start_of w) (here_of w) (steps_in w x d option)
-            allowed
-            → IsBest w x d allowed (option + 1) result }
+        ensures { (st : Situation) (x : List ℕ) (d : Drawing) (allowed : ℕ)
+            → IsBest st x d allowed option self
+            → verdict.now ≡ judge st (steps_in st x d option) allowed
+            → IsBest st x d allowed (option + 1) result }
     {
         match *verdict {
             Verdict::Done { cost } => self.or_done(option, cost),

@@ -1,13 +1,12 @@
 ghost use Rattle.std.specs.Prelude.{◌≡◌, ℕ, ◌+◌, ◌*◌, ◌≤◌, List, length};
 ghost use Rattle.ra_base.specs.declared.causes.Drawing.{Drawing};
 ghost use Rattle.ra_model.specs.Numbers.{resource_count, machine_count};
+ghost use Rattle.ra_model.specs.Situations.{Situation};
 ghost use Rattle.ra_moves.specs.MoveSteps.{step_count};
 ghost use Rattle.ra_moves.specs.declared.steps.Step.{Step};
 ghost use Rattle.ra_moves.specs.Options.{kind_of, option_count};
 ghost use Rattle.ra_moves.specs.Moving.{IsOffered};
 ghost use Rattle.ra_weigh_shift.specs.Arriving.{cost_now};
-ghost use Rattle.ra_world.specs.Worlds.{tables_of, here_of};
-ghost use Rattle.ra_world.specs.declared.world.World.{World};
 ghost use Rattle.ra_plan.specs.Choosing.{IsBest, steps_in, bound_of};
 ghost use Rattle.ra_plan.specs.Deciding.{IsMoveBelow};
 
@@ -31,10 +30,11 @@ pub(crate) fn best_move<L: Ledger>(
 ) -> Best
     requires first { IsBest world.now words.now drawing allowed 1 first }
     ensures best { IsBest world.now words.now drawing allowed
-        (option_count words.now (machine_count (tables_of world.now)) drawing) result }
-    ensures counted { steps.new + 2 * (step_count (kind_of words.now) * resource_count (tables_of world.now))
-        ≤ steps.old + option_count words.now (machine_count (tables_of world.now)) drawing
-        * (2 * (step_count (kind_of words.now) * resource_count (tables_of world.now))) }
+        (option_count words.now (machine_count world.now.tables) drawing) result }
+    ensures counted { steps.new + 2 * (step_count (kind_of words.now) * resource_count
+        world.now.tables)
+        ≤ steps.old + option_count words.now (machine_count world.now.tables) drawing
+        * (2 * (step_count (kind_of words.now) * resource_count world.now.tables)) }
 {
     let machines = world.instance().machines();
     let count = options(words, machines, drawing);
@@ -57,10 +57,10 @@ fn cost_below<L: Ledger>(
     bound: u128,
     steps: &mut Steps<L>,
 ) -> Option<u128>
-    requires offered { IsOffered (tables_of world.now) (here_of world.now) mv.now.steps }
+    requires offered { IsOffered world.now.tables world.now.here mv.now.steps }
     ensures below { IsMoveBelow world.now mv.now.steps bound result }
     ensures counted { steps.new ≤ steps.old
-        + 2 * (length mv.now.steps * resource_count (tables_of world.now)) }
+        + 2 * (length mv.now.steps * resource_count world.now.tables) }
 {
     if let Some(_cause) = flaw_of(mv) {
         return None;
@@ -80,11 +80,11 @@ fn cost_below<L: Ledger>(
 /// The best with one more option, if a cost below the bound was found for it.
 #[inline(always)]
 fn or_below(best: Best, option: u32, found: Option<u128>) -> Best
-    ensures { (w : World) (x : List ℕ) (d : Drawing) (allowed : ℕ) (steps : List Step)
-        → IsBest w x d allowed option best
-        → steps_in w x d option ≡ steps
-        → IsMoveBelow w steps (bound_of best.cost (cost_now w + allowed + 1)) found
-        → IsBest w x d allowed (option + 1) result }
+    ensures { (st : Situation) (x : List ℕ) (d : Drawing) (allowed : ℕ) (steps : List Step)
+        → IsBest st x d allowed option best
+        → steps_in st x d option ≡ steps
+        → IsMoveBelow st steps (bound_of best.cost (cost_now st + allowed + 1)) found
+        → IsBest st x d allowed (option + 1) result }
 {
     match found {
         Some(_) => Best {

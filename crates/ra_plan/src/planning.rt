@@ -5,7 +5,6 @@ ghost use Rattle.ra_moves.specs.declared.steps.MoveKind.TheVariants as kind;
 ghost use Rattle.ra_moves.specs.Options.{kind_of, plan_of, option_at, option_count};
 ghost use Rattle.ra_moves.specs.Moving.{IsOffered};
 ghost use Rattle.ra_moves.specs.Weighing.{weighed_of};
-ghost use Rattle.ra_world.specs.Worlds.{tables_of, start_of, here_of};
 ghost use Rattle.ra_plan.specs.Deciding.{cause_at, weighed_at, IsPlanned, IsShiftOf};
 
 use crate::best::Best;
@@ -35,15 +34,13 @@ pub fn plan<L: Ledger>(
 ) -> Plan
     ensures numbers_q { result.q ≡ q }
     ensures numbers_k { result.k ≡ k }
-    ensures planned { result.mv ≡ plan_of
-        (tables_of world.now) (start_of world.now) (here_of world.now) words.now drawing allowed }
-    ensures weighed { result.weighed ≡
-        weighed_of (tables_of world.now) (start_of world.now) (here_of world.now) result.mv.steps }
-    ensures offered { IsOffered (tables_of world.now) (here_of world.now) result.mv.steps }
+    ensures planned { result.mv ≡ plan_of world.now words.now drawing allowed }
+    ensures weighed { result.weighed ≡ weighed_of world.now result.mv.steps }
+    ensures offered { IsOffered world.now.tables world.now.here result.mv.steps }
     ensures counted_one { drawing ≡ One →
-        steps.new ≤ steps.old + 24 * resource_count (tables_of world.now) }
+        steps.new ≤ steps.old + 24 * resource_count world.now.tables }
     ensures counted_two { drawing ≡ Two →
-        steps.new ≤ steps.old + 384 * resource_count (tables_of world.now) }
+        steps.new ≤ steps.old + 384 * resource_count world.now.tables }
 {
     let machines = world.instance().machines();
     let first = resolve(world.assignment(), words, machines, drawing, 0);
@@ -74,12 +71,12 @@ fn fill<L: Ledger>(
     steps: &mut Steps<L>,
 )
     requires first { first.now ≡
-        option_at (here_of world.now) words.now (machine_count (tables_of world.now)) drawing 0 }
+        option_at world.now.here words.now (machine_count world.now.tables) drawing 0 }
     requires begun { plan.old.mv ≡ first.now }
     ensures planned { IsPlanned world.now words.now drawing allowed plan.new.mv plan.new.weighed }
     ensures numbers_q { plan.new.q ≡ plan.old.q }
     ensures numbers_k { plan.new.k ≡ plan.old.k }
-    ensures counted { steps.new ≤ steps.old + 24 * resource_count (tables_of world.now) }
+    ensures counted { steps.new ≤ steps.old + 24 * resource_count world.now.tables }
 {
     match first.kind() {
         MoveKind::Shift => fill_by_shift(world, first, words, drawing, allowed, plan, steps),
@@ -98,13 +95,15 @@ fn fill_by_shift<L: Ledger>(
     steps: &mut Steps<L>,
 )
     requires first { first.now ≡
-        option_at (here_of world.now) words.now (machine_count (tables_of world.now)) drawing 0 }
+        option_at world.now.here words.now (machine_count world.now.tables) drawing 0 }
     requires shift { kind_of words.now ≡ kind.Shift }
     ensures planned { IsPlanned world.now words.now drawing allowed plan.new.mv plan.new.weighed }
     ensures numbers_q { plan.new.q ≡ plan.old.q }
     ensures numbers_k { plan.new.k ≡ plan.old.k }
-    ensures counted { steps.new ≤ steps.old + 24 * resource_count (tables_of world.now) }
+    ensures counted { steps.new ≤ steps.old + 24 * resource_count world.now.tables }
 {
+    // What is known of every world.
+    let _known = world.instance();
     let shift = Shift::make(world, first.step(0).process, steps);
     let best = best_shift(world, &shift, words, drawing, allowed);
     plan.mv = move_of(world, first, words, drawing, best.option);
@@ -123,14 +122,16 @@ fn fill_by_move<L: Ledger>(
     steps: &mut Steps<L>,
 )
     requires first { first.now ≡
-        option_at (here_of world.now) words.now (machine_count (tables_of world.now)) drawing 0 }
+        option_at world.now.here words.now (machine_count world.now.tables) drawing 0 }
     requires begun { plan.old.mv ≡ first.now }
     requires other { kind_of words.now ≢ kind.Shift }
     ensures planned { IsPlanned world.now words.now drawing allowed plan.new.mv plan.new.weighed }
     ensures numbers_q { plan.new.q ≡ plan.old.q }
     ensures numbers_k { plan.new.k ≡ plan.old.k }
-    ensures counted { steps.new ≤ steps.old + 24 * resource_count (tables_of world.now) }
+    ensures counted { steps.new ≤ steps.old + 24 * resource_count world.now.tables }
 {
+    // What is known of every world.
+    let _known = world.instance();
     plan.weighed = weigh(world, first, steps);
     let judged = Best::none().consider(0, &verdict(world, &plan.weighed, allowed));
     let best = best_move(world, words, drawing, allowed, judged, steps);
@@ -145,11 +146,10 @@ fn fill_by_move<L: Ledger>(
 /// An option of words whose option 0 is at hand.
 fn move_of(world: &World<'_>, first: &Move, words: &[u64; 8], drawing: Drawing, option: u32) -> Move
     requires first { first.now ≡
-        option_at (here_of world.now) words.now (machine_count (tables_of world.now)) drawing 0 }
-    requires named { option <
-        option_count words.now (machine_count (tables_of world.now)) drawing }
-    ensures { result ≡ option_at (here_of world.now) words.now
-        (machine_count (tables_of world.now)) drawing option }
+        option_at world.now.here words.now (machine_count world.now.tables) drawing 0 }
+    requires named { option < option_count words.now (machine_count world.now.tables) drawing }
+    ensures { result ≡ option_at world.now.here words.now
+        (machine_count world.now.tables) drawing option }
 {
     if option == 0 {
         return *first;
@@ -168,12 +168,12 @@ fn shift_weighing<L: Ledger>(
     steps: &mut Steps<L>,
 ) -> Weighed
     requires world { shift.now.world.now ≡ world.now }
-    requires offered { IsOffered (tables_of world.now) (here_of world.now) mv.now.steps }
+    requires offered { IsOffered world.now.tables world.now.here mv.now.steps }
     requires alone { IsShiftOf world.now shift.now.process.0 mv.now.steps }
     requires best { (cost : ℕ) → best.now.cost ≡ Some cost →
         cause_at world.now mv.now.steps ≡ None }
     ensures value { result ≡ weighed_at world.now mv.now.steps }
-    ensures counted { steps.new ≤ steps.old + 6 * resource_count (tables_of world.now) }
+    ensures counted { steps.new ≤ steps.old + 6 * resource_count world.now.tables }
 {
     let to = mv.step(0).to;
     if best.cost.is_some() {
@@ -188,10 +188,10 @@ fn shift_weighing<L: Ledger>(
 
 /// The weighing of a move of which it is known that it breaks nothing, or of any other.
 fn weighing<L: Ledger>(world: &World<'_>, free: bool, mv: &Move, steps: &mut Steps<L>) -> Weighed
-    requires offered { IsOffered (tables_of world.now) (here_of world.now) mv.now.steps }
+    requires offered { IsOffered world.now.tables world.now.here mv.now.steps }
     requires free { free ≡ true → cause_at world.now mv.now.steps ≡ None }
     ensures value { result ≡ weighed_at world.now mv.now.steps }
-    ensures counted { steps.new ≤ steps.old + 6 * resource_count (tables_of world.now) }
+    ensures counted { steps.new ≤ steps.old + 6 * resource_count world.now.tables }
 {
     if !free {
         return weigh(world, mv, steps);

@@ -8,7 +8,6 @@ ghost use Rattle.ra_base.specs.declared.causes.Drawing.TheVariants.{Two};
 ghost use Rattle.ra_model.specs.Assignments.{machine_at};
 ghost use Rattle.ra_weigh_shift.specs.Arriving.{cost_now, sum_at};
 ghost use Rattle.ra_weigh_shift.specs.Lanes.{AreMarked};
-ghost use Rattle.ra_world.specs.Worlds.{tables_of, start_of, here_of};
 ghost use Rattle.ra_plan.specs.Choosing.{IsBest, IsWindowOf, steps_in, bound_of};
 
 use crate::best::Best;
@@ -28,9 +27,9 @@ pub(crate) fn best_shift(
 ) -> Best
     requires world { shift.now.world.now ≡ world.now }
     requires shift { kind_of words.now ≡ kind.Shift }
-    requires named { shift.now.process.0 ≡ drawn (here_of world.now) words.now 1 }
+    requires named { shift.now.process.0 ≡ drawn world.now.here words.now 1 }
     ensures { IsBest world.now words.now drawing allowed
-        (option_count words.now (machine_count (tables_of world.now)) drawing) result }
+        (option_count words.now (machine_count world.now.tables) drawing) result }
 {
     match drawing {
         Drawing::One => best_in_order(world, shift, words, Drawing::One, allowed),
@@ -48,9 +47,9 @@ fn best_in_order(
 ) -> Best
     requires world { shift.now.world.now ≡ world.now }
     requires shift { kind_of words.now ≡ kind.Shift }
-    requires named { shift.now.process.0 ≡ drawn (here_of world.now) words.now 1 }
+    requires named { shift.now.process.0 ≡ drawn world.now.here words.now 1 }
     ensures { IsBest world.now words.now drawing allowed
-        (option_count words.now (machine_count (tables_of world.now)) drawing) result }
+        (option_count words.now (machine_count world.now.tables) drawing) result }
 {
     let machines = world.instance().machines();
     let first = (words[2] % machines as u64) as u32;
@@ -68,9 +67,9 @@ fn best_in_order(
 fn best_in_window(world: &World<'_>, shift: &Shift<'_, '_>, words: &[u64; 8], allowed: u64) -> Best
     requires world { shift.now.world.now ≡ world.now }
     requires shift { kind_of words.now ≡ kind.Shift }
-    requires named { shift.now.process.0 ≡ drawn (here_of world.now) words.now 1 }
+    requires named { shift.now.process.0 ≡ drawn world.now.here words.now 1 }
     ensures { IsBest world.now words.now Two allowed
-        (option_count words.now (machine_count (tables_of world.now)) Two) result }
+        (option_count words.now (machine_count world.now.tables) Two) result }
 {
     let machines = world.instance().machines();
     let first = (words[2] % machines as u64) as u32;
@@ -93,12 +92,12 @@ fn best_marked(
     sums: &[u32; 64],
 ) -> Best
     requires world { shift.now.world.now ≡ world.now }
-    requires first { first < machine_count (tables_of world.now) }
+    requires first { first < machine_count world.now.tables }
     requires most { most ≤ 2 ^ 120 }
     requires marked { AreMarked world.now shift.now.process.0 first most marks sums.now }
     ensures { (x : List ℕ) (allowed : ℕ) → most ≡ cost_now world.now + allowed + 1
         → IsWindowOf world.now x shift.now.process.0 first
-        → IsBest world.now x Two allowed (min 64 (machine_count (tables_of world.now))) result }
+        → IsBest world.now x Two allowed (min 64 (machine_count world.now.tables)) result }
 {
     let machines = world.instance().machines();
     let count = machines.min(64);
@@ -125,15 +124,14 @@ fn with_sum(
     most: u128,
 ) -> Best
     requires world { shift.now.world.now ≡ world.now }
-    requires machine { to.0 < machine_count (tables_of world.now) }
+    requires machine { to.0 < machine_count world.now.tables }
     requires most { most ≤ 2 ^ 120 }
     requires bound { bound_of best.cost most ≤ most }
-    requires sum { machine_at (start_of world.now) shift.now.process.0 ≢ to.0 →
+    requires sum { machine_at world.now.start shift.now.process.0 ≢ to.0 →
         sum ≡ sum_at world.now shift.now.process.0 to.0 }
     ensures best { (x : List ℕ) (allowed : ℕ) → most ≡ cost_now world.now + allowed + 1
         → IsBest world.now x Two allowed option best
-        → steps_in world.now x Two option
-        ≡ leaving (here_of world.now) shift.now.process.0 to.0 ∷ []
+        → steps_in world.now x Two option ≡ leaving world.now.here shift.now.process.0 to.0 ∷ []
         → IsBest world.now x Two allowed (option + 1) result }
     ensures bound { bound_of result.cost most ≤ most }
 {
@@ -151,11 +149,11 @@ fn with_shift(
     most: u128,
 ) -> Best
     requires world { shift.now.world.now ≡ world.now }
-    requires machine { to.0 < machine_count (tables_of world.now) }
+    requires machine { to.0 < machine_count world.now.tables }
     requires bound { bound_of best.cost most ≤ 2 ^ 120 }
     ensures { (x : List ℕ) (d : Drawing) (allowed : ℕ) →
         most ≡ cost_now world.now + allowed + 1 → IsBest world.now x d allowed option best →
-        steps_in world.now x d option ≡ leaving (here_of world.now) shift.now.process.0 to.0 ∷ [] →
+        steps_in world.now x d option ≡ leaving world.now.here shift.now.process.0 to.0 ∷ [] →
         IsBest world.now x d allowed (option + 1) result }
 {
     best.or_found(option, shift.cost_below(to, best.bound(most)))

@@ -3,7 +3,6 @@ ghost use Rattle.ra_moves.specs.declared.steps.Step.{Step};
 ghost use Rattle.ra_moves.specs.Judging.{judge};
 ghost use Rattle.ra_moves.specs.Moving.{IsOffered};
 ghost use Rattle.ra_moves.specs.Weighing.{weighed_of};
-ghost use Rattle.ra_world.specs.Worlds.{tables_of, start_of, here_of};
 ghost use Rattle.ra_plan.specs.Weighings.{IsWeighing};
 
 use ra_moves::{Verdict, Weighed};
@@ -13,14 +12,9 @@ use ra_world::World;
 /// The verdict on a move that was weighed at this world: its broken cause, or else Rise or Done by the cost after it.
 /// `allowed` is how much the cost may rise.
 pub fn verdict(world: &World<'_>, weighed: &Weighed, allowed: u64) -> Verdict
-    requires some { IsWeighing (tables_of world.now) (start_of world.now) (here_of world.now)
-        weighed.now }
-    ensures { (steps : List Step) →
-        IsOffered (tables_of world.now) (here_of world.now) steps →
-        weighed.now ≡ weighed_of (tables_of world.now) (start_of world.now) (here_of world.now)
-        steps →
-        result ≡ judge (tables_of world.now) (start_of world.now) (here_of world.now) steps
-        allowed }
+    requires some { IsWeighing world.now weighed.now }
+    ensures { (steps : List Step) → IsOffered world.now.tables world.now.here steps →
+        weighed.now ≡ weighed_of world.now steps → result ≡ judge world.now steps allowed }
 {
     let greatest = world.cells().greatest();
     settle_now(

@@ -2,7 +2,6 @@ ghost use Rattle.std.specs.Prelude.{◌≡◌, ◌+◌, ◌*◌, ◌≤◌, pos,
 ghost use Rattle.ra_model.specs.Numbers.{resource_count};
 ghost use Rattle.ra_moves.specs.Moving.{IsOffered};
 ghost use Rattle.ra_moves.specs.Weighing.{weighed_of};
-ghost use Rattle.ra_world.specs.Worlds.{tables_of, start_of, here_of};
 
 use crate::flaws::flaw_of;
 use ra_base::{Cause, Steps};
@@ -16,10 +15,9 @@ use std::sync::ledger::Ledger;
 /// load, balance, process and machine cost together, with the moved counts of its different services in the order of
 /// its steps. At most six requirements are read for each resource, and no memory is taken.
 pub fn weigh<L: Ledger>(world: &World<'_>, mv: &Move, steps: &mut Steps<L>) -> Weighed
-    requires { IsOffered (tables_of world.now) (here_of world.now) mv.now.steps }
-    ensures value { result ≡
-        weighed_of (tables_of world.now) (start_of world.now) (here_of world.now) mv.now.steps }
-    ensures counted { steps.new ≤ steps.old + 6 * resource_count (tables_of world.now) }
+    requires { IsOffered world.now.tables world.now.here mv.now.steps }
+    ensures value { result ≡ weighed_of world.now mv.now.steps }
+    ensures counted { steps.new ≤ steps.old + 6 * resource_count world.now.tables }
 {
     if let Some(cause) = flaw_of(mv) {
         return bare(cause);

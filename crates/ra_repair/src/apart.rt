@@ -1,4 +1,4 @@
-ghost use Rattle.std.specs.Prelude.{◌≡◌, ◌*◌, ◌^◌, ◌<◌, ◌≤◌, length};
+ghost use Rattle.std.specs.Prelude.{◌≡◌, ◌*◌, ◌^◌, ◌<◌, ◌≤◌};
 ghost use Rattle.ra_model.specs.Numbers.{machine_count, service_count, process_count};
 ghost use Rattle.ra_model.specs.Assignments.{IsAssignment, machine_at};
 ghost use Rattle.ra_repair.specs.Keeping.{Stands};
@@ -6,7 +6,7 @@ ghost use Rattle.ra_repair.specs.Penalty.{crowd_on, spread_lack, closed_share};
 
 use crate::kept::Kept;
 use ra_base::{Assignment, Machine, Process, Service};
-use ra_model::Instance;
+use ra_model::{Instance, machine_of};
 
 /// How many processes of a service on a machine are too many: all but one.
 #[tactic(auto, unfolding(crate::specs::Penalty::crowd_on))]
@@ -64,14 +64,4 @@ fn closed_share(inst: &Instance, start: &Assignment, p: Process, at: Machine) ->
     } else {
         0
     }
-}
-
-/// The machine of a process.
-#[tactic(auto, using(ra_model::proofs::TallyLemmas::machine_at_read))]
-pub(crate) fn machine_of(a: &Assignment, p: Process) -> Machine
-    requires { p.0 < length a.now.items }
-    ensures { result.0 ≡ machine_at a.now.items p.0 }
-{
-    let _count = a.len();
-    a.get(p.0 as usize)
 }

@@ -12,7 +12,7 @@ use crate::trying::make_tries;
 use ra_base::{Assignment, Fixed, NoMemory};
 use ra_cells::Cells;
 use ra_draws::Lot;
-use ra_model::Instance;
+use ra_model::{Instance, copied};
 use ra_rows::Rows;
 use ra_topology::Topology;
 use std::alloc::Global;
@@ -146,7 +146,7 @@ fn standing<'a>(alloc: Global, inst: &'a Instance, a0: &'a Assignment) -> Result
     ensures stands { IfOk result (λ kept. Stands kept inst.now.tables a0.now.items) }
     ensures assignment { IfOk result (λ kept. kept.assignment.items ≡ a0.now.items) }
 {
-    let assignment = copy_of(alloc, a0)?;
+    let assignment = copied(alloc, a0)?;
     let rows = Rows::make(alloc, inst, a0)?;
     let cells = Cells::make(alloc, inst, a0)?;
     Ok(Kept {
@@ -155,13 +155,4 @@ fn standing<'a>(alloc: Global, inst: &'a Instance, a0: &'a Assignment) -> Result
         cells,
         penalty: 0,
     })
-}
-
-/// A copy of an assignment.
-fn copy_of(alloc: Global, a: &Assignment) -> Result<Assignment, NoMemory>
-    ensures { IfOk result (λ copy. copy.items ≡ a.now.items) }
-{
-    let mut copy = Fixed::make(alloc, a.len())?;
-    copy.extend_from_slice(a.as_slice());
-    Ok(copy)
 }

@@ -8,12 +8,11 @@ ghost use Rattle.ra_repair.specs.Keeping.{Keeps};
 ghost use Rattle.ra_repair.specs.Runs.{unless, try_count, try_option, option_penalty, chosen, least_after};
 ghost use Rattle.ra_repair.specs.Shifting.{AskForShifts};
 
-use crate::apart::machine_of;
 use crate::following::follow_step;
 use crate::kept::Kept;
 use crate::options::{Choice, better};
 use ra_base::{Assignment, Drawing, Machine, Process, Steps};
-use ra_model::Instance;
+use ra_model::{Instance, machine_of};
 use ra_moves::{Move, Step, first_flaw, options, resolve};
 use ra_topology::Topology;
 use std::sync::ledger::Ledger;

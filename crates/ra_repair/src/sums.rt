@@ -9,11 +9,11 @@ ghost use Rattle.ra_repair.specs.Members.{seat_of, is_far};
 ghost use Rattle.ra_repair.specs.Penalty.{capacity_penalty, transient_penalty, crowd_on, service_crowd, conflict_penalty, spread_penalty, pair_far, service_far, dependency_penalty, closed_penalty, penalty};
 
 use crate::above::{row_above, row_transient_above};
-use crate::apart::{closed_now, crowd_on, machine_of, spread_lack};
+use crate::apart::{closed_now, crowd_on, spread_lack};
 use crate::far::near;
 use crate::kept::Kept;
 use ra_base::{Assignment, Machine, Process, Service};
-use ra_model::Instance;
+use ra_model::{Instance, machine_of};
 use ra_topology::Topology;
 
 /// The penalty of the kept assignment, summed up from its rows and counters.

@@ -9,3 +9,4 @@ pub mod ComparedLaws
 pub mod LineEnds
 pub mod TryTexts
 pub mod StepTexts
+pub mod ShareLaws

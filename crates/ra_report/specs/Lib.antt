@@ -4,4 +4,5 @@ pub mod JournalTexts
 pub mod Pieces
 pub mod Summaries
 pub mod RepairTexts
+pub mod Shares
 pub mod Texts

@@ -4,6 +4,7 @@
 #![tactic(auto)]
 
 mod comparing;
+mod desks;
 mod details;
 mod faults;
 mod front;
@@ -15,6 +16,7 @@ mod summary;
 mod writing;
 
 pub use comparing::{is_entry_line, unlike_head};
+pub use desks::Desks;
 pub use faults::Fault;
 pub use front::{Front, read_front};
 pub use lengths::{LONGEST_FRONT, LONGEST_LINE};
@@ -22,5 +24,5 @@ pub use ra_report_text::WriteFault;
 pub use repair::write_repair;
 pub use writing::{
     write_accepted, write_bound, write_cause, write_entry, write_fault, write_head, write_parts,
-    write_report, write_summary,
+    write_report, write_report_at, write_summary,
 };

@@ -6,6 +6,7 @@ ghost use Rattle.ra_report_text.specs.Writes.{Writes};
 ghost use Rattle.ra_report.specs.Summaries.{summary_of};
 ghost use Rattle.ra_report_text.specs.Texts.{parts_text, cause_text};
 
+use crate::desks::{Desks, add_entries_at};
 use crate::faults::{Fault, add_fault};
 use crate::journal::add_entry;
 use crate::solved::{add_bound, add_head, add_number, add_report};
@@ -15,6 +16,8 @@ use ra_bounds::Bound;
 use ra_io::Sink;
 use ra_journal::{Entry, Journal};
 use ra_report_text::{Gathered, WriteFault, add_cause, add_parts};
+use std::marker::Sync;
+use std::thread::Threads;
 
 /// Writes the six lines of the parts: `cost`, `load`, `balance`, `process`, `service`, `machine`.
 pub fn write_parts<O: Sink>(sink: &mut O, parts: &Parts) -> Result<(), WriteFault>
@@ -54,6 +57,30 @@ pub fn write_report<O: Sink>(
     let entries = journal.entries();
     let mut text = Gathered::make(sink);
     add_report(&mut text, best, parts, bound, best_at, drawing, entries);
+    text.finish()
+}
+
+/// Writes the report of a run as `write_report` does; the lines of its entries are written at desks beside each other.
+pub fn write_report_at<R: Threads + Sync, O: Sink>(
+    rt: &R,
+    desks: &mut Desks,
+    sink: &mut O,
+    best: &Assignment,
+    parts: &Parts,
+    bound: &Bound,
+    journal: &Journal<'_>,
+) -> Result<(), WriteFault>
+    requires best { best.now.items ≡ best_state journal.now }
+    requires parts { parts.now ≡ parts_in journal.now best.now.items }
+    requires bound { bound.now ≡ bound_in journal.now }
+    ensures { Writes (writing O.Sink sink.old sink.new) (text_of journal.now) result }
+{
+    let drawing = journal.lots().drawing();
+    let best_at = journal.best_at();
+    let entries = journal.entries();
+    let mut text = Gathered::make(sink);
+    add_head(&mut text, best, parts, bound.total, best_at, drawing);
+    add_entries_at(rt, desks, &mut text, entries);
     text.finish()
 }
 

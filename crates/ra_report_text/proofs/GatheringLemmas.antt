@@ -50,6 +50,11 @@ module _ {O : Type 0} (taken : O → Option (List ℕ)) (faults : O → ℕ) whe
   pub adds_none : (a : Gathered O) → Adds taken faults a a []
   adds_none a = (refl, le_refl _, moves_none a.failed (taken a.to.now) (faults a.to.now) a.waiting)
 
+  -- once a put has failed, any text is added without a put
+  pub adds_failed : (a : Gathered O) (text : List ℕ) → a.failed ≡ true → Adds taken faults a a text
+  unfolding Moves
+  adds_failed a text ill = (refl, le_refl _, rw ill (refl, refl))
+
   pub adds_more : (a b c : Gathered O) (s t : List ℕ) → Adds taken faults a b s → Adds taken faults b c t →
       Adds taken faults a c (s ++ t)
   adds_more a b c s t first next = (

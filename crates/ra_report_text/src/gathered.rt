@@ -56,6 +56,13 @@ impl<'a, O: Sink> Gathered<'a, O> {
         }
     }
 
+    /// Whether a put has failed.
+    pub fn has_failed(&self) -> bool
+        ensures { result ≡ self.now.failed }
+    {
+        self.failed
+    }
+
     /// Puts what still waits, and says whether the sink took all that was added.
     pub fn finish(&mut self) -> Result<(), WriteFault>
         ensures adds { Adds O.taken O.faults self.old self.new [] }

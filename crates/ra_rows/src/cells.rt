@@ -2,17 +2,7 @@ ghost use Rattle.std.specs.Prelude.{◌≡◌, ◌≢◌, ℕ, ◌+◌, ◌*◌,
 ghost use Rattle.ra_base.specs.Tables.{cell};
 ghost use Rattle.ra_rows.specs.Changes.{at_row, away_row, HasMore, Moves};
 
-use ra_base::{Fixed, Machine};
-
-/// The number of a table at a row and a column.
-#[tactic(auto, unfolding(ra_base::specs::Tables::cell))]
-pub(crate) fn read_cell(table: &Fixed<u64>, width: u32, row: u32, column: u32) -> u64
-    requires { row * width + column < length table.now.items }
-    ensures { result ≡ cell width table.now.items row column }
-{
-    let _within = table.len();
-    table.get(row as usize * width as usize + column as usize)
-}
+use ra_base::{Fixed, Machine, read_cell};
 
 /// The numbers of a row, column by column.
 #[tactic(auto, using(crate::proofs::CellLemmas::rows))]

@@ -5,11 +5,11 @@ ghost use Rattle.ra_model.specs.Assignments.{IsAssignment, machine_at};
 ghost use Rattle.ra_model.specs.Usage.{use_of, transient_of};
 ghost use Rattle.ra_rows.specs.Rows.{StandFor, HasAt, IsUsageRow, IsTransientRow, AreBelow};
 
-use crate::cells::{read_cell, read_row};
+use crate::cells::read_row;
 use crate::shifts::shift_rows;
-use crate::sums::{machine_of, sum_usage};
-use ra_base::{Assignment, Fixed, Machine, NoMemory, Process, Resource, Steps};
-use ra_model::{Instance, copies};
+use crate::sums::sum_usage;
+use ra_base::{Assignment, Fixed, Machine, NoMemory, Process, Resource, Steps, read_cell};
+use ra_model::{Instance, copied, copies, machine_of};
 use std::alloc::Global;
 use std::marker::{Brand, Model};
 use std::sync::ledger::{Blank, Ledger};
@@ -69,7 +69,7 @@ impl<'a> Rows<'a> {
         let cells = inst.machines() as usize * inst.resources() as usize;
         let mut used = copies(alloc, cells, 0u64)?;
         sum_usage::<Brand>(inst, a0, &mut used, Blank::new(1));
-        let between = copy_of(alloc, &used)?;
+        let between = copied(alloc, &used)?;
         Ok(Rows {
             inst,
             a0,
@@ -152,13 +152,4 @@ impl<'a> Rows<'a> {
             steps,
         );
     }
-}
-
-/// A table once more.
-fn copy_of(alloc: Global, table: &Fixed<u64>) -> Result<Fixed<u64>, NoMemory>
-    ensures { IfOk result (λ copy. copy.items ≡ table.now.items) }
-{
-    let mut copy = Fixed::make(alloc, table.len())?;
-    copy.extend_from_slice(table.as_slice());
-    Ok(copy)
 }

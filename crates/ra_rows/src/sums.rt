@@ -1,13 +1,13 @@
 ghost use Rattle.std.specs.Prelude.{◌≡◌, ◌*◌, ◌^◌, ◌<◌, length, replicate};
 ghost use Rattle.ra_model.specs.Numbers.{resource_count, machine_count, process_count};
-ghost use Rattle.ra_model.specs.Assignments.{IsAssignment, machine_at};
+ghost use Rattle.ra_model.specs.Assignments.{IsAssignment};
 ghost use Rattle.ra_model.specs.Usage.{use_share};
 ghost use Rattle.ra_rows.specs.Rows.{IsBelow};
 ghost use Rattle.ra_rows.specs.Changes.{IsTally, Adds};
 
 use crate::cells::add_to_cell;
 use ra_base::{Assignment, Fixed, Machine, Process, Resource, Steps};
-use ra_model::Instance;
+use ra_model::{Instance, machine_of};
 use std::sync::ledger::{Blank, Ledger};
 
 /// Adds up the use of each machine's resources, in a table of zeros.
@@ -33,16 +33,6 @@ pub(crate) fn sum_usage<L: Ledger>(
         let at = machine_of(a, Process(p));
         add_row(inst, Process(p), at, table, &mut steps);
     }
-}
-
-/// The machine of a process.
-#[tactic(auto, using(ra_model::proofs::TallyLemmas::machine_at_read))]
-pub(crate) fn machine_of(a: &Assignment, p: Process) -> Machine
-    requires { p.0 < length a.now.items }
-    ensures { result.0 ≡ machine_at a.now.items p.0 }
-{
-    let _count = a.len();
-    a.get(p.0 as usize)
 }
 
 /// Adds what a process requires to the row of a machine.

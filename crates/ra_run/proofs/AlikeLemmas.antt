@@ -20,6 +20,7 @@ use Rattle.ra_model.specs.declared.raw.RawInstance.{RawInstance}
 use Rattle.ra_model.specs.declared.raw.Tables.{Tables}
 use Rattle.ra_model.specs.Costs.{parts_of}
 use Rattle.ra_model.specs.Relations.{depends, are_joined}
+use Rattle.ra_model.specs.Situations.{situation}
 use Rattle.ra_moves.specs.declared.steps.Step.{Step}
 use Rattle.ra_moves.specs.Judging.{broken_by, judge}
 use Rattle.ra_moves.specs.Options.{option_cost, plan_place, plan_of}
@@ -47,14 +48,16 @@ pinned_bound_bare raw None a0 = refl
 pinned_bound_bare raw (Some flags) a0 = refl
 
 plan_bare : (raw : RawInstance) (closed : Option (Listed Bool)) (a0 a : List Machine) (x : List ℕ) (drawing : Drawing)
-    (allowed : ℕ) → plan_of (bare (whole raw closed)) a0 a x drawing allowed ≡ plan_of (whole raw closed) a0 a x drawing
+    (allowed : ℕ) → plan_of (situation (bare (whole raw closed)) a0 a) x drawing allowed
+    ≡ plan_of (situation (whole raw closed) a0 a) x drawing
     allowed
 unfolding opened judge broken_by option_cost plan_place plan_of
 plan_bare raw None a0 a x drawing allowed = refl
 plan_bare raw (Some flags) a0 a x drawing allowed = refl
 
 judge_bare : (raw : RawInstance) (closed : Option (Listed Bool)) (a0 a : List Machine) (steps : List Step)
-    (allowed : ℕ) → judge (bare (whole raw closed)) a0 a steps allowed ≡ judge (whole raw closed) a0 a steps allowed
+    (allowed : ℕ) → judge (situation (bare (whole raw closed)) a0 a) steps allowed
+    ≡ judge (situation (whole raw closed) a0 a) steps allowed
 unfolding opened judge broken_by
 judge_bare raw None a0 a steps allowed = refl
 judge_bare raw (Some flags) a0 a steps allowed = refl
@@ -84,14 +87,15 @@ module _ (i j : Tables) (same : bare i ≡ bare j) where
   pinned_same a0 = along (λ (t : Tables). pinned_bound_of t a0) (λ raw closed. pinned_bound_bare raw closed a0) i j same
 
   pub planned_same : (a0 a : List Machine) (x : List ℕ) (drawing : Drawing) (allowed : ℕ) →
-      plan_of i a0 a x drawing allowed ≡ plan_of j a0 a x drawing allowed
-  planned_same a0 a x drawing allowed = along (λ (t : Tables). plan_of t a0 a x drawing allowed)
+      plan_of (situation i a0 a) x drawing allowed ≡ plan_of (situation j a0 a) x drawing allowed
+  planned_same a0 a x drawing allowed = along (λ (t : Tables). plan_of (situation t a0 a) x drawing allowed)
       (λ raw closed. plan_bare raw closed a0 a x drawing allowed) i j same
 
   pub judged_same : (a0 a : List Machine) (steps : List Step) (allowed : ℕ) →
-      judge i a0 a steps allowed ≡ judge j a0 a steps allowed
+      judge (situation i a0 a) steps allowed ≡ judge (situation j a0 a) steps allowed
   judged_same a0 a steps allowed =
-      along (λ (t : Tables). judge t a0 a steps allowed) (λ raw closed. judge_bare raw closed a0 a steps allowed) i j
+      along (λ (t : Tables). judge (situation t a0 a) steps allowed)
+      (λ raw closed. judge_bare raw closed a0 a steps allowed) i j
       same
 
   pub best_same : (a0 : List Machine) (h : List Entry) → best_of i a0 h ≡ best_of j a0 h

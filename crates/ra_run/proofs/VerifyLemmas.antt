@@ -277,25 +277,29 @@ own_left : (held : Held) (model : List ℕ) (closed : Option (List ℕ)) (initia
     ⊎ (status_of refusal ≡ NoMemory)
 unfolding name_of status_of
 own_left held model closed initial report before now own i a0 passes known (Read file.Model) reason =
-    absurd ((known.0 tt).1 reason.rose)
+    absurd ((known file.Model refl tt).1 reason.rose)
 own_left held model closed initial report before now own i a0 passes known (Read file.Closed) reason =
-    absurd ((known.1 reason.named).1 reason.rose)
+    absurd ((known file.Closed refl reason.named).1 reason.rose)
 own_left held model closed initial report before now own i a0 passes known (Read file.Initial) reason =
-    absurd ((known.2 reason.named).1 reason.rose)
+    absurd ((known file.Initial refl reason.named).1 reason.rose)
 own_left held model closed initial report before now own i a0 passes known (Read file.Changed) reason =
     absurd (let none = reason.named in cc)
 own_left held model closed initial report before now own i a0 passes known (Read file.Report) reason =
-    absurd ((known.3 reason.named).1 reason.rose)
+    absurd ((known file.Report refl reason.named).1 reason.rose)
 own_left held model closed initial report before now own i a0 passes known (Read file.Edits) reason =
     absurd (let none = reason.named in cc)
 own_left held model closed initial report before now own i a0 passes known (Model fault) reason =
-    absurd (no_model held model (known.0 tt).0 fault reason passes.accepts.instance.model passes.accepts.instance.read)
+    absurd (no_model held model (known file.Model refl tt).0 fault reason passes.accepts.instance.model
+    passes.accepts.instance.read)
 own_left held model closed initial report before now own i a0 passes known (Closed fault) reason =
-    absurd (no_closed held model closed (known.0 tt).0 (told_of held closed _ known.1) fault reason i
+    absurd (no_closed held model closed (known file.Model refl tt).0 (told_of held closed _ (known file.Closed refl))
+    fault reason i
     passes.accepts.instance)
 own_left held model closed initial report before now own i a0 passes known (Assign role.Initial fault) reason =
-    absurd (no_initial held (verify_names model initial report closed) (known.0 tt).0 (told_of held closed _ known.1)
-    (told_of held (Some initial) _ known.2) fault reason i a0 passes.accepts.instance passes.accepts.initial)
+    absurd (no_initial held (verify_names model initial report closed) (known file.Model refl tt).0
+    (told_of held closed _ (known file.Closed refl))
+    (told_of held (Some initial) _ (known file.Initial refl)) fault reason i a0 passes.accepts.instance
+    passes.accepts.initial)
 own_left held model closed initial report before now own i a0 passes known (Assign role.Changed fault) reason =
     absurd (let none = reason.named in cc)
 own_left held model closed initial report before now own i a0 passes known Memory reason = inr refl
@@ -332,12 +336,14 @@ module _ (held : Held) (model : List ℕ) (closed : Option (List ℕ)) (initial 
 
   instance_same : (j : Tables) (b0 : List Machine) → Passes held these j b0 b0 → bare i ≡ bare j
   unfolding name_of
-  instance_same j b0 other = instances_same held model closed (known.0 tt).0 (told_of held closed _ known.1) i j
+  instance_same j b0 other = instances_same held model closed (known file.Model refl tt).0
+      (told_of held closed _ (known file.Closed refl)) i j
       passes.accepts.instance other.accepts.instance
 
   start_same : (j : Tables) (b0 : List Machine) → Passes held these j b0 b0 → a0 ≡ b0
   unfolding name_of
-  start_same j b0 other = lists_same held (Some initial) (told_of held (Some initial) _ known.2) refl i j a0 b0
+  start_same j b0 other = lists_same held (Some initial) (told_of held (Some initial) _ (known file.Initial refl))
+      refl i j a0 b0
       passes.accepts.initial other.accepts.initial
 
   all_wrong : (l : Lots) (line : ℕ) → IsWrongReport held these i a0 l line → AllWrong held these l line
@@ -389,13 +395,15 @@ wrong_own : (held : Held) (model : List ℕ) (closed : Option (List ℕ)) (initi
 unfolding name_of status_of
 wrong_own held model closed initial report before now l sent i a0 passes known line wrong (Broken role.Initial cause)
     reason =
-    absurd (no_initial_break held (verify_names model initial report closed) (known.0 tt).0
-    (told_of held closed _ known.1) (told_of held (Some initial) _ known.2) cause reason i a0 a0 passes.accepts
+    absurd (no_initial_break held (verify_names model initial report closed) (known file.Model refl tt).0
+    (told_of held closed _ (known file.Closed refl)) (told_of held (Some initial) _ (known file.Initial refl)) cause
+    reason i a0 a0 passes.accepts
     passes.initial)
 wrong_own held model closed initial report before now l sent i a0 passes known line wrong (WrongLine other) reason =
     refl
 wrong_own held model closed initial report before now l sent i a0 passes known line wrong Write reason =
-    absurd (read_not held (verify_names model initial report closed) l line reason.entries (known.3 refl).0 wrong
+    absurd (read_not held (verify_names model initial report closed) l line reason.entries
+    (known file.Report refl refl).0 wrong
     reason.read)
 wrong_own held model closed initial report before now l sent i a0 passes known line wrong refusal reason = absurd reason
 
@@ -409,11 +417,13 @@ right_own : (held : Held) (model : List ℕ) (closed : Option (List ℕ)) (initi
 unfolding name_of status_of
 right_own held model closed initial report before now l sent i a0 passes known right (Broken role.Initial cause)
     reason =
-    absurd (no_initial_break held (verify_names model initial report closed) (known.0 tt).0
-    (told_of held closed _ known.1) (told_of held (Some initial) _ known.2) cause reason i a0 a0 passes.accepts
+    absurd (no_initial_break held (verify_names model initial report closed) (known file.Model refl tt).0
+    (told_of held closed _ (known file.Closed refl)) (told_of held (Some initial) _ (known file.Initial refl)) cause
+    reason i a0 a0 passes.accepts
     passes.initial)
 right_own held model closed initial report before now l sent i a0 passes known right (WrongLine line) reason =
-    absurd (wrong_not held (verify_names model initial report closed) l line (known.3 refl).0 right reason)
+    absurd (wrong_not held (verify_names model initial report closed) l line (known file.Report refl refl).0 right
+    reason)
 right_own held model closed initial report before now l sent i a0 passes known right Write reason = refl
 right_own held model closed initial report before now l sent i a0 passes known right refusal reason = absurd reason
 
@@ -440,7 +450,7 @@ verify_verdict {held} {before} {now} {tells} {out_same} {err_same} {status} mode
           );
       is_wrong = λ i a0 passes known line wrong. ⊎_elim
           (λ (done : status ≡ Done). let v = ends.printed done in
-          absurd (read_not held names l line v.entries (known.3 refl).0
+          absurd (read_not held names l line v.entries (known file.Report refl refl).0
           (all_wrong held model closed initial report before now i a0 passes known l line (wrong l is))
           v.read))
           (λ (other : status ≢ Done).
@@ -564,7 +574,8 @@ verify_so model closed initial report l files out err ended status tries finishe
     } in
     does_so c files out err status ends
     (λ p. (verified_went held names p.0 prints p.2).listed)
-    (λ r p. own_listed held names p.0 (VerifyPrinted held names p.0 breaks) (verified_went held names p.0 breaks) r p.2) (
+    (λ r p. own_listed held names p.0 (VerifyPrinted held names p.0 breaks) (verified_went held names p.0 breaks) r
+    p.2) (
       verify_infeasible exact (verified_went held names l prints) (verified_went held names l breaks),
       verify_verdict model closed initial report l (These l) prints breaks refl exact,
     )

@@ -21,7 +21,7 @@ use ra_draws::Lots;
 use ra_io::{Files, Gate, Sink};
 use ra_jobs::{JobFiles, Refusal, Status, bound_from, finish, judge_start, read_start};
 use ra_model::Instance;
-use ra_report::{WriteFault, write_report};
+use ra_report::{Desks, WriteFault, write_report_at};
 use ra_topology::Topology;
 use ra_worker_crew::{Prepared, Solved as Run};
 use std::alloc::Global;
@@ -108,13 +108,18 @@ fn run_from<R: Threads + Wait + Sync, O: Sink, G: Gate>(
     let Ok(topo) = Topology::make(alloc, inst) else {
         return Err(Refusal::Memory);
     };
-    let ended = run_over(rt, alloc, inst, &topo, initial, lots, start, out, gate);
+    let Ok(mut desks) = Desks::make(alloc, lots.len()) else {
+        return Err(Refusal::Memory);
+    };
+    let ended = run_over(
+        rt, alloc, inst, &topo, initial, lots, start, &mut desks, out, gate,
+    );
     drop(topo);
     ended
 }
 
-/// The run and its report, over the topology of the instance. The start has these parts. The bound is made before the memory
-/// of the run is taken, so that after it only writing can refuse.
+/// The run and its report, over the topology of the instance. The start has these parts, and the report is written at these
+/// desks. The bound is made before the memory of the run is taken, so that after it only writing can refuse.
 fn run_over<R: Threads + Wait + Sync, O: Sink, G: Gate>(
     rt: &R,
     alloc: Global,
@@ -123,6 +128,7 @@ fn run_over<R: Threads + Wait + Sync, O: Sink, G: Gate>(
     initial: &Assignment,
     lots: &Lots,
     start: Parts,
+    desks: &mut Desks,
     out: &mut O,
     gate: &G,
 ) -> Result<(), Refusal>
@@ -146,7 +152,7 @@ fn run_over<R: Threads + Wait + Sync, O: Sink, G: Gate>(
         return Err(Refusal::Memory);
     };
     let run = prepared.solve(rt, gate);
-    let ended = report(out, &bound, &run);
+    let ended = report(rt, desks, out, &bound, &run);
     drop(run);
     match ended {
         Ok(()) => Ok(()),
@@ -154,8 +160,14 @@ fn run_over<R: Threads + Wait + Sync, O: Sink, G: Gate>(
     }
 }
 
-/// Writes the report of a run, which tells this bound.
-fn report<O: Sink>(out: &mut O, bound: &Bound, run: &Run<'_>) -> Result<(), WriteFault>
+/// Writes the report of a run at these desks. It tells this bound.
+fn report<R: Threads + Sync, O: Sink>(
+    rt: &R,
+    desks: &mut Desks,
+    out: &mut O,
+    bound: &Bound,
+    run: &Run<'_>,
+) -> Result<(), WriteFault>
     requires bound { bound.now ≡ pinned_bound_of run.now.journal.inst.now.tables
         run.now.journal.a0.now.items }
     requires best { run.now.best.items ≡ best_state run.now.journal }
@@ -163,5 +175,13 @@ fn report<O: Sink>(out: &mut O, bound: &Bound, run: &Run<'_>) -> Result<(), Writ
     ensures part { OnErr result (BrokeOff (writing O.Sink out.old out.new) (text_of run.now.journal)) }
     ensures out_never_falls { O.faults out.old ≤ O.faults out.new }
 {
-    write_report(out, run.best(), &run.parts(), bound, run.journal())
+    write_report_at(
+        rt,
+        desks,
+        out,
+        run.best(),
+        &run.parts(),
+        bound,
+        run.journal(),
+    )
 }

@@ -1,6 +1,6 @@
-ghost use Rattle.std.specs.Prelude.{◌≡◌, ℕ, ◌≤◌, List, IfOk, IfErr};
+ghost use Rattle.std.specs.Prelude.{◌≡◌, IfOk, IfErr};
 ghost use Rattle.std.specs.Option.{option_copied};
-ghost use Rattle.ra_io.specs.Outside.{reading};
+ghost use Rattle.ra_io.specs.Outside.{LeavesFiles, reading};
 ghost use Rattle.ra_model.specs.Assignments.{IsAssignment};
 ghost use Rattle.ra_jobs.specs.Commands.{These};
 ghost use Rattle.ra_jobs.specs.Ends.{Does, Tries};
@@ -67,10 +67,8 @@ fn accept<F: Files, O: Sink>(
         (reading F.Files files.old files.new) (output O.Sink out.old out.new) result }
 {
     let entries = read_report(alloc, model, initial, report, closed, lots, files)?;
-    match write_accepted(out, entries) {
-        Ok(()) => Ok(()),
-        Err(_) => Err(Refusal::Write),
-    }
+    write_accepted(out, entries)?;
+    Ok(())
 }
 
 /// How many entries the report has, if all files pass and none of its lines is wrong.
@@ -90,8 +88,7 @@ fn read_report<F: Files>(
         (F.faults files.old) (F.faults files.new)
         (VerifyOwn (F.held files.old)
         (verify_names model.now initial.now report.now (option_copied closed.entry)) lots.now ⊥)) }
-    ensures kept { (other : List ℕ) → F.held files.new other ≡ F.held files.old other }
-    ensures never_fall { (other : List ℕ) → F.faults files.old other ≤ F.faults files.new other }
+    ensures leaves { LeavesFiles (reading F.Files files.old files.new) }
 {
     let start = read_start(alloc, model, initial, closed, files)?;
     let counted = count_entries(alloc, &start.inst, &start.initial, report, lots, files);
@@ -114,13 +111,10 @@ fn count_entries<F: Files>(
     ensures refused { IfErr result (CountReason (F.held files.old)
         report.now inst.now.tables initial.now.items lots.now (F.faults files.old)
         (F.faults files.new)) }
-    ensures kept { (other : List ℕ) → F.held files.new other ≡ F.held files.old other }
-    ensures never_fall { (other : List ℕ) → F.faults files.old other ≤ F.faults files.new other }
+    ensures leaves { LeavesFiles (reading F.Files files.old files.new) }
 {
     let mut scratch = judge_start(alloc, inst, initial)?;
-    let Ok(topo) = Topology::make(alloc, inst) else {
-        return Err(Refusal::Memory);
-    };
+    let topo = Topology::make(alloc, inst)?;
     let start = parts(inst, initial, initial, &mut scratch);
     let told = verify(
         alloc,

@@ -18,10 +18,9 @@ use Rattle.ra_shared.specs.declared.books.Book.{Book}
 use Rattle.ra_shared.specs.declared.books.Opening.{Opening}
 use Rattle.ra_shared.specs.declared.shared.Shared.{Shared}
 use Rattle.ra_shared.specs.Books.{entry_touches, committed_in, KnowsOwn, IsCommitOf, IsLegalSeen}
-use Rattle.ra_shared.specs.Copies.{CopiesUnlessOwn}
-use Rattle.ra_shared.specs.Holding.{then_version, IsHandedIn, IsHeldUp}
+use Rattle.ra_shared.specs.Holding.{then_version, MayHandIn, IsHandedIn, IsHeldUp}
 use Rattle.ra_shared.specs.Numbers.{number_of}
-use Rattle.ra_shared.specs.Shares.{start_of, IsCommitted}
+use Rattle.ra_shared.specs.Shares.{start_of, IsCommitted, MayCommit, HasCommitted}
 use Rattle.ra_shared.proofs.Gripping.{without_last}
 use Rattle.ra_shared.proofs.Handing.{answered, version_then}
 use Rattle.ra_shared.proofs.Own.{later_commit, prefix_length}
@@ -43,22 +42,21 @@ none_version : (v n : ℕ) → then_version None v n ≡ v
 unfolding then_version
 none_version v n = refl
 
-module _ {g : Ghosts Book Entry Opening} (s : Shared) (plan : Plan) (p q r n : Pass Book Entry Opening g)
-    (old new : List Entry) where
+module _ {g : Ghosts Book Entry Opening} (s : Shared) (plan : Plan) (p q r n : Pass Book Entry Opening g) where
   -- after the turn the guards are those before it
-  pub grips_back : (reply : Option Reply) → IfSome reply (IsHandedIn s plan q r old new) →
-      IfNone reply (IsHeldUp s plan q r old new) → grips_of r ≡ grips_of q
+  pub grips_back : (reply : Option Reply) → IfSome reply (IsHandedIn s plan q r) →
+      IfNone reply (IsHeldUp s plan q r) → grips_of r ≡ grips_of q
   grips_back (Some reply) done none = done.grips
   grips_back None done none = none.grips
 
-  pub ready_back : (reply : Option Reply) → IfSome reply (IsHandedIn s plan q r old new) →
-      IfNone reply (IsHeldUp s plan q r old new) → IsPassOf s.turn r
+  pub ready_back : (reply : Option Reply) → IfSome reply (IsHandedIn s plan q r) →
+      IfNone reply (IsHeldUp s plan q r) → IsPassOf s.turn r
   ready_back (Some reply) done none = done.ready.0
   ready_back None done none = none.ready.0
 
   pub longer_back : (reply : Option Reply) → KnowsOwn q.number (seen_by q) (made_by q) →
-      IsCommitOf (start_of s) (seen_by q) q.number plan → IfSome reply (IsHandedIn s plan q r old new) →
-      IfNone reply (IsHeldUp s plan q r old new) → length (seen_by q) ≤ length (seen_by r)
+      IsCommitOf (start_of s) (seen_by q) q.number plan → IfSome reply (IsHandedIn s plan q r) →
+      IfNone reply (IsHeldUp s plan q r) → length (seen_by q) ≤ length (seen_by r)
   longer_back (Some reply) own commit done none =
       prefix_length (seen_by q) (seen_by r)
       (prefix_then (start_of s) q.number plan (seen_by q) (made_by q) (seen_by r) (made_by r) reply own commit
@@ -71,7 +69,7 @@ module _ {g : Ghosts Book Entry Opening} (s : Shared) (plan : Plan) (p q r n : P
       → (reply : Option Reply) (S : Type 0) → IfSome reply (λ _. S) →
       (S → OnlyBy (touching entry_touches (start_of s) (number_of (start_of s).inst.tables x))
       (λ (e : Entry). e.worker) r.number (seen_by r) v)
-      → IfSome reply (IsHandedIn s plan q r old new) → IfNone reply (IsHeldUp s plan q r old new) →
+      → IfSome reply (IsHandedIn s plan q r) → IfNone reply (IsHeldUp s plan q r) →
       KnowsOwn q.number (seen_by q) (made_by q) → IsCommitOf (start_of s) (seen_by q) q.number plan →
       v ≤ length (seen_by q)
       → IsVersion (touching entry_touches (start_of s) (number_of (start_of s).inst.tables x)) (seen_by q) v
@@ -112,8 +110,8 @@ module _ {g : Ghosts Book Entry Opening} (s : Shared) (plan : Plan) (p q r n : P
       made = still.1 ∙ (d.made ∙ ap₂ (λ (ms xs : List Entry). ms ++ drop (length d.history) xs) knows.1 (sym still.0));
     }
 
-    pub handed_back : (reply : Option Reply) → IfSome reply (IsHandedIn s plan q r old new) →
-        IfSome reply (IsHandedIn s plan p n old new)
+    pub handed_back : (reply : Option Reply) → IfSome reply (IsHandedIn s plan q r) →
+        IfSome reply (IsHandedIn s plan p n)
     handed_back (Some reply) h = record {
       ready = (still_of h.ready.0, idle);
       number = back.2 ∙ (h.number ∙ same.2);
@@ -121,12 +119,11 @@ module _ {g : Ghosts Book Entry Opening} (s : Shared) (plan : Plan) (p q r n : P
       grips = regained h.grips;
       legal = subst (IsLegalSeen (start_of s)) (sym still.0) h.legal;
       committed = moved reply h.committed;
-      copied = subst (λ (xs : List Entry). CopiesUnlessOwn plan.q xs old new reply) (sym still.0) h.copied;
     }
     handed_back None h = h
 
-    pub held_back : (reply : Option Reply) → IfNone reply (IsHeldUp s plan q r old new) →
-        IfNone reply (IsHeldUp s plan p n old new)
+    pub held_back : (reply : Option Reply) → IfNone reply (IsHeldUp s plan q r) →
+        IfNone reply (IsHeldUp s plan p n)
     held_back (Some reply) h = h
     held_back None h = record {
       ready = (still_of h.ready.0, idle);
@@ -142,5 +139,56 @@ module _ {g : Ghosts Book Entry Opening} (s : Shared) (plan : Plan) (p q r n : P
             Contains ks (grip (number_of (start_of s).inst.tables h.newer.guard) h.newer.version))
             (sym news) h.newer.told;
       };
-      kept = h.kept;
     }
+
+-- a plan that is handed in by a pass at rest
+
+module _ {g : Ghosts Book Entry Opening} (s : Shared) (plan : Plan) (p q : Pass Book Entry Opening g) where
+  pub may_hand_in : MayCommit s plan p → MayHandIn s plan p
+  may_hand_in may = record {
+    ready = may.rest.ready;
+    left = may.left;
+    legal = may.rest.legal;
+    commit = may.commit;
+  }
+
+  pub may_still : MayCommit s plan p → IsHeldUp s plan p q → MayHandIn s plan q
+  may_still may up = record {
+    ready = up.ready;
+    left = omega (arith, may.left, up.same.2);
+    legal = subst (IsLegalSeen (start_of s)) (sym up.same.0) may.rest.legal;
+    commit = subst (λ (w : ℕ). IsCommitOf (start_of s) (seen_by q) w plan) (sym up.number)
+        (subst (λ (xs : List Entry). IsCommitOf (start_of s) xs p.number plan) (sym up.same.0) may.commit);
+  }
+
+  pub has_committed : (reply : Reply) → MayCommit s plan p → KnowsOwn q.number (seen_by q) (made_by q) →
+      IsHandedIn s plan p q reply → HasCommitted s plan p q reply
+  has_committed reply may own done = record {
+    rest = record {
+      ready = done.ready;
+      free = done.grips ∙ may.rest.free;
+      own = own;
+      legal = done.legal;
+    };
+    turn = (done.number, done.left);
+    seen = prefix_then (start_of s) p.number plan (seen_by p) (made_by p) (seen_by q) (made_by q) reply may.rest.own
+        may.commit done.committed;
+    committed = done.committed;
+  }
+
+  -- first it was told that a guard is newer
+  pub handed_later : (r : Pass Book Entry Opening g) (reply : Reply) → IsHeldUp s plan p q →
+      IsHandedIn s plan q r reply → IsHandedIn s plan p r reply
+  handed_later r reply up done = record {
+    ready = done.ready;
+    number = done.number ∙ up.number;
+    left = omega (arith, done.left, up.same.2);
+    grips = done.grips ∙ up.grips;
+    legal = done.legal;
+    committed = subst (λ (w : ℕ). IsCommitted (start_of s) w plan.q (seen_by p) (made_by p) (seen_by r) (made_by r)
+        reply) up.number
+        (subst (λ (ms : List Entry). IsCommitted (start_of s) q.number plan.q (seen_by p) ms (seen_by r) (made_by r)
+        reply) up.same.1
+        (subst (λ (xs : List Entry). IsCommitted (start_of s) q.number plan.q xs (made_by q) (seen_by r) (made_by r)
+        reply) up.same.0 done.committed));
+  }

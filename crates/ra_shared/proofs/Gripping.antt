@@ -31,8 +31,8 @@ use Rattle.ra_turn.specs.Notes.{grip, without, touching, TouchedAt, OnlyBy, Shut
 use Rattle.ra_shared.specs.declared.books.Opening.{Opening}
 use Rattle.ra_shared.specs.Books.{entry_touches}
 use Rattle.ra_shared.specs.Holding.{number_at, HoldsFirst, HoldsWrites}
-use Rattle.ra_shared.specs.Numbers.{first_number, place_count, place_of, guard_count, number_of, touches_number}
-use Rattle.ra_shared.proofs.Agree.{none_above, touches_agree, none_before}
+use Rattle.ra_shared.specs.Numbers.{guard_count, number_of, touches_number}
+use Rattle.ra_shared.proofs.Agree.{none_above, touches_agree}
 use Rattle.ra_shared.proofs.Own.{entry_get, get_entry}
 
 -- a write guard is one of the instance
@@ -43,26 +43,18 @@ written_known i steps g limits within written =
     guard_known i steps g limits within (or_left (writes i steps g) (reads i steps g) written)
 
 -- its number is below the guard count
-place_below : (i : Tables) (g : Guard) → IsKnown i g → place_of i g < place_count i
-unfolding IsKnown place_of place_count
-place_below i (guard.Machine m) known = omega (arith, known)
-place_below i (guard.Service s) known = omega (arith, known)
-
 pub number_below : (i : Tables) (g : Guard) → IsKnown i g → number_of i g < guard_count i
-unfolding number_of guard_count
-number_below i g known = omega (arith, place_below i g known)
+unfolding IsKnown number_of guard_count
+number_below i (guard.Machine m) known = omega (arith, known)
+number_below i (guard.Service s) known = omega (arith, known)
 
 -- an earlier guard has a smaller number
-place_less : (i : Tables) (g h : Guard) → IsKnown i g → is_before g h ≡ true → place_of i g < place_of i h
-unfolding IsKnown place_of is_before
-place_less i (guard.Machine m) (guard.Machine n) known before = ltb-true m.0 n.0 before
-place_less i (guard.Machine m) (guard.Service s) known before = omega (arith, known)
-place_less i (guard.Service s) (guard.Machine m) known before = absurd (cc before)
-place_less i (guard.Service s) (guard.Service t) known before = omega (arith, ltb-true s.0 t.0 before)
-
 before_less : (i : Tables) (g h : Guard) → IsKnown i g → is_before g h ≡ true → number_of i g < number_of i h
-unfolding number_of
-before_less i g h known before = omega (arith, place_less i g h known before)
+unfolding IsKnown number_of is_before
+before_less i (guard.Machine m) (guard.Machine n) known before = ltb-true m.0 n.0 before
+before_less i (guard.Machine m) (guard.Service s) known before = omega (arith, known)
+before_less i (guard.Service s) (guard.Machine m) known before = absurd (cc before)
+before_less i (guard.Service s) (guard.Service t) known before = omega (arith, ltb-true s.0 t.0 before)
 
 -- the guard whose number is touched
 pub record IsTouchedGuard (i : Tables) (made : Option (List Step)) (n : ℕ) : Type 0 where
@@ -70,40 +62,28 @@ pub record IsTouchedGuard (i : Tables) (made : Option (List Step)) (n : ℕ) : T
   pub number : number_of i guard ≡ n
   pub touched : touches i made guard ≡ true
 
-place_back : (i : Tables) (n : ℕ) → place_of i (guard_of (machine_count i) n) ≡ n
-unfolding place_of
-place_back i n = ⊎_elim
+number_back : (i : Tables) (n : ℕ) → number_of i (guard_of (machine_count i) n) ≡ n
+unfolding number_of
+number_back i n = ⊎_elim
     (λ (below : n < machine_count i). rw (guard_below (machine_count i) n below) refl)
     (λ (above : machine_count i ≤ n). rw (guard_above (machine_count i) n above) (omega arith))
     (cases_lt n (machine_count i))
 
-number_back : (i : Tables) (n : ℕ) → first_number ≤ n → number_of i (guard_of (machine_count i) (n - first_number)) ≡ n
-unfolding number_of
-number_back i n le = omega (arith, place_back i (n - first_number))
-
-number_known : (i : Tables) (n : ℕ) → first_number ≤ n → n < guard_count i →
-    IsKnown i (guard_of (machine_count i) (n - first_number))
-unfolding guard_count place_count
-number_known i n le below = known_number i (n - first_number) (omega arith)
+number_known : (i : Tables) (n : ℕ) → n < guard_count i → IsKnown i (guard_of (machine_count i) n)
+unfolding guard_count
+number_known i n below = known_number i n below
 
 -- a number that is touched is one of a guard
-touched_from : (i : Tables) (made : Option (List Step)) (n : ℕ) → touches_number i made n ≡ true → first_number ≤ n
-touched_from i made n is = ⊎_elim
-    (λ (before : n < first_number). absurd (both_ways (touches_number i made n) (none_before i made n before) is))
-    (λ (from : first_number ≤ n). from)
-    (cases_lt n first_number)
-
 touched_guard : (i : Tables) (made : Option (List Step)) (n : ℕ) → touches_number i made n ≡ true →
     IsTouchedGuard i made n
 touched_guard i made n is = ⊎_elim
     (λ (below : n < guard_count i).
-    let from = touched_from i made n is in
-    let g = guard_of (machine_count i) (n - first_number) in
-    let number = number_back i n from in
+    let g = guard_of (machine_count i) n in
+    let number = number_back i n in
     record {
       guard = g;
       number = number;
-      touched = sym (touches_agree i made g (number_known i n from below)) ∙ (ap (touches_number i made) number ∙ is);
+      touched = sym (touches_agree i made g (number_known i n below)) ∙ (ap (touches_number i made) number ∙ is);
     })
     (λ (above : guard_count i ≤ n). absurd (both_ways (touches_number i made n) (none_above i made n above) is))
     (cases_lt n (guard_count i))

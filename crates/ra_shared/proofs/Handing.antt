@@ -33,11 +33,12 @@ use Rattle.ra_journal.specs.declared.entries.Entry.{Entry}
 use Rattle.ra_journal.specs.declared.replies.Reply.{Reply}
 use Rattle.ra_journal.specs.declared.replies.Reply.TheVariants.{Recorded, Stale}
 use Rattle.ra_journal.specs.Committing.{next_entry, newer_since, Committed, IsCommit}
-use Rattle.ra_journal.specs.Entries.{entry_at, made_in, made_by, steps_made}
+use Rattle.ra_journal.specs.Entries.{entry_at, made_in, made_by, steps_made, allowed}
+use Rattle.ra_journal.specs.Refusing.{IsRefused}
 use Rattle.ra_journal.proofs.EndLemmas.{next_is_planned}
 use Rattle.ra_journal.proofs.NewerLemmas.{committed_stale, committed_recorded}
 use Rattle.ra_journal.proofs.Places.{made_place, entry_added}
-use Rattle.ra_journal.proofs.Refusals.{broken_is_refused}
+use Rattle.ra_journal.proofs.RisesLemmas.{refused_at_end}
 use Rattle.ra_turn.specs.Notes.{touching, IsVersion, OnlyBy, HoldsAll}
 use Rattle.ra_turn.specs.declared.sight.Grip.{Grip}
 use Rattle.ra_turn.proofs.Lists.{prefix_self}
@@ -46,9 +47,9 @@ use Rattle.ra_shared.specs.declared.books.Opening.{Opening}
 use Rattle.ra_shared.specs.Books.{entry_touches, committed_in, KnowsOwn, IsCommitOf, IsStartOf, IsLegalSeen}
 use Rattle.ra_shared.specs.Holding.{HoldsWrites, then_version}
 use Rattle.ra_shared.specs.Laws.{RecordedStands, StaleStands}
-use Rattle.ra_shared.specs.Numbers.{first_number, place_count, touches_place, number_of, touches_number}
+use Rattle.ra_shared.specs.Numbers.{guard_count, number_of, touches_number}
 use Rattle.ra_shared.specs.Shares.{IsCommitted}
-use Rattle.ra_shared.proofs.Agree.{touches_agree, none_before, of_place}
+use Rattle.ra_shared.proofs.Agree.{touches_agree}
 use Rattle.ra_shared.proofs.Gripping.{holds_touched}
 use Rattle.ra_shared.proofs.Own.{later_commit}
 
@@ -146,21 +147,15 @@ may_give o h xs w plan grips commit holds is = ⊎_elim
     (answered o h w plan commit)
 
 -- a refused entry touches nothing
-no_place_touched : (i : Tables) (n : ℕ) → touches_place i None n ≡ false
-unfolding touches_place touches
-no_place_touched i n = ⊎_elim
+none_touched : (i : Tables) (n : ℕ) → touches_number i None n ≡ false
+unfolding touches_number touches
+none_touched i n = ⊎_elim
     (λ (machine : n < machine_count i). cond-true _ _ _ (lt-ltb n (machine_count i) machine))
     (λ (other : machine_count i ≤ n). cond-false _ _ _ (le-ltb n (machine_count i) other) ∙ ⊎_elim
-    (λ (service : n < place_count i). cond-true _ _ _ (lt-ltb n (place_count i) service))
-    (λ (past : place_count i ≤ n). cond-false _ _ _ (le-ltb n (place_count i) past))
-    (cases_lt n (place_count i)))
+    (λ (service : n < guard_count i). cond-true _ _ _ (lt-ltb n (guard_count i) service))
+    (λ (past : guard_count i ≤ n). cond-false _ _ _ (le-ltb n (guard_count i) past))
+    (cases_lt n (guard_count i)))
     (cases_lt n (machine_count i))
-
-none_touched : (i : Tables) (n : ℕ) → touches_number i None n ≡ false
-none_touched i n = ⊎_elim
-    (λ (before : n < first_number). none_before i None n before)
-    (λ (from : first_number ≤ n). of_place i None n from ∙ no_place_touched i (n - first_number))
-    (cases_lt n first_number)
 
 refused_makes_none : (e : Entry) (cause : Cause) → e.verdict ≡ Refused cause → made_by e ≡ None
 unfolding made_by steps_made
@@ -174,20 +169,19 @@ refused_holds o e cause grips is guard touched =
     ∙ none_touched o.inst.tables guard in
     absurd (let clash : true ≡ false = sym touched ∙ none in cc clash)
 
--- what may be given back of a plan whose move breaks a constraint: its entry touches nothing, so no guard is held for
--- it
-pub may_give_refused : (o : Opening) (h xs : List Entry) (w : ℕ) (plan : Plan) (grips : List Grip) (cause : Cause) →
-    IsStartOf o → IsLegalSeen o h → IsCommitOf o h w plan → plan.weighed.broken ≡ Some cause
+-- what may be given back of a plan that is known to be refused: its entry touches nothing, so no guard is held for it
+pub may_give_refused : (o : Opening) (h xs : List Entry) (w : ℕ) (plan : Plan) (grips : List Grip) → IsStartOf o →
+    IsLegalSeen o h → IsCommitOf o h w plan → IsRefused o.inst.tables (allowed o.lots w plan.k) plan
     → xs ≡ (committed_in o h w plan.q).journal → MayGive o grips w h xs
-may_give_refused o h xs w plan grips cause start legal commit broken is = ⊎_elim
+may_give_refused o h xs w plan grips start legal commit refused is = ⊎_elim
     (λ stale. inl (is ∙ stale.1.journal))
-    (λ done. inr (
+    (λ done.
+    let told = refused_at_end o.inst.tables o.a0.items o.lots h w plan start legal commit done.1.none refused in
+    inr (
       done.0,
       is ∙ done.1.journal,
       done.1.worker,
-      refused_holds o done.0 cause grips
-          (done.1.judged ∙ broken_is_refused o.inst.tables o.a0.items o.lots h w plan cause start legal commit
-          done.1.none broken),
+      refused_holds o done.0 told.0 grips (done.1.judged ∙ told.1),
     ))
     (answered o h w plan commit)
 

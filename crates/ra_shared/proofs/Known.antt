@@ -1,7 +1,6 @@
 -- What is known of the guards of a plan that is handed in.
 use Rattle.std.proofs.Common.{List, Option, Some, None, IfSome}
 use Rattle.ra_base.specs.declared.ids.Guard.{Guard}
-use Rattle.ra_model.specs.declared.raw.Tables.{Tables}
 use Rattle.ra_moves.specs.declared.verdicts.Plan.{Plan}
 use Rattle.ra_guards.specs.Order.{AreWrites}
 use Rattle.ra_journal.specs.declared.entries.Entry.{Entry}
@@ -14,16 +13,16 @@ use Rattle.ra_shared.specs.Holding.{HoldsWrites, KnowsGuards, NeedsNoGuard}
 
 module _ {g : Ghosts Book Entry Opening} where
   -- all write guards are held, or none need be
-  pub by_guards : {R : Type 0} (i : Tables) (plan : Plan) (p : Pass Book Entry Opening g)
-      (guards : Option (List Guard)) → KnowsGuards i plan p guards →
-      (HoldsWrites i plan.mv.steps plan.q (grips_of p) → R) → (NeedsNoGuard i plan p → R) → R
-  by_guards i plan p (Some guards) knows held free = held knows.1
-  by_guards i plan p None knows held free = free knows
+  pub by_guards : {R : Type 0} (o : Opening) (plan : Plan) (p : Pass Book Entry Opening g)
+      (guards : Option (List Guard)) → KnowsGuards o plan p guards →
+      (HoldsWrites o.inst.tables plan.mv.steps plan.q (grips_of p) → R) → (NeedsNoGuard o plan p → R) → R
+  by_guards o plan p (Some guards) knows held free = held knows.1
+  by_guards o plan p None knows held free = free knows
 
   -- what follows for the guards that are given
-  pub of_given : {P : List Guard → Type 0} (i : Tables) (plan : Plan) (p : Pass Book Entry Opening g)
-      (guards : Option (List Guard)) → KnowsGuards i plan p guards →
-      ((given : List Guard) → AreWrites i plan.mv.steps given → HoldsWrites i plan.mv.steps plan.q (grips_of p) →
-      P given) → IfSome guards P
-  of_given i plan p (Some guards) knows follows = follows guards knows.0 knows.1
-  of_given i plan p None knows follows = tt
+  pub of_given : {P : List Guard → Type 0} (o : Opening) (plan : Plan) (p : Pass Book Entry Opening g)
+      (guards : Option (List Guard)) → KnowsGuards o plan p guards →
+      ((given : List Guard) → AreWrites o.inst.tables plan.mv.steps given →
+      HoldsWrites o.inst.tables plan.mv.steps plan.q (grips_of p) → P given) → IfSome guards P
+  of_given o plan p (Some guards) knows follows = follows guards knows.0 knows.1
+  of_given o plan p None knows follows = tt

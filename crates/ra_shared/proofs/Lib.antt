@@ -7,3 +7,4 @@ pub mod Turned
 pub mod Back
 pub mod Known
 pub mod Next
+pub mod Quiet

@@ -100,9 +100,9 @@ module _ {g : Ghosts Book Entry Opening} (s : Shared) (plan : Plan) (guards : Li
         }
 
   -- after the turn it is still held
-  pub still_held : (n v : ℕ) (q r : Pass Book Entry Opening g) (old new : List Entry) (reply : Option Reply) →
-      grips_of q ≡ grips_of p ++ grip n v ∷ [] → IfSome reply (IsHandedIn s plan q r old new) →
-      IfNone reply (IsHeldUp s plan q r old new) → Contains (grips_of r) (grip n v)
-  still_held n v q r old new reply is done none =
-      subst (λ (ks : List Grip). Contains ks (grip n v)) (sym (grips_back s plan p q r r old new reply done none ∙ is))
+  pub still_held : (n v : ℕ) (q r : Pass Book Entry Opening g) (reply : Option Reply) →
+      grips_of q ≡ grips_of p ++ grip n v ∷ [] → IfSome reply (IsHandedIn s plan q r) →
+      IfNone reply (IsHeldUp s plan q r) → Contains (grips_of r) (grip n v)
+  still_held n v q r reply is done none =
+      subst (λ (ks : List Grip). Contains ks (grip n v)) (sym (grips_back s plan p q r r reply done none ∙ is))
       (Contains-push (grips_of p) (grip n v))

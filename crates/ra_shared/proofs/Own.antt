@@ -10,6 +10,7 @@ use Rattle.ra_base.specs.declared.ids.Machine.{Machine}
 use Rattle.ra_base.proofs.Counts.{count_no}
 use Rattle.ra_draws.specs.declared.budgets.Lots.{Lots}
 use Rattle.ra_model.specs.declared.raw.Tables.{Tables}
+use Rattle.ra_model.specs.Situations.{situation}
 use Rattle.ra_moves.specs.declared.verdicts.Plan.{Plan}
 use Rattle.ra_moves.specs.Options.{plan_of}
 use Rattle.ra_moves.specs.Weighing.{weighed_of}
@@ -93,6 +94,7 @@ module _ (w : ℕ) (seen h mine : List Entry) (p : IsPrefix seen h) (told : Know
         seen = λ j lt own.
             (let before = own_seen j lt own in
             commit.seen j before (ap (λ (e : Entry). e.worker) (same.each j before) ∙ own));
-        planned = commit.planned ∙ ap (λ a. plan_of i a0 a (words l w plan.k) l.drawing (allowed l w plan.k)) st;
-        weighed = commit.weighed ∙ ap (λ a. weighed_of i a0 a plan.mv.steps) st;
+        planned = commit.planned ∙ ap (λ a. plan_of (situation i a0 a) (words l w plan.k) l.drawing
+            (allowed l w plan.k)) st;
+        weighed = commit.weighed ∙ ap (λ a. weighed_of (situation i a0 a) plan.mv.steps) st;
       }

@@ -1,16 +1,17 @@
 -- A turn in which a worker hands in its plan, from what the lock tells of it.
-use Rattle.std.proofs.Common.{◌≡◌, ℕ, ◌-◌, ◌<◌, ◌≤◌, true, Some, List, ◌++◌, length, drop, ap, ap₂}
+use Rattle.std.proofs.Common.{◌≡◌, ℕ, ◌-◌, ◌<◌, ◌≤◌, true, List, ◌++◌, length, drop, ap, ap₂}
 use Rattle.std.proofs.Common.{sym, subst, ◌∙◌, ⊎_elim, arith}
 use Rattle.std.proofs.lemmas.List.{length_push}
 use Rattle.std.proofs.lemmas.Option.{slice_get_within}
 use mathlib.Core.List.{IsPrefix}
-use Rattle.ra_base.specs.declared.causes.Cause.{Cause}
 use Rattle.ra_base.specs.declared.ids.Guard.{Guard}
 use Rattle.ra_moves.specs.declared.verdicts.Plan.{Plan}
 use Rattle.ra_guards.specs.Guards.{writes, AreWithin}
 use Rattle.ra_journal.specs.declared.entries.Entry.{Entry}
 use Rattle.ra_journal.specs.declared.replies.Reply.{Reply}
 use Rattle.ra_journal.specs.Committing.{AreHeld}
+use Rattle.ra_journal.specs.Entries.{allowed}
+use Rattle.ra_journal.specs.Refusing.{IsRefused}
 use Rattle.ra_journal.proofs.EndLemmas.{planned_within}
 use Rattle.ra_turn.specs.declared.sight.Grip.{Grip}
 use Rattle.ra_turn.specs.Notes.{grip, touching, TouchedAt, IsNews, ShutBy}
@@ -78,14 +79,15 @@ turned_gives o p w v u h found xs plan grips kept opened number worker here same
     (subst (λ (ys : List Entry). MayGive o grips v ys xs) (sym here)
     (subst (λ (n : ℕ). MayGive o grips n h xs) (sym number) gives))
 
--- what may be given back of a plan whose move breaks a constraint
-pub turned_refused : (o p : Opening) (w v u : ℕ) (h found xs : List Entry) (plan : Plan) (kept : List Grip)
-    (cause : Cause) → p ≡ o → v ≡ w → u ≡ w → found ≡ h → IsStartOf p → IsLegalSeen p h → IsCommitOf o h w plan
-    → plan.weighed.broken ≡ Some cause → xs ≡ (committed_in p h u plan.q).journal → MayGive o kept v found xs
-turned_refused o p w v u h found xs plan kept cause opened number worker here start legal commit broken is =
+-- what may be given back of a plan that is known to be refused
+pub turned_refused : (o p : Opening) (w v u : ℕ) (h found xs : List Entry) (plan : Plan) (kept : List Grip) → p ≡ o →
+    v ≡ w → u ≡ w → found ≡ h → IsStartOf p → IsLegalSeen p h → IsCommitOf o h w plan
+    → IsRefused o.inst.tables (allowed o.lots w plan.k) plan → xs ≡ (committed_in p h u plan.q).journal →
+    MayGive o kept v found xs
+turned_refused o p w v u h found xs plan kept opened number worker here start legal commit refused is =
     let start' : IsStartOf o = subst IsStartOf opened start in
     let legal' : IsLegalSeen o h = subst (λ (x : Opening). IsLegalSeen x h) opened legal in
-    let gives : MayGive o kept w h xs = may_give_refused o h xs w plan kept cause start' legal' commit broken
+    let gives : MayGive o kept w h xs = may_give_refused o h xs w plan kept start' legal' commit refused
     (is ∙ ap₂ (λ (x : Opening) (n : ℕ). (committed_in x h n plan.q).journal) opened worker) in
     subst (λ (ys : List Entry). MayGive o kept v ys xs) (sym here)
     (subst (λ (n : ℕ). MayGive o kept n h xs) (sym number) gives)

@@ -1,6 +1,5 @@
 -- How a worker hands in a plan: it holds the write guards of its move, takes its turn, and gives them back.
 use Rattle.std.specs.Prelude.{◌≡◌, ◌⊎◌, ℕ, ◌+◌, ◌<◌, ◌≤◌, true, List, length, All, Contains, Option, Some, None}
-use Rattle.ra_base.specs.declared.causes.Cause.{Cause}
 use Rattle.ra_base.specs.declared.ids.Guard.{Guard}
 use Rattle.ra_model.specs.declared.raw.Tables.{Tables}
 use Rattle.ra_moves.specs.declared.steps.Step.{Step}
@@ -11,6 +10,8 @@ use Rattle.ra_guards.specs.Order.{guard_at, AreWrites}
 use Rattle.ra_journal.specs.declared.entries.Entry.{Entry}
 use Rattle.ra_journal.specs.declared.replies.Reply.{Reply}
 use Rattle.ra_journal.specs.declared.replies.Reply.TheVariants.{Recorded}
+use Rattle.ra_journal.specs.Entries.{allowed}
+use Rattle.ra_journal.specs.Refusing.{IsRefused}
 use Rattle.ra_turn.specs.declared.pass.Pass.{Pass}
 use Rattle.ra_turn.specs.declared.sight.Grip.{Grip}
 use Rattle.ra_turn.specs.declared.story.Story.{Ghosts}
@@ -20,7 +21,6 @@ use Rattle.ra_shared.specs.declared.books.Book.{Book}
 use Rattle.ra_shared.specs.declared.books.Opening.{Opening}
 use Rattle.ra_shared.specs.declared.shared.Shared.{Shared}
 use Rattle.ra_shared.specs.Books.{IsCommitOf, IsLegalSeen}
-use Rattle.ra_shared.specs.Copies.{CopiesUnlessOwn}
 use Rattle.ra_shared.specs.Numbers.{number_of}
 use Rattle.ra_shared.specs.Shares.{start_of, IsCommitted}
 
@@ -56,10 +56,9 @@ module _ {g : Ghosts Book Entry Opening} where
     pub legal : IsLegalSeen (start_of s) (seen_by p)
     pub commit : IsCommitOf (start_of s) (seen_by p) p.number plan
 
-  -- the pass p, now q, has handed in the plan in one turn, and holds what it held; that turn has copied what the batch,
-  -- which was old, is now
+  -- the pass p, now q, has handed in the plan in one turn, and holds what it held
   pub record IsHandedIn (s : Shared) (plan : Plan) (p q : Pass Book Entry Opening g)
-      (old new : List Entry) (reply : Reply) : Type 0 where
+      (reply : Reply) : Type 0 where
     pub ready : IsReady s.turn q
     pub number : q.number ≡ p.number
     pub left : q.left + 1 ≡ p.left
@@ -68,7 +67,6 @@ module _ {g : Ghosts Book Entry Opening} where
     pub committed :
         IsCommitted (start_of s) p.number plan.q (seen_by p) (made_by p) (seen_by q) (made_by q)
         reply
-    pub copied : CopiesUnlessOwn plan.q (seen_by q) old new reply
 
   -- The next turn of the pass shows an entry at place plan.q or later that touched a write guard of the plan's move
   pub record IsNewer (i : Tables) (plan : Plan) (p : Pass Book Entry Opening g) : Type 0 where
@@ -78,24 +76,24 @@ module _ {g : Ghosts Book Entry Opening} where
     pub above : plan.q < version
     pub told : WillSee p (number_of i guard) version
 
-  -- No guard need be held to hand in the plan: its move breaks a constraint, so its entry touches nothing, or it will
-  -- be found stale
-  abbrev pub NeedsNoGuard : Tables → Plan → Pass Book Entry Opening g → Type 0
-  NeedsNoGuard i plan p = ((cause : Cause) × (plan.weighed.broken ≡ Some cause)) ⊎ IsNewer i plan p
+  -- No guard need be held to hand in the plan: it is refused wherever it is recorded, so its entry touches nothing, or
+  -- it will be found stale
+  abbrev pub NeedsNoGuard : Opening → Plan → Pass Book Entry Opening g → Type 0
+  NeedsNoGuard o plan p =
+      IsRefused o.inst.tables (allowed o.lots p.number plan.k) plan ⊎ IsNewer o.inst.tables plan p
 
   -- What is known of the guards that are given to hand in the plan: they are the write guards of its move, and the pass
   -- holds each. If none are given, none need be held
-  abbrev pub KnowsGuards : Tables → Plan → Pass Book Entry Opening g → Option (List Guard) → Type 0
-  KnowsGuards i plan p (Some guards) =
-      AreWrites i plan.mv.steps guards × HoldsWrites i plan.mv.steps plan.q (grips_of p)
-  KnowsGuards i plan p None = NeedsNoGuard i plan p
+  abbrev pub KnowsGuards : Opening → Plan → Pass Book Entry Opening g → Option (List Guard) → Type 0
+  KnowsGuards o plan p (Some guards) =
+      AreWrites o.inst.tables plan.mv.steps guards
+      × HoldsWrites o.inst.tables plan.mv.steps plan.q (grips_of p)
+  KnowsGuards o plan p None = NeedsNoGuard o plan p
 
-  -- the pass p, now q, was told so; it holds what it held, and has seen and made nothing, and the batch is as it was
-  pub record IsHeldUp (s : Shared) (plan : Plan) (p q : Pass Book Entry Opening g)
-      (old new : List Entry) : Type 0 where
+  -- the pass p, now q, was told so; it holds what it held, and has seen and made nothing
+  pub record IsHeldUp (s : Shared) (plan : Plan) (p q : Pass Book Entry Opening g) : Type 0 where
     pub ready : IsReady s.turn q
     pub number : q.number ≡ p.number
     pub same : KnowsSame p q
     pub grips : grips_of q ≡ grips_of p
     pub newer : IsNewer (start_of s).inst.tables plan q
-    pub kept : new ≡ old

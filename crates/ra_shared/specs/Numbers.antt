@@ -7,37 +7,19 @@ use Rattle.ra_model.specs.Numbers.{machine_count, service_count}
 use Rattle.ra_moves.specs.declared.steps.Step.{Step}
 use Rattle.ra_guards.specs.Versions.{touches}
 
--- how many numbers come before the first guard's. No guard has one of them: so the words of guards lie 64 bytes or more
--- behind the words of the tickets and of the count
-unfoldable pub first_number : ℕ
-first_number = 7
-
 -- how many guards an instance has
-unfoldable pub place_count : Tables → ℕ
-place_count i = machine_count i + service_count i
+unfoldable pub guard_count : Tables → ℕ
+guard_count i = machine_count i + service_count i
 
 -- machine m is guard m, and service s is the machine count plus s
-unfoldable pub place_of : Tables → Guard → ℕ
-place_of i (guard.Machine m) = m.0
-place_of i (guard.Service s) = machine_count i + s.0
-
--- what an entry makes touches the guard of a place; there is none from the place count on
-unfoldable pub touches_place : Tables → Option (List Step) → ℕ → Bool
-touches_place i made n =
-    if nat_lt n (machine_count i) then touches i made (guard.Machine (record { 0 = n }))
-    else if nat_lt n (place_count i)
-    then touches i made (guard.Service (record { 0 = n - machine_count i }))
-    else false
-
--- how many numbers the lock has for them
-unfoldable pub guard_count : Tables → ℕ
-guard_count i = first_number + place_count i
-
--- the number of a guard
 unfoldable pub number_of : Tables → Guard → ℕ
-number_of i g = first_number + place_of i g
+number_of i (guard.Machine m) = m.0
+number_of i (guard.Service s) = machine_count i + s.0
 
--- what an entry makes touches the guard of a number; there is none before the first one and from the guard count on
+-- what an entry makes touches the guard of a number; there is none from the guard count on
 unfoldable pub touches_number : Tables → Option (List Step) → ℕ → Bool
 touches_number i made n =
-    if nat_lt n first_number then false else touches_place i made (n - first_number)
+    if nat_lt n (machine_count i) then touches i made (guard.Machine (record { 0 = n }))
+    else if nat_lt n (guard_count i)
+    then touches i made (guard.Service (record { 0 = n - machine_count i }))
+    else false

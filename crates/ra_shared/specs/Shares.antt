@@ -1,6 +1,7 @@
 -- A journal that workers share, and their passes.
-use Rattle.std.specs.Prelude.{◌≡◌, ℕ, ◌+◌, List, [], ◌++◌, length, drop}
+use Rattle.std.specs.Prelude.{◌≡◌, ℕ, ◌+◌, ◌<◌, List, [], ◌++◌, length, drop}
 use mathlib.Core.List.{IsPrefix}
+use Rattle.ra_moves.specs.declared.verdicts.Plan.{Plan}
 use Rattle.ra_journal.specs.declared.entries.Entry.{Entry}
 use Rattle.ra_journal.specs.declared.replies.Reply.{Reply}
 use Rattle.ra_turn.specs.declared.pass.Pass.{Pass}
@@ -9,7 +10,7 @@ use Rattle.ra_turn.specs.Passes.{opening_of, seen_by, made_by, grips_of, IsReady
 use Rattle.ra_shared.specs.declared.books.Book.{Book}
 use Rattle.ra_shared.specs.declared.books.Opening.{Opening}
 use Rattle.ra_shared.specs.declared.shared.Shared.{Shared}
-use Rattle.ra_shared.specs.Books.{opened_by, committed_in, KnowsOwn, IsLegalSeen}
+use Rattle.ra_shared.specs.Books.{opened_by, committed_in, KnowsOwn, IsLegalSeen, IsCommitOf}
 
 -- what the journal was opened with
 abbrev pub start_of : Shared → Opening
@@ -64,3 +65,20 @@ pub record IsCommitted (o : Opening) (w q : ℕ) (seen mine seen' mine' : List E
   pub journal : seen' ≡ (committed_in o history w q).journal
   pub answer : reply ≡ (committed_in o history w q).reply
   pub made : mine' ≡ mine ++ drop (length history) seen'
+
+module _ {g : Ghosts Book Entry Opening} where
+  -- a pass at rest, with a turn left, may hand in this plan
+  pub record MayCommit (s : Shared) (plan : Plan) (p : Pass Book Entry Opening g) : Type 0 where
+    pub rest : IsAtRest s p
+    pub left : 0 < turns_left p
+    pub commit : IsCommitOf (start_of s) (seen_by p) (worker_of p) plan
+
+  -- the pass p, now q and at rest again, has handed in the plan in one turn, and was given this answer
+  pub record HasCommitted (s : Shared) (plan : Plan) (p q : Pass Book Entry Opening g)
+      (reply : Reply) : Type 0 where
+    pub rest : IsAtRest s q
+    pub turn : HasTakenTurn p q
+    pub seen : IsPrefix (seen_by p) (seen_by q)
+    pub committed :
+        IsCommitted (start_of s) (worker_of p) plan.q (seen_by p) (made_by p) (seen_by q)
+        (made_by q) reply

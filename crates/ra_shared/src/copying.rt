@@ -1,26 +1,40 @@
-ghost use Rattle.std.specs.Prelude.{◌≡◌, ◌≤◌, length};
+ghost use Rattle.std.specs.Prelude.{◌≡◌, ℕ, ◌≤◌, List, length};
+ghost use Rattle.ra_journal.specs.declared.entries.Entry.{Entry};
 ghost use Rattle.ra_journal.specs.Journals.{entries_in};
-ghost use Rattle.ra_shared.specs.Copies.{is_recorded_at, CopiesUnlessOwn};
+ghost use Rattle.ra_shared.specs.Copies.{CopiesUnlessQuiet};
 
-use ra_journal::{Batch, Journal, Reply};
+use ra_journal::{Batch, Journal};
 
-/// Fills the batch with the entries from a plan's place on, unless the plan was recorded just there.
-pub(crate) fn copy_unless_own(journal: &Journal<'_>, place: u64, reply: &Reply, batch: &mut Batch)
-    requires { place ≤ length (entries_in journal.now) }
-    ensures { CopiesUnlessOwn place (entries_in journal.now) batch.old batch.new reply.now }
-{
-    if !is_recorded_at(reply, place) {
-        journal.copy_from(place, batch);
+/// What is copied of the journal for a worker, in the turn in which its plan is answered.
+pub(crate) trait Copying {
+    /// It was copied from these entries, from a place on.
+    ghost copied: { Self → List Entry → ℕ → Type 0 };
+
+    /// Copies from a place on.
+    fn copy(&mut self, journal: &Journal<'_>, place: u64)
+        requires { place ≤ length (entries_in journal.now) }
+        ensures { copied self.new (entries_in journal.now) place };
+}
+
+/// A batch takes the entries from the place on, or none if it is known at once that all of them are refused.
+impl Copying for Batch {
+    ghost copied = { λ batch seen place. CopiesUnlessQuiet place seen batch };
+
+    fn copy(&mut self, journal: &Journal<'_>, place: u64) {
+        if journal.is_quiet_from(place) {
+            self.clear();
+        } else {
+            journal.copy_from(place, self);
+        }
     }
 }
 
-/// Whether an answer says that the plan is the entry at this place.
-#[tactic(auto, unfolding(crate::specs::Copies::is_recorded_at))]
-fn is_recorded_at(reply: &Reply, place: u64) -> bool
-    ensures { result ≡ is_recorded_at reply.now place }
-{
-    match reply {
-        Reply::Recorded { at, .. } => *at == place,
-        Reply::Stale { .. } => false,
-    }
+/// For a worker that takes nothing in.
+#[derive(Drop)]
+pub(crate) struct Nothing;
+
+impl Copying for Nothing {
+    ghost copied = { λ _ _ _. Unit {0} };
+
+    fn copy(&mut self, _journal: &Journal<'_>, _place: u64) {}
 }

@@ -8,20 +8,15 @@ use ra_journal::Reply;
 use ra_model::Instance;
 use ra_moves::Verdict;
 
-/// How many numbers of the lock come before the first guard's, and are no guard's. The lock's words lie side by side,
-/// those of guards behind three others: so 64 bytes or more lie between the last of these and the first guard's, and no
-/// guard's word shares a line with a ticket's.
-pub(crate) const FIRST_NUMBER: u32 = 7;
-
-/// The number of a guard in the lock: behind `FIRST_NUMBER`, machine m has m, and service s the machine count plus s.
-#[tactic(auto, unfolding(crate::specs::Numbers::number_of, crate::specs::Numbers::place_of, crate::specs::Numbers::first_number, ra_guards::specs::Order::IsKnown))]
+/// The number of a guard in the lock: machine m has m, and service s the machine count plus s.
+#[tactic(auto, unfolding(crate::specs::Numbers::number_of, ra_guards::specs::Order::IsKnown))]
 pub(crate) fn number_of(inst: &Instance, guard: Guard) -> u32
     requires { IsKnown inst.now.tables guard }
     ensures { result ≡ number_of inst.now.tables guard }
 {
     match guard {
-        Guard::Machine(m) => FIRST_NUMBER + m.0,
-        Guard::Service(s) => FIRST_NUMBER + (inst.machines() + s.0),
+        Guard::Machine(m) => m.0,
+        Guard::Service(s) => inst.machines() + s.0,
     }
 }
 

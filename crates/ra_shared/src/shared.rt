@@ -5,11 +5,12 @@ ghost use Rattle.ra_shared.specs.Books.{opened_by, IsStartOf};
 ghost use Rattle.ra_shared.specs.Numbers.{guard_count};
 
 use crate::books::{Book, WorkerPass};
-use crate::copying::copy_unless_own;
-use crate::numbering::{FIRST_NUMBER, number_of, then_version};
+use crate::copying::{Copying, Nothing};
+use crate::numbering::{number_of, then_version};
 use ra_base::NoMemory;
+use ra_draws::Lots;
 use ra_guards::{WriteGuards, writes};
-use ra_journal::{Batch, Journal, Reply};
+use ra_journal::{Batch, Journal, Reply, is_refused};
 use ra_model::Instance;
 use ra_moves::Plan;
 use ra_topology::Topology;
@@ -26,7 +27,9 @@ pub struct Shared<'a> {
     turn: Turn<Book<'a>>,
     inst: &'a Instance,
     topo: &'a Topology,
+    lots: &'a Lots,
     pub ghost instance: { inst.now ≡ (opening_of opened_by turn).inst },
+    pub ghost allotted: { lots.now ≡ (opening_of opened_by turn).lots },
     pub ghost started: { IsStartOf (opening_of opened_by turn) },
     pub ghost guards: { guards_of turn ≡ guard_count inst.now.tables },
     pub ghost workers: { passes_of turn ≡ worker_count (opening_of opened_by turn).lots },
@@ -40,10 +43,10 @@ impl<'a> Shared<'a> {
     ghost use Rattle.ra_journal.specs.Batches.{batch_from};
     ghost use Rattle.ra_journal.specs.Entries.{worker_count};
     ghost use Rattle.ra_journal.specs.Journals.{lots_in, entries_in};
-    ghost use Rattle.ra_shared.specs.Books.{opening_of_journal, IsCommitOf};
-    ghost use Rattle.ra_shared.specs.Copies.{CopiesUnlessOwn};
+    ghost use Rattle.ra_shared.specs.Books.{opening_of_journal};
+    ghost use Rattle.ra_shared.specs.Copies.{CopiesUnlessQuiet};
     ghost use Rattle.ra_shared.specs.Holding.{HoldsFirst, MayHandIn, IsHandedIn, KnowsGuards, IsHeldUp};
-    ghost use Rattle.ra_shared.specs.Shares.{start_of, worker_of, turns_left, ShutsOut, HasTakenTurn, IsAtRest, IsNew, IsLast, IsCommitted};
+    ghost use Rattle.ra_shared.specs.Shares.{start_of, turns_left, ShutsOut, HasTakenTurn, IsAtRest, IsNew, IsLast, MayCommit, HasCommitted};
 
     /// Shares a journal without entries, and gives each worker's pass, in order. At `Err` the journal was dropped.
     pub fn make(
@@ -57,11 +60,19 @@ impl<'a> Shared<'a> {
     {
         let inst = journal.instance();
         let topo = journal.topology();
-        let workers = journal.lots().len();
-        let guards = FIRST_NUMBER + (inst.machines() + inst.services());
+        let lots = journal.lots();
+        let guards = inst.machines() + inst.services();
         let journal = Box::new(alloc, journal)?;
-        let (turn, passes) = Turn::make(alloc, Book { journal }, workers, TURNS, guards)?;
-        Ok((Shared { turn, inst, topo }, passes))
+        let (turn, passes) = Turn::make(alloc, Book { journal }, lots.len(), TURNS, guards)?;
+        Ok((
+            Shared {
+                turn,
+                inst,
+                topo,
+                lots,
+            },
+            passes,
+        ))
     }
 
     /// Takes a turn to look at the journal. It fills the batch with the entries from a place on, as many as it has room
@@ -90,67 +101,83 @@ impl<'a> Shared<'a> {
     }
 
     /// Hands in a plan in one turn: the worker's next proposal is recorded, judged at the state after all entries,
-    /// unless a guard of its move was touched since it was planned. It holds the write guards of the move meanwhile.
-    /// For a plan whose move breaks a constraint it holds none, since its entry touches nothing. The same turn fills
-    /// the batch with the entries from the plan's place on, unless the plan was recorded just there.
-    pub fn commit<R: Wait>(
+    /// unless a guard of its move was touched since it was planned. It holds the write guards of the move meanwhile. It
+    /// holds none for a plan that is known to be refused wherever it is recorded, since its entry touches nothing.
+    pub fn commit<R: Wait>(&self, rt: &R, pass: &mut WorkerPass<'a>, plan: &Plan) -> Reply
+        requires { MayCommit self.now plan.now pass.old }
+        ensures { HasCommitted self.now plan.now pass.old pass.new result }
+    {
+        self.hand_in(rt, pass, plan, &mut Nothing)
+    }
+
+    /// Hands in a plan as `commit` does, and in that turn fills the batch with the entries from the plan's place on. The
+    /// batch is empty if all of these are known at once to be refused: they change nothing, so the worker may pass over
+    /// them.
+    pub fn commit_and_copy<R: Wait>(
         &self,
         rt: &R,
         pass: &mut WorkerPass<'a>,
         plan: &Plan,
         batch: &mut Batch,
     ) -> Reply
-        requires rest { IsAtRest self.now pass.old }
-        requires left { 0 < turns_left pass.old }
-        requires commit { IsCommitOf (start_of self.now) (seen_by pass.old) (worker_of pass.old)
-            plan.now }
-        ensures rest { IsAtRest self.now pass.new }
-        ensures turn { HasTakenTurn pass.old pass.new }
-        ensures seen { IsPrefix (seen_by pass.old) (seen_by pass.new) }
-        ensures committed { IsCommitted (start_of self.now) (worker_of pass.old) plan.now.q
-            (seen_by pass.old) (made_by pass.old) (seen_by pass.new) (made_by pass.new) result }
-        ensures batch { CopiesUnlessOwn plan.now.q (seen_by pass.new) batch.old batch.new result }
+        requires { MayCommit self.now plan.now pass.old }
+        ensures done { HasCommitted self.now plan.now pass.old pass.new result }
+        ensures batch { CopiesUnlessQuiet plan.now.q (seen_by pass.new) batch.new }
     {
-        if plan.weighed.broken.is_some() {
-            return self.commit_once(rt, pass, plan, None, batch);
+        self.hand_in(rt, pass, plan, batch)
+    }
+
+    /// Hands a plan in, and copies for the worker in the same turn.
+    fn hand_in<R: Wait, C: Copying>(
+        &self,
+        rt: &R,
+        pass: &mut WorkerPass<'a>,
+        plan: &Plan,
+        copy: &mut C,
+    ) -> Reply
+        requires { MayCommit self.now plan.now pass.old }
+        ensures done { HasCommitted self.now plan.now pass.old pass.new result }
+        ensures copied { C.copied copy.new (seen_by pass.new) plan.now.q }
+    {
+        if is_refused(self.inst, self.lots, pass.number(), plan) {
+            return self.commit_once(rt, pass, plan, None, copy);
         }
         let guards = writes(self.topo, self.inst, &plan.mv);
-        match self.commit_from(rt, pass, plan, &guards, 0, batch) {
+        match self.commit_from(rt, pass, plan, &guards, 0, copy) {
             Some(reply) => reply,
-            None => self.commit_once(rt, pass, plan, None, batch),
+            None => self.commit_once(rt, pass, plan, None, copy),
         }
     }
 
     /// Holds the write guards from place k on, hands the plan in, and gives these guards back. `None` if one of them is
     /// newer than the plan; then it has held none for longer, and the plan is not handed in.
-    fn commit_from<R: Wait>(
+    fn commit_from<R: Wait, C: Copying>(
         &self,
         rt: &R,
         pass: &mut WorkerPass<'a>,
         plan: &Plan,
         guards: &WriteGuards,
         k: u32,
-        batch: &mut Batch,
+        copy: &mut C,
     ) -> Option<Reply>
         requires may { MayHandIn self.now plan.now pass.old }
         requires guards { AreWrites (start_of self.now).inst.tables plan.now.mv.steps guards.now }
         requires held { HoldsFirst (start_of self.now).inst.tables guards.now plan.now.q k
             (grips_of pass.old) }
         requires place { k ≤ length guards.now }
-        ensures some { IfSome result
-            (IsHandedIn self.now plan.now pass.old pass.new batch.old batch.new) }
+        ensures some { IfSome result (IsHandedIn self.now plan.now pass.old pass.new) }
         ensures shut { IfSome result (λ _. ShutsOut self.now pass.new) }
-        ensures none { IfNone result
-            (IsHeldUp self.now plan.now pass.old pass.new batch.old batch.new) }
+        ensures copied { IfSome result (λ _. C.copied copy.new (seen_by pass.new) plan.now.q) }
+        ensures none { IfNone result (IsHeldUp self.now plan.now pass.old pass.new) }
     {
         if k == guards.len() {
-            return Some(self.commit_once(rt, pass, plan, Some(guards), batch));
+            return Some(self.commit_once(rt, pass, plan, Some(guards), copy));
         }
         let guard = number_of(self.inst, guards.guard(k));
         let Hold::Held { version } = self.turn.hold(rt, pass, guard, plan.q) else {
             return None;
         };
-        let reply = self.commit_from(rt, pass, plan, guards, k + 1, batch);
+        let reply = self.commit_from(rt, pass, plan, guards, k + 1, copy);
         let now = then_version(&reply, version, pass.seen());
         self.turn.release(pass, guard, now);
         reply
@@ -158,24 +185,25 @@ impl<'a> Shared<'a> {
 
     /// Hands the plan in, in one turn, and copies for the worker in it. The guards are the write guards of its move, if
     /// the pass holds them.
-    fn commit_once<R: Wait>(
+    fn commit_once<R: Wait, C: Copying>(
         &self,
         rt: &R,
         pass: &mut WorkerPass<'a>,
         plan: &Plan,
         guards: Option<&WriteGuards>,
-        batch: &mut Batch,
+        copy: &mut C,
     ) -> Reply
         requires may { MayHandIn self.now plan.now pass.old }
-        requires guards { KnowsGuards (start_of self.now).inst.tables plan.now pass.old
+        requires guards { KnowsGuards (start_of self.now) plan.now pass.old
             (option_copied guards) }
-        ensures done { IsHandedIn self.now plan.now pass.old pass.new batch.old batch.new result }
+        ensures done { IsHandedIn self.now plan.now pass.old pass.new result }
         ensures shut { ShutsOut self.now pass.new }
+        ensures copied { C.copied copy.new (seen_by pass.new) plan.now.q }
     {
         let worker = pass.number();
         let mut held = self.turn.take(rt, pass);
         let reply = held.value.journal.commit_with(worker, plan, guards);
-        copy_unless_own(&held.value.journal, plan.q, &reply, batch);
+        copy.copy(&held.value.journal, plan.q);
         self.turn.give(pass, held);
         reply
     }
@@ -191,6 +219,7 @@ impl<'a> Shared<'a> {
             turn,
             inst: _,
             topo: _,
+            lots: _,
         } = self;
         let Book { journal } = turn.close(passes);
         Box::into_inner(journal)

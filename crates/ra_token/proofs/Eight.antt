@@ -203,11 +203,11 @@ worth_padded z (suc n) x =
 
 -- from the bytes to what their digits are worth
 
-digits_none : (bytes : List ℕ) (from : ℕ) → digits_worth bytes from 0 ≡ 0
+pub digits_none : (bytes : List ℕ) (from : ℕ) → digits_worth bytes from 0 ≡ 0
 unfolding digits_worth
 digits_none bytes from = refl
 
-digits_more : (bytes : List ℕ) (from k : ℕ) → digits_worth bytes from (suc k) ≡ digits_worth bytes from k * 10
+pub digits_more : (bytes : List ℕ) (from k : ℕ) → digits_worth bytes from (suc k) ≡ digits_worth bytes from k * 10
     + (get_or bytes (from + k) 0 - 48)
 unfolding digits_worth
 digits_more bytes from k = refl

@@ -15,3 +15,6 @@ pub mod ValueLaws
 pub mod Taking
 pub mod Written
 pub mod ToldLemmas
+pub mod Lanes
+pub mod BlockBits
+pub mod TidyBlocks

@@ -1,7 +1,7 @@
 -- Runs of a piece, one after another.
 use Rattle.std.proofs.Common.{◌≡◌, ◌≢◌, ℕ, ◌+◌, ◌-◌, ◌<◌, ◌≤◌, true, false, List, [], ◌∷◌, ◌++◌, cond, length, get_or}
 use Rattle.std.proofs.Common.{refl, ap, ◌∙◌, subst, inl, inr, arith, length-append}
-use Rattle.std.proofs.lemmas.Bool.{cases_lt, cases_Bool}
+use Rattle.std.proofs.lemmas.Bool.{cases_lt}
 use Rattle.std.specs.Int.{bit_at}
 use Rattle.ra_base.specs.Listed.{Listed}
 use Rattle.ra_token.specs.Runs.{digit_at, is_blank}
@@ -12,6 +12,7 @@ use Rattle.ra_token.proofs.ValueLaws.{adds_none, adds_more, adds_then}
 use Rattle.ra_token.proofs.Told.{next_in}
 use Rattle.ra_token.proofs.InPiece.{one_blank, near_small}
 use Rattle.ra_token.proofs.Eight.{digits_small, digits_run}
+use Rattle.ra_token.proofs.BlockBits.{set_is_other, clear_is_digit}
 
 pub takes_none : (piece : List ℕ) (from limit : ℕ) (old : Listed ℕ) → from ≤ length piece →
     TakesRuns piece from from limit old old
@@ -79,19 +80,6 @@ block_begins piece from rest tells = record {
   passed = λ j below before. absurd (omega arith);
   left = λ j below after. tells j below;
 }
-
--- the bit of a byte that was not passed
-set_is_other : (piece : List ℕ) (k bit : ℕ) → bit ≡ cond (digit_at piece k) 0 1 → bit ≡ 1 → digit_at piece k ≡ false
-set_is_other piece k bit is set = elim (cases_Bool (digit_at piece k)) [
-  | inl digit ↦ absurd (omega (arith, rw digit at is, set))
-  | inr other ↦ other
-]
-
-clear_is_digit : (piece : List ℕ) (k bit : ℕ) → bit ≡ cond (digit_at piece k) 0 1 → bit ≡ 0 → digit_at piece k ≡ true
-clear_is_digit piece k bit is clear = elim (cases_Bool (digit_at piece k)) [
-  | inl digit ↦ digit
-  | inr other ↦ absurd (omega (arith, rw other at is, clear))
-]
 
 pub block_after : (piece : List ℕ) (from at rest bit : ℕ) → InBlock piece from at rest → bit < 64 →
     bit_at rest bit ≡ 1 → at < from + 1 + bit

@@ -5,5 +5,6 @@ pub mod Standing
 pub mod Reads
 pub mod Values
 pub mod Scan
+pub mod Short
 pub mod Moments
 pub mod Finds

@@ -3,7 +3,8 @@ ghost use Rattle.ra_token.specs.declared.answers.TheConstants.{PLACE_LIMIT};
 ghost use Rattle.ra_token.specs.declared.buffer.TheConstants.{BUFFER_BYTES};
 
 use crate::answers::{LARGEST, PLACE_LIMIT, TokenFault};
-use crate::scan::{gather, is_blank, skip_blanks, take_runs, whole_run};
+use crate::scan::{gather, is_blank, skip_blanks, whole_run};
+use crate::take::take_runs;
 use ra_base::Fixed;
 use ra_io::Files;
 use std::alloc::{AllocError, Global};

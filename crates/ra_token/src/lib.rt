@@ -8,6 +8,8 @@ mod answers;
 mod buffer;
 mod reader;
 mod scan;
+mod short;
+mod take;
 
 pub use answers::{LARGEST, PLACE_LIMIT, Token, TokenFault};
 pub use reader::Tokens;

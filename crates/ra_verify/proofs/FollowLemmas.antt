@@ -8,6 +8,7 @@ use Rattle.ra_base.specs.Sums.{count}
 use Rattle.ra_base.proofs.Counts.{count_no}
 use Rattle.ra_draws.specs.declared.budgets.Lots.{Lots}
 use Rattle.ra_model.specs.declared.raw.Tables.{Tables}
+use Rattle.ra_model.specs.Situations.{situation}
 use Rattle.ra_moves.specs.declared.verdicts.Plan.{Plan}
 use Rattle.ra_moves.specs.Weighing.{weighed_of}
 use Rattle.ra_guards.specs.declared.newest.Newer.{Newer}
@@ -53,7 +54,13 @@ front_legal i a0 l h e legal = record {
 
 -- its plan
 plan_in : Tables → List Machine → List Entry → Entry → Plan
-plan_in i a0 h e = record { q = e.q; k = e.k; mv = e.mv; weighed = weighed_of i a0 (state a0 h e.q) e.mv.steps }
+plan_in i a0 h e = record {
+  q = e.q;
+  k = e.k;
+  mv = e.mv;
+  weighed =
+      weighed_of (situation i a0 (state a0 h e.q)) e.mv.steps;
+}
 
 commits : (i : Tables) (a0 : List Machine) (l : Lots) (h : List Entry) (e : Entry) → IsLegalAt i a0 l h (length h) e →
     IsCommit i a0 l h e.worker (plan_in i a0 h e)

@@ -11,7 +11,7 @@ use Rattle.ra_report_lines.specs.Lines.{lines_of}
 use Rattle.ra_report_lines.specs.Reading.{Reads}
 use Rattle.ra_report_lines.specs.Standing.{Standing}
 use Rattle.ra_journal.specs.declared.entries.Entry.{Entry}
-use Rattle.ra_world.specs.declared.world.World.{World}
+use Rattle.ra_model.specs.Situations.{Situation, situation}
 use Rattle.ra_verify.specs.declared.checker.Checker.{Checker}
 use Rattle.ra_verify.specs.declared.faults.VerifyFault.{VerifyFault}
 use Rattle.ra_verify.specs.declared.faults.VerifyFault.TheVariants as why
@@ -38,12 +38,12 @@ TellsOf c files name told =
     TellsVerdict c.journal.inst.now.tables c.journal.a0.now.items c.journal.lots.now files name told
 
 -- a checker has taken no entry in, and a world stands at the start of its run, which has this bound
-pub record AreAtStart (checker : Checker) (world : World) (bound : Bound) : Type 0 where
+pub record AreAtStart (checker : Checker) (world : Situation) (bound : Bound) : Type 0 where
   pub ready : IsOpen checker
   pub none : entries_in checker ≡ []
-  pub instance : world.inst.now ≡ checker.journal.inst.now
-  pub initial : world.start.now ≡ checker.journal.a0.now
-  pub at_start : world.kept.assignment.items ≡ checker.journal.a0.now.items
+  pub at_start :
+      world ≡ situation checker.journal.inst.now.tables checker.journal.a0.now.items
+      checker.journal.a0.now.items
   pub bounded :
       bound ≡ pinned_bound_of checker.journal.inst.now.tables checker.journal.a0.now.items
 

@@ -1,4 +1,5 @@
 ghost use Rattle.std.specs.Prelude.{◌≡◌, ◌≤◌, ◌<◌, ◌+◌, ◌↔◌, ℕ, true, Err, IfOk, IfErr, IfNone, IfSome};
+ghost use Rattle.ra_model.specs.Situations.{situation};
 ghost use Rattle.ra_bounds.specs.PinnedBounds.{pinned_bound_of};
 ghost use Rattle.ra_report_lines.specs.Lines.{FirstUnlike};
 ghost use Rattle.ra_journal.specs.Legal.{Whole};
@@ -29,9 +30,8 @@ pub(crate) fn judge<'a>(
     requires few { lines ≤ 10 }
     requires bound { bound.now ≡
         pinned_bound_of journal.now.inst.now.tables journal.now.a0.now.items }
-    requires instance { world.old.inst.now ≡ journal.now.inst.now }
-    requires initial { world.old.start.now ≡ journal.now.a0.now }
-    requires at_start { world.old.kept.assignment.items ≡ journal.now.a0.now.items }
+    requires at_start { world.old ≡ situation journal.now.inst.now.tables
+        journal.now.a0.now.items journal.now.a0.now.items }
     ensures accepted { IfOk result (IsAccepted journal.now head.now) }
     ensures wrong { IfErr result (λ why. (n : ℕ) × (why ≡ fault.Wrong n)
         × IsMisjudged journal.now head.now lines n) }
@@ -75,9 +75,8 @@ fn first_unlike<'a, L: Ledger>(
     requires name { blank.name ≡ L.name }
     requires parts { blank.parts ≡ L.parts }
     requires some { 0 < blank.parts }
-    requires instance { world.old.inst.now ≡ journal.now.inst.now }
-    requires initial { world.old.start.now ≡ journal.now.a0.now }
-    requires at_start { world.old.kept.assignment.items ≡ journal.now.a0.now.items }
+    requires at_start { world.old ≡ situation journal.now.inst.now.tables
+        journal.now.a0.now.items journal.now.a0.now.items }
     ensures same { IfNone result (head.now ≡ head_of journal.now) }
     ensures unlike { IfSome result (FirstUnlike head.now (head_of journal.now)) }
     ensures few { IfSome result (λ n. n ≤ 10) }

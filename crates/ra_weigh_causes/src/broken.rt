@@ -1,9 +1,9 @@
 ghost use Rattle.std.specs.Prelude.{◌≡◌, ◌↔◌, true, None, length};
 ghost use Rattle.ra_model.specs.Broken.{first_broken};
-ghost use Rattle.ra_moves.specs.Replacing.{applied};
-ghost use Rattle.ra_moves.specs.Moving.{IsMove};
+ghost use Rattle.ra_model.specs.Situations.{broken_at};
+ghost use Rattle.ra_moves.specs.Replacing.{after_move};
+ghost use Rattle.ra_moves.specs.Moving.{MayMove};
 ghost use Rattle.ra_world.specs.Required.{AreRequired};
-ghost use Rattle.ra_world.specs.Worlds.{tables_of as tables_in, start_of, here_of};
 ghost use Rattle.ra_weigh_causes.specs.Trials.{tables_of, initial_of, after_of};
 
 use crate::trial::Trial;
@@ -15,11 +15,10 @@ use ra_world::World;
 /// `is_unbroken`. If the first constraint that is broken is a dependency, the time grows besides with the number of
 /// dependencies and processes of one service.
 pub fn first_broken(world: &World<'_>, mv: &Move, required: &[u32; 60]) -> Option<Cause>
-    requires moves { IsMove (tables_in world.now) (here_of world.now) mv.now.steps }
-    requires required { AreRequired (tables_in world.now) mv.now.steps
+    requires moves { MayMove world.now mv.now.steps }
+    requires required { AreRequired world.now.tables mv.now.steps
         (length mv.now.steps) required.now }
-    ensures { result ≡ first_broken (tables_in world.now) (start_of world.now)
-        (applied (here_of world.now) mv.now.steps) }
+    ensures { result ≡ broken_at (after_move world.now mv.now.steps) }
 {
     Trial::of(world, mv, required).first_broken()
 }
@@ -29,11 +28,10 @@ pub fn first_broken(world: &World<'_>, mv: &Move, required: &[u32; 60]) -> Optio
 /// needs or that need it, each counted once however often a dependency is listed; not with the size of a service but for
 /// the halvings that find a count.
 pub fn is_unbroken(world: &World<'_>, mv: &Move, required: &[u32; 60]) -> bool
-    requires moves { IsMove (tables_in world.now) (here_of world.now) mv.now.steps }
-    requires required { AreRequired (tables_in world.now) mv.now.steps
+    requires moves { MayMove world.now mv.now.steps }
+    requires required { AreRequired world.now.tables mv.now.steps
         (length mv.now.steps) required.now }
-    ensures { (result ≡ true) ↔ (first_broken (tables_in world.now) (start_of world.now)
-        (applied (here_of world.now) mv.now.steps) ≡ None) }
+    ensures { (result ≡ true) ↔ (broken_at (after_move world.now mv.now.steps) ≡ None) }
 {
     Trial::of(world, mv, required).is_unbroken()
 }

@@ -5,12 +5,11 @@ ghost use Rattle.ra_model.proofs.BrokenLemmas.{Fine};
 ghost use Rattle.ra_topology.specs.Fits.{IsTopologyOf};
 ghost use Rattle.ra_moves.specs.Steps.{process_in};
 ghost use Rattle.ra_moves.specs.Replacing.{applied};
-ghost use Rattle.ra_moves.specs.Moving.{IsMove};
+ghost use Rattle.ra_moves.specs.Moving.{IsMove, MayMove};
 ghost use Rattle.ra_moves.specs.Laws.{AreLocal};
 ghost use Rattle.ra_rows.specs.Rows as row_words;
 ghost use Rattle.ra_cells.specs.Stands as cell_words;
 ghost use Rattle.ra_world.specs.Required.{AreRequired};
-ghost use Rattle.ra_world.specs.Worlds.{tables_of, start_of, here_of};
 
 use ra_base::{Assignment, Resource};
 use ra_cells::Cells;
@@ -51,12 +50,12 @@ pub(crate) struct Trial<'a, 'b> {
 impl<'a, 'b> Trial<'a, 'b> {
     /// Puts a move of a world on trial.
     pub(crate) fn of(world: &'a World<'b>, mv: &'a Move, required: &'a [u32; 60]) -> Trial<'a, 'b>
-        requires moves { IsMove (tables_of world.now) (here_of world.now) mv.now.steps }
-        requires required { AreRequired (tables_of world.now) mv.now.steps
+        requires moves { MayMove world.now mv.now.steps }
+        requires required { AreRequired world.now.tables mv.now.steps
             (length mv.now.steps) required.now }
-        ensures instance { result.inst.now.tables ≡ tables_of world.now }
-        ensures initial { result.start.now.items ≡ start_of world.now }
-        ensures assignment { result.at.now.items ≡ here_of world.now }
+        ensures instance { result.inst.now.tables ≡ world.now.tables }
+        ensures initial { result.start.now.items ≡ world.now.start }
+        ensures assignment { result.at.now.items ≡ world.now.here }
         ensures steps { result.mv.now.steps ≡ mv.now.steps }
     {
         Trial {

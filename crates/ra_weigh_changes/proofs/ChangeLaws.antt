@@ -13,16 +13,17 @@ use Rattle.ra_model.specs.Limits.{WellFormed, Small}
 use Rattle.ra_model.specs.Assignments.{machine_at, tally}
 use Rattle.ra_model.specs.Costs.{load_cost, balance_cost, process_share, process_cost, way_share, machine_cost}
 use Rattle.ra_model.specs.MachineCosts.{row_load, row_balance, machine_load, machine_balance}
+use Rattle.ra_model.specs.Situations.{Situation, process_cost_at, machine_cost_at}
 use Rattle.ra_model.proofs.MachineLemmas.{load_by_machine, balance_by_machine, machine_load_under}
 use Rattle.ra_model.proofs.MachineLemmas.{machine_balance_under}
 use Rattle.ra_rows.specs.Rows.{IsUsageRow}
 use Rattle.ra_moves.specs.declared.steps.Step.{Step}
 use Rattle.ra_moves.specs.declared.verdicts.Weighed.{Weighed}
 use Rattle.ra_moves.specs.Steps.{process_in, from_in, to_in}
-use Rattle.ra_moves.specs.Replacing.{applied}
+use Rattle.ra_moves.specs.Replacing.{applied, after_move}
 use Rattle.ra_moves.specs.Values.{gone, come, end_count, end_in}
 use Rattle.ra_moves.specs.Judging.{broken_by}
-use Rattle.ra_moves.specs.Moving.{IsMove}
+use Rattle.ra_moves.specs.Moving.{IsMove, MayMove}
 use Rattle.ra_moves.specs.Weighing.{local_cost, local_change, changed_count, weighed_by, weighed_of}
 use Rattle.ra_moves.proofs.EndLemmas.{ends_are_named}
 use Rattle.ra_moves.proofs.StayLemmas.{tally_applied}
@@ -76,22 +77,31 @@ rows_change i a steps limits move =
 
 -- the places
 
-places_sum : (i : Tables) (a0 a : List Machine) → process_cost i a0 a + machine_cost i a0 a ≡ tally (process_count i)
-    (place_cost i a0) a
+places_sum : (st : Situation) → process_cost_at st + machine_cost_at st ≡ tally (process_count st.tables)
+    (place_cost st.tables st.start) st.here
 unfolding process_cost machine_cost place_cost tally
-places_sum i a0 a =
+places_sum st =
     ap₂ (λ x y. x + y)
-    (sym (total_times (process_count i) (process_weight_of i) (λ p. process_share i a0 p (machine_at a p))))
-    (sym (total_times (process_count i) (machine_weight_of i) (λ p. way_share i a0 p (machine_at a p))))
-    ∙ sym (total_of_sum (process_count i) (λ p. process_weight_of i * process_share i a0 p (machine_at a p))
-    (λ p. machine_weight_of i * way_share i a0 p (machine_at a p)))
+    (sym (total_times (process_count st.tables) (process_weight_of st.tables)
+    (λ p. process_share st.tables st.start p (machine_at st.here p))))
+    (sym (total_times (process_count st.tables) (machine_weight_of st.tables)
+    (λ p. way_share st.tables st.start p (machine_at st.here p))))
+    ∙ sym (total_of_sum (process_count st.tables) (λ p. process_weight_of st.tables * process_share st.tables st.start p
+    (machine_at st.here p))
+    (λ p. machine_weight_of st.tables * way_share st.tables st.start p (machine_at st.here p)))
 
-pub places_change : (i : Tables) (a0 a : List Machine) (steps : List Step) → IsMove i a steps →
-    (process_cost i a0 (applied a steps) + machine_cost i a0 (applied a steps)) + total (length steps)
-    (gone (place_cost i a0) steps) ≡ (process_cost i a0 a + machine_cost i a0 a) + total (length steps)
-    (come (place_cost i a0) steps)
-places_change i a0 a steps move =
-    omega (arith, tally_applied i a steps (place_cost i a0) move, places_sum i a0 a, places_sum i a0 (applied a steps))
+pub places_change : (st : Situation) (steps : List Step) → MayMove st steps →
+    (process_cost_at (after_move st steps) + machine_cost_at (after_move st steps)) + total (length steps)
+    (gone (place_cost st.tables st.start) steps) ≡ (process_cost_at st + machine_cost_at st) + total (length steps)
+    (come (place_cost st.tables st.start) steps)
+places_change st steps move =
+    omega (
+      arith,
+      tally_applied st.tables st.here steps (place_cost st.tables st.start) move,
+      places_sum st,
+      places_sum
+          (after_move st steps),
+    )
 
 pub place_come : (i : Tables) (a0 : List Machine) (steps : List Step) (j p to sum cost : ℕ) →
     sum ≡ total j (come (place_cost i a0) steps) → cost ≡ place_cost i a0 p to → p ≡ process_in steps j →
@@ -121,40 +131,43 @@ place_gone i a0 steps j p from sum cost sum_is cost_is process_is from_is =
 
 -- both together
 
-pub local_is : (i : Tables) (a0 a : List Machine) (steps : List Step)
-    (rows_added rows_taken places_added places_taken : ℕ) → WellFormed i → IsMove i a steps →
-    rows_added ≡ total (end_count steps) (fresh (end_in steps) (row_cost i (applied a steps))) →
-    rows_taken ≡ total (end_count steps) (fresh (end_in steps) (row_cost i a)) →
-    places_added ≡ total (length steps) (come (place_cost i a0) steps) →
-    places_taken ≡ total (length steps) (gone (place_cost i a0) steps) →
-    pos (rows_added + places_added) -ℤ pos (rows_taken + places_taken) ≡ local_change i a0 a steps
+pub local_is : (st : Situation) (steps : List Step)
+    (rows_added rows_taken places_added places_taken : ℕ) → WellFormed st.tables → MayMove st steps →
+    rows_added ≡ total (end_count steps) (fresh (end_in steps) (row_cost st.tables (applied st.here steps))) →
+    rows_taken ≡ total (end_count steps) (fresh (end_in steps) (row_cost st.tables st.here)) →
+    places_added ≡ total (length steps) (come (place_cost st.tables st.start) steps) →
+    places_taken ≡ total (length steps) (gone (place_cost st.tables st.start) steps) →
+    pos (rows_added + places_added) -ℤ pos (rows_taken + places_taken) ≡ local_change st steps
 unfolding local_change local_cost
-local_is i a0 a steps rows_added rows_taken places_added places_taken limits move rows_come rows_go places_come
+local_is st steps rows_added rows_taken places_added places_taken limits move rows_come rows_go places_come
     places_go =
-    let rows = rows_change i a steps limits move in
-    let places = places_change i a0 a steps move in
-    let both : (load_cost i (applied a steps) + balance_cost i (applied a steps) + process_cost i a0 (applied a steps)
-    + machine_cost i a0 (applied a steps)) + (rows_taken + places_taken) ≡
-    (load_cost i a + balance_cost i a + process_cost i a0 a + machine_cost i a0 a) + (rows_added + places_added) =
+    let rows = rows_change st.tables st.here steps limits move in
+    let places = places_change st steps move in
+    let both : (load_cost st.tables (applied st.here steps) + balance_cost st.tables (applied st.here steps)
+    + process_cost_at (after_move st steps)
+    + machine_cost_at (after_move st steps)) + (rows_taken + places_taken) ≡
+    (load_cost st.tables st.here + balance_cost st.tables st.here + process_cost_at st + machine_cost_at st)
+    + (rows_added + places_added) =
     omega arith in
     signed (rows_added + places_added) (rows_taken + places_taken)
-    (load_cost i (applied a steps) + balance_cost i (applied a steps) + process_cost i a0 (applied a steps)
-    + machine_cost i a0 (applied a steps))
-    (load_cost i a + balance_cost i a + process_cost i a0 a + machine_cost i a0 a) both
+    (load_cost st.tables (applied st.here steps) + balance_cost st.tables (applied st.here steps)
+    + process_cost_at (after_move st steps)
+    + machine_cost_at (after_move st steps))
+    (load_cost st.tables st.here + balance_cost st.tables st.here + process_cost_at st + machine_cost_at st) both
   where
     signed : (x u y v : ℕ) → y + u ≡ v + x → pos x -ℤ pos u ≡ pos y -ℤ pos v
     signed x u y v same = omega (arith, ints)
 
 -- the weighing, from its parts
-pub weighing_is : (i : Tables) (a0 a : List Machine) (steps : List Step) (local : ℤ)
-    (counts : List (Option MovedCount)) → broken_by i a0 a steps ≡ None → local ≡ local_change i a0 a steps →
-    AreCountsOf i a0 a steps (length steps) counts → (let w : Weighed = record {
+pub weighing_is : (st : Situation) (steps : List Step) (local : ℤ)
+    (counts : List (Option MovedCount)) → broken_by st steps ≡ None → local ≡ local_change st steps →
+    AreCountsOf st steps (length steps) counts → (let w : Weighed = record {
       broken = None;
       local = local;
       first = get_or counts 0 None;
       second = get_or counts 1 None;
       third = get_or counts 2 None;
-    } in w) ≡ weighed_of i a0 a steps
+    } in w) ≡ weighed_of st steps
 unfolding weighed_of weighed_by changed_count
-weighing_is i a0 a steps local counts none local_is are =
+weighing_is st steps local counts none local_is are =
     rw (none, local_is, are.each 0 (omega arith), are.each 1 (omega arith), are.each 2 (omega arith)) refl

@@ -109,7 +109,8 @@ pub exchanged_now : (i : Tables) (a : List Machine) (steps : List Step) (m comes
     get_or row r 0 ≡ use_of i a m r → ((k : ℕ) → k < width → get_or coming k 0 ≡ cell 20 table comes k) →
     ((k : ℕ) → k < width → get_or going k 0 ≡ cell 20 table goes k) →
     use_of i (applied a steps) m r + get_or going r 0 ≡ get_or row r 0 + get_or coming r 0
-exchanged_now i a steps m comes goes r width table row coming going move at required is here now coming_read going_read =
+exchanged_now i a steps m comes goes r width table row coming going move at required is here now coming_read
+    going_read =
     let within = step_within steps m comes goes at in
     omega (
       arith,

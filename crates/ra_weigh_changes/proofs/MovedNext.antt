@@ -15,14 +15,15 @@ use Rattle.ra_model.specs.Numbers.{service_of}
 use Rattle.ra_model.specs.Limits.{WellFormed}
 use Rattle.ra_model.specs.Assignments.{machine_at}
 use Rattle.ra_model.specs.Services.{is_of, of_service, members_at, moved_of}
+use Rattle.ra_model.specs.Situations.{Situation, situation, moved_at}
 use Rattle.ra_model.proofs.BoundLemmas.{moved_within}
 use Rattle.ra_cells.specs.Marks.{away}
 use Rattle.ra_moves.specs.declared.steps.Step.{Step}
 use Rattle.ra_moves.specs.Steps.{process_in, from_in, to_in}
 use Rattle.ra_moves.specs.Replacing.{after_steps, applied}
 use Rattle.ra_moves.specs.Touched.{service_in}
-use Rattle.ra_moves.specs.Moving.{IsMove}
 use Rattle.ra_moves.specs.Weighing.{moved_count, services_moved, count_at}
+use Rattle.ra_moves.specs.Moving.{MayMove}
 use Rattle.ra_moves.proofs.StayLemmas.{of_other}
 use Rattle.ra_moves.proofs.MovedServices.{services_none, services_new, services_again, services_few, count_there}
 use Rattle.ra_moves.proofs.MovedServices.{count_past}
@@ -40,54 +41,61 @@ unfolding of_service is_of away
 mine_is i a0 s p at is = rw (eq-eqb (service_of i p) s is) (away_is (eqb (machine_at a0 p) at))
 
 -- a step of another service
-pub moved_kept : (i : Tables) (a0 a : List Machine) (steps : List Step) (j s moved : ℕ) → IsMove i a steps →
-    j < length steps → service_in i steps j ≢ s → moved ≡ moved_of i a0 (after_steps a steps j) s →
-    moved ≡ moved_of i a0 (after_steps a steps (j + 1)) s
+pub moved_kept : (st : Situation) (steps : List Step) (j s moved : ℕ) → MayMove st steps →
+    j < length steps → service_in st.tables steps j ≢ s →
+    moved ≡ moved_at (record st { here = after_steps st.here steps j }) s →
+    moved ≡ moved_at (situation st.tables st.start (after_steps st.here steps (j + 1))) s
 unfolding moved_of members_at service_in
-moved_kept i a0 a steps j s moved move within apart is =
-    let f = of_service i s (λ q m. cond (eqb (machine_at a0 q) m) false true) in
+moved_kept st steps j s moved move within apart is =
+    let f = of_service st.tables s (λ q m. cond (eqb (machine_at st.start q) m) false true) in
     omega (
       arith,
       is,
-      tally_next i a steps f j move within,
-      of_other i s (λ q m. cond (eqb (machine_at a0 q) m) false true) (process_in steps j) (from_in steps j) apart,
-      of_other i s (λ q m. cond (eqb (machine_at a0 q) m) false true) (process_in steps j) (to_in steps j) apart,
+      tally_next st.tables st.here steps f j move within,
+      of_other st.tables s (λ q m. cond (eqb (machine_at st.start q) m) false true) (process_in steps j)
+          (from_in steps j) apart,
+      of_other st.tables s (λ q m. cond (eqb (machine_at st.start q) m) false true) (process_in steps j) (to_in steps j)
+          apart,
     )
 
 -- and one of this service
-pub moved_step : (i : Tables) (a0 a : List Machine) (steps : List Step) (j s home from to : ℕ) → IsMove i a steps →
-    j < length steps → service_in i steps j ≡ s → home ≡ machine_at a0 (process_in steps j) → from ≡ from_in steps j →
-    to ≡ to_in steps j → moved_of i a0 (after_steps a steps (j + 1)) s + away home from ≡
-    moved_of i a0 (after_steps a steps j) s + away home to
+pub moved_step : (st : Situation) (steps : List Step) (j s home from to : ℕ) → MayMove st steps →
+    j < length steps → service_in st.tables steps j ≡ s → home ≡ machine_at st.start (process_in steps j) →
+    from ≡ from_in steps j →
+    to ≡ to_in steps j → moved_at (situation st.tables st.start (after_steps st.here steps (j + 1))) s + away home from
+    ≡
+    moved_at (record st { here = after_steps st.here steps j }) s + away home to
 unfolding moved_of members_at service_in
-moved_step i a0 a steps j s home from to move within mine home_is from_is to_is =
+moved_step st steps j s home from to move within mine home_is from_is to_is =
     rw (home_is, from_is, to_is) (omega (
       arith,
-      tally_next i a steps (of_service i s (λ q m. cond (eqb (machine_at a0 q) m) false true)) j move within,
-      mine_is i a0 s (process_in steps j) (from_in steps j) mine,
-      mine_is i a0 s (process_in steps j) (to_in steps j) mine,
+      tally_next st.tables st.here steps (of_service st.tables s
+          (λ q m. cond (eqb (machine_at st.start q) m) false true)) j move within,
+      mine_is st.tables st.start s (process_in steps j) (from_in steps j) mine,
+      mine_is st.tables st.start s (process_in steps j) (to_in steps j) mine,
     ))
 
 pub away_few : (home at : ℕ) → away home at ≤ 1
 unfolding away
 away_few home at = one_if_le (not (eqb home at))
 
-pub moved_few : (i : Tables) (a0 a : List Machine) (s moved : ℕ) → WellFormed i → moved ≡ moved_of i a0 a s →
+pub moved_few : (st : Situation) (s moved : ℕ) → WellFormed st.tables → moved ≡ moved_at st s →
     moved ≤ 50000
-moved_few i a0 a s moved limits is = omega (arith, is, moved_within i a0 a s, limits.few_processes)
+moved_few st s moved limits is = omega (arith, is, moved_within st.tables st.start st.here s, limits.few_processes)
 
 -- a count as it is made
-pub count_made : (i : Tables) (a0 a : List Machine) (steps : List Step) (s : Service) (before after n : ℕ) →
-    n ≡ length steps → before ≡ moved_of i a0 a s.0 → after ≡ moved_of i a0 (after_steps a steps n) s.0 →
-    (let c : MovedCount = record { service = s; before = before; after = after } in c) ≡ moved_count i a0 a steps s.0
+pub count_made : (st : Situation) (steps : List Step) (s : Service) (before after n : ℕ) →
+    n ≡ length steps → before ≡ moved_at st s.0 → after ≡ moved_at (record st { here = after_steps st.here steps n })
+    s.0 →
+    (let c : MovedCount = record { service = s; before = before; after = after } in c) ≡ moved_count st steps s.0
 unfolding moved_count applied
-count_made i a0 a steps s before after n all is then =
+count_made st steps s before after n all is then =
     ap (λ x. let c : MovedCount = record { service = s; before = x; after = after } in c) is
     ∙ ap (λ x. let c : MovedCount = record {
       service = s;
-      before = moved_of i a0 a s.0;
+      before = moved_at st s.0;
       after = x;
-    } in c) (then ∙ ap (λ k. moved_of i a0 (after_steps a steps k) s.0) all)
+    } in c) (then ∙ ap (λ k. moved_at (record st { here = after_steps st.here steps k }) s.0) all)
 
 -- the list of counts
 
@@ -97,22 +105,24 @@ nothing_at (suc zero) = refl
 nothing_at (suc (suc zero)) = refl
 nothing_at (suc (suc (suc k))) = refl
 
-pub counts_none : (i : Tables) (a0 a : List Machine) (steps : List Step) →
-    AreCountsOf i a0 a steps 0 (None ∷ None ∷ None ∷ [])
-counts_none i a0 a steps = record {
+pub counts_none : (st : Situation) (steps : List Step) →
+    AreCountsOf st steps 0 (None ∷ None ∷ None ∷ [])
+counts_none st steps = record {
   each = λ k few. nothing_at k
-      ∙ sym (count_past i a0 a steps (services_moved i steps 0) k (omega (arith, ap length (services_none i steps))));
+      ∙ sym (count_past st steps (services_moved st.tables steps 0) k
+      (omega (arith, ap length (services_none st.tables steps))));
 }
 
 pub filled_none : (i : Tables) (steps : List Step) → 0 ≡ length (services_moved i steps 0)
 filled_none i steps = sym (ap length (services_none i steps))
 
-pub counts_again : (i : Tables) (a0 a : List Machine) (steps : List Step) (j s : ℕ)
-    (counts : List (Option MovedCount)) → s ≡ service_in i steps j → is_named j (service_in i steps) s ≡ true →
-    AreCountsOf i a0 a steps j counts → AreCountsOf i a0 a steps (j + 1) counts
-counts_again i a0 a steps j s counts is again before = rw (add-one) (record {
+pub counts_again : (st : Situation) (steps : List Step) (j s : ℕ)
+    (counts : List (Option MovedCount)) → s ≡ service_in st.tables steps j → is_named j (service_in st.tables steps) s
+    ≡ true →
+    AreCountsOf st steps j counts → AreCountsOf st steps (j + 1) counts
+counts_again st steps j s counts is again before = rw (add-one) (record {
   each = λ k few. before.each k few
-      ∙ ap (λ xs. count_at i a0 a steps xs k) (sym (services_again i steps j (rw is at again)));
+      ∙ ap (λ xs. count_at st steps xs k) (sym (services_again st.tables steps j (rw is at again)));
 })
 
 pub filled_again : (i : Tables) (steps : List Step) (j s filled : ℕ) → s ≡ service_in i steps j →
@@ -137,44 +147,45 @@ pub filled_few : (i : Tables) (steps : List Step) (j filled : ℕ) → filled �
 filled_few i steps j filled is within few = omega (arith, services_few i steps j)
 
 -- the counts of a list with one service more
-pushed_before : (i : Tables) (a0 a : List Machine) (steps : List Step) (xs : List ℕ) (s k : ℕ) → k < length xs →
-    count_at i a0 a steps (xs ++ s ∷ []) k ≡ count_at i a0 a steps xs k
-pushed_before i a0 a steps xs s k before =
-    count_there i a0 a steps (xs ++ s ∷ []) k (omega (arith, length-append xs (s ∷ [])))
-    ∙ ap (λ t. Some (moved_count i a0 a steps t)) (get_or_append_left xs (s ∷ []) 0 k before)
-    ∙ sym (count_there i a0 a steps xs k before)
+pushed_before : (st : Situation) (steps : List Step) (xs : List ℕ) (s k : ℕ) → k < length xs →
+    count_at st steps (xs ++ s ∷ []) k ≡ count_at st steps xs k
+pushed_before st steps xs s k before =
+    count_there st steps (xs ++ s ∷ []) k (omega (arith, length-append xs (s ∷ [])))
+    ∙ ap (λ t. Some (moved_count st steps t)) (get_or_append_left xs (s ∷ []) 0 k before)
+    ∙ sym (count_there st steps xs k before)
 
-pushed_here : (i : Tables) (a0 a : List Machine) (steps : List Step) (xs : List ℕ) (s : ℕ) →
-    count_at i a0 a steps (xs ++ s ∷ []) (length xs) ≡ Some (moved_count i a0 a steps s)
-pushed_here i a0 a steps xs s =
-    count_there i a0 a steps (xs ++ s ∷ []) (length xs) (omega (arith, length-append xs (s ∷ [])))
-    ∙ ap (λ t. Some (moved_count i a0 a steps t)) (get_or-append_seam xs s [] 0)
+pushed_here : (st : Situation) (steps : List Step) (xs : List ℕ) (s : ℕ) →
+    count_at st steps (xs ++ s ∷ []) (length xs) ≡ Some (moved_count st steps s)
+pushed_here st steps xs s =
+    count_there st steps (xs ++ s ∷ []) (length xs) (omega (arith, length-append xs (s ∷ [])))
+    ∙ ap (λ t. Some (moved_count st steps t)) (get_or-append_seam xs s [] 0)
 
-pushed_behind : (i : Tables) (a0 a : List Machine) (steps : List Step) (xs : List ℕ) (s k : ℕ) → length xs < k →
-    count_at i a0 a steps (xs ++ s ∷ []) k ≡ count_at i a0 a steps xs k
-pushed_behind i a0 a steps xs s k behind =
-    count_past i a0 a steps (xs ++ s ∷ []) k (omega (arith, length-append xs (s ∷ [])))
-    ∙ sym (count_past i a0 a steps xs k (omega arith))
+pushed_behind : (st : Situation) (steps : List Step) (xs : List ℕ) (s k : ℕ) → length xs < k →
+    count_at st steps (xs ++ s ∷ []) k ≡ count_at st steps xs k
+pushed_behind st steps xs s k behind =
+    count_past st steps (xs ++ s ∷ []) k (omega (arith, length-append xs (s ∷ [])))
+    ∙ sym (count_past st steps xs k (omega arith))
 
-pub counts_more : (i : Tables) (a0 a : List Machine) (steps : List Step) (j s filled : ℕ) (c : MovedCount)
-    (counts : List (Option MovedCount)) → s ≡ service_in i steps j → is_named j (service_in i steps) s ≡ false →
-    filled ≡ length (services_moved i steps j) → filled < length counts → c ≡ moved_count i a0 a steps s →
-    AreCountsOf i a0 a steps j counts → AreCountsOf i a0 a steps (j + 1) (set counts filled (Some c))
-counts_more i a0 a steps j s filled c counts is new so_far room made before = rw add-one (record { each = each })
+pub counts_more : (st : Situation) (steps : List Step) (j s filled : ℕ) (c : MovedCount)
+    (counts : List (Option MovedCount)) → s ≡ service_in st.tables steps j → is_named j (service_in st.tables steps) s
+    ≡ false →
+    filled ≡ length (services_moved st.tables steps j) → filled < length counts → c ≡ moved_count st steps s →
+    AreCountsOf st steps j counts → AreCountsOf st steps (j + 1) (set counts filled (Some c))
+counts_more st steps j s filled c counts is new so_far room made before = rw add-one (record { each = each })
   where
     xs : List ℕ
-    xs = services_moved i steps j
+    xs = services_moved st.tables steps j
 
-    each : (k : ℕ) → k < 3 → get_or (set counts filled (Some c)) k None ≡ count_at i a0 a steps
-        (services_moved i steps (suc j)) k
-    each k few = rw (services_new i steps j (rw is at new)) (⊎_elim
+    each : (k : ℕ) → k < 3 → get_or (set counts filled (Some c)) k None ≡ count_at st steps
+        (services_moved st.tables steps (suc j)) k
+    each k few = rw (services_new st.tables steps j (rw is at new)) (⊎_elim
         (λ (here : k ≡ filled). ap (λ l. get_or (set counts filled (Some c)) l None) here
         ∙ get_or-set_same counts filled (Some c) None room ∙ ap (λ x. Some x) made
-        ∙ ap (λ t. Some (moved_count i a0 a steps t)) is
-        ∙ sym (pushed_here i a0 a steps xs (service_in i steps j))
-        ∙ ap (count_at i a0 a steps (xs ++ service_in i steps j ∷ [])) (sym so_far ∙ sym here))
+        ∙ ap (λ t. Some (moved_count st steps t)) is
+        ∙ sym (pushed_here st steps xs (service_in st.tables steps j))
+        ∙ ap (count_at st steps (xs ++ service_in st.tables steps j ∷ [])) (sym so_far ∙ sym here))
         (λ (apart : k ≢ filled). get_or-set_other counts filled k (Some c) None apart ∙ before.each k few ∙ ⊎_elim
-        (λ (earlier : k < length xs). sym (pushed_before i a0 a steps xs (service_in i steps j) k earlier))
-        (λ (later : length xs ≤ k). sym (pushed_behind i a0 a steps xs (service_in i steps j) k (omega arith)))
+        (λ (earlier : k < length xs). sym (pushed_before st steps xs (service_in st.tables steps j) k earlier))
+        (λ (later : length xs ≤ k). sym (pushed_behind st steps xs (service_in st.tables steps j) k (omega arith)))
         (cases_lt k (length xs)))
         (cases_eq k filled))

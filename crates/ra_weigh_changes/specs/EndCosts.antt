@@ -3,11 +3,10 @@ use Rattle.std.specs.Prelude.{◌≡◌, ℕ, ◌≤◌, ◌^◌, List}
 use Rattle.ra_base.specs.Sums.{total, fresh}
 use Rattle.ra_base.specs.declared.ids.Machine.{Machine}
 use Rattle.ra_model.specs.declared.raw.Tables.{Tables}
+use Rattle.ra_model.specs.Situations.{Situation}
 use Rattle.ra_moves.specs.declared.steps.Step.{Step}
 use Rattle.ra_moves.specs.Replacing.{applied}
 use Rattle.ra_moves.specs.Values.{end_count, end_in}
-use Rattle.ra_world.specs.Worlds.{tables_of, here_of}
-use Rattle.ra_world.specs.declared.world.World.{World}
 use Rattle.ra_weigh_changes.specs.PlaceCosts.{row_cost}
 use Rattle.ra_weigh_changes.specs.declared.amounts.Change.{Change}
 
@@ -16,8 +15,8 @@ abbrev pub cost_of_ends : Tables → List Machine → List Step → ℕ
 cost_of_ends i a steps = total (end_count steps) (fresh (end_in steps) (row_cost i a))
 
 -- what is added is that cost after the move, and what is taken is that cost now
-pub record IsChangeAtEnds (w : World) (steps : List Step) (change : Change) : Type 0 where
-  pub added : change.added ≡ cost_of_ends (tables_of w) (applied (here_of w) steps) steps
-  pub taken : change.taken ≡ cost_of_ends (tables_of w) (here_of w) steps
+pub record IsChangeAtEnds (st : Situation) (steps : List Step) (change : Change) : Type 0 where
+  pub added : change.added ≡ cost_of_ends st.tables (applied st.here steps) steps
+  pub taken : change.taken ≡ cost_of_ends st.tables st.here steps
   pub added_few : change.added ≤ 2 ^ 110
   pub taken_few : change.taken ≤ 2 ^ 110

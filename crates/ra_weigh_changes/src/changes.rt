@@ -1,9 +1,8 @@
 ghost use Rattle.std.specs.Prelude.{◌≡◌, length, None};
 ghost use Rattle.ra_moves.specs.Judging.{broken_by};
-ghost use Rattle.ra_moves.specs.Moving.{IsMove};
 ghost use Rattle.ra_moves.specs.Weighing.{weighed_of};
+ghost use Rattle.ra_moves.specs.Moving.{MayMove};
 ghost use Rattle.ra_world.specs.Required.{AreRequired};
-ghost use Rattle.ra_world.specs.Worlds.{tables_of, start_of, here_of};
 
 use crate::counts::counts_of;
 use crate::ends::change_at_ends;
@@ -15,14 +14,14 @@ use ra_world::World;
 /// The weighing of a move that breaks nothing, from what its processes require: the change of load, balance, process and
 /// machine cost together, and the moved counts of its different services in the order of its steps. No memory is taken.
 pub fn changed_by(world: &World<'_>, mv: &Move, required: &[u32; 60]) -> Weighed
-    requires moves { IsMove (tables_of world.now) (here_of world.now) mv.now.steps }
-    requires required { AreRequired (tables_of world.now) mv.now.steps
+    requires moves { MayMove world.now mv.now.steps }
+    requires required { AreRequired world.now.tables mv.now.steps
         (length mv.now.steps) required.now }
-    requires unbroken { broken_by (tables_of world.now) (start_of world.now)
-        (here_of world.now) mv.now.steps ≡ None }
-    ensures { result ≡ weighed_of (tables_of world.now) (start_of world.now)
-        (here_of world.now) mv.now.steps }
+    requires unbroken { broken_by world.now mv.now.steps ≡ None }
+    ensures { result ≡ weighed_of world.now mv.now.steps }
 {
+    // What is known of every world.
+    let _known = world.instance();
     let ends = change_at_ends(world, mv, required);
     let ways = change_of_ways(world, mv);
     let counts = counts_of(world, mv);

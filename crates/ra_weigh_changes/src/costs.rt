@@ -1,10 +1,9 @@
 ghost use Rattle.std.specs.Prelude.{◌≡◌, ◌^◌, ◌<◌, length};
-ghost use Rattle.ra_model.specs.Costs.{service_cost, objective};
-ghost use Rattle.ra_moves.specs.Replacing.{applied};
-ghost use Rattle.ra_moves.specs.Moving.{IsMove};
 ghost use Rattle.ra_world.specs.Required.{AreRequired};
 ghost use Rattle.ra_weigh_changes.specs.Below.{IsIfBelow};
-ghost use Rattle.ra_world.specs.Worlds.{tables_of, start_of, here_of};
+ghost use Rattle.ra_model.specs.Situations.{cost_at, service_cost_at};
+ghost use Rattle.ra_moves.specs.Replacing.{after_move};
+ghost use Rattle.ra_moves.specs.Moving.{MayMove};
 
 use crate::amounts::Change;
 use crate::counts::counts_of;
@@ -22,11 +21,10 @@ pub fn cost_after_move(
     required: &[u32; 60],
     bound: u128,
 ) -> Option<u128>
-    requires moves { IsMove (tables_of world.now) (here_of world.now) mv.now.steps }
-    requires required { AreRequired (tables_of world.now) mv.now.steps
+    requires moves { MayMove world.now mv.now.steps }
+    requires required { AreRequired world.now.tables mv.now.steps
         (length mv.now.steps) required.now }
-    ensures { IsIfBelow bound (objective (tables_of world.now) (start_of world.now)
-        (applied (here_of world.now) mv.now.steps)) result }
+    ensures { IsIfBelow bound (cost_at (after_move world.now mv.now.steps)) result }
 {
     let kept = world.parts().total;
     let ends = change_at_ends(world, mv, required);
@@ -46,11 +44,9 @@ pub fn cost_after_move(
 /// The service cost after the move, and that now.
 #[inline(always)]
 fn change_of_service(world: &World<'_>, mv: &Move) -> Change
-    requires { IsMove (tables_of world.now) (here_of world.now) mv.now.steps }
-    ensures added { result.added ≡ service_cost (tables_of world.now) (start_of world.now)
-        (applied (here_of world.now) mv.now.steps) }
-    ensures taken { result.taken ≡ service_cost (tables_of world.now) (start_of world.now)
-        (here_of world.now) }
+    requires { MayMove world.now mv.now.steps }
+    ensures added { result.added ≡ service_cost_at (after_move world.now mv.now.steps) }
+    ensures taken { result.taken ≡ service_cost_at world.now }
     ensures added_few { result.added < 2 ^ 48 }
     ensures taken_few { result.taken < 2 ^ 48 }
 {

@@ -1,13 +1,12 @@
 ghost use Rattle.std.specs.Prelude.{◌≡◌, ◌+◌, ◌<◌, length};
 ghost use Rattle.ra_base.specs.Sums.{is_named};
 ghost use Rattle.ra_model.specs.Numbers.{service_count};
-ghost use Rattle.ra_model.specs.Services.{moved_of};
+ghost use Rattle.ra_model.specs.Situations.{moved_at};
 ghost use Rattle.ra_cells.specs.Marks.{away};
 ghost use Rattle.ra_moves.specs.Replacing.{after_steps};
 ghost use Rattle.ra_moves.specs.Touched.{service_in};
-ghost use Rattle.ra_moves.specs.Moving.{IsMove};
 ghost use Rattle.ra_moves.specs.Weighing.{moved_count, services_moved};
-ghost use Rattle.ra_world.specs.Worlds.{tables_of, start_of, here_of};
+ghost use Rattle.ra_moves.specs.Moving.{MayMove};
 ghost use Rattle.ra_weigh_changes.specs.CountLists.{AreCountsOf};
 
 use ra_base::{Machine, MovedCount, Service};
@@ -17,9 +16,8 @@ use ra_world::World;
 /// The moved counts of the different services of a move, in the order of its steps, and nothing behind them.
 #[inline(always)]
 pub(crate) fn counts_of(world: &World<'_>, mv: &Move) -> [Option<MovedCount>; 3]
-    requires { IsMove (tables_of world.now) (here_of world.now) mv.now.steps }
-    ensures { AreCountsOf (tables_of world.now)
-        (start_of world.now) (here_of world.now) mv.now.steps (length mv.now.steps) result }
+    requires { MayMove world.now mv.now.steps }
+    ensures { AreCountsOf world.now mv.now.steps (length mv.now.steps) result }
 {
     let mut counts = [None; 3];
     let mut filled: usize = 0;
@@ -39,14 +37,12 @@ fn put_count(
     filled: usize,
     counts: &mut [Option<MovedCount>; 3],
 ) -> usize
-    requires moves { IsMove (tables_of world.now) (here_of world.now) mv.now.steps }
+    requires moves { MayMove world.now mv.now.steps }
     requires step { j < length mv.now.steps }
-    requires filled { filled ≡ length (services_moved (tables_of world.now) mv.now.steps j) }
-    requires counts { AreCountsOf
-        (tables_of world.now) (start_of world.now) (here_of world.now) mv.now.steps j counts.old }
-    ensures filled { result ≡ length (services_moved (tables_of world.now) mv.now.steps (j + 1)) }
-    ensures counts { AreCountsOf (tables_of world.now)
-        (start_of world.now) (here_of world.now) mv.now.steps (j + 1) counts.new }
+    requires filled { filled ≡ length (services_moved world.now.tables mv.now.steps j) }
+    requires counts { AreCountsOf world.now mv.now.steps j counts.old }
+    ensures filled { result ≡ length (services_moved world.now.tables mv.now.steps (j + 1)) }
+    ensures counts { AreCountsOf world.now mv.now.steps (j + 1) counts.new }
 {
     let s = service_in(world, mv, j);
     if is_named_before(world, mv, j, s) {
@@ -60,10 +56,10 @@ fn put_count(
 #[inline(always)]
 #[tactic(auto, using(crate::proofs::MoveLemmas::process_known, crate::proofs::MoveLemmas::service_read, crate::proofs::MoveLemmas::service_known))]
 fn service_in(world: &World<'_>, mv: &Move, j: u32) -> Service
-    requires moves { IsMove (tables_of world.now) (here_of world.now) mv.now.steps }
+    requires moves { MayMove world.now mv.now.steps }
     requires step { j < length mv.now.steps }
-    ensures value { result.0 ≡ service_in (tables_of world.now) mv.now.steps j }
-    ensures there { result.0 < service_count (tables_of world.now) }
+    ensures value { result.0 ≡ service_in world.now.tables mv.now.steps j }
+    ensures there { result.0 < service_count world.now.tables }
 {
     world.instance().service_of(mv.step(j).process)
 }
@@ -72,9 +68,9 @@ fn service_in(world: &World<'_>, mv: &Move, j: u32) -> Service
 #[inline(always)]
 #[tactic(auto, using(ra_base::proofs::Named::names))]
 fn is_named_before(world: &World<'_>, mv: &Move, j: u32, s: Service) -> bool
-    requires moves { IsMove (tables_of world.now) (here_of world.now) mv.now.steps }
+    requires moves { MayMove world.now mv.now.steps }
     requires step { j < length mv.now.steps }
-    ensures { result ≡ is_named j (service_in (tables_of world.now) mv.now.steps) s.0 }
+    ensures { result ≡ is_named j (service_in world.now.tables mv.now.steps) s.0 }
 {
     for k in 0..j {
         if service_in(world, mv, k).0 == s.0 {
@@ -87,10 +83,9 @@ fn is_named_before(world: &World<'_>, mv: &Move, j: u32, s: Service) -> bool
 /// A service with its moved counts before and after the move.
 #[inline(always)]
 fn count_of(world: &World<'_>, mv: &Move, s: Service) -> MovedCount
-    requires moves { IsMove (tables_of world.now) (here_of world.now) mv.now.steps }
-    requires there { s.0 < service_count (tables_of world.now) }
-    ensures { result ≡ moved_count
-        (tables_of world.now) (start_of world.now) (here_of world.now) mv.now.steps s.0 }
+    requires moves { MayMove world.now mv.now.steps }
+    requires there { s.0 < service_count world.now.tables }
+    ensures { result ≡ moved_count world.now mv.now.steps s.0 }
 {
     let before = world.cells().moved(s);
     let mut after = before;
@@ -107,12 +102,16 @@ fn count_of(world: &World<'_>, mv: &Move, s: Service) -> MovedCount
 /// The moved count of a service after one more step, from that before the step.
 #[inline(always)]
 fn moved_next(world: &World<'_>, mv: &Move, j: u32, s: Service, moved: u32) -> u32
-    requires moves { IsMove (tables_of world.now) (here_of world.now) mv.now.steps }
+    requires moves { MayMove world.now mv.now.steps }
     requires step { j < length mv.now.steps }
-    requires before { moved ≡ moved_of (tables_of world.now)
-        (start_of world.now) (after_steps (here_of world.now) mv.now.steps j) s.0 }
-    ensures { result ≡ moved_of (tables_of world.now)
-        (start_of world.now) (after_steps (here_of world.now) mv.now.steps (j + 1)) s.0 }
+    requires before { moved ≡ moved_at (record world.now {
+      here = after_steps world.now.here
+          mv.now.steps j;
+    }) s.0 }
+    ensures { result ≡ moved_at (record world.now {
+      here = after_steps world.now.here mv.now.steps
+          (j + 1);
+    }) s.0 }
 {
     if service_in(world, mv, j).0 != s.0 {
         return moved;

@@ -5,9 +5,8 @@ ghost use Rattle.ra_model.specs.Numbers.{resource_count, machine_count};
 ghost use Rattle.ra_rows.specs.Rows.{IsUsageRow};
 ghost use Rattle.ra_moves.specs.Replacing.{applied};
 ghost use Rattle.ra_moves.specs.Values.{end_count, end_in};
-ghost use Rattle.ra_moves.specs.Moving.{IsMove};
+ghost use Rattle.ra_moves.specs.Moving.{MayMove};
 ghost use Rattle.ra_world.specs.Required.{AreRequired};
-ghost use Rattle.ra_world.specs.Worlds.{tables_of, here_of};
 ghost use Rattle.ra_weigh_changes.specs.PlaceCosts.{row_cost};
 ghost use Rattle.ra_weigh_changes.specs.EndCosts.{IsChangeAtEnds};
 ghost use Rattle.ra_weigh_changes.specs.Exchanges.{IsExchange, IsExchangedAt};
@@ -25,8 +24,8 @@ use ra_world::{World, row_balance, row_load};
 #[inline(always)]
 #[tactic(auto, unfolding(ra_moves::specs::Values::end_count))]
 pub(crate) fn change_at_ends(world: &World<'_>, mv: &Move, required: &[u32; 60]) -> Change
-    requires moves { IsMove (tables_of world.now) (here_of world.now) mv.now.steps }
-    requires required { AreRequired (tables_of world.now) mv.now.steps
+    requires moves { MayMove world.now mv.now.steps }
+    requires required { AreRequired world.now.tables mv.now.steps
         (length mv.now.steps) required.now }
     ensures { IsChangeAtEnds world.now mv.now.steps result }
 {
@@ -45,8 +44,8 @@ pub(crate) fn change_at_ends(world: &World<'_>, mv: &Move, required: &[u32; 60])
 /// The same, if two processes exchange their machines: these two are all.
 #[inline(always)]
 fn change_at_exchange(world: &World<'_>, mv: &Move, required: &[u32; 60]) -> Change
-    requires moves { IsMove (tables_of world.now) (here_of world.now) mv.now.steps }
-    requires required { AreRequired (tables_of world.now) mv.now.steps
+    requires moves { MayMove world.now mv.now.steps }
+    requires required { AreRequired world.now.tables mv.now.steps
         (length mv.now.steps) required.now }
     requires exchange { IsExchange mv.now.steps }
     ensures { IsChangeAtEnds world.now mv.now.steps result }
@@ -70,13 +69,13 @@ fn cost_exchanged(
     comes: u32,
     goes: u32,
 ) -> u128
-    requires moves { IsMove (tables_of world.now) (here_of world.now) mv.now.steps }
-    requires required { AreRequired (tables_of world.now) mv.now.steps
+    requires moves { MayMove world.now mv.now.steps }
+    requires required { AreRequired world.now.tables mv.now.steps
         (length mv.now.steps) required.now }
-    requires machine { m.0 < machine_count (tables_of world.now) }
+    requires machine { m.0 < machine_count world.now.tables }
     requires exchanged { IsExchangedAt mv.now.steps m.0 comes goes }
     ensures value { result ≡
-        row_cost (tables_of world.now) (applied (here_of world.now) mv.now.steps) m.0 }
+        row_cost world.now.tables (applied world.now.here mv.now.steps) m.0 }
     ensures few { result ≤ 2 ^ 106 }
 {
     let inst = world.instance();
@@ -94,14 +93,14 @@ fn cost_exchanged(
 #[inline(always)]
 #[tactic(auto, using(ra_base::proofs::Named::names, crate::proofs::MoveLemmas::end_known))]
 fn change_at(world: &World<'_>, mv: &Move, required: &[u32; 60], j: u32) -> Change
-    requires moves { IsMove (tables_of world.now) (here_of world.now) mv.now.steps }
-    requires required { AreRequired (tables_of world.now) mv.now.steps
+    requires moves { MayMove world.now mv.now.steps }
+    requires required { AreRequired world.now.tables mv.now.steps
         (length mv.now.steps) required.now }
     requires end { j < end_count mv.now.steps }
     ensures added { result.added ≡ fresh (end_in mv.now.steps)
-        (row_cost (tables_of world.now) (applied (here_of world.now) mv.now.steps)) j }
+        (row_cost world.now.tables (applied world.now.here mv.now.steps)) j }
     ensures taken { result.taken ≡
-        fresh (end_in mv.now.steps) (row_cost (tables_of world.now) (here_of world.now)) j }
+        fresh (end_in mv.now.steps) (row_cost world.now.tables world.now.here) j }
     ensures added_few { result.added ≤ 2 ^ 106 }
     ensures taken_few { result.taken ≤ 2 ^ 106 }
 {
@@ -147,12 +146,12 @@ fn is_named_before(mv: &Move, j: u32, m: Machine) -> bool
 /// What a machine costs after the move.
 #[inline(always)]
 fn cost_after(world: &World<'_>, mv: &Move, required: &[u32; 60], m: Machine) -> u128
-    requires moves { IsMove (tables_of world.now) (here_of world.now) mv.now.steps }
-    requires required { AreRequired (tables_of world.now) mv.now.steps
+    requires moves { MayMove world.now mv.now.steps }
+    requires required { AreRequired world.now.tables mv.now.steps
         (length mv.now.steps) required.now }
-    requires machine { m.0 < machine_count (tables_of world.now) }
+    requires machine { m.0 < machine_count world.now.tables }
     ensures value { result ≡
-        row_cost (tables_of world.now) (applied (here_of world.now) mv.now.steps) m.0 }
+        row_cost world.now.tables (applied world.now.here mv.now.steps) m.0 }
     ensures few { result ≤ 2 ^ 106 }
 {
     let inst = world.instance();
@@ -177,8 +176,8 @@ fn cost_of_row(inst: &Instance, m: Machine, row: &[u64]) -> u128
 /// What a machine costs now.
 #[inline(always)]
 fn cost_now(world: &World<'_>, m: Machine) -> u128
-    requires machine { m.0 < machine_count (tables_of world.now) }
-    ensures value { result ≡ row_cost (tables_of world.now) (here_of world.now) m.0 }
+    requires machine { m.0 < machine_count world.now.tables }
+    ensures value { result ≡ row_cost world.now.tables world.now.here m.0 }
     ensures few { result ≤ 2 ^ 106 }
 {
     world.machine_load(m) + world.machine_balance(m)

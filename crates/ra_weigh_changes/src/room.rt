@@ -2,9 +2,8 @@ ghost use Rattle.std.specs.Prelude.{◌≡◌, ◌↔◌, ◌<◌, true, length,
 ghost use Rattle.ra_model.specs.Numbers.{resource_count, machine_count};
 ghost use Rattle.ra_model.specs.Usage.{use_of};
 ghost use Rattle.ra_moves.specs.Replacing.{applied};
-ghost use Rattle.ra_moves.specs.Moving.{IsMove};
+ghost use Rattle.ra_moves.specs.Moving.{MayMove};
 ghost use Rattle.ra_world.specs.Required.{AreRequired};
-ghost use Rattle.ra_world.specs.Worlds.{tables_of, here_of};
 ghost use Rattle.ra_weigh_changes.specs.Room.{AreWithin, HaveRoom};
 ghost use Rattle.ra_weigh_changes.specs.Exchanges.{IsExchange, IsExchangedAt};
 
@@ -18,11 +17,11 @@ use ra_world::World;
 /// Whether each machine that a move enters has the capacity for what it then has. The time grows with the number of
 /// resources alone, and is less than that of the cost.
 pub fn has_room(world: &World<'_>, mv: &Move, required: &[u32; 60]) -> bool
-    requires moves { IsMove (tables_of world.now) (here_of world.now) mv.now.steps }
-    requires required { AreRequired (tables_of world.now) mv.now.steps
+    requires moves { MayMove world.now mv.now.steps }
+    requires required { AreRequired world.now.tables mv.now.steps
         (length mv.now.steps) required.now }
-    ensures { (result ≡ true) ↔ HaveRoom (tables_of world.now)
-        (applied (here_of world.now) mv.now.steps) mv.now.steps (length mv.now.steps) }
+    ensures { (result ≡ true) ↔ HaveRoom world.now.tables
+        (applied world.now.here mv.now.steps) mv.now.steps (length mv.now.steps) }
 {
     if is_exchange(mv) {
         return exchange_has_room(world, mv, required);
@@ -39,12 +38,12 @@ pub fn has_room(world: &World<'_>, mv: &Move, required: &[u32; 60]) -> bool
 /// The same, if two processes exchange their machines: what comes and what goes is known then for each of the two.
 #[inline(always)]
 fn exchange_has_room(world: &World<'_>, mv: &Move, required: &[u32; 60]) -> bool
-    requires moves { IsMove (tables_of world.now) (here_of world.now) mv.now.steps }
-    requires required { AreRequired (tables_of world.now) mv.now.steps
+    requires moves { MayMove world.now mv.now.steps }
+    requires required { AreRequired world.now.tables mv.now.steps
         (length mv.now.steps) required.now }
     requires exchange { IsExchange mv.now.steps }
-    ensures { (result ≡ true) ↔ HaveRoom (tables_of world.now)
-        (applied (here_of world.now) mv.now.steps) mv.now.steps (length mv.now.steps) }
+    ensures { (result ≡ true) ↔ HaveRoom world.now.tables
+        (applied world.now.here mv.now.steps) mv.now.steps (length mv.now.steps) }
 {
     let step = mv.step(0);
     if !has_room_exchanged(world, mv, required, step.from, 1, 0) {
@@ -64,14 +63,14 @@ fn has_room_exchanged(
     comes: u32,
     goes: u32,
 ) -> bool
-    requires moves { IsMove (tables_of world.now) (here_of world.now) mv.now.steps }
-    requires required { AreRequired (tables_of world.now) mv.now.steps
+    requires moves { MayMove world.now mv.now.steps }
+    requires required { AreRequired world.now.tables mv.now.steps
         (length mv.now.steps) required.now }
-    requires machine { m.0 < machine_count (tables_of world.now) }
+    requires machine { m.0 < machine_count world.now.tables }
     requires exchanged { IsExchangedAt mv.now.steps m.0 comes goes }
-    ensures { (result ≡ true) ↔ AreWithin (tables_of world.now) m.0
-        (use_of (tables_of world.now) (applied (here_of world.now) mv.now.steps) m.0)
-        (resource_count (tables_of world.now)) }
+    ensures { (result ≡ true) ↔ AreWithin world.now.tables m.0
+        (use_of world.now.tables (applied world.now.here mv.now.steps) m.0)
+        (resource_count world.now.tables) }
 {
     let inst = world.instance();
     let width = inst.resources();
@@ -91,13 +90,13 @@ fn has_room_exchanged(
 
 /// Whether a machine has the capacity for what it has after the move.
 fn machine_has_room(world: &World<'_>, mv: &Move, required: &[u32; 60], m: Machine) -> bool
-    requires moves { IsMove (tables_of world.now) (here_of world.now) mv.now.steps }
-    requires required { AreRequired (tables_of world.now) mv.now.steps
+    requires moves { MayMove world.now mv.now.steps }
+    requires required { AreRequired world.now.tables mv.now.steps
         (length mv.now.steps) required.now }
-    requires machine { m.0 < machine_count (tables_of world.now) }
-    ensures { (result ≡ true) ↔ AreWithin (tables_of world.now) m.0
-        (use_of (tables_of world.now) (applied (here_of world.now) mv.now.steps) m.0)
-        (resource_count (tables_of world.now)) }
+    requires machine { m.0 < machine_count world.now.tables }
+    ensures { (result ≡ true) ↔ AreWithin world.now.tables m.0
+        (use_of world.now.tables (applied world.now.here mv.now.steps) m.0)
+        (resource_count world.now.tables) }
 {
     let inst = world.instance();
     let mut numbers = [0u64; 20];

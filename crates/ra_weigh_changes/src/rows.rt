@@ -3,9 +3,8 @@ ghost use Rattle.ra_base.specs.Tables.{cell};
 ghost use Rattle.ra_model.specs.Numbers.{resource_count, machine_count};
 ghost use Rattle.ra_rows.specs.Rows.{IsUsageRow};
 ghost use Rattle.ra_moves.specs.Replacing.{applied};
-ghost use Rattle.ra_moves.specs.Moving.{IsMove};
+ghost use Rattle.ra_moves.specs.Moving.{MayMove};
 ghost use Rattle.ra_world.specs.Required.{AreRequired};
-ghost use Rattle.ra_world.specs.Worlds.{tables_of, here_of};
 ghost use Rattle.ra_weigh_changes.specs.RowChanges.{share_at, HasMore, HasMoreAt, HasFollowed, CanFollow};
 ghost use Rattle.ra_weigh_changes.specs.Exchanges.{HasExchanged};
 
@@ -22,14 +21,14 @@ pub(crate) fn row_after(
     m: Machine,
     row: &mut [u64],
 )
-    requires moves { IsMove (tables_of world.now) (here_of world.now) mv.now.steps }
-    requires required { AreRequired (tables_of world.now) mv.now.steps
+    requires moves { MayMove world.now mv.now.steps }
+    requires required { AreRequired world.now.tables mv.now.steps
         (length mv.now.steps) required.now }
-    requires machine { m.0 < machine_count (tables_of world.now) }
-    requires width { length row.old ≡ resource_count (tables_of world.now) }
-    ensures width { length row.new ≡ resource_count (tables_of world.now) }
-    ensures after { IsUsageRow (tables_of world.now)
-        (applied (here_of world.now) mv.now.steps) m.0 row.new }
+    requires machine { m.0 < machine_count world.now.tables }
+    requires width { length row.old ≡ resource_count world.now.tables }
+    ensures width { length row.new ≡ resource_count world.now.tables }
+    ensures after { IsUsageRow world.now.tables
+        (applied world.now.here mv.now.steps) m.0 row.new }
 {
     row.copy_from_slice(world.rows().usage_row(m));
     follow_row(world, mv, required, m, row)
@@ -38,14 +37,14 @@ pub(crate) fn row_after(
 /// Brings a machine's row of use from before the move to after it.
 #[inline(always)]
 fn follow_row(world: &World<'_>, mv: &Move, required: &[u32; 60], m: Machine, row: &mut [u64])
-    requires moves { IsMove (tables_of world.now) (here_of world.now) mv.now.steps }
-    requires required { AreRequired (tables_of world.now) mv.now.steps
+    requires moves { MayMove world.now mv.now.steps }
+    requires required { AreRequired world.now.tables mv.now.steps
         (length mv.now.steps) required.now }
-    requires width { length row.old ≡ resource_count (tables_of world.now) }
-    requires before { IsUsageRow (tables_of world.now) (here_of world.now) m.0 row.old }
-    ensures width { length row.new ≡ resource_count (tables_of world.now) }
-    ensures after { IsUsageRow (tables_of world.now)
-        (applied (here_of world.now) mv.now.steps) m.0 row.new }
+    requires width { length row.old ≡ resource_count world.now.tables }
+    requires before { IsUsageRow world.now.tables world.now.here m.0 row.old }
+    ensures width { length row.new ≡ resource_count world.now.tables }
+    ensures after { IsUsageRow world.now.tables
+        (applied world.now.here mv.now.steps) m.0 row.new }
 {
     let width = world.instance().resources();
     for j in 0..mv.steps() {

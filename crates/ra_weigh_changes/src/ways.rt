@@ -3,8 +3,7 @@ ghost use Rattle.ra_base.specs.Sums.{total};
 ghost use Rattle.ra_model.specs.Numbers.{machine_count, process_count};
 ghost use Rattle.ra_model.specs.Assignments.{IsAssignment};
 ghost use Rattle.ra_moves.specs.Values.{gone, come};
-ghost use Rattle.ra_moves.specs.Moving.{IsMove};
-ghost use Rattle.ra_world.specs.Worlds.{tables_of, start_of, here_of};
+ghost use Rattle.ra_moves.specs.Moving.{MayMove};
 ghost use Rattle.ra_weigh_changes.specs.PlaceCosts.{place_cost};
 
 use crate::amounts::Change;
@@ -16,11 +15,11 @@ use ra_world::{World, process_share, way_share};
 /// The change of process and machine cost together.
 #[inline(always)]
 pub(crate) fn change_of_ways(world: &World<'_>, mv: &Move) -> Change
-    requires { IsMove (tables_of world.now) (here_of world.now) mv.now.steps }
+    requires { MayMove world.now mv.now.steps }
     ensures added { result.added ≡ total (length mv.now.steps)
-        (come (place_cost (tables_of world.now) (start_of world.now)) mv.now.steps) }
+        (come (place_cost world.now.tables world.now.start) mv.now.steps) }
     ensures taken { result.taken ≡ total (length mv.now.steps)
-        (gone (place_cost (tables_of world.now) (start_of world.now)) mv.now.steps) }
+        (gone (place_cost world.now.tables world.now.start) mv.now.steps) }
     ensures added_few { result.added ≤ 2 ^ 110 }
     ensures taken_few { result.taken ≤ 2 ^ 110 }
 {
@@ -34,9 +33,9 @@ pub(crate) fn change_of_ways(world: &World<'_>, mv: &Move) -> Change
 #[inline(always)]
 #[tactic(auto, using(ra_base::proofs::Sums::sums))]
 pub(crate) fn cost_entered(world: &World<'_>, mv: &Move) -> u128
-    requires { IsMove (tables_of world.now) (here_of world.now) mv.now.steps }
+    requires { MayMove world.now mv.now.steps }
     ensures value { result ≡ total (length mv.now.steps)
-        (come (place_cost (tables_of world.now) (start_of world.now)) mv.now.steps) }
+        (come (place_cost world.now.tables world.now.start) mv.now.steps) }
     ensures few { result ≤ 2 ^ 110 }
 {
     let inst = world.instance();
@@ -53,9 +52,9 @@ pub(crate) fn cost_entered(world: &World<'_>, mv: &Move) -> u128
 #[inline(always)]
 #[tactic(auto, using(ra_base::proofs::Sums::sums))]
 pub(crate) fn cost_left(world: &World<'_>, mv: &Move) -> u128
-    requires { IsMove (tables_of world.now) (here_of world.now) mv.now.steps }
+    requires { MayMove world.now mv.now.steps }
     ensures value { result ≡ total (length mv.now.steps)
-        (gone (place_cost (tables_of world.now) (start_of world.now)) mv.now.steps) }
+        (gone (place_cost world.now.tables world.now.start) mv.now.steps) }
     ensures few { result ≤ 2 ^ 110 }
 {
     let inst = world.instance();

@@ -5,6 +5,8 @@ use Rattle.std.proofs.lemmas.Bool.{cases_eq}
 use Rattle.ra_base.specs.declared.costs.MovedCount.{MovedCount}
 use Rattle.ra_base.specs.declared.ids.Machine.{Machine}
 use Rattle.ra_model.specs.declared.raw.Tables.{Tables}
+use Rattle.ra_model.specs.Situations.{Situation}
+use Rattle.ra_moves.specs.Replacing.{after_move}
 use Rattle.ra_cells.specs.MovedCounts.{MovedCounts}
 use Rattle.ra_cells.specs.Replaced.{counted_after}
 use Rattle.ra_moves.specs.declared.steps.Step.{Step}
@@ -48,23 +50,23 @@ counted_same None f g s same = same
 counted_same (Some c) f g s same = ap (λ x. cond (eqb s c.service.0) c.after x) same
 
 -- all three of a weighing
-pub counts_changed : (i : Tables) (a0 a : List Machine) (steps : List Step) (old one two new : MovedCounts)
-    (weighed : Weighed) → IsMove i a steps → broken_by i a0 a steps ≡ None → weighed ≡ weighed_of i a0 a steps →
+pub counts_changed : (st : Situation) (steps : List Step) (old one two new : MovedCounts)
+    (weighed : Weighed) → IsMove st.tables st.here steps → broken_by st steps ≡ None → weighed ≡ weighed_of st steps →
     IsChangedBy weighed.first old one → IsChangedBy weighed.second one two → IsChangedBy weighed.third two new →
-    AreMovedOf i a0 a old → AreMovedOf i a0 (applied a steps) new
-counts_changed i a0 a steps old one two new weighed move none is first second third before = record {
+    AreMovedOf st old → AreMovedOf (after_move st steps) new
+counts_changed st steps old one two new weighed move none is first second third before = record {
   one_each = third.same_length ∙ second.same_length ∙ first.same_length ∙ before.one_each;
   each = λ s within.
       let in_old : s < length old.counts = omega (arith, before.one_each) in
       let in_one : s < length one.counts = omega (arith, first.same_length) in
       let in_two : s < length two.counts = omega (arith, second.same_length) in
-      let whole = is ∙ whole_is i a0 a steps none in
+      let whole = is ∙ whole_is st steps none in
       third.counts s in_two
       ∙ counted_same weighed.third _ _ s
       (second.counts s in_one ∙ counted_same weighed.second _ _ s (first.counts s in_old))
       ∙ ap (λ (w : Weighed).
       counted_after w.third (counted_after w.second (counted_after w.first (λ k. get_or old.counts k 0))) s)
       whole
-      ∙ counts_after i a0 a steps (λ k. get_or old.counts k 0) s move (before.each s within);
+      ∙ counts_after st steps (λ k. get_or old.counts k 0) s move (before.each s within);
   limit = third.limit ∙ second.limit ∙ first.limit ∙ before.limit;
 }

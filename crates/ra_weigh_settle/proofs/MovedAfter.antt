@@ -12,6 +12,8 @@ use Rattle.ra_model.specs.declared.raw.Tables.{Tables}
 use Rattle.ra_model.specs.Numbers.{service_count}
 use Rattle.ra_model.specs.Limits.{WellFormed}
 use Rattle.ra_model.specs.Services.{moved_of}
+use Rattle.ra_model.specs.Situations.{Situation, moved_at}
+use Rattle.ra_moves.specs.Replacing.{after_move}
 use Rattle.ra_model.proofs.BoundLemmas.{moved_within}
 use Rattle.ra_cells.specs.MovedCounts.{MovedCounts}
 use Rattle.ra_cells.specs.Replaced.{counted_after, greatest_with, IsChange, AreApart}
@@ -27,24 +29,24 @@ use Rattle.ra_moves.proofs.MovedServices.{count_past}
 use Rattle.ra_weigh_settle.specs.Settling.{AreMovedOf}
 
 -- the count of a service of which no process moves stays
-pub moved_stays : (i : Tables) (a0 a : List Machine) (steps : List Step) (s : ℕ) → IsMove i a steps →
-    moves_service i steps s ≡ false → moved_of i a0 (applied a steps) s ≡ moved_of i a0 a s
+pub moved_stays : (st : Situation) (steps : List Step) (s : ℕ) → IsMove st.tables st.here steps →
+    moves_service st.tables steps s ≡ false → moved_at (after_move st steps) s ≡ moved_at st s
 unfolding moved_of
-moved_stays i a0 a steps s is unmoved = members_same i a steps s _ is unmoved
+moved_stays st steps s is unmoved = members_same st.tables st.here steps s _ is unmoved
 
 -- the counts of a weighing
 
-count_cases : (i : Tables) (a0 a : List Machine) (steps : List Step) (k : ℕ) → (changed_count i a0 a steps k ≡ None)
-    ⊎ ((k < length (services_moved i steps (length steps)))
-    × (changed_count i a0 a steps k ≡
-    Some (moved_count i a0 a steps (get_or (services_moved i steps (length steps)) k 0))))
+count_cases : (st : Situation) (steps : List Step) (k : ℕ) → (changed_count st steps k ≡ None)
+    ⊎ ((k < length (services_moved st.tables steps (length steps)))
+    × (changed_count st steps k ≡
+    Some (moved_count st steps (get_or (services_moved st.tables steps (length steps)) k 0))))
 unfolding changed_count
-count_cases i a0 a steps k = ⊎_elim
-    (λ (there : k < length (services_moved i steps (length steps))).
-    inr (there, count_there i a0 a steps (services_moved i steps (length steps)) k there))
-    (λ (behind : length (services_moved i steps (length steps)) ≤ k).
-    inl (count_past i a0 a steps (services_moved i steps (length steps)) k behind))
-    (cases_lt k (length (services_moved i steps (length steps))))
+count_cases st steps k = ⊎_elim
+    (λ (there : k < length (services_moved st.tables steps (length steps))).
+    inr (there, count_there st steps (services_moved st.tables steps (length steps)) k there))
+    (λ (behind : length (services_moved st.tables steps (length steps)) ≤ k).
+    inl (count_past st steps (services_moved st.tables steps (length steps)) k behind))
+    (cases_lt k (length (services_moved st.tables steps (length steps))))
 
 -- the service of a count has a process that moves, so it is one of the instance
 service_within : (i : Tables) (a : List Machine) (steps : List Step) (s : ℕ) → WellFormed i → IsMove i a steps →
@@ -59,45 +61,45 @@ service_within i a steps s limits is named =
           (omega (arith, is.stands.known found.0 found.1, is.fits.one_each)),
     )
 
-is_change : (i : Tables) (a0 a : List Machine) (steps : List Step) (moved : MovedCounts) (s : ℕ) →
-    AreMovedOf i a0 a moved → s < service_count i → IsChange moved (moved_count i a0 a steps s)
+is_change : (st : Situation) (steps : List Step) (moved : MovedCounts) (s : ℕ) →
+    AreMovedOf st moved → s < service_count st.tables → IsChange moved (moved_count st steps s)
 unfolding moved_count
-is_change i a0 a steps moved s counts within = record {
+is_change st steps moved s counts within = record {
   there = omega (arith, counts.one_each);
   before = counts.each s within;
-  within = omega (arith, moved_within i a0 (applied a steps) s, counts.limit);
+  within = omega (arith, moved_within st.tables st.start (applied st.here steps) s, counts.limit);
 }
 
 -- each count is a change of the moved counts
-pub count_changes : (i : Tables) (a0 a : List Machine) (steps : List Step) (moved : MovedCounts) (k : ℕ) →
-    WellFormed i → IsMove i a steps → AreMovedOf i a0 a moved →
-    IfSome (changed_count i a0 a steps k) (λ c. IsChange moved c)
-count_changes i a0 a steps moved k limits is counts = ⊎_elim
-    (λ (none : changed_count i a0 a steps k ≡ None). rw none tt)
-    (λ (some : (k < length (services_moved i steps (length steps)))
-    × (changed_count i a0 a steps k ≡
-    Some (moved_count i a0 a steps (get_or (services_moved i steps (length steps)) k 0)))).
-    rw some.1 (is_change i a0 a steps moved _ counts
-    (service_within i a steps _ limits is (services_named i steps (length steps) k some.0))))
-    (count_cases i a0 a steps k)
+pub count_changes : (st : Situation) (steps : List Step) (moved : MovedCounts) (k : ℕ) →
+    WellFormed st.tables → IsMove st.tables st.here steps → AreMovedOf st moved →
+    IfSome (changed_count st steps k) (λ c. IsChange moved c)
+count_changes st steps moved k limits is counts = ⊎_elim
+    (λ (none : changed_count st steps k ≡ None). rw none tt)
+    (λ (some : (k < length (services_moved st.tables steps (length steps)))
+    × (changed_count st steps k ≡
+    Some (moved_count st steps (get_or (services_moved st.tables steps (length steps)) k 0)))).
+    rw some.1 (is_change st steps moved _ counts
+    (service_within st.tables st.here steps _ limits is (services_named st.tables steps (length steps) k some.0))))
+    (count_cases st steps k)
 
 -- of different services
-pub counts_apart : (i : Tables) (a0 a : List Machine) (steps : List Step) (j k : ℕ) → j < k →
-    AreApart (changed_count i a0 a steps j) (changed_count i a0 a steps k)
+pub counts_apart : (st : Situation) (steps : List Step) (j k : ℕ) → j < k →
+    AreApart (changed_count st steps j) (changed_count st steps k)
 unfolding moved_count
-counts_apart i a0 a steps j k before = ⊎_elim
-    (λ (none : changed_count i a0 a steps j ≡ None). rw none tt)
-    (λ (some : (j < length (services_moved i steps (length steps)))
-    × (changed_count i a0 a steps j ≡
-    Some (moved_count i a0 a steps (get_or (services_moved i steps (length steps)) j 0)))).
+counts_apart st steps j k before = ⊎_elim
+    (λ (none : changed_count st steps j ≡ None). rw none tt)
+    (λ (some : (j < length (services_moved st.tables steps (length steps)))
+    × (changed_count st steps j ≡
+    Some (moved_count st steps (get_or (services_moved st.tables steps (length steps)) j 0)))).
     rw some.1 (⊎_elim
-    (λ (none : changed_count i a0 a steps k ≡ None). rw none tt)
-    (λ (also : (k < length (services_moved i steps (length steps)))
-    × (changed_count i a0 a steps k ≡
-    Some (moved_count i a0 a steps (get_or (services_moved i steps (length steps)) k 0)))).
-    rw also.1 (services_apart i steps (length steps) j k before also.0))
-    (count_cases i a0 a steps k)))
-    (count_cases i a0 a steps j)
+    (λ (none : changed_count st steps k ≡ None). rw none tt)
+    (λ (also : (k < length (services_moved st.tables steps (length steps)))
+    × (changed_count st steps k ≡
+    Some (moved_count st steps (get_or (services_moved st.tables steps (length steps)) k 0)))).
+    rw also.1 (services_apart st.tables steps (length steps) j k before also.0))
+    (count_cases st steps k)))
+    (count_cases st steps j)
 
 -- the count of service s after a change that gives it v, and after one of another service
 changed_here : (o : Option MovedCount) (c : MovedCount) (f : ℕ → ℕ) (s : ℕ) → o ≡ Some c → c.service.0 ≡ s →
@@ -105,71 +107,73 @@ changed_here : (o : Option MovedCount) (c : MovedCount) (f : ℕ → ℕ) (s : �
 unfolding counted_after
 changed_here o c f s is here = rw (is, eq-eqb s c.service.0 (sym here)) refl
 
-changed_or_kept : (i : Tables) (a0 a : List Machine) (steps : List Step) (k : ℕ) (f : ℕ → ℕ) (s : ℕ) →
-    f s ≡ moved_of i a0 (applied a steps) s → counted_after (changed_count i a0 a steps k) f s ≡
-    moved_of i a0 (applied a steps) s
+changed_or_kept : (st : Situation) (steps : List Step) (k : ℕ) (f : ℕ → ℕ) (s : ℕ) →
+    f s ≡ moved_at (after_move st steps) s → counted_after (changed_count st steps k) f s ≡
+    moved_at (after_move st steps) s
 unfolding counted_after moved_count
-changed_or_kept i a0 a steps k f s already = ⊎_elim
-    (λ (none : changed_count i a0 a steps k ≡ None). rw none already)
-    (λ (some : (k < length (services_moved i steps (length steps)))
-    × (changed_count i a0 a steps k ≡
-    Some (moved_count i a0 a steps (get_or (services_moved i steps (length steps)) k 0)))).
-    let t = get_or (services_moved i steps (length steps)) k 0 in
+changed_or_kept st steps k f s already = ⊎_elim
+    (λ (none : changed_count st steps k ≡ None). rw none already)
+    (λ (some : (k < length (services_moved st.tables steps (length steps)))
+    × (changed_count st steps k ≡
+    Some (moved_count st steps (get_or (services_moved st.tables steps (length steps)) k 0)))).
+    let t = get_or (services_moved st.tables steps (length steps)) k 0 in
     rw some.1 (⊎_elim
-    (λ (same : s ≡ t). rw (eq-eqb s t same) (ap (moved_of i a0 (applied a steps)) (sym same)))
+    (λ (same : s ≡ t). rw (eq-eqb s t same) (ap (moved_at (after_move st steps)) (sym same)))
     (λ (other : s ≢ t). rw (ne_eqb s t other) already)
     (cases_eq s t)))
-    (count_cases i a0 a steps k)
+    (count_cases st steps k)
 
 -- the count at the place of service s gives the count of s
-changed_at : (i : Tables) (a0 a : List Machine) (steps : List Step) (k : ℕ) (f : ℕ → ℕ) (s : ℕ) →
-    k < length (services_moved i steps (length steps)) → get_or (services_moved i steps (length steps)) k 0 ≡ s →
-    counted_after (changed_count i a0 a steps k) f s ≡ moved_of i a0 (applied a steps) s
+changed_at : (st : Situation) (steps : List Step) (k : ℕ) (f : ℕ → ℕ) (s : ℕ) →
+    k < length (services_moved st.tables steps (length steps)) →
+    get_or (services_moved st.tables steps (length steps)) k 0 ≡ s →
+    counted_after (changed_count st steps k) f s ≡ moved_at (after_move st steps) s
 unfolding changed_count moved_count
-changed_at i a0 a steps k f s there here =
-    changed_here (count_at i a0 a steps (services_moved i steps (length steps)) k)
-    (moved_count i a0 a steps (get_or (services_moved i steps (length steps)) k 0)) f s
-    (count_there i a0 a steps (services_moved i steps (length steps)) k there) here
-    ∙ ap (moved_of i a0 (applied a steps)) here
+changed_at st steps k f s there here =
+    changed_here (count_at st steps (services_moved st.tables steps (length steps)) k)
+    (moved_count st steps (get_or (services_moved st.tables steps (length steps)) k 0)) f s
+    (count_there st steps (services_moved st.tables steps (length steps)) k there) here
+    ∙ ap (moved_at (after_move st steps)) here
 
 -- the moved counts with the three of a weighing put in
-abbrev pub with_counts : Tables → List Machine → List Machine → List Step → (ℕ → ℕ) → ℕ → ℕ
-with_counts i a0 a steps f =
-    counted_after (changed_count i a0 a steps 2)
-    (counted_after (changed_count i a0 a steps 1) (counted_after (changed_count i a0 a steps 0) f))
+abbrev pub with_counts : Situation → List Step → (ℕ → ℕ) → ℕ → ℕ
+with_counts st steps f =
+    counted_after (changed_count st steps 2)
+    (counted_after (changed_count st steps 1) (counted_after (changed_count st steps 0) f))
 
-placed_counts : (i : Tables) (a0 a : List Machine) (steps : List Step) (f : ℕ → ℕ) (s k : ℕ) → k < 3 →
-    k < length (services_moved i steps (length steps)) → get_or (services_moved i steps (length steps)) k 0 ≡ s →
-    with_counts i a0 a steps f s ≡ moved_of i a0 (applied a steps) s
-placed_counts i a0 a steps f s zero few there here =
-    changed_or_kept i a0 a steps 2 _ s (changed_or_kept i a0 a steps 1 _ s (changed_at i a0 a steps 0 f s there here))
-placed_counts i a0 a steps f s (suc zero) few there here =
-    changed_or_kept i a0 a steps 2 _ s (changed_at i a0 a steps 1 _ s there here)
-placed_counts i a0 a steps f s (suc (suc zero)) few there here = changed_at i a0 a steps 2 _ s there here
-placed_counts i a0 a steps f s (suc (suc (suc k))) few there here = absurd (omega arith)
+placed_counts : (st : Situation) (steps : List Step) (f : ℕ → ℕ) (s k : ℕ) → k < 3 →
+    k < length (services_moved st.tables steps (length steps)) →
+    get_or (services_moved st.tables steps (length steps)) k 0 ≡ s →
+    with_counts st steps f s ≡ moved_at (after_move st steps) s
+placed_counts st steps f s zero few there here =
+    changed_or_kept st steps 2 _ s (changed_or_kept st steps 1 _ s (changed_at st steps 0 f s there here))
+placed_counts st steps f s (suc zero) few there here =
+    changed_or_kept st steps 2 _ s (changed_at st steps 1 _ s there here)
+placed_counts st steps f s (suc (suc zero)) few there here = changed_at st steps 2 _ s there here
+placed_counts st steps f s (suc (suc (suc k))) few there here = absurd (omega arith)
 
 -- with the counts of its weighing put in, the moved counts are those after the move
-pub counts_after : (i : Tables) (a0 a : List Machine) (steps : List Step) (f : ℕ → ℕ) (s : ℕ) → IsMove i a steps →
-    f s ≡ moved_of i a0 a s → with_counts i a0 a steps f s ≡ moved_of i a0 (applied a steps) s
+pub counts_after : (st : Situation) (steps : List Step) (f : ℕ → ℕ) (s : ℕ) → IsMove st.tables st.here steps →
+    f s ≡ moved_at st s → with_counts st steps f s ≡ moved_at (after_move st steps) s
 unfolding moves_service
-counts_after i a0 a steps f s is before = ⊎_elim
-    (λ (moves : is_named (length steps) (service_in i steps) s ≡ true).
-    let placed = services_placed i steps (length steps) s moves in
-    placed_counts i a0 a steps f s placed.place
-    (omega (arith, placed.within, services_few i steps (length steps), is.few)) placed.within placed.here)
-    (λ (stays : is_named (length steps) (service_in i steps) s ≡ false).
-    let kept = before ∙ sym (moved_stays i a0 a steps s is stays) in
-    changed_or_kept i a0 a steps 2 _ s (changed_or_kept i a0 a steps 1 _ s (changed_or_kept i a0 a steps 0 f s kept)))
-    (cases_Bool (is_named (length steps) (service_in i steps) s))
+counts_after st steps f s is before = ⊎_elim
+    (λ (moves : is_named (length steps) (service_in st.tables steps) s ≡ true).
+    let placed = services_placed st.tables steps (length steps) s moves in
+    placed_counts st steps f s placed.place
+    (omega (arith, placed.within, services_few st.tables steps (length steps), is.few)) placed.within placed.here)
+    (λ (stays : is_named (length steps) (service_in st.tables steps) s ≡ false).
+    let kept = before ∙ sym (moved_stays st steps s is stays) in
+    changed_or_kept st steps 2 _ s (changed_or_kept st steps 1 _ s (changed_or_kept st steps 0 f s kept)))
+    (cases_Bool (is_named (length steps) (service_in st.tables steps) s))
 
 -- so the greatest of them is the greatest moved count after the move
-pub greatest_after_move : (i : Tables) (a0 a : List Machine) (steps : List Step) (moved : MovedCounts) →
-    IsMove i a steps → AreMovedOf i a0 a moved → greatest_with moved.counts (changed_count i a0 a steps 0)
-    (changed_count i a0 a steps 1) (changed_count i a0 a steps 2) ≡ greatest (service_count i)
-    (moved_of i a0 (applied a steps))
+pub greatest_after_move : (st : Situation) (steps : List Step) (moved : MovedCounts) →
+    IsMove st.tables st.here steps → AreMovedOf st moved → greatest_with moved.counts (changed_count st steps 0)
+    (changed_count st steps 1) (changed_count st steps 2) ≡ greatest (service_count st.tables)
+    (moved_at (after_move st steps))
 unfolding greatest_with
-greatest_after_move i a0 a steps moved is counts =
-    ap (λ n. greatest n (with_counts i a0 a steps (λ s. get_or moved.counts s 0))) counts.one_each
-    ∙ greatest_same (service_count i) (with_counts i a0 a steps (λ s. get_or moved.counts s 0))
-    (moved_of i a0 (applied a steps))
-    (λ s within. counts_after i a0 a steps (λ s. get_or moved.counts s 0) s is (counts.each s within))
+greatest_after_move st steps moved is counts =
+    ap (λ n. greatest n (with_counts st steps (λ s. get_or moved.counts s 0))) counts.one_each
+    ∙ greatest_same (service_count st.tables) (with_counts st steps (λ s. get_or moved.counts s 0))
+    (moved_at (after_move st steps))
+    (λ s within. counts_after st steps (λ s. get_or moved.counts s 0) s is (counts.each s within))

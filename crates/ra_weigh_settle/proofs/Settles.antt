@@ -14,6 +14,8 @@ use Rattle.ra_model.specs.Numbers.{service_count, service_weight_of}
 use Rattle.ra_model.specs.Limits.{WellFormed, Small}
 use Rattle.ra_model.specs.Services.{moved_of}
 use Rattle.ra_model.specs.Costs.{service_cost, objective}
+use Rattle.ra_model.specs.Situations.{Situation, cost_at, moved_at}
+use Rattle.ra_moves.specs.Replacing.{after_move}
 use Rattle.ra_model.proofs.BoundLemmas.{objective_under}
 use Rattle.ra_cells.specs.MovedCounts.{MovedCounts}
 use Rattle.ra_cells.specs.Replaced.{counted_after, greatest_with, IsChange, AreApart}
@@ -38,25 +40,26 @@ pub record AreChanges (moved : MovedCounts) (weighed : Weighed) : Type 0 where
   pub second_third : AreApart weighed.second weighed.third
 
 -- a move without a broken cause names no process twice
-unbroken_move : (i : Tables) (a0 a : List Machine) (steps : List Step) (moved : MovedCounts) (kept : ℕ)
-    (weighed : Weighed) → IsSettling i a0 a steps moved kept weighed → broken_by i a0 a steps ≡ None → IsMove i a steps
+unbroken_move : (st : Situation) (steps : List Step) (moved : MovedCounts) (kept : ℕ)
+    (weighed : Weighed) → IsSettling st steps moved kept weighed → broken_by st steps ≡ None →
+    IsMove st.tables st.here steps
 unfolding broken_by
-unbroken_move i a0 a steps moved kept weighed settling none = settling.moves (left_none (repeat_of steps) _ none)
+unbroken_move st steps moved kept weighed settling none = settling.moves (left_none (repeat_of steps) _ none)
 
 -- a weighing in which nothing is broken, and one that has a cause
-pub whole_is : (i : Tables) (a0 a : List Machine) (steps : List Step) → broken_by i a0 a steps ≡ None →
-    weighed_of i a0 a steps ≡ record {
+pub whole_is : (st : Situation) (steps : List Step) → broken_by st steps ≡ None →
+    weighed_of st steps ≡ record {
       broken = None;
-      local = local_change i a0 a steps;
-      first = changed_count i a0 a steps 0;
-      second = changed_count i a0 a steps 1;
-      third = changed_count i a0 a steps 2;
+      local = local_change st steps;
+      first = changed_count st steps 0;
+      second = changed_count st steps 1;
+      third = changed_count st steps 2;
     }
 unfolding weighed_of weighed_by
-whole_is i a0 a steps none = rw none refl
+whole_is st steps none = rw none refl
 
-pub bare_is : (i : Tables) (a0 a : List Machine) (steps : List Step) (cause : Cause) →
-    broken_by i a0 a steps ≡ Some cause → weighed_of i a0 a steps ≡ record {
+pub bare_is : (st : Situation) (steps : List Step) (cause : Cause) →
+    broken_by st steps ≡ Some cause → weighed_of st steps ≡ record {
       broken = Some cause;
       local = pos 0;
       first = None;
@@ -64,23 +67,23 @@ pub bare_is : (i : Tables) (a0 a : List Machine) (steps : List Step) (cause : Ca
       third = None;
     }
 unfolding weighed_of weighed_by
-bare_is i a0 a steps cause some = rw some refl
+bare_is st steps cause some = rw some refl
 
-changes_by : (i : Tables) (a0 a : List Machine) (steps : List Step) (moved : MovedCounts) (kept : ℕ) (weighed : Weighed)
-    (broken : Option Cause) → WellFormed i → IsSettling i a0 a steps moved kept weighed →
-    broken_by i a0 a steps ≡ broken → AreChanges moved weighed
-changes_by i a0 a steps moved kept weighed None limits settling none =
-    let is = unbroken_move i a0 a steps moved kept weighed settling none in
-    rw (settling.weighing, whole_is i a0 a steps none) (record {
-      first = count_changes i a0 a steps moved 0 limits is settling.counts;
-      second = count_changes i a0 a steps moved 1 limits is settling.counts;
-      third = count_changes i a0 a steps moved 2 limits is settling.counts;
-      first_second = counts_apart i a0 a steps 0 1 (omega arith);
-      first_third = counts_apart i a0 a steps 0 2 (omega arith);
-      second_third = counts_apart i a0 a steps 1 2 (omega arith);
+changes_by : (st : Situation) (steps : List Step) (moved : MovedCounts) (kept : ℕ) (weighed : Weighed)
+    (broken : Option Cause) → WellFormed st.tables → IsSettling st steps moved kept weighed →
+    broken_by st steps ≡ broken → AreChanges moved weighed
+changes_by st steps moved kept weighed None limits settling none =
+    let is = unbroken_move st steps moved kept weighed settling none in
+    rw (settling.weighing, whole_is st steps none) (record {
+      first = count_changes st steps moved 0 limits is settling.counts;
+      second = count_changes st steps moved 1 limits is settling.counts;
+      third = count_changes st steps moved 2 limits is settling.counts;
+      first_second = counts_apart st steps 0 1 (omega arith);
+      first_third = counts_apart st steps 0 2 (omega arith);
+      second_third = counts_apart st steps 1 2 (omega arith);
     })
-changes_by i a0 a steps moved kept weighed (Some cause) limits settling some =
-    rw (settling.weighing, bare_is i a0 a steps cause some) (record {
+changes_by st steps moved kept weighed (Some cause) limits settling some =
+    rw (settling.weighing, bare_is st steps cause some) (record {
       first = tt;
       second = tt;
       third = tt;
@@ -89,30 +92,32 @@ changes_by i a0 a steps moved kept weighed (Some cause) limits settling some =
       second_third = tt;
     })
 
-pub changes : (i : Tables) (a0 a : List Machine) (steps : List Step) (moved : MovedCounts) (kept : ℕ)
-    (weighed : Weighed) → WellFormed i → IsSettling i a0 a steps moved kept weighed → AreChanges moved weighed
-changes i a0 a steps moved kept weighed limits settling =
-    changes_by i a0 a steps moved kept weighed (broken_by i a0 a steps) limits settling refl
+pub changes : (st : Situation) (steps : List Step) (moved : MovedCounts) (kept : ℕ)
+    (weighed : Weighed) → WellFormed st.tables → IsSettling st steps moved kept weighed → AreChanges moved weighed
+changes st steps moved kept weighed limits settling =
+    changes_by st steps moved kept weighed (broken_by st steps) limits settling refl
 
 -- the settled cost is a number below 2^114, and gives the verdict of the judge
-pub record AreSettled (i : Tables) (a0 a : List Machine) (steps : List Step) (kept now after weight : ℕ)
+pub record AreSettled (st : Situation) (steps : List Step) (kept now after weight : ℕ)
     (weighed : Weighed) : Type 0 where
   pub cost : ℕ
   pub is : settled_cost kept now after weight weighed.local ≡ pos cost
   pub small : cost < 2 ^ 114
   pub judged : (allowed : ℕ) → verdict_of (or_else weighed.broken (rise_test kept cost allowed)) cost ≡
-      judge i a0 a steps allowed
+      judge st steps allowed
 
 -- the cost after a move, from what changes
-whole_cost : (i : Tables) (a0 a b : List Machine) (kept now after weight : ℕ) → kept ≡ objective i a0 a →
-    weight ≡ service_weight_of i → now ≡ greatest (service_count i) (moved_of i a0 a) →
-    after ≡ greatest (service_count i) (moved_of i a0 b) →
-    settled_cost kept now after weight (pos (local_cost i a0 b) -ℤ pos (local_cost i a0 a)) ≡ pos (objective i a0 b)
+whole_cost : (st : Situation) (b : List Machine) (kept now after weight : ℕ) → kept ≡ cost_at st →
+    weight ≡ service_weight_of st.tables → now ≡ greatest (service_count st.tables) (moved_at st) →
+    after ≡ greatest (service_count st.tables) (moved_at (record st { here = b })) →
+    settled_cost kept now after weight (pos (local_cost (record st { here = b })) -ℤ pos (local_cost st))
+    ≡ pos (cost_at (record st { here = b }))
 unfolding settled_cost objective local_cost service_cost
-whole_cost i a0 a b kept now after weight cost weighs is_now is_after =
-    let before : weight * now ≡ service_weight_of i * greatest (service_count i) (moved_of i a0 a) =
+whole_cost st b kept now after weight cost weighs is_now is_after =
+    let before : weight * now ≡ service_weight_of st.tables * greatest (service_count st.tables) (moved_at st) =
     ap₂ (λ w m. w * m) weighs is_now in
-    let behind : weight * after ≡ service_weight_of i * greatest (service_count i) (moved_of i a0 b) =
+    let behind : weight * after ≡ service_weight_of st.tables * greatest (service_count st.tables)
+    (moved_at (record st { here = b })) =
     ap₂ (λ w m. w * m) weighs is_after in
     omega (arith, ints)
 
@@ -121,87 +126,90 @@ unfolding settled_cost
 bare_cost kept now after weight same =
     let same_product : weight * now ≡ weight * after = ap (λ m. weight * m) same in omega (arith, ints)
 
-now_is : (i : Tables) (a0 a : List Machine) (moved : MovedCounts) (now : ℕ) → AreMovedOf i a0 a moved →
+now_is : (st : Situation) (moved : MovedCounts) (now : ℕ) → AreMovedOf st moved →
     now ≡ greatest (length moved.counts) (λ s. get_or moved.counts s 0) →
-    now ≡ greatest (service_count i) (moved_of i a0 a)
-now_is i a0 a moved now counts is = is ∙ ap (λ n. greatest n (λ s. get_or moved.counts s 0)) counts.one_each
-    ∙ greatest_same (service_count i) (λ s. get_or moved.counts s 0) (moved_of i a0 a) counts.each
+    now ≡ greatest (service_count st.tables) (moved_at st)
+now_is st moved now counts is = is ∙ ap (λ n. greatest n (λ s. get_or moved.counts s 0)) counts.one_each
+    ∙ greatest_same (service_count st.tables) (λ s. get_or moved.counts s 0) (moved_at st) counts.each
 
 with_none : (counts : List ℕ) → greatest_with counts None None None ≡ greatest (length counts) (λ s. get_or counts s 0)
 unfolding greatest_with counted_after
 with_none counts = refl
 
-judged_whole : (i : Tables) (a0 a : List Machine) (steps : List Step) (kept allowed : ℕ) →
-    broken_by i a0 a steps ≡ None → kept ≡ objective i a0 a →
-    verdict_of (or_else None (rise_test kept (objective i a0 (applied a steps)) allowed))
-    (objective i a0 (applied a steps)) ≡ judge i a0 a steps allowed
+judged_whole : (st : Situation) (steps : List Step) (kept allowed : ℕ) →
+    broken_by st steps ≡ None → kept ≡ cost_at st →
+    verdict_of (or_else None (rise_test kept (cost_at (after_move st steps)) allowed))
+    (cost_at (after_move st steps)) ≡ judge st steps allowed
 unfolding judge
-judged_whole i a0 a steps kept allowed none cost = rw (none, cost) refl
+judged_whole st steps kept allowed none cost = rw (none, cost) refl
 
-judged_broken : (i : Tables) (a0 a : List Machine) (steps : List Step) (kept allowed : ℕ) (cause : Cause) →
-    broken_by i a0 a steps ≡ Some cause → verdict_of (or_else (Some cause) (rise_test kept kept allowed)) kept ≡
-    judge i a0 a steps allowed
+judged_broken : (st : Situation) (steps : List Step) (kept allowed : ℕ) (cause : Cause) →
+    broken_by st steps ≡ Some cause → verdict_of (or_else (Some cause) (rise_test kept kept allowed)) kept ≡
+    judge st steps allowed
 unfolding judge or_else verdict_of
-judged_broken i a0 a steps kept allowed cause some = rw some refl
+judged_broken st steps kept allowed cause some = rw some refl
 
-settles_by : (i : Tables) (a0 a : List Machine) (steps : List Step) (moved : MovedCounts) (kept now after weight : ℕ)
-    (weighed : Weighed) (broken : Option Cause) → WellFormed i → Small i → IsSettling i a0 a steps moved kept weighed →
-    broken_by i a0 a steps ≡ broken → now ≡ greatest (length moved.counts) (λ s. get_or moved.counts s 0) →
-    after ≡ greatest_with moved.counts weighed.first weighed.second weighed.third → weight ≡ service_weight_of i →
-    AreSettled i a0 a steps kept now after weight weighed
+settles_by : (st : Situation) (steps : List Step) (moved : MovedCounts) (kept now after weight : ℕ)
+    (weighed : Weighed) (broken : Option Cause) → WellFormed st.tables → Small st.tables →
+    IsSettling st steps moved kept weighed →
+    broken_by st steps ≡ broken → now ≡ greatest (length moved.counts) (λ s. get_or moved.counts s 0) →
+    after ≡ greatest_with moved.counts weighed.first weighed.second weighed.third →
+    weight ≡ service_weight_of st.tables →
+    AreSettled st steps kept now after weight weighed
 unfolding local_change
-settles_by i a0 a steps moved kept now after weight weighed None limits small settling none is_now is_after weighs =
-    let whole = settling.weighing ∙ whole_is i a0 a steps none in
-    let is = unbroken_move i a0 a steps moved kept weighed settling none in
+settles_by st steps moved kept now after weight weighed None limits small settling none is_now is_after weighs =
+    let whole = settling.weighing ∙ whole_is st steps none in
+    let is = unbroken_move st steps moved kept weighed settling none in
     let after_is = is_after ∙ ap (λ (w : Weighed). greatest_with moved.counts w.first w.second w.third) whole
-    ∙ greatest_after_move i a0 a steps moved is settling.counts in
+    ∙ greatest_after_move st steps moved is settling.counts in
     record {
-      cost = objective i a0 (applied a steps);
+      cost = cost_at (after_move st steps);
       is = ap (λ (w : Weighed). settled_cost kept now after weight w.local) whole
-          ∙ whole_cost i a0 a (applied a steps) kept now after weight settling.cost weighs
-          (now_is i a0 a moved now settling.counts is_now) after_is;
-      small = objective_under i a0 (applied a steps) limits small;
+          ∙ whole_cost st (applied st.here steps) kept now after weight settling.cost weighs
+          (now_is st moved now settling.counts is_now) after_is;
+      small = objective_under st.tables st.start (applied st.here steps) limits small;
       judged = λ allowed.
-          ap (λ (w : Weighed). verdict_of (or_else w.broken (rise_test kept (objective i a0 (applied a steps)) allowed))
-          (objective i a0 (applied a steps))) whole ∙ judged_whole i a0 a steps kept allowed none settling.cost;
+          ap (λ (w : Weighed). verdict_of (or_else w.broken (rise_test kept (cost_at (after_move st steps)) allowed))
+          (cost_at (after_move st steps))) whole ∙ judged_whole st steps kept allowed none settling.cost;
     }
-settles_by i a0 a steps moved kept now after weight weighed (Some cause) limits small settling some is_now is_after
+settles_by st steps moved kept now after weight weighed (Some cause) limits small settling some is_now is_after
     weighs =
-    let bare = settling.weighing ∙ bare_is i a0 a steps cause some in
+    let bare = settling.weighing ∙ bare_is st steps cause some in
     let after_is = is_after ∙ ap (λ (w : Weighed). greatest_with moved.counts w.first w.second w.third) bare
     ∙ with_none moved.counts in
     record {
       cost = kept;
       is = ap (λ (w : Weighed). settled_cost kept now after weight w.local) bare
           ∙ bare_cost kept now after weight (is_now ∙ sym after_is);
-      small = omega (arith, settling.cost, objective_under i a0 a limits small);
+      small = omega (arith, settling.cost, objective_under st.tables st.start st.here limits small);
       judged = λ allowed. ap (λ (w : Weighed). verdict_of (or_else w.broken (rise_test kept kept allowed)) kept) bare
-          ∙ judged_broken i a0 a steps kept allowed cause some;
+          ∙ judged_broken st steps kept allowed cause some;
     }
 
-pub settles : (i : Tables) (a0 a : List Machine) (steps : List Step) (moved : MovedCounts) (kept now after weight : ℕ)
-    (weighed : Weighed) → WellFormed i → Small i → IsSettling i a0 a steps moved kept weighed →
+pub settles : (st : Situation) (steps : List Step) (moved : MovedCounts) (kept now after weight : ℕ)
+    (weighed : Weighed) → WellFormed st.tables → Small st.tables → IsSettling st steps moved kept weighed →
     now ≡ greatest (length moved.counts) (λ s. get_or moved.counts s 0) →
-    after ≡ greatest_with moved.counts weighed.first weighed.second weighed.third → weight ≡ service_weight_of i →
-    AreSettled i a0 a steps kept now after weight weighed
-settles i a0 a steps moved kept now after weight weighed limits small settling is_now is_after weighs =
-    settles_by i a0 a steps moved kept now after weight weighed (broken_by i a0 a steps) limits small settling refl
+    after ≡ greatest_with moved.counts weighed.first weighed.second weighed.third →
+    weight ≡ service_weight_of st.tables →
+    AreSettled st steps kept now after weight weighed
+settles st steps moved kept now after weight weighed limits small settling is_now is_after weighs =
+    settles_by st steps moved kept now after weight weighed (broken_by st steps) limits small settling refl
     is_now is_after weighs
 
 -- a weighing with a cause is refused for it, whatever the counts and the cost
-broken_is : (i : Tables) (a0 a : List Machine) (steps : List Step) (broken : Option Cause) →
-    broken_by i a0 a steps ≡ broken → (weighed_of i a0 a steps).broken ≡ broken
-broken_is i a0 a steps None none = ap (λ (w : Weighed). w.broken) (whole_is i a0 a steps none)
-broken_is i a0 a steps (Some cause) some = ap (λ (w : Weighed). w.broken) (bare_is i a0 a steps cause some)
+broken_is : (st : Situation) (steps : List Step) (broken : Option Cause) →
+    broken_by st steps ≡ broken → (weighed_of st steps).broken ≡ broken
+broken_is st steps None none = ap (λ (w : Weighed). w.broken) (whole_is st steps none)
+broken_is st steps (Some cause) some = ap (λ (w : Weighed). w.broken) (bare_is st steps cause some)
 
-judge_refuses : (i : Tables) (a0 a : List Machine) (steps : List Step) (allowed : ℕ) (cause : Cause) →
-    broken_by i a0 a steps ≡ Some cause → Refused cause ≡ judge i a0 a steps allowed
+judge_refuses : (st : Situation) (steps : List Step) (allowed : ℕ) (cause : Cause) →
+    broken_by st steps ≡ Some cause → Refused cause ≡ judge st steps allowed
 unfolding judge or_else verdict_of
-judge_refuses i a0 a steps allowed cause some = rw some refl
+judge_refuses st steps allowed cause some = rw some refl
 
-pub refuses : (i : Tables) (a0 a : List Machine) (steps : List Step) (moved : MovedCounts) (kept allowed : ℕ)
-    (weighed : Weighed) (cause : Cause) → IsSettling i a0 a steps moved kept weighed → weighed.broken ≡ Some cause →
-    Refused cause ≡ judge i a0 a steps allowed
-refuses i a0 a steps moved kept allowed weighed cause settling is =
-    judge_refuses i a0 a steps allowed cause (sym (broken_is i a0 a steps (broken_by i a0 a steps) refl)
+pub refuses : (st : Situation) (steps : List Step) (moved : MovedCounts) (kept allowed : ℕ)
+    (weighed : Weighed) (cause : Cause) → IsSettling st steps moved kept weighed → weighed.broken ≡ Some cause →
+    Refused cause ≡ judge st steps allowed
+refuses st steps moved kept allowed weighed cause settling is =
+    judge_refuses st steps allowed cause (sym (broken_is st steps (broken_by st steps) refl)
     ∙ ap (λ (w : Weighed). w.broken) (sym settling.weighing) ∙ is)

@@ -1,10 +1,9 @@
 ghost use Rattle.std.specs.Prelude.{◌≡◌, ℕ, ◌<◌, List, None, length, slice_index, IfSome};
-ghost use Rattle.ra_base.specs.declared.ids.Machine.{Machine};
-ghost use Rattle.ra_model.specs.declared.raw.Tables.{Tables};
+ghost use Rattle.ra_model.specs.Situations.{Situation};
 ghost use Rattle.ra_cells.specs.Replaced.{counted_after, IsChange};
 ghost use Rattle.ra_moves.specs.declared.steps.Step.{Step};
 ghost use Rattle.ra_moves.specs.Judging.{broken_by};
-ghost use Rattle.ra_moves.specs.Replacing.{applied};
+ghost use Rattle.ra_moves.specs.Replacing.{after_move};
 ghost use Rattle.ra_moves.specs.Moving.{IsMove};
 ghost use Rattle.ra_moves.specs.Weighing.{weighed_of};
 ghost use Rattle.ra_weigh_settle.specs.Settling.{AreMovedOf, IsRoomFor};
@@ -19,9 +18,9 @@ pub fn change_counts(greatest: &mut Greatest, weighed: &Weighed)
     requires first { IfSome weighed.now.first (λ c. IsChange greatest.old c) }
     requires second { IfSome weighed.now.second (λ c. IsChange greatest.old c) }
     requires third { IfSome weighed.now.third (λ c. IsChange greatest.old c) }
-    ensures counts { (i : Tables) (a0 a : List Machine) (steps : List Step) → IsMove i a steps →
-        broken_by i a0 a steps ≡ None → weighed.now ≡ weighed_of i a0 a steps →
-        AreMovedOf i a0 a greatest.old → AreMovedOf i a0 (applied a steps) greatest.new }
+    ensures counts { (st : Situation) (steps : List Step) → IsMove st.tables st.here steps →
+        broken_by st steps ≡ None → weighed.now ≡ weighed_of st steps →
+        AreMovedOf st greatest.old → AreMovedOf (after_move st steps) greatest.new }
     ensures limit { greatest.new.limit ≡ greatest.old.limit }
 {
     change_count(greatest, weighed.first);

@@ -1,5 +1,6 @@
 ghost use Rattle.std.specs.Prelude.{◌≡◌, List};
 ghost use Rattle.ra_base.specs.declared.ids.Machine.{Machine};
+ghost use Rattle.ra_model.specs.Situations.{situation};
 ghost use Rattle.ra_moves.specs.declared.steps.Step.{Step};
 ghost use Rattle.ra_moves.specs.Judging.{judge};
 ghost use Rattle.ra_weigh_settle.specs.Settling.{IsSettling, HasSettling};
@@ -19,8 +20,8 @@ pub fn settle_now(
 ) -> Verdict
     requires some { HasSettling inst.now.tables greatest.now kept weighed.now }
     ensures { (a0 a : List Machine) (steps : List Step) →
-        IsSettling inst.now.tables a0 a steps greatest.now kept weighed.now →
-        result ≡ judge inst.now.tables a0 a steps allowed }
+        IsSettling (situation inst.now.tables a0 a) steps greatest.now kept weighed.now →
+        result ≡ judge (situation inst.now.tables a0 a) steps allowed }
 {
     if let Some(cause) = weighed.broken {
         return Verdict::Refused { cause };

@@ -6,40 +6,38 @@ use Rattle.ra_base.specs.Searches.{or_else, first}
 use Rattle.ra_base.specs.Sums.{is_named}
 use Rattle.ra_base.specs.declared.ids.Machine.{Machine}
 use Rattle.ra_base.proofs.Searches.{left_none, right_none, both_none, first_none_at}
-use Rattle.ra_model.specs.declared.raw.Tables.{Tables}
 use Rattle.ra_model.specs.Numbers.{machine_count, process_count, service_of, closed_at}
 use Rattle.ra_model.specs.Limits.{WellFormed, Small}
 use Rattle.ra_model.specs.Assignments.{IsAssignment, machine_at}
 use Rattle.ra_model.specs.Broken.{cause_if, first_broken}
-use Rattle.ra_model.specs.Feasible.{Feasible}
+use Rattle.ra_model.specs.Situations.{Situation, broken_at, IsFeasible, IsSound}
 use Rattle.ra_model.proofs.TallyLemmas.{fits_set}
 use Rattle.ra_model.proofs.BrokenLemmas.{cause_none, cause_free, feasible_from_unbroken, unbroken_from_feasible}
 use Rattle.ra_moves.specs.Steps.{process_in, from_in, to_in, step_at}
 use Rattle.ra_moves.specs.Replacing.{after_steps, applied}
 use Rattle.ra_moves.specs.Judging.{repeat_test, repeat_of, same_test, same_of, broken_by}
 use Rattle.ra_moves.specs.Options.{leaving}
-use Rattle.ra_world.specs.declared.world.World.{World}
 use Rattle.ra_weigh_shift.specs.Conditions.{shifted, Allows}
 use Rattle.ra_weigh_shift.proofs.RoomLaws.{IsStart, placed, room_from, between_from, capacity_after, transient_after}
 use Rattle.ra_weigh_shift.proofs.MemberLaws.{alone_from, conflict_after, spread_after, closed_after}
 use Rattle.ra_weigh_shift.proofs.NeedLaws.{needs_from, leaves_from, dependency_after}
 
 -- what a process and its world are
-pub record IsAt (i : Tables) (a0 a : List Machine) (p to : ℕ) : Type 0 where
-  pub formed : WellFormed i
-  pub small : Small i
-  pub fits : IsAssignment i a
-  pub unbroken : first_broken i a0 a ≡ None
-  pub known : p < process_count i
-  pub reach : to < machine_count i
+pub record IsAt (st : Situation) (p to : ℕ) : Type 0 where
+  pub formed : WellFormed st.tables
+  pub small : Small st.tables
+  pub fits : IsAssignment st.tables st.here
+  pub unbroken : broken_at st ≡ None
+  pub known : p < process_count st.tables
+  pub reach : to < machine_count st.tables
 
-pub start_of : (i : Tables) (a0 a : List Machine) (p to : ℕ) → IsAt i a0 a p to → machine_at a p ≢ to →
-    IsStart i a0 a p to
-start_of i a0 a p to h apart = record {
+pub start_of : (st : Situation) (p to : ℕ) → IsAt st p to → machine_at st.here p ≢ to →
+    IsStart st p to
+start_of st p to h apart = record {
   formed = h.formed;
   small = h.small;
   fits = h.fits;
-  feasible = feasible_from_unbroken i a0 a h.formed h.fits h.unbroken;
+  feasible = feasible_from_unbroken st.tables st.start st.here h.formed h.fits h.unbroken;
   known = h.known;
   reach = h.reach;
   apart = apart;
@@ -66,74 +64,75 @@ unfolding same_of same_test first or_else from_in to_in step_at leaving
 same_none a p to apart = cause_free _ _ (ne_eqb (machine_at a p) to apart)
 
 -- what the judge asks of a shift
-unbroken_after : (i : Tables) (a0 a : List Machine) (p to : ℕ) → broken_by i a0 a (leaving a p to ∷ []) ≡ None →
-    first_broken i a0 (shifted a p to) ≡ None
+unbroken_after : (st : Situation) (p to : ℕ) → broken_by st (leaving st.here p to ∷ []) ≡ None →
+    broken_at (record st { here = shifted st.here p to }) ≡ None
 unfolding broken_by
-unbroken_after i a0 a p to none = ap (first_broken i a0) (sym (applied_one a p to))
-    ∙ right_none (same_of (leaving a p to ∷ [])) _ (right_none (repeat_of (leaving a p to ∷ [])) _ none)
+unbroken_after st p to none = ap (first_broken st.tables st.start) (sym (applied_one st.here p to))
+    ∙ right_none (same_of (leaving st.here p to ∷ [])) _ (right_none (repeat_of (leaving st.here p to ∷ [])) _ none)
 
-pub apart_after : (i : Tables) (a0 a : List Machine) (p to : ℕ) → broken_by i a0 a (leaving a p to ∷ []) ≡ None →
-    machine_at a p ≢ to
+pub apart_after : (st : Situation) (p to : ℕ) → broken_by st (leaving st.here p to ∷ []) ≡ None →
+    machine_at st.here p ≢ to
 unfolding broken_by
-apart_after i a0 a p to none =
-    apart_from a p to
-    (left_none (same_of (leaving a p to ∷ [])) _ (right_none (repeat_of (leaving a p to ∷ [])) _ none))
+apart_after st p to none =
+    apart_from st.here p to
+    (left_none (same_of (leaving st.here p to ∷ [])) _ (right_none (repeat_of (leaving st.here p to ∷ [])) _ none))
 
-unbroken_from : (i : Tables) (a0 a : List Machine) (p to : ℕ) → machine_at a p ≢ to →
-    first_broken i a0 (shifted a p to) ≡ None → broken_by i a0 a (leaving a p to ∷ []) ≡ None
+unbroken_from : (st : Situation) (p to : ℕ) → machine_at st.here p ≢ to →
+    broken_at (record st { here = shifted st.here p to }) ≡ None → broken_by st (leaving st.here p to ∷ []) ≡ None
 unfolding broken_by
-unbroken_from i a0 a p to apart none =
-    both_none _ _ (no_repeat a p to)
-    (both_none _ _ (same_none a p to apart) (ap (first_broken i a0) (applied_one a p to) ∙ none))
+unbroken_from st p to apart none =
+    both_none _ _ (no_repeat st.here p to)
+    (both_none _ _ (same_none st.here p to apart) (ap (first_broken st.tables st.start) (applied_one st.here p to)
+    ∙ none))
 
 -- all constraints after it
-feasible_after : (i : Tables) (a0 a : List Machine) (p to : ℕ) → IsStart i a0 a p to → Allows i a0 a p to →
-    Feasible i a0 (shifted a p to)
-feasible_after i a0 a p to h allows = record {
-  capacity = capacity_after i a0 a p to h allows.room;
-  transient = transient_after i a0 a p to h allows.between;
-  conflict = conflict_after i a0 a p to h allows.alone;
-  spread = spread_after i a0 a p to h allows.spread;
-  dependency = dependency_after i a0 a p to h allows.needs allows.leaves;
-  closed = closed_after i a0 a p to h allows.admitted;
+feasible_after : (st : Situation) (p to : ℕ) → IsStart st p to → Allows st p to →
+    IsFeasible (record st { here = shifted st.here p to })
+feasible_after st p to h allows = record {
+  capacity = capacity_after st p to h allows.room;
+  transient = transient_after st p to h allows.between;
+  conflict = conflict_after st p to h allows.alone;
+  spread = spread_after st p to h allows.spread;
+  dependency = dependency_after st p to h allows.needs allows.leaves;
+  closed = closed_after st p to h allows.admitted;
 }
 
-allows_from : (i : Tables) (a0 a : List Machine) (p to : ℕ) → IsStart i a0 a p to → Feasible i a0 (shifted a p to) →
-    Allows i a0 a p to
-allows_from i a0 a p to h after = record {
+allows_from : (st : Situation) (p to : ℕ) → IsStart st p to → IsFeasible (record st { here = shifted st.here p to }) →
+    Allows st p to
+allows_from st p to h after = record {
   apart = h.apart;
-  room = room_from i a0 a p to h after;
-  between = between_from i a0 a p to h after;
-  alone = alone_from i a0 a p to h after;
-  spread = after.spread (service_of i p) (h.formed.services p h.known);
-  needs = needs_from i a0 a p to h after;
-  leaves = leaves_from i a0 a p to h after;
-  admitted = λ closed. after.closed p h.known (ap (closed_at i) (placed i a0 a p to h) ∙ closed) ∙ placed i a0 a p to h;
+  room = room_from st p to h after;
+  between = between_from st p to h after;
+  alone = alone_from st p to h after;
+  spread = after.spread (service_of st.tables p) (h.formed.services p h.known);
+  needs = needs_from st p to h after;
+  leaves = leaves_from st p to h after;
+  admitted = λ closed. after.closed p h.known (ap (closed_at st.tables) (placed st p to h) ∙ closed) ∙ placed st p to h;
 }
 
-pub allowed : (i : Tables) (a0 a : List Machine) (p to : ℕ) → IsAt i a0 a p to →
-    broken_by i a0 a (leaving a p to ∷ []) ≡ None → Allows i a0 a p to
-allowed i a0 a p to h none =
-    let start = start_of i a0 a p to h (apart_after i a0 a p to none) in
-    allows_from i a0 a p to start
-    (feasible_from_unbroken i a0 (shifted a p to) h.formed
-    (fits_set i a p (record { 0 = to }) h.fits h.known h.reach) (unbroken_after i a0 a p to none))
+pub allowed : (st : Situation) (p to : ℕ) → IsAt st p to →
+    broken_by st (leaving st.here p to ∷ []) ≡ None → Allows st p to
+allowed st p to h none =
+    let start = start_of st p to h (apart_after st p to none) in
+    allows_from st p to start
+    (feasible_from_unbroken st.tables st.start (shifted st.here p to) h.formed
+    (fits_set st.tables st.here p (record { 0 = to }) h.fits h.known h.reach) (unbroken_after st p to none))
 
-pub unbroken : (i : Tables) (a0 a : List Machine) (p to : ℕ) → IsAt i a0 a p to → Allows i a0 a p to →
-    broken_by i a0 a (leaving a p to ∷ []) ≡ None
-unbroken i a0 a p to h allows =
-    unbroken_from i a0 a p to allows.apart
-    (unbroken_from_feasible i a0 (shifted a p to)
-    (feasible_after i a0 a p to (start_of i a0 a p to h allows.apart) allows))
+pub unbroken : (st : Situation) (p to : ℕ) → IsAt st p to → Allows st p to →
+    broken_by st (leaving st.here p to ∷ []) ≡ None
+unbroken st p to h allows =
+    unbroken_from st p to allows.apart
+    (unbroken_from_feasible st.tables st.start (shifted st.here p to)
+    (feasible_after st p to (start_of st p to h allows.apart) allows))
 
 -- in a world
-pub at_of : (w : World) (p to : ℕ) → p < process_count w.inst.now.tables → to < machine_count w.inst.now.tables →
-    IsAt w.inst.now.tables w.start.now.items w.kept.assignment.items p to
-at_of w p to known reach = record {
-  formed = w.inst.now.well_formed;
-  small = w.inst.now.small;
-  fits = w.keeps.stand.fits;
-  unbroken = w.unbroken;
+pub at_of : (st : Situation) (p to : ℕ) → IsSound st → p < process_count st.tables → to < machine_count st.tables →
+    IsAt st p to
+at_of st p to sound known reach = record {
+  formed = sound.well_formed;
+  small = sound.small;
+  fits = sound.fits;
+  unbroken = sound.unbroken;
   known = known;
   reach = reach;
 }

@@ -19,11 +19,11 @@ use Rattle.ra_model.specs.Services.{moved_of}
 use Rattle.ra_model.specs.Costs.{available, process_share, way_share, service_cost, objective}
 use Rattle.ra_model.specs.MachineCosts.{load_share, row_load, row_left, balance_share, row_balance, machine_load}
 use Rattle.ra_model.specs.MachineCosts.{machine_balance}
+use Rattle.ra_model.specs.Situations.{Situation, cost_at, moved_at, service_cost_at, IsSound}
 use Rattle.ra_model.proofs.BoundLemmas.{moved_within}
 use Rattle.ra_cells.specs.Marks.{away}
 use Rattle.ra_moves.specs.Weighing.{local_cost}
 use Rattle.ra_rows.specs.FilterRows.{load_asked, load_row, first_asked, first_row, second_asked, second_row}
-use Rattle.ra_world.specs.declared.world.World.{World}
 use Rattle.ra_weigh_shift.specs.Arriving.{BreaksNothing, cost_after, cost_now, service_now, cost_added, cost_taken}
 use Rattle.ra_weigh_shift.specs.Arriving.{sum_at, IsCostBelow, IsSumBelow}
 use Rattle.ra_weigh_shift.specs.Conditions.{shifted, HasRoom}
@@ -122,142 +122,140 @@ counts_away : (home to : ℕ) → home ≢ to → away home to ≡ 1
 unfolding away
 counts_away home to apart = ap (λ t. one_if (not t)) (ne_eqb home to apart)
 
-moved_other : (i : Tables) (a0 a : List Machine) (p to s : ℕ) → IsAssignment i a → p < process_count i →
-    service_of i p ≢ s → moved_of i a0 (shifted a p to) s ≡ moved_of i a0 a s
+moved_other : (st : Situation) (p to s : ℕ) → IsAssignment st.tables st.here → p < process_count st.tables →
+    service_of st.tables p ≢ s → moved_at (record st { here = shifted st.here p to }) s ≡ moved_at st s
 unfolding moved_of
-moved_other i a0 a p to s fits within other = members_other i a p to s _ fits within other
+moved_other st p to s fits within other = members_other st.tables st.here p to s _ fits within other
 
-pub away_mine : (i : Tables) (a0 a : List Machine) (p n s : ℕ) → s ≡ service_of i p →
-    n ≡ moved_of i a0 a (service_of i p) + 1 - away (machine_at a0 p) (machine_at a p) → n ≡ moved_away i a0 a p s
+pub away_mine : (st : Situation) (p n s : ℕ) → s ≡ service_of st.tables p →
+    n ≡ moved_at st (service_of st.tables p) + 1 - away (machine_at st.start p) (machine_at st.here p) →
+    n ≡ moved_away st p s
 unfolding moved_away
-away_mine i a0 a p n s mine is = is ∙ ap (λ k. moved_of i a0 a k + 1 - away (machine_at a0 p) (machine_at a p))
-    (sym mine) ∙ sym (cond-true (eqb s (service_of i p)) _ _ (eq-eqb s (service_of i p) mine))
+away_mine st p n s mine is = is ∙ ap (λ k. moved_at st k + 1 - away (machine_at st.start p) (machine_at st.here p))
+    (sym mine) ∙ sym (cond-true (eqb s (service_of st.tables p)) _ _ (eq-eqb s (service_of st.tables p) mine))
 
-pub away_other : (i : Tables) (a0 a : List Machine) (p n s : ℕ) → s ≢ service_of i p → n ≡ moved_of i a0 a s →
-    n ≡ moved_away i a0 a p s
+pub away_other : (st : Situation) (p n s : ℕ) → s ≢ service_of st.tables p → n ≡ moved_at st s →
+    n ≡ moved_away st p s
 unfolding moved_away
-away_other i a0 a p n s other is =
-    is ∙ sym (cond-false (eqb s (service_of i p)) _ (moved_of i a0 a s) (ne_eqb s (service_of i p) other))
+away_other st p n s other is =
+    is ∙ sym (cond-false (eqb s (service_of st.tables p)) _ (moved_at st s) (ne_eqb s (service_of st.tables p) other))
 
-pub moved_once_away : (i : Tables) (a0 a : List Machine) (p to s : ℕ) → IsAssignment i a → p < process_count i →
-    machine_at a0 p ≢ to → moved_of i a0 (shifted a p to) s ≡ moved_away i a0 a p s
-moved_once_away i a0 a p to s fits within apart = ⊎_elim
-    (λ (mine : s ≡ service_of i p).
-    let change = moved_mine i a0 a p to fits within in
-    let one = counts_away (machine_at a0 p) to apart in
-    let same = ap (moved_of i a0 (shifted a p to)) mine in
-    away_mine i a0 a p (moved_of i a0 (shifted a p to) s) s mine (omega (arith, change, one, same)))
-    (λ (other : s ≢ service_of i p).
-    away_other i a0 a p _ s other (moved_other i a0 a p to s fits within (λ same. other (sym same))))
-    (cases_eq s (service_of i p))
+pub moved_once_away : (st : Situation) (p to s : ℕ) → IsAssignment st.tables st.here → p < process_count st.tables →
+    machine_at st.start p ≢ to → moved_at (record st { here = shifted st.here p to }) s ≡ moved_away st p s
+moved_once_away st p to s fits within apart = ⊎_elim
+    (λ (mine : s ≡ service_of st.tables p).
+    let change = moved_mine st p to fits within in
+    let one = counts_away (machine_at st.start p) to apart in
+    let same = ap (moved_at (record st { here = shifted st.here p to })) mine in
+    away_mine st p (moved_at (record st { here = shifted st.here p to }) s) s mine (omega (arith, change, one, same)))
+    (λ (other : s ≢ service_of st.tables p).
+    away_other st p _ s other (moved_other st p to s fits within (λ same. other (sym same))))
+    (cases_eq s (service_of st.tables p))
 
 -- none is above the number of all processes
-pub moved_away_few : (i : Tables) (a0 a : List Machine) (p s : ℕ) → IsAssignment i a → p < process_count i →
-    moved_away i a0 a p s ≤ process_count i
-moved_away_few i a0 a p s fits within =
+pub moved_away_few : (st : Situation) (p s : ℕ) → IsAssignment st.tables st.here → p < process_count st.tables →
+    moved_away st p s ≤ process_count st.tables
+moved_away_few st p s fits within =
     omega (
       arith,
-      moved_within i a0 (shifted a p (machine_at a0 p + 1)) s,
-      moved_once_away i a0 a p (machine_at a0 p + 1) s fits within (λ same. absurd (omega (arith, same))),
+      moved_within st.tables st.start (shifted st.here p (machine_at st.start p + 1)) s,
+      moved_once_away st p (machine_at st.start p + 1) s fits within (λ same. absurd (omega (arith, same))),
     )
 
-service_then : (i : Tables) (a0 a : List Machine) (p to : ℕ) → IsAssignment i a → p < process_count i →
-    machine_at a0 p ≢ to → service_cost i a0 (shifted a p to) ≡ service_away i a0 a p
+service_then : (st : Situation) (p to : ℕ) → IsAssignment st.tables st.here → p < process_count st.tables →
+    machine_at st.start p ≢ to → service_cost_at (record st { here = shifted st.here p to }) ≡ service_away st p
 unfolding service_cost service_away
-service_then i a0 a p to fits within apart =
-    ap (λ x. service_weight_of i * x)
-    (greatest_same (service_count i) (moved_of i a0 (shifted a p to)) (moved_away i a0 a p)
-    (λ s h. moved_once_away i a0 a p to s fits within apart))
+service_then st p to fits within apart =
+    ap (λ x. service_weight_of st.tables * x)
+    (greatest_same (service_count st.tables) (moved_at (record st { here = shifted st.here p to })) (moved_away st p)
+    (λ s h. moved_once_away st p to s fits within apart))
 
-objective_parts : (i : Tables) (a0 b : List Machine) → objective i a0 b ≡ local_cost i a0 b + service_cost i a0 b
+objective_parts : (st : Situation) → cost_at st ≡ local_cost st + service_cost_at st
 unfolding objective local_cost
-objective_parts i a0 b = omega arith
+objective_parts st = omega arith
 
 -- the whole change
-pub filtered : (i : Tables) (a0 a : List Machine) (p to : ℕ) → IsStart i a0 a p to → HasRoom i a p to →
-    machine_at a0 p ≢ to → IsFiltered i a0 a p to
+pub filtered : (st : Situation) (p to : ℕ) → IsStart st p to → HasRoom st.tables st.here p to →
+    machine_at st.start p ≢ to → IsFiltered st p to
 unfolding base_added base_taken filter_sum
-filtered i a0 a p to h room apart = record {
+filtered st p to h room apart = record {
   cost = omega (
     arith,
-    cost_changes i a0 a p to h,
-    cost_entered i a0 a p to h,
-    cost_left i a0 a p to h,
-    cost_comes i a p to h.formed room,
-    way_away i a0 p to apart,
-    service_then i a0 a p to h.fits h.known apart,
-    objective_parts i a0 a,
-    objective_parts i a0 (shifted a p to),
+    cost_changes st p to h,
+    cost_entered st p to h,
+    cost_left st p to h,
+    cost_comes st.tables st.here p to h.formed room,
+    way_away st.tables st.start p to apart,
+    service_then st p to h.fits h.known apart,
+    objective_parts st,
+    objective_parts (record st { here = shifted st.here p to }),
   );
 }
 
 -- in a world
-pub filtered_at : (w : World) (p to : ℕ) → p < process_count w.inst.now.tables → to < machine_count w.inst.now.tables →
-    BreaksNothing w p to → machine_at w.start.now.items p ≢ to → cost_after w p to + cost_taken w p ≡ cost_added w p
+pub filtered_at : (w : Situation) (p to : ℕ) → IsSound w → p < process_count w.tables →
+    to < machine_count w.tables →
+    BreaksNothing w p to → machine_at w.start p ≢ to → cost_after w p to + cost_taken w p ≡ cost_added w p
     + sum_at w p to
-filtered_at w p to known reach free apart =
-    let i = w.inst.now.tables in
-    let a0 = w.start.now.items in
-    let a = w.kept.assignment.items in
-    let at = at_of w p to known reach in
-    let allows = allowed i a0 a p to at free in
-    let law = filtered i a0 a p to (start_of i a0 a p to at allows.apart) allows.room apart in
-    ap (λ b. objective i a0 b + base_taken i a0 a p) (applied_one a p to) ∙ law.cost
+filtered_at w p to sound known reach free apart =
+    let at = at_of w p to sound known reach in
+    let allows = allowed w p to at free in
+    let law = filtered w p to (start_of w p to at allows.apart) allows.room apart in
+    ap (λ b. cost_at (record w { here = b }) + base_taken w p) (applied_one w.here p to) ∙ law.cost
 
 -- and if p comes home
-pub home_change : (i : Tables) (a0 a : List Machine) (p to : ℕ) → IsStart i a0 a p to →
-    objective i a0 (shifted a p to)
-    + (cost_of i a (machine_at a p) + way_cost i a0 p (machine_at a p) + cost_of i a to + service_cost i a0 a) ≡
-    objective i a0 a + (row_cost i (machine_at a p) (use_without i a p) + row_cost i to (use_with i a p to)
-    + way_cost i a0 p to + service_cost i a0 (shifted a p to))
-home_change i a0 a p to h = omega (
+pub home_change : (st : Situation) (p to : ℕ) → IsStart st p to →
+    cost_at (record st { here = shifted st.here p to })
+    + (cost_of st.tables st.here (machine_at st.here p) + way_cost st.tables st.start p (machine_at st.here p)
+    + cost_of st.tables st.here to + service_cost_at st) ≡
+    cost_at st + (row_cost st.tables (machine_at st.here p) (use_without st.tables st.here p)
+    + row_cost st.tables to (use_with st.tables st.here p to)
+    + way_cost st.tables st.start p to + service_cost_at (record st { here = shifted st.here p to }))
+home_change st p to h = omega (
   arith,
-  cost_changes i a0 a p to h,
-  cost_entered i a0 a p to h,
-  cost_left i a0 a p to h,
-  objective_parts i a0 a,
-  objective_parts i a0 (shifted a p to),
+  cost_changes st p to h,
+  cost_entered st p to h,
+  cost_left st p to h,
+  objective_parts st,
+  objective_parts (record st { here = shifted st.here p to }),
 )
 
-pub home_at : (w : World) (p to kept without before now with way here service : ℕ) →
-    p < process_count w.inst.now.tables → to < machine_count w.inst.now.tables → BreaksNothing w p to →
-    kept ≡ cost_now w → without ≡ row_cost w.inst.now.tables (machine_at w.kept.assignment.items p)
-    (use_without w.inst.now.tables w.kept.assignment.items p) →
-    before ≡ cost_of w.inst.now.tables w.kept.assignment.items (machine_at w.kept.assignment.items p)
-    + way_cost w.inst.now.tables w.start.now.items p (machine_at w.kept.assignment.items p) → now ≡ service_now w →
-    with ≡ row_cost w.inst.now.tables to (use_with w.inst.now.tables w.kept.assignment.items p to) →
-    way ≡ way_cost w.inst.now.tables w.start.now.items p to →
-    here ≡ cost_of w.inst.now.tables w.kept.assignment.items to →
-    service ≡ service_cost w.inst.now.tables w.start.now.items (shifted w.kept.assignment.items p to) →
+pub home_at : (w : Situation) (p to kept without before now with way here service : ℕ) → IsSound w →
+    p < process_count w.tables → to < machine_count w.tables → BreaksNothing w p to →
+    kept ≡ cost_now w → without ≡ row_cost w.tables (machine_at w.here p)
+    (use_without w.tables w.here p) →
+    before ≡ cost_of w.tables w.here (machine_at w.here p)
+    + way_cost w.tables w.start p (machine_at w.here p) → now ≡ service_now w →
+    with ≡ row_cost w.tables to (use_with w.tables w.here p to) →
+    way ≡ way_cost w.tables w.start p to →
+    here ≡ cost_of w.tables w.here to →
+    service ≡ service_cost_at (record w { here = shifted w.here p to }) →
     cost_after w p to + (before + here + now) ≡ kept + without + with + way + service
-home_at w p to kept without before now with way here service known reach free kept_is without_is before_is now_is
+home_at w p to kept without before now with way here service sound known reach free kept_is without_is before_is now_is
     with_is way_is here_is service_is =
-    let i = w.inst.now.tables in
-    let a0 = w.start.now.items in
-    let a = w.kept.assignment.items in
-    let at = at_of w p to known reach in
-    let law = home_change i a0 a p to (start_of i a0 a p to at (apart_after i a0 a p to free)) in
-    let after = ap (objective i a0) (applied_one a p to) in
+    let at = at_of w p to sound known reach in
+    let law = home_change w p to (start_of w p to at (apart_after w p to free)) in
+    let after = ap (λ b. cost_at (record w { here = b })) (applied_one w.here p to) in
     omega (arith, law, after, kept_is, without_is, before_is, now_is, with_is, way_is, here_is, service_is)
 
 -- the moved count of another service stays
-pub count_stays : (i : Tables) (a0 a : List Machine) (p to s : ℕ) → IsAssignment i a → p < process_count i →
-    s ≢ service_of i p → moved_of i a0 a s ≡ moved_of i a0 (shifted a p to) s
-count_stays i a0 a p to s fits within other = sym (moved_other i a0 a p to s fits within (λ same. other (sym same)))
+pub count_stays : (st : Situation) (p to s : ℕ) → IsAssignment st.tables st.here → p < process_count st.tables →
+    s ≢ service_of st.tables p → moved_at st s ≡ moved_at (record st { here = shifted st.here p to }) s
+count_stays st p to s fits within other = sym (moved_other st p to s fits within (λ same. other (sym same)))
 
 -- a machine that adds too much has no cost below the bound
-pub dear_cost : (w : World) (p to bound taken added room : ℕ) (sum cost : Option ℕ) →
-    p < process_count w.inst.now.tables → to < machine_count w.inst.now.tables → machine_at w.start.now.items p ≢ to →
+pub dear_cost : (w : Situation) (p to bound taken added room : ℕ) (sum cost : Option ℕ) → IsSound w →
+    p < process_count w.tables → to < machine_count w.tables → machine_at w.start p ≢ to →
     taken ≡ cost_taken w p → added ≡ cost_added w p → room ≡ bound + taken - added → IsSumBelow w p to room sum →
     sum ≡ None → cost ≡ None → IsCostBelow w p to bound cost
-dear_cost w p to bound taken added room sum cost known reach apart taken_is added_is room_is sums sum_none none =
+dear_cost w p to bound taken added room sum cost sound known reach apart taken_is added_is room_is sums sum_none none =
     rw none (record {
       free = λ n is. absurd (cc);
       found = λ n is. absurd (cc);
       below = λ n is. absurd (cc);
       none = λ _ free. omega (
         arith,
-        filtered_at w p to known reach free apart,
+        filtered_at w p to sound known reach free apart,
         taken_is,
         added_is,
         room_is,
@@ -266,7 +264,7 @@ dear_cost w p to bound taken added room sum cost known reach apart taken_is adde
     })
 
 -- nor has one if the shift breaks something
-pub broken_cost : (w : World) (p to bound : ℕ) → (BreaksNothing w p to → ⊥) → IsCostBelow w p to bound None
+pub broken_cost : (w : Situation) (p to bound : ℕ) → (BreaksNothing w p to → ⊥) → IsCostBelow w p to bound None
 broken_cost w p to bound broken = record {
   free = λ n is. absurd (cc);
   found = λ n is. absurd (cc);
@@ -275,12 +273,12 @@ broken_cost w p to bound broken = record {
 }
 
 -- one that adds a sum below what is left has that cost
-pub summed_cost : (w : World) (p to bound taken added room n : ℕ) (sum : Option ℕ) →
-    p < process_count w.inst.now.tables → to < machine_count w.inst.now.tables → machine_at w.start.now.items p ≢ to →
+pub summed_cost : (w : Situation) (p to bound taken added room n : ℕ) (sum : Option ℕ) → IsSound w →
+    p < process_count w.tables → to < machine_count w.tables → machine_at w.start p ≢ to →
     taken ≡ cost_taken w p → added ≡ cost_added w p → room ≡ bound + taken - added → IsSumBelow w p to room sum →
     sum ≡ Some n → BreaksNothing w p to → (taken ≤ added + n) × IsCostBelow w p to bound (Some (added + n - taken))
-summed_cost w p to bound taken added room n sum known reach apart taken_is added_is room_is sums sum_is free =
-    let law = filtered_at w p to known reach free apart in
+summed_cost w p to bound taken added room n sum sound known reach apart taken_is added_is room_is sums sum_is free =
+    let law = filtered_at w p to sound known reach free apart in
     let here = sums.found n sum_is in
     let low = sums.below n sum_is in (
       omega (arith, law, here, taken_is, added_is),
@@ -294,45 +292,47 @@ summed_cost w p to bound taken added room n sum known reach apart taken_is added
     )
 
 -- the sum of a machine, if its parts are found
-pub sum_none : (w : World) (p to bound part : ℕ) → bound ≤ part → part ≤ sum_at w p to → IsSumBelow w p to bound None
+pub sum_none : (w : Situation) (p to bound part : ℕ) → bound ≤ part → part ≤ sum_at w p to →
+    IsSumBelow w p to bound None
 sum_none w p to bound part above within = record {
   found = λ n is. absurd (cc);
   below = λ n is. absurd (cc);
   none = λ _. omega (arith, above, within);
 }
 
-pub sum_some : (w : World) (p to bound sum : ℕ) → sum < bound → sum ≡ sum_at w p to → IsSumBelow w p to bound (Some sum)
+pub sum_some : (w : Situation) (p to bound sum : ℕ) → sum < bound → sum ≡ sum_at w p to →
+    IsSumBelow w p to bound (Some sum)
 sum_some w p to bound sum below is = record {
   found = λ n some. let same : sum ≡ n = cc in omega (arith, same, is);
   below = λ n some. let same : sum ≡ n = cc in omega (arith, same, below);
   none = λ some. absurd (cc);
 }
 
-pub sum_parts : (w : World) (p to weight cost way load balance : ℕ) → weight ≡ machine_weight_of w.inst.now.tables →
-    cost ≡ way_cost_of w.inst.now.tables (machine_at w.start.now.items p) to → way ≡ weight * cost →
-    load ≡ load_above w.inst.now.tables w.kept.assignment.items p to →
-    balance ≡ balance_above w.inst.now.tables w.kept.assignment.items p to → way + load + balance ≡ sum_at w p to
+pub sum_parts : (w : Situation) (p to weight cost way load balance : ℕ) → weight ≡ machine_weight_of w.tables →
+    cost ≡ way_cost_of w.tables (machine_at w.start p) to → way ≡ weight * cost →
+    load ≡ load_above w.tables w.here p to →
+    balance ≡ balance_above w.tables w.here p to → way + load + balance ≡ sum_at w p to
 unfolding filter_sum
 sum_parts w p to weight cost way load balance weight_is cost_is way_is load_is balance_is =
     ap₂ (λ x y. x + y) (ap₂ (λ x y. x + y) (way_is ∙ ap₂ (λ x y. x * y) weight_is cost_is) load_is) balance_is
 
 -- what the machine itself adds, without the way to it, and the load alone
-pub sum_without_way : (w : World) (p to load balance : ℕ) →
-    load ≡ load_above w.inst.now.tables w.kept.assignment.items p to →
-    balance ≡ balance_above w.inst.now.tables w.kept.assignment.items p to → load + balance ≤ sum_at w p to
+pub sum_without_way : (w : Situation) (p to load balance : ℕ) →
+    load ≡ load_above w.tables w.here p to →
+    balance ≡ balance_above w.tables w.here p to → load + balance ≤ sum_at w p to
 sum_without_way w p to load balance load_is balance_is =
     omega (
       arith,
-      sum_parts w p to (machine_weight_of w.inst.now.tables)
-          (way_cost_of w.inst.now.tables (machine_at w.start.now.items p) to)
-          (machine_weight_of w.inst.now.tables * way_cost_of w.inst.now.tables (machine_at w.start.now.items p) to)
+      sum_parts w p to (machine_weight_of w.tables)
+          (way_cost_of w.tables (machine_at w.start p) to)
+          (machine_weight_of w.tables * way_cost_of w.tables (machine_at w.start p) to)
           load balance refl refl refl load_is balance_is,
     )
 
-pub sum_load : (w : World) (p to load : ℕ) →
-    load ≡ load_above w.inst.now.tables w.kept.assignment.items p to → load ≤ sum_at w p to
+pub sum_load : (w : Situation) (p to load : ℕ) →
+    load ≡ load_above w.tables w.here p to → load ≤ sum_at w p to
 sum_load w p to load load_is =
     omega (
       arith,
-      sum_without_way w p to load (balance_above w.inst.now.tables w.kept.assignment.items p to) load_is refl,
+      sum_without_way w p to load (balance_above w.tables w.here p to) load_is refl,
     )

@@ -17,10 +17,9 @@ use Rattle.ra_model.specs.declared.raw.Tables.{Tables}
 use Rattle.ra_model.specs.Numbers.{resource_count, machine_count, process_count, balance_count}
 use Rattle.ra_model.specs.Numbers.{way_cost_of}
 use Rattle.ra_model.specs.Assignments.{machine_at}
+use Rattle.ra_model.specs.Situations.{Situation, IsSound}
 use Rattle.ra_rows.specs.FilterRows.{load_asked, load_row, first_asked, first_row, second_asked, second_row}
 use Rattle.ra_world.specs.FilterTables.{filter_row_count, filter_width, filter_row, IsRowTable}
-use Rattle.ra_world.specs.Worlds.{tables_of, start_of, here_of}
-use Rattle.ra_world.specs.declared.world.World.{World}
 use Rattle.ra_weigh_shift.specs.Arriving.{BreaksNothing, cost_after, cost_added, cost_taken, sum_at, IsCostBelow}
 use Rattle.ra_weigh_shift.specs.Filter.{load_above, balance_above, filter_sum}
 use Rattle.ra_weigh_shift.specs.Lanes.{filter_asked, AreInRows, AreTerms, AreSums, AreMarked, HaveWays, machine_in}
@@ -141,19 +140,20 @@ above_from limit said sum either high =
     (λ (low : said ≤ limit). absurd (high low)) (cases_lt limit said)
 
 -- what the machines of a window lack, and their ways
-pub window_lacks : (w : World) (p first : ℕ) (table : List ℕ) (terms : List Term) →
-    IsRowTable (tables_of w) (here_of w) table → AreTerms (tables_of w) (filter_row_count (tables_of w))
-    (filter_asked (tables_of w) p) terms → amounts terms ≤ 2 ^ 30 → first < machine_count (tables_of w) →
+pub window_lacks : (w : Situation) (p first : ℕ) (table : List ℕ) (terms : List Term) →
+    IsRowTable w.tables w.here table → AreTerms w.tables (filter_row_count w.tables)
+    (filter_asked w.tables p) terms → amounts terms ≤ 2 ^ 30 → first < machine_count w.tables →
     (k : ℕ) → k < 64 → sum_at w p (machine_in w first k) ≡ lacking table terms (first + k)
-    + way_in (tables_of w) (machine_at (start_of w) p) first k
+    + way_in w.tables (machine_at w.start p) first k
 unfolding filter_sum
 window_lacks w p first table terms rows are small within k below =
-    omega (arith, lanes_lack (tables_of w) (here_of w) p (first + k) table terms rows are small (omega arith))
+    omega (arith, lanes_lack w.tables w.here p (first + k) table terms rows are small (omega arith))
 
 -- the sums of a window of which no machine is at most a limit even without its way
-pub far_sums : (w : World) (p first limit : ℕ) (table said sums : List ℕ) (terms : List Term) → amounts terms ≤ 2 ^ 30 →
+pub far_sums : (w : Situation) (p first limit : ℕ) (table said sums : List ℕ) (terms : List Term) →
+    amounts terms ≤ 2 ^ 30 →
     ((k : ℕ) → k < 64 → sum_at w p (machine_in w first k) ≡ lacking table terms (first + k)
-    + way_in (tables_of w) (machine_at (start_of w) p) first k) →
+    + way_in w.tables (machine_at w.start p) first k) →
     ((k : ℕ) → k < 64 → IsSumOrLarge limit (get_or said k 0) (lacking table terms (first + k))) →
     ((k : ℕ) → k < 64 → (bit_at 0 k ≡ 1) ↔ (get_or said k 0 ≤ limit)) → AreSums w p first limit 0 sums
 far_sums w p first limit table said sums terms small each are bits =
@@ -170,11 +170,11 @@ far_sums w p first limit table said sums terms small each are bits =
     }
 
 -- the sums of a window with the ways
-pub near_sums : (w : World) (p first limit marks : ℕ) (table said sums : List ℕ) (terms : List Term) →
+pub near_sums : (w : Situation) (p first limit marks : ℕ) (table said sums : List ℕ) (terms : List Term) →
     amounts terms ≤ 2 ^ 30 → ((k : ℕ) → k < 64 → sum_at w p (machine_in w first k) ≡ lacking table terms (first + k)
-    + way_in (tables_of w) (machine_at (start_of w) p) first k) →
+    + way_in w.tables (machine_at w.start p) first k) →
     ((k : ℕ) → k < 64 → IsSumOrLarge limit (get_or said k 0) (lacking table terms (first + k))) →
-    HaveWays (tables_of w) (machine_at (start_of w) p) first limit said marks sums →
+    HaveWays w.tables (machine_at w.start p) first limit said marks sums →
     AreSums w p first limit marks sums
 near_sums w p first limit marks table said sums terms small each are have = record {
   bits = λ k below. (
@@ -224,47 +224,52 @@ above_limit : (room limit sum : ℕ) → 0 < room → limit ≡ min (room - 1) (
     room ≤ sum
 above_limit room limit sum some is small above = omega arith
 
-dear_at : (w : World) (p to bound taken added room : ℕ) → p < process_count (tables_of w) →
-    to < machine_count (tables_of w) → machine_at (start_of w) p ≢ to → taken ≡ cost_taken w p →
+dear_at : (w : Situation) (p to bound taken added room : ℕ) → IsSound w → p < process_count w.tables →
+    to < machine_count w.tables → machine_at w.start p ≢ to → taken ≡ cost_taken w p →
     added ≡ cost_added w p → room ≡ bound + taken - added → room ≤ sum_at w p to → IsCostBelow w p to bound None
-dear_at w p to bound taken added room known reach apart taken_is added_is room_is above =
-    dear_cost w p to bound taken added room None None known reach apart taken_is added_is room_is
+dear_at w p to bound taken added room sound known reach apart taken_is added_is room_is above =
+    dear_cost w p to bound taken added room None None sound known reach apart taken_is added_is room_is
     (sum_none w p to room (sum_at w p to) above (omega arith)) refl refl
 
-cheap_at : (w : World) (p to bound taken added room limit : ℕ) → p < process_count (tables_of w) →
-    to < machine_count (tables_of w) → machine_at (start_of w) p ≢ to → taken ≡ cost_taken w p →
+cheap_at : (w : Situation) (p to bound taken added room limit : ℕ) → IsSound w → p < process_count w.tables →
+    to < machine_count w.tables → machine_at w.start p ≢ to → taken ≡ cost_taken w p →
     added ≡ cost_added w p → room ≡ bound + taken - added → 0 < room → limit ≡ min (room - 1) (2 ^ 32 - 1) →
     sum_at w p to ≤ limit → BreaksNothing w p to → cost_after w p to < bound
-cheap_at w p to bound taken added room limit known reach apart taken_is added_is room_is some limit_is low free =
-    omega (arith, filtered_at w p to known reach free apart, taken_is, added_is, room_is, some, limit_is, low)
+cheap_at w p to bound taken added room limit sound known reach apart taken_is added_is room_is some limit_is low free =
+    omega (arith, filtered_at w p to sound known reach free apart, taken_is, added_is, room_is, some, limit_is, low)
 
-in_machines : (w : World) (first k : ℕ) → machine_in w first k < machine_count (tables_of w)
-in_machines w first k = omega (arith, w.inst.now.well_formed.some_machine)
+in_machines : (w : Situation) (first k : ℕ) → IsSound w → machine_in w first k < machine_count w.tables
+in_machines w first k sound = omega (arith, sound.well_formed.some_machine)
 
-pub marked : (w : World) (p first bound taken added room limit marks : ℕ) (sums : List ℕ) →
-    p < process_count (tables_of w) → taken ≡ cost_taken w p → added ≡ cost_added w p → room ≡ bound + taken - added →
+pub marked : (w : Situation) (p first bound taken added room limit marks : ℕ) (sums : List ℕ) →
+    IsSound w → p < process_count w.tables → taken ≡ cost_taken w p → added ≡ cost_added w p →
+    room ≡ bound + taken - added →
     0 < room → limit ≡ min (room - 1) (2 ^ 32 - 1) → AreSums w p first limit marks sums →
     AreMarked w p first bound marks sums
-marked w p first bound taken added room limit marks sums known taken_is added_is room_is some limit_is are = record {
-  dear = λ k below unset apart.
-      let to : ℕ = machine_in w first k in
-      let above : limit < sum_at w p to =
-      ⊎_elim (λ (high : limit < sum_at w p to). high)
-      (λ (low : sum_at w p to ≤ limit). absurd (unset ((are.bits k below).1 low)))
-      (cases_lt limit (sum_at w p to)) in
-      dear_at w p to bound taken added room known (in_machines w first k) apart taken_is added_is room_is
-      (above_limit room limit (sum_at w p to) some limit_is (are.passed k below above) above);
-  cheap = λ k below set apart free. cheap_at w p (machine_in w first k) bound taken added room limit known
-      (in_machines w first k) apart taken_is added_is room_is some limit_is ((are.bits k below).0 set) free;
-  each = λ k below set apart. are.each k below set;
-}
+marked w p first bound taken added room limit marks sums sound known taken_is added_is room_is some limit_is are =
+    record {
+      dear = λ k below unset apart.
+          let to : ℕ = machine_in w first k in
+          let above : limit < sum_at w p to =
+          ⊎_elim (λ (high : limit < sum_at w p to). high)
+          (λ (low : sum_at w p to ≤ limit). absurd (unset ((are.bits k below).1 low)))
+          (cases_lt limit (sum_at w p to)) in
+          dear_at w p to bound taken added room sound known (in_machines w first k sound) apart taken_is added_is
+          room_is
+          (above_limit room limit (sum_at w p to) some limit_is (are.passed k below above) above);
+      cheap = λ k below set apart free. cheap_at w p (machine_in w first k) bound taken added room limit sound known
+          (in_machines w first k sound) apart taken_is added_is room_is some limit_is ((are.bits k below).0 set) free;
+      each = λ k below set apart. are.each k below set;
+    }
 
 -- if there is no room, nothing is marked
-pub none_marked : (w : World) (p first bound taken added room : ℕ) (sums : List ℕ) → p < process_count (tables_of w) →
+pub none_marked : (w : Situation) (p first bound taken added room : ℕ) (sums : List ℕ) → IsSound w →
+    p < process_count w.tables →
     taken ≡ cost_taken w p → added ≡ cost_added w p → room ≡ bound + taken - added → room ≡ 0 →
     AreMarked w p first bound 0 sums
-none_marked w p first bound taken added room sums known taken_is added_is room_is none = record {
-  dear = λ k below unset apart. dear_at w p (machine_in w first k) bound taken added room known (in_machines w first k)
+none_marked w p first bound taken added room sums sound known taken_is added_is room_is none = record {
+  dear = λ k below unset apart. dear_at w p (machine_in w first k) bound taken added room sound known
+      (in_machines w first k sound)
       apart taken_is added_is room_is (omega arith);
   cheap = λ k below set apart free. absurd (zero_unset k set);
   each = λ k below set apart. absurd (zero_unset k set);

@@ -11,7 +11,7 @@ use Rattle.ra_model.specs.Numbers.{closed_at}
 use Rattle.ra_model.specs.Assignments.{IsAssignment, machine_at}
 use Rattle.ra_model.specs.Services.{is_of, of_service, members_at, on_machine, in_location, in_neighbourhood}
 use Rattle.ra_model.specs.Services.{locations_of}
-use Rattle.ra_model.specs.Feasible.{Feasible}
+use Rattle.ra_model.specs.Situations.{Situation, IsFeasible}
 use Rattle.ra_model.proofs.TallyLemmas.{members_set, tally_term}
 use Rattle.ra_model.proofs.SortingLemmas.{is_of_same, is_of_other}
 use Rattle.ra_model.proofs.BrokenLemmas.{on_machine_count}
@@ -125,16 +125,17 @@ on_some i a s m some =
     (found.0, found.1, eqb-true _ _ both.0, eqb-true _ _ both.1)
 
 -- conflict
-pub alone_from : (i : Tables) (a0 a : List Machine) (p to : ℕ) → IsStart i a0 a p to → Feasible i a0 (shifted a p to) →
-    on_machine i a (service_of i p) to ≡ 0
-alone_from i a0 a p to h after = ⊎_elim
-    (λ (some : 0 < on_machine i a (service_of i p) to).
-    let found = on_some i a (service_of i p) to some in
-    let apart : found.0 ≢ p = λ e. h.apart (ap (machine_at a) (sym e) ∙ found.3) in
-    absurd (after.conflict found.0 p found.1 h.known apart found.2 (others a p to found.0 apart ∙ found.3
-    ∙ sym (placed i a0 a p to h))))
-    (λ (none : on_machine i a (service_of i p) to ≤ 0). omega arith)
-    (cases_lt 0 (on_machine i a (service_of i p) to))
+pub alone_from : (st : Situation) (p to : ℕ) → IsStart st p to →
+    IsFeasible (record st { here = shifted st.here p to }) →
+    on_machine st.tables st.here (service_of st.tables p) to ≡ 0
+alone_from st p to h after = ⊎_elim
+    (λ (some : 0 < on_machine st.tables st.here (service_of st.tables p) to).
+    let found = on_some st.tables st.here (service_of st.tables p) to some in
+    let apart : found.0 ≢ p = λ e. h.apart (ap (machine_at st.here) (sym e) ∙ found.3) in
+    absurd (after.conflict found.0 p found.1 h.known apart found.2 (others st.here p to found.0 apart ∙ found.3
+    ∙ sym (placed st p to h))))
+    (λ (none : on_machine st.tables st.here (service_of st.tables p) to ≤ 0). omega arith)
+    (cases_lt 0 (on_machine st.tables st.here (service_of st.tables p) to))
 
 -- another process of the service isn't where p goes
 not_there : (i : Tables) (a : List Machine) (p to q : ℕ) → on_machine i a (service_of i p) to ≡ 0 →
@@ -142,43 +143,52 @@ not_there : (i : Tables) (a : List Machine) (p to q : ℕ) → on_machine i a (s
 not_there i a p to q alone within is here =
     absurd (omega (arith, alone, on_mine i a q (service_of i p) to within is here))
 
-pub conflict_after : (i : Tables) (a0 a : List Machine) (p to : ℕ) → IsStart i a0 a p to →
-    on_machine i a (service_of i p) to ≡ 0 → (k l : ℕ) → k < process_count i → l < process_count i → k ≢ l →
-    service_of i k ≡ service_of i l → machine_at (shifted a p to) k ≢ machine_at (shifted a p to) l
-conflict_after i a0 a p to h alone k l k_in l_in apart one_service = ⊎_elim
+pub conflict_after : (st : Situation) (p to : ℕ) → IsStart st p to →
+    on_machine st.tables st.here (service_of st.tables p) to ≡ 0 → (k l : ℕ) → k < process_count st.tables →
+    l < process_count st.tables → k ≢ l →
+    service_of st.tables k ≡ service_of st.tables l → machine_at (shifted st.here p to) k ≢ machine_at
+    (shifted st.here p to) l
+conflict_after st p to h alone k l k_in l_in apart one_service = ⊎_elim
     (λ (k_is : k ≡ p). λ met.
     let other : l ≢ p = λ e. apart (k_is ∙ sym e) in
-    not_there i a p to l alone l_in (sym one_service ∙ ap (service_of i) k_is) (sym (others a p to l other) ∙ sym met
-    ∙ ap (machine_at (shifted a p to)) k_is ∙ placed i a0 a p to h))
+    not_there st.tables st.here p to l alone l_in (sym one_service ∙ ap (service_of st.tables) k_is)
+    (sym (others st.here p to l other) ∙ sym met
+    ∙ ap (machine_at (shifted st.here p to)) k_is ∙ placed st p to h))
     (λ (k_other : k ≢ p). ⊎_elim
-    (λ (l_is : l ≡ p). λ met. not_there i a p to k alone k_in (one_service ∙ ap (service_of i) l_is)
-    (sym (others a p to k k_other) ∙ met ∙ ap (machine_at (shifted a p to)) l_is ∙ placed i a0 a p to h))
-    (λ (l_other : l ≢ p). λ met. h.feasible.conflict k l k_in l_in apart one_service (sym (others a p to k k_other)
-    ∙ met ∙ others a p to l l_other))
+    (λ (l_is : l ≡ p). λ met. not_there st.tables st.here p to k alone k_in
+    (one_service ∙ ap (service_of st.tables) l_is)
+    (sym (others st.here p to k k_other) ∙ met ∙ ap (machine_at (shifted st.here p to)) l_is ∙ placed st p to h))
+    (λ (l_other : l ≢ p). λ met. h.feasible.conflict k l k_in l_in apart one_service
+    (sym (others st.here p to k k_other)
+    ∙ met ∙ others st.here p to l l_other))
     (cases_eq l p))
     (cases_eq k p)
 
 -- spread
-pub spread_after : (i : Tables) (a0 a : List Machine) (p to : ℕ) → IsStart i a0 a p to →
-    spread_of i (service_of i p) ≤ locations_of i (shifted a p to) (service_of i p) → (s : ℕ) → s < service_count i →
-    spread_of i s ≤ locations_of i (shifted a p to) s
-spread_after i a0 a p to h mine s within = ⊎_elim
-    (λ (same : s ≡ service_of i p). rw same mine)
-    (λ (other : s ≢ service_of i p). omega (
+pub spread_after : (st : Situation) (p to : ℕ) → IsStart st p to →
+    spread_of st.tables (service_of st.tables p) ≤ locations_of st.tables (shifted st.here p to)
+    (service_of st.tables p) → (s : ℕ) → s < service_count st.tables →
+    spread_of st.tables s ≤ locations_of st.tables (shifted st.here p to) s
+spread_after st p to h mine s within = ⊎_elim
+    (λ (same : s ≡ service_of st.tables p). rw same mine)
+    (λ (other : s ≢ service_of st.tables p). omega (
       arith,
-      locations_other i a p to s h.fits h.known (λ e. other (sym e)),
+      locations_other st.tables st.here p to s h.fits h.known (λ e. other (sym e)),
       h.feasible.spread s within,
     ))
-    (cases_eq s (service_of i p))
+    (cases_eq s (service_of st.tables p))
 
 -- closed machines
-pub closed_after : (i : Tables) (a0 a : List Machine) (p to : ℕ) → IsStart i a0 a p to →
-    (closed_at i to ≡ true → machine_at a0 p ≡ to) → (q : ℕ) → q < process_count i →
-    closed_at i (machine_at (shifted a p to) q) ≡ true → machine_at a0 q ≡ machine_at (shifted a p to) q
-closed_after i a0 a p to h admitted q within closed = ⊎_elim
+pub closed_after : (st : Situation) (p to : ℕ) → IsStart st p to →
+    (closed_at st.tables to ≡ true → machine_at st.start p ≡ to) → (q : ℕ) → q < process_count st.tables →
+    closed_at st.tables (machine_at (shifted st.here p to) q) ≡ true →
+    machine_at st.start q ≡ machine_at (shifted st.here p to) q
+closed_after st p to h admitted q within closed = ⊎_elim
     (λ (same : q ≡ p).
-    let here : machine_at (shifted a p to) q ≡ to = ap (machine_at (shifted a p to)) same ∙ placed i a0 a p to h in
-    ap (machine_at a0) same ∙ admitted (ap (closed_at i) (sym here) ∙ closed) ∙ sym here)
-    (λ (other : q ≢ p). h.feasible.closed q within (ap (closed_at i) (sym (others a p to q other)) ∙ closed)
-    ∙ sym (others a p to q other))
+    let here : machine_at (shifted st.here p to) q ≡ to = ap (machine_at (shifted st.here p to)) same
+    ∙ placed st p to h in
+    ap (machine_at st.start) same ∙ admitted (ap (closed_at st.tables) (sym here) ∙ closed) ∙ sym here)
+    (λ (other : q ≢ p). h.feasible.closed q within (ap (closed_at st.tables) (sym (others st.here p to q other))
+    ∙ closed)
+    ∙ sym (others st.here p to q other))
     (cases_eq q p)

@@ -17,6 +17,7 @@ use Rattle.ra_model.specs.Assignments.{machine_at}
 use Rattle.ra_model.specs.Usage.{use_share, use_of, transient_of}
 use Rattle.ra_model.specs.Services.{in_location, in_neighbourhood, locations_of}
 use Rattle.ra_model.specs.Relations.{depends}
+use Rattle.ra_model.specs.Situations.{situation}
 use Rattle.ra_model.proofs.TallyLemmas.{tally_term}
 use Rattle.ra_rows.specs.Rows.{IsUsageRow, IsTransientRow}
 use Rattle.ra_topology.proofs.NeedLemmas.{need_within}
@@ -101,7 +102,7 @@ room_lacks i j a p to r used required same row are within much room =
 pub between_holds : (i j : Tables) (a0 b0 a : List Machine) (p to : ℕ) (between required : List ℕ) → j ≡ i → b0 ≡ a0 →
     IsTransientRow j b0 a to between → AreRequired i p required →
     ((k : ℕ) → k < resource_count i → transient_at i k ≡ true → slice_index between k + slice_index required k ≤
-    capacity_of i to k) → HasRoomBetween i a0 a p to
+    capacity_of i to k) → HasRoomBetween (situation i a0 a) p to
 between_holds i j a0 b0 a p to between required same start row are all = record {
   each = λ r within transient away.
       omega (arith, (rw (same, start) at row).each r within, are.each r within, all r within transient);
@@ -110,7 +111,7 @@ between_holds i j a0 b0 a p to between required same start row are all = record 
 pub between_lacks : (i j : Tables) (a0 b0 a : List Machine) (p to r : ℕ) (between required : List ℕ) → j ≡ i → b0 ≡ a0 →
     IsTransientRow j b0 a to between → AreRequired i p required → r < resource_count i → machine_at a0 p ≢ to →
     transient_at i r ≡ true → capacity_of i to r < slice_index between r + slice_index required r →
-    HasRoomBetween i a0 a p to → ⊥
+    HasRoomBetween (situation i a0 a) p to → ⊥
 between_lacks i j a0 b0 a p to r between required same start row are within away transient much room =
     omega (arith, (rw (same, start) at row).each r within, are.each r within, room.each r within transient away)
 

@@ -9,6 +9,7 @@ use Rattle.ra_model.specs.Assignments.{machine_at}
 use Rattle.ra_model.specs.Usage.{use_of, transient_of}
 use Rattle.ra_model.specs.Services.{on_machine, in_neighbourhood, locations_of}
 use Rattle.ra_model.specs.Relations.{depends}
+use Rattle.ra_model.specs.Situations.{Situation}
 
 -- the assignment with process p on machine `to`
 abbrev pub shifted : List Machine → ℕ → ℕ → List Machine
@@ -20,9 +21,11 @@ pub record HasRoom (i : Tables) (a : List Machine) (p to : ℕ) : Type 0 where
       → use_of i a to r + requirement_of i p r ≤ capacity_of i to r
 
 -- and has it while p moves, unless `to` is the initial machine of p, where p is counted already
-pub record HasRoomBetween (i : Tables) (a0 a : List Machine) (p to : ℕ) : Type 0 where
-  pub each : (r : ℕ) → r < resource_count i → IsTrue (transient_at i r) → machine_at a0 p ≢ to
-      → transient_of i a0 a to r + requirement_of i p r ≤ capacity_of i to r
+pub record HasRoomBetween (st : Situation) (p to : ℕ) : Type 0 where
+  pub each : (r : ℕ) → r < resource_count st.tables → IsTrue (transient_at st.tables r)
+      → machine_at st.start p ≢ to
+      → transient_of st.tables st.start st.here to r + requirement_of st.tables p r
+      ≤ capacity_of st.tables to r
 
 -- each service that p's service needs is in the neighbourhood of `to`, into which p brings its own
 pub record FindsNeeds (i : Tables) (a : List Machine) (p to : ℕ) : Type 0 where
@@ -58,12 +61,12 @@ abbrev pub IsAdmitted : Tables → List Machine → ℕ → ℕ → Type 0
 IsAdmitted i a0 p to = closed_at i to ≡ true → machine_at a0 p ≡ to
 
 -- p may go to machine `to`, which is another than its own
-pub record Allows (i : Tables) (a0 a : List Machine) (p to : ℕ) : Type 0 where
-  pub apart : machine_at a p ≢ to
-  pub room : HasRoom i a p to
-  pub between : HasRoomBetween i a0 a p to
-  pub alone : IsAlone i a p to
-  pub spread : KeepsSpread i a p to
-  pub needs : FindsNeeds i a p to
-  pub leaves : KeepsDependants i a p to
-  pub admitted : IsAdmitted i a0 p to
+pub record Allows (st : Situation) (p to : ℕ) : Type 0 where
+  pub apart : machine_at st.here p ≢ to
+  pub room : HasRoom st.tables st.here p to
+  pub between : HasRoomBetween st p to
+  pub alone : IsAlone st.tables st.here p to
+  pub spread : KeepsSpread st.tables st.here p to
+  pub needs : FindsNeeds st.tables st.here p to
+  pub leaves : KeepsDependants st.tables st.here p to
+  pub admitted : IsAdmitted st.tables st.start p to

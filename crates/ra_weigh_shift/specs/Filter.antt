@@ -7,8 +7,7 @@ use Rattle.ra_model.specs.declared.raw.Tables.{Tables}
 use Rattle.ra_model.specs.Numbers.{resource_count, service_count, balance_count, service_of, process_cost_of}
 use Rattle.ra_model.specs.Numbers.{way_cost_of, process_weight_of, service_weight_of, machine_weight_of}
 use Rattle.ra_model.specs.Assignments.{machine_at}
-use Rattle.ra_model.specs.Services.{moved_of}
-use Rattle.ra_model.specs.Costs.{service_cost, objective}
+use Rattle.ra_model.specs.Situations.{Situation, cost_at, moved_at, service_cost_at}
 use Rattle.ra_cells.specs.Marks.{away}
 use Rattle.ra_rows.specs.FilterRows.{load_asked, load_row, first_asked, first_row, second_asked, second_row}
 use Rattle.ra_weigh_shift.specs.Conditions.{shifted}
@@ -29,33 +28,36 @@ unfoldable pub saved : Tables → ℕ → ℕ
 saved i p = total (balance_count i) (first_asked i p)
 
 -- what a machine adds for p
-unfoldable pub filter_sum : Tables → List Machine → List Machine → ℕ → ℕ → ℕ
-filter_sum i a0 a p to =
-    machine_weight_of i * way_cost_of i (machine_at a0 p) to + load_above i a p to + balance_above i
-    a p to
+unfoldable pub filter_sum : Situation → ℕ → ℕ → ℕ
+filter_sum st p to =
+    machine_weight_of st.tables * way_cost_of st.tables (machine_at st.start p) to
+    + load_above st.tables st.here p to + balance_above st.tables st.here p to
 
 -- the moved count of each service, with p on a machine other than its initial one
-unfoldable pub moved_away : Tables → List Machine → List Machine → ℕ → ℕ → ℕ
-moved_away i a0 a p s =
-    if s == service_of i p then moved_of i a0 a s + 1 - away (machine_at a0 p) (machine_at a p)
-    else moved_of i a0 a s
+unfoldable pub moved_away : Situation → ℕ → ℕ → ℕ
+moved_away st p s =
+    if s == service_of st.tables p
+    then moved_at st s + 1 - away (machine_at st.start p) (machine_at st.here p)
+    else moved_at st s
 
 -- the service cost then
-unfoldable pub service_away : Tables → List Machine → List Machine → ℕ → ℕ
-service_away i a0 a p = service_weight_of i * greatest (service_count i) (moved_away i a0 a p)
+unfoldable pub service_away : Situation → ℕ → ℕ
+service_away st p =
+    service_weight_of st.tables * greatest (service_count st.tables) (moved_away st p)
 
 -- what is added for each such machine alike: the costs of the machine that p leaves, its process cost, the service cost
-unfoldable pub base_added : Tables → List Machine → List Machine → ℕ → ℕ
-base_added i a0 a p =
-    row_cost i (machine_at a p) (use_without i a p) + process_weight_of i * process_cost_of i p
-    + service_away i a0 a p
+unfoldable pub base_added : Situation → ℕ → ℕ
+base_added st p =
+    row_cost st.tables (machine_at st.here p) (use_without st.tables st.here p)
+    + process_weight_of st.tables * process_cost_of st.tables p + service_away st p
 
 -- and what is taken away: the costs of that machine and of p's way so far, what is saved, the service cost so far
-unfoldable pub base_taken : Tables → List Machine → List Machine → ℕ → ℕ
-base_taken i a0 a p =
-    cost_of i a (machine_at a p) + way_cost i a0 p (machine_at a p) + saved i p + service_cost i a0 a
+unfoldable pub base_taken : Situation → ℕ → ℕ
+base_taken st p =
+    cost_of st.tables st.here (machine_at st.here p)
+    + way_cost st.tables st.start p (machine_at st.here p) + saved st.tables p + service_cost_at st
 
 -- the cost after p has gone to a machine with room for it, which isn't its initial one
-pub record IsFiltered (i : Tables) (a0 a : List Machine) (p to : ℕ) : Type 0 where
-  pub cost : objective i a0 (shifted a p to) + base_taken i a0 a p
-      ≡ objective i a0 a + base_added i a0 a p + filter_sum i a0 a p to
+pub record IsFiltered (st : Situation) (p to : ℕ) : Type 0 where
+  pub cost : cost_at (record st { here = shifted st.here p to }) + base_taken st p
+      ≡ cost_at st + base_added st p + filter_sum st p to

@@ -10,10 +10,9 @@ use Rattle.ra_weigh_lanes.specs.declared.windows.Term.{Term}
 use Rattle.ra_model.specs.declared.raw.Tables.{Tables}
 use Rattle.ra_model.specs.Numbers.{resource_count, machine_count, balance_count, machine_weight_of, way_cost_of}
 use Rattle.ra_model.specs.Assignments.{machine_at}
+use Rattle.ra_model.specs.Situations.{Situation}
 use Rattle.ra_rows.specs.FilterRows.{load_asked, first_asked, second_asked}
 use Rattle.ra_world.specs.FilterTables.{filter_row_count, filter_width}
-use Rattle.ra_world.specs.Worlds.{tables_of, start_of}
-use Rattle.ra_world.specs.declared.world.World.{World}
 use Rattle.ra_weigh_shift.specs.Arriving.{BreaksNothing, cost_after, sum_at, IsCostBelow}
 
 -- what p asks of row j of the filter rows
@@ -47,17 +46,17 @@ pub record HasAlsoTerm (old : List Term) (row amount : ℕ) (new : List Term) : 
       → lacking rows new k ≡ lacking rows old k + (amount - slice_index rows (row + k))
 
 -- the k-th machine from a first one on, and after the last machine the first
-abbrev pub machine_in : World → ℕ → ℕ → ℕ
-machine_in w first k = (first + k) % machine_count (tables_of w)
+abbrev pub machine_in : Situation → ℕ → ℕ → ℕ
+machine_in st first k = (first + k) % machine_count st.tables
 
 -- a bit for each of sixty-four machines that adds at most a limit, and what it adds
-pub record AreSums (w : World) (p first limit marks : ℕ) (sums : List ℕ) : Type 0 where
+pub record AreSums (st : Situation) (p first limit marks : ℕ) (sums : List ℕ) : Type 0 where
   pub bits : (k : ℕ) → k < 64
-      → (bit_at marks k ≡ 1) ↔ (sum_at w p (machine_in w first k) ≤ limit)
+      → (bit_at marks k ≡ 1) ↔ (sum_at st p (machine_in st first k) ≤ limit)
   pub each : (k : ℕ) → k < 64 → bit_at marks k ≡ 1
-      → slice_index sums k ≡ sum_at w p (machine_in w first k)
+      → slice_index sums k ≡ sum_at st p (machine_in st first k)
   -- a limit that is passed is a true one: a bound is no limit of lanes if it isn't below 2^32
-  pub passed : (k : ℕ) → k < 64 → limit < sum_at w p (machine_in w first k) → limit < 2 ^ 31
+  pub passed : (k : ℕ) → k < 64 → limit < sum_at st p (machine_in st first k) → limit < 2 ^ 31
 
 -- what the way from a machine to the k-th of sixty-four costs, with its weight
 abbrev pub way_in : Tables → ℕ → ℕ → ℕ → ℕ
@@ -70,15 +69,15 @@ pub record HaveWays (i : Tables) (home first limit : ℕ) (sums : List ℕ) (mar
   pub bits : (k : ℕ) → k < 64 → (bit_at marks k ≡ 1) ↔ (slice_index with k ≤ limit)
 
 -- a bit for each of sixty-four machines to which a shift may cost less than a bound, and what each adds
-pub record AreMarked (w : World) (p first bound marks : ℕ) (sums : List ℕ) : Type 0 where
+pub record AreMarked (st : Situation) (p first bound marks : ℕ) (sums : List ℕ) : Type 0 where
   -- if there is no bit, it costs that much or breaks something, unless p comes home
   pub dear : (k : ℕ) → k < 64 → bit_at marks k ≢ 1
-      → machine_at (start_of w) p ≢ machine_in w first k
-      → IsCostBelow w p (machine_in w first k) bound None
+      → machine_at st.start p ≢ machine_in st first k
+      → IsCostBelow st p (machine_in st first k) bound None
   -- if there is one, it costs less or breaks something, unless p comes home
   pub cheap : (k : ℕ) → k < 64 → bit_at marks k ≡ 1
-      → machine_at (start_of w) p ≢ machine_in w first k
-      → BreaksNothing w p (machine_in w first k) → cost_after w p (machine_in w first k) < bound
+      → machine_at st.start p ≢ machine_in st first k
+      → BreaksNothing st p (machine_in st first k) → cost_after st p (machine_in st first k) < bound
   pub each : (k : ℕ) → k < 64 → bit_at marks k ≡ 1
-      → machine_at (start_of w) p ≢ machine_in w first k
-      → slice_index sums k ≡ sum_at w p (machine_in w first k)
+      → machine_at st.start p ≢ machine_in st first k
+      → slice_index sums k ≡ sum_at st p (machine_in st first k)

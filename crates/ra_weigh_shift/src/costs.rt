@@ -1,7 +1,6 @@
 ghost use Rattle.std.specs.Prelude.{◌≡◌, ℕ, ◌+◌, ◌-◌, ◌*◌, ◌^◌, ◌<◌, ◌≤◌, slice_index};
 ghost use Rattle.ra_model.specs.Numbers.{resource_count, machine_count, process_count};
 ghost use Rattle.ra_model.specs.Assignments.{machine_at};
-ghost use Rattle.ra_world.specs.Worlds.{tables_of, start_of, here_of};
 ghost use Rattle.ra_weigh_shift.specs.Sharing.{AreRequired, use_without, use_with, row_cost, way_cost};
 
 use ra_base::{Machine, Process};
@@ -21,10 +20,10 @@ pub(crate) fn cost_of_row(inst: &Instance, m: Machine, row: &[u64; 20]) -> u128
 
 /// Makes a row the use of a machine and what a process requires, together.
 fn fill_with(world: &World<'_>, p: Process, required: &[u32; 20], to: Machine, row: &mut [u64; 20])
-    requires machine { to.0 < machine_count (tables_of world.now) }
-    requires required { AreRequired (tables_of world.now) p.0 required.now }
-    ensures { (r : ℕ) → r < resource_count (tables_of world.now) →
-        slice_index row.new r ≡ use_with (tables_of world.now) (here_of world.now) p.0 to.0 r }
+    requires machine { to.0 < machine_count world.now.tables }
+    requires required { AreRequired world.now.tables p.0 required.now }
+    ensures { (r : ℕ) → r < resource_count world.now.tables →
+        slice_index row.new r ≡ use_with world.now.tables world.now.here p.0 to.0 r }
 {
     let used = world.rows().usage_row(to);
     for r in 0..world.instance().resources() as usize {
@@ -40,11 +39,11 @@ fn fill_without(
     from: Machine,
     row: &mut [u64; 20],
 )
-    requires process { p.0 < process_count (tables_of world.now) }
-    requires from { from.0 ≡ machine_at (here_of world.now) p.0 }
-    requires required { AreRequired (tables_of world.now) p.0 required.now }
-    ensures { (r : ℕ) → r < resource_count (tables_of world.now) →
-        slice_index row.new r ≡ use_without (tables_of world.now) (here_of world.now) p.0 r }
+    requires process { p.0 < process_count world.now.tables }
+    requires from { from.0 ≡ machine_at world.now.here p.0 }
+    requires required { AreRequired world.now.tables p.0 required.now }
+    ensures { (r : ℕ) → r < resource_count world.now.tables →
+        slice_index row.new r ≡ use_without world.now.tables world.now.here p.0 r }
 {
     let used = world.rows().usage_row(from);
     for r in 0..world.instance().resources() as usize {
@@ -54,10 +53,10 @@ fn fill_without(
 
 /// The cost of a machine with a process more.
 pub(crate) fn cost_with(world: &World<'_>, p: Process, required: &[u32; 20], to: Machine) -> u128
-    requires machine { to.0 < machine_count (tables_of world.now) }
-    requires required { AreRequired (tables_of world.now) p.0 required.now }
+    requires machine { to.0 < machine_count world.now.tables }
+    requires required { AreRequired world.now.tables p.0 required.now }
     ensures value { result ≡ row_cost
-        (tables_of world.now) to.0 (use_with (tables_of world.now) (here_of world.now) p.0 to.0) }
+        world.now.tables to.0 (use_with world.now.tables world.now.here p.0 to.0) }
     ensures bound { result ≤ 30 * 2 ^ 96 }
 {
     let mut row = [0; 20];
@@ -72,11 +71,11 @@ pub(crate) fn cost_without(
     required: &[u32; 20],
     from: Machine,
 ) -> u128
-    requires process { p.0 < process_count (tables_of world.now) }
-    requires from { from.0 ≡ machine_at (here_of world.now) p.0 }
-    requires required { AreRequired (tables_of world.now) p.0 required.now }
+    requires process { p.0 < process_count world.now.tables }
+    requires from { from.0 ≡ machine_at world.now.here p.0 }
+    requires required { AreRequired world.now.tables p.0 required.now }
     ensures value { result ≡ row_cost
-        (tables_of world.now) from.0 (use_without (tables_of world.now) (here_of world.now) p.0) }
+        world.now.tables from.0 (use_without world.now.tables world.now.here p.0) }
     ensures bound { result ≤ 30 * 2 ^ 96 }
 {
     let mut row = [0; 20];
@@ -87,10 +86,10 @@ pub(crate) fn cost_without(
 /// The process cost and the machine cost of a process on a machine, with their weights.
 #[tactic(auto, using(ra_world::proofs::CostLaws::product_small), unfolding(crate::specs::Sharing::way_cost, ra_model::specs::Costs::process_share, ra_model::specs::Costs::way_share))]
 pub(crate) fn way_cost(world: &World<'_>, p: Process, home: Machine, at: Machine) -> u128
-    requires process { p.0 < process_count (tables_of world.now) }
-    requires home { home.0 ≡ machine_at (start_of world.now) p.0 }
-    requires machine { at.0 < machine_count (tables_of world.now) }
-    ensures value { result ≡ way_cost (tables_of world.now) (start_of world.now) p.0 at.0 }
+    requires process { p.0 < process_count world.now.tables }
+    requires home { home.0 ≡ machine_at world.now.start p.0 }
+    requires machine { at.0 < machine_count world.now.tables }
+    ensures value { result ≡ way_cost world.now.tables world.now.start p.0 at.0 }
     ensures bound { result < 2 ^ 65 }
 {
     let inst = world.instance();

@@ -3,12 +3,11 @@ ghost use Rattle.ra_base.specs.Sums.{greatest};
 ghost use Rattle.ra_base.specs.declared.ids.Machine.{Machine};
 ghost use Rattle.ra_model.specs.Numbers.{resource_count, machine_count, process_count, service_count, balance_count, requirement_of, service_of, service_weight_of};
 ghost use Rattle.ra_model.specs.Assignments.{machine_at};
-ghost use Rattle.ra_model.specs.Services.{moved_of};
 ghost use Rattle.ra_model.specs.Usage.{use_of};
 ghost use Rattle.ra_model.specs.Costs.{available};
+ghost use Rattle.ra_model.specs.Situations.{moved_at};
 ghost use Rattle.ra_rows.specs.Rows.{IsUsageRow};
 ghost use Rattle.ra_rows.specs.FilterRows.{load_asked, load_row, first_asked, first_row, second_asked, second_row};
-ghost use Rattle.ra_world.specs.Worlds.{tables_of, start_of, here_of};
 ghost use Rattle.ra_weigh_shift.specs.Sharing.{AreRequired};
 ghost use Rattle.ra_weigh_shift.specs.Filter.{load_above, balance_above, saved, service_away};
 
@@ -20,9 +19,9 @@ use ra_world::World;
 /// What a process adds to the load cost of a machine.
 #[inline(always)]
 pub(crate) fn load_above(world: &World<'_>, required: &[u32; 20], to: Machine) -> u128
-    requires machine { to.0 < machine_count (tables_of world.now) }
-    ensures value { (p : ℕ) → AreRequired (tables_of world.now) p required.now →
-        result ≡ load_above (tables_of world.now) (here_of world.now) p to.0 }
+    requires machine { to.0 < machine_count world.now.tables }
+    ensures value { (p : ℕ) → AreRequired world.now.tables p required.now →
+        result ≡ load_above world.now.tables world.now.here p to.0 }
     ensures bound { result ≤ 20 * 2 ^ 64 }
 {
     let inst = world.instance();
@@ -52,9 +51,9 @@ fn load_more(inst: &Instance, m: Machine, r: Resource, used: u64, amount: u32) -
 
 /// What a process adds to the balance cost of a machine, and what all machines save with it.
 pub(crate) fn balance_above(world: &World<'_>, required: &[u32; 20], to: Machine) -> u128
-    requires machine { to.0 < machine_count (tables_of world.now) }
-    ensures value { (p : ℕ) → AreRequired (tables_of world.now) p required.now →
-        result ≡ balance_above (tables_of world.now) (here_of world.now) p to.0 }
+    requires machine { to.0 < machine_count world.now.tables }
+    ensures value { (p : ℕ) → AreRequired world.now.tables p required.now →
+        result ≡ balance_above world.now.tables world.now.here p to.0 }
     ensures bound { result ≤ 10 * 2 ^ 96 }
 {
     let inst = world.instance();
@@ -150,12 +149,11 @@ pub(crate) fn service_away(
     home: Machine,
     from: Machine,
 ) -> u128
-    requires process { p.0 < process_count (tables_of world.now) }
-    requires service { s.0 ≡ service_of (tables_of world.now) p.0 }
-    requires home { home.0 ≡ machine_at (start_of world.now) p.0 }
-    requires from { from.0 ≡ machine_at (here_of world.now) p.0 }
-    ensures value { result ≡
-        service_away (tables_of world.now) (start_of world.now) (here_of world.now) p.0 }
+    requires process { p.0 < process_count world.now.tables }
+    requires service { s.0 ≡ service_of world.now.tables p.0 }
+    requires home { home.0 ≡ machine_at world.now.start p.0 }
+    requires from { from.0 ≡ machine_at world.now.here p.0 }
+    ensures value { result ≡ service_away world.now p.0 }
     ensures bound { result < 2 ^ 64 }
 {
     let after = world.cells().moved(s) + 1 - is_away(home, from);
@@ -164,12 +162,11 @@ pub(crate) fn service_away(
 
 /// The service cost with another moved count of one service.
 pub(crate) fn service_with(world: &World<'_>, s: Service, after: u32) -> u128
-    requires service { s.0 < service_count (tables_of world.now) }
-    requires few { after ≤ process_count (tables_of world.now) }
-    ensures value { (f : ℕ → ℕ) → ((k : ℕ) → k < service_count (tables_of world.now) →
-        k ≢ s.0 → moved_of (tables_of world.now) (start_of world.now) (here_of world.now) k ≡ f k) →
-        after ≡ f s.0 → result ≡
-        service_weight_of (tables_of world.now) * greatest (service_count (tables_of world.now)) f }
+    requires service { s.0 < service_count world.now.tables }
+    requires few { after ≤ process_count world.now.tables }
+    ensures value { (f : ℕ → ℕ) → ((k : ℕ) → k < service_count world.now.tables →
+        k ≢ s.0 → moved_at world.now k ≡ f k) → after ≡ f s.0 → result ≡
+        service_weight_of world.now.tables * greatest (service_count world.now.tables) f }
     ensures bound { result < 2 ^ 64 }
 {
     let cells = world.cells();

@@ -2,7 +2,6 @@ ghost use Rattle.std.specs.Prelude.{◌<◌, IfSome, IfNone};
 ghost use Rattle.ra_model.specs.Numbers.{machine_count};
 ghost use Rattle.ra_weigh_shift.specs.Conditions.{HasRoom, HasRoomBetween};
 ghost use Rattle.ra_weigh_shift.specs.Finding.{IsFinding, IsOver, IsOverBetween};
-ghost use Rattle.ra_world.specs.Worlds.{tables_of, start_of, here_of};
 
 use crate::shift::Shift;
 use ra_base::{Cause, Machine, Resource};
@@ -22,7 +21,7 @@ impl<'w, 'a> Shift<'w, 'a> {
     /// What the shift to a machine breaks. The time grows with the number of resources, and with that of the services
     /// that the service needs or that depend on it.
     pub fn find(&self, to: Machine) -> Finding
-        requires { to.0 < machine_count (tables_of self.now.world.now) }
+        requires { to.0 < machine_count self.now.world.now.tables }
         ensures { IsFinding self.now.world.now self.now.process.0 to.0 result }
     {
         if to.0 == self.from.0 {
@@ -64,10 +63,10 @@ impl<'w, 'a> Shift<'w, 'a> {
     /// The first resource of which a machine has too little room for what the process requires, as a cause.
     #[inline(always)]
     fn over_capacity(&self, to: Machine) -> Option<Cause>
-        requires { to.0 < machine_count (tables_of self.now.world.now) }
+        requires { to.0 < machine_count self.now.world.now.tables }
         ensures some { IfSome result (IsOver self.now.world.now self.now.process.0 to.0) }
-        ensures none { IfNone result (HasRoom (tables_of self.now.world.now)
-            (here_of self.now.world.now) self.now.process.0 to.0) }
+        ensures none { IfNone result (HasRoom self.now.world.now.tables
+            self.now.world.now.here self.now.process.0 to.0) }
     {
         let inst = self.world.instance();
         let row = self.world.rows().usage_row(to);
@@ -90,10 +89,9 @@ impl<'w, 'a> Shift<'w, 'a> {
     /// The first transient resource of which it has too little while the process moves, as a cause.
     #[inline(always)]
     fn over_between(&self, to: Machine) -> Option<Cause>
-        requires { to.0 < machine_count (tables_of self.now.world.now) }
+        requires { to.0 < machine_count self.now.world.now.tables }
         ensures some { IfSome result (IsOverBetween self.now.world.now self.now.process.0 to.0) }
-        ensures none { IfNone result (HasRoomBetween (tables_of self.now.world.now)
-            (start_of self.now.world.now) (here_of self.now.world.now) self.now.process.0 to.0) }
+        ensures none { IfNone result (HasRoomBetween self.now.world.now self.now.process.0 to.0) }
     {
         if to.0 == self.home.0 {
             return None;

@@ -1,27 +1,15 @@
-ghost use Rattle.std.specs.Prelude.{◌≡◌, ◌≢◌, ◌+◌, ◌<◌, ◌≤◌, length, true, false};
-ghost use Rattle.ra_base.specs.Sums.{one_if};
+ghost use Rattle.std.specs.Prelude.{◌≡◌, ◌≢◌, ◌+◌, ◌<◌, ◌≤◌, true, false};
 ghost use Rattle.ra_model.specs.Numbers.{resource_count, process_count, service_count, service_of, location_of, neighbourhood_of};
 ghost use Rattle.ra_model.specs.Assignments.{machine_at};
 ghost use Rattle.ra_model.specs.Services.{in_neighbourhood};
 ghost use Rattle.ra_cells.specs.Marks.{away};
-ghost use Rattle.ra_world.specs.Worlds.{tables_of, here_of};
 ghost use Rattle.ra_weigh_shift.specs.Conditions.{MayLeave};
 ghost use Rattle.ra_weigh_shift.specs.Sharing.{AreRequired, locations_without};
 
-use ra_base::{Assignment, Machine, Process, Resource, Service, Steps};
+use ra_base::{Machine, Process, Resource, Service, Steps, one_when};
 use ra_model::Instance;
 use ra_world::World;
 use std::sync::ledger::Ledger;
-
-/// The machine of a process.
-#[tactic(auto, using(ra_model::proofs::TallyLemmas::machine_at_read))]
-pub(crate) fn machine_of(a: &Assignment, p: Process) -> Machine
-    requires { p.0 < length a.now.items }
-    ensures { result.0 ≡ machine_at a.now.items p.0 }
-{
-    let _count = a.len();
-    a.get(p.0 as usize)
-}
 
 /// What a process requires of each resource, and zeros behind.
 pub(crate) fn required_of<L: Ledger>(inst: &Instance, p: Process, steps: &mut Steps<L>) -> [u32; 20]
@@ -38,11 +26,10 @@ pub(crate) fn required_of<L: Ledger>(inst: &Instance, p: Process, steps: &mut St
 
 /// In how many locations there is another process of the service of a process.
 pub(crate) fn spread_without(world: &World<'_>, p: Process, s: Service, location: u32) -> u32
-    requires process { p.0 < process_count (tables_of world.now) }
-    requires service { s.0 ≡ service_of (tables_of world.now) p.0 }
-    requires location { location ≡
-        location_of (tables_of world.now) (machine_at (here_of world.now) p.0) }
-    ensures value { result ≡ locations_without (tables_of world.now) (here_of world.now) p.0 }
+    requires process { p.0 < process_count world.now.tables }
+    requires service { s.0 ≡ service_of world.now.tables p.0 }
+    requires location { location ≡ location_of world.now.tables (machine_at world.now.here p.0) }
+    ensures value { result ≡ locations_without world.now.tables world.now.here p.0 }
     ensures few { result ≤ 50000 }
 {
     let cells = world.cells();
@@ -57,12 +44,12 @@ pub(crate) fn spread_without(world: &World<'_>, p: Process, s: Service, location
 /// Whether a process may leave its neighbourhood: it isn't the last of its service there, or no other service there
 /// depends on it.
 pub(crate) fn may_leave(world: &World<'_>, p: Process, s: Service, neighbourhood: u32) -> bool
-    requires process { p.0 < process_count (tables_of world.now) }
-    requires service { s.0 ≡ service_of (tables_of world.now) p.0 }
+    requires process { p.0 < process_count world.now.tables }
+    requires service { s.0 ≡ service_of world.now.tables p.0 }
     requires neighbourhood { neighbourhood ≡
-        neighbourhood_of (tables_of world.now) (machine_at (here_of world.now) p.0) }
-    ensures may { result ≡ true → MayLeave (tables_of world.now) (here_of world.now) p.0 }
-    ensures may_not { result ≡ false → MayLeave (tables_of world.now) (here_of world.now) p.0 → ⊥ }
+        neighbourhood_of world.now.tables (machine_at world.now.here p.0) }
+    ensures may { result ≡ true → MayLeave world.now.tables world.now.here p.0 }
+    ensures may_not { result ≡ false → MayLeave world.now.tables world.now.here p.0 → ⊥ }
 {
     if world.cells().in_neighbourhood(s, neighbourhood) > 1 {
         return true;
@@ -78,26 +65,17 @@ pub(crate) fn may_leave(world: &World<'_>, p: Process, s: Service, neighbourhood
 
 /// Whether a service is another one and has a process in a neighbourhood.
 fn is_other_there(world: &World<'_>, d: Service, s: Service, neighbourhood: u32) -> bool
-    requires { d.0 < service_count (tables_of world.now) }
+    requires { d.0 < service_count world.now.tables }
     ensures other { result ≡ true → d.0 ≢ s.0 }
     ensures there { result ≡ true →
-        0 < in_neighbourhood (tables_of world.now) (here_of world.now) d.0 neighbourhood }
+        0 < in_neighbourhood world.now.tables world.now.here d.0 neighbourhood }
     ensures none { result ≡ false → d.0 ≢ s.0 →
-        in_neighbourhood (tables_of world.now) (here_of world.now) d.0 neighbourhood ≡ 0 }
+        in_neighbourhood world.now.tables world.now.here d.0 neighbourhood ≡ 0 }
 {
     if d.0 == s.0 {
         return false;
     }
     world.cells().in_neighbourhood(d, neighbourhood) > 0
-}
-
-/// 1 if a test holds, and else 0.
-#[inline(always)]
-pub(crate) fn one_when(test: bool) -> u32
-    ensures value { result ≡ one_if test }
-    ensures few { result ≤ 1 }
-{
-    if test { 1 } else { 0 }
 }
 
 /// 1 for a process that isn't on its initial machine.

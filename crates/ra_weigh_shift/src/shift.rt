@@ -3,18 +3,19 @@ ghost use Rattle.ra_model.specs.Numbers.{resource_count, machine_count, process_
 ghost use Rattle.ra_weigh_shift.specs.Filter.{service_away};
 ghost use Rattle.ra_model.specs.Assignments.{machine_at};
 ghost use Rattle.ra_model.specs.Services.{on_machine, in_neighbourhood};
+ghost use Rattle.ra_model.specs.Situations.{cost_at, IsSound};
 ghost use Rattle.ra_weigh_shift.specs.Arriving.{BreaksNothing, cost_after, moved_after, members_in, cost_now, service_now, cost_added, cost_taken, IsCostBelow, IsSumBelow, sum_at};
 ghost use Rattle.ra_weigh_shift.specs.Lanes.{AreMarked};
-ghost use Rattle.ra_world.specs.Worlds.{tables_of, start_of, here_of};
 ghost use Rattle.ra_weigh_shift.specs.Conditions.{HasRoom, HasRoomBetween, IsAlone, locations_after, KeepsSpread, FindsNeeds, KeepsDependants, IsAdmitted};
 ghost use Rattle.ra_weigh_shift.specs.Leaving.{machine_left, location_left, neighbourhood_left, spread_wanted, cost_left, cost_before};
 ghost use Rattle.ra_weigh_shift.specs.Sharing.{AreRequired, way_cost};
 
 use crate::costs::{cost_with, cost_without, way_cost};
 use crate::filter::{balance_above, load_above, saved, service_away, service_with};
-use crate::reads::{is_away, machine_of, may_leave, one_when, required_of, spread_without};
+use crate::reads::{is_away, may_leave, required_of, spread_without};
 use crate::windows::{limit_below, sums_of};
-use ra_base::{Machine, Process, Resource, Service, Steps};
+use ra_base::{Machine, Process, Resource, Service, Steps, one_when};
+use ra_model::machine_of;
 use ra_world::World;
 use std::sync::ledger::Ledger;
 
@@ -45,11 +46,12 @@ pub struct Shift<'w, 'a> {
     /// For all machines but its initial one: the cost with what is added, and what is taken away.
     added: u128,
     taken: u128,
-    pub ghost process_known: { process.0 < process_count (tables_of world.now) },
+    pub ghost sound: { IsSound world.now },
+    pub ghost process_known: { process.0 < process_count world.now.tables },
     ghost from_is: { from.0 ≡ machine_left world.now process.0 },
-    ghost home_is: { home.0 ≡ machine_at (start_of world.now) process.0 },
-    ghost service_is: { service.0 ≡ service_of (tables_of world.now) process.0 },
-    ghost required_are: { AreRequired (tables_of world.now) process.0 required },
+    ghost home_is: { home.0 ≡ machine_at world.now.start process.0 },
+    ghost service_is: { service.0 ≡ service_of world.now.tables process.0 },
+    ghost required_are: { AreRequired world.now.tables process.0 required },
     ghost location_is: { location ≡ location_left world.now process.0 },
     ghost neighbourhood_is: { neighbourhood ≡ neighbourhood_left world.now process.0 },
     ghost wants_is: { spread_min ≡ spread_wanted world.now process.0 },
@@ -74,10 +76,10 @@ impl<'w, 'a> Shift<'w, 'a> {
         process: Process,
         steps: &mut Steps<L>,
     ) -> Shift<'w, 'a>
-        requires { process.0 < process_count (tables_of world.now) }
+        requires { process.0 < process_count world.now.tables }
         ensures world { result.world.now ≡ world.now }
         ensures process { result.process ≡ process }
-        ensures counted { steps.new ≡ steps.old + resource_count (tables_of world.now) }
+        ensures counted { steps.new ≡ steps.old + resource_count world.now.tables }
     {
         let inst = world.instance();
         let from = machine_of(world.assignment(), process);
@@ -112,7 +114,7 @@ impl<'w, 'a> Shift<'w, 'a> {
     /// Whether the shift to a machine breaks nothing.
     #[inline(always)]
     fn fits(&self, to: Machine) -> bool
-        requires { to.0 < machine_count (tables_of self.now.world.now) }
+        requires { to.0 < machine_count self.now.world.now.tables }
         ensures { (result ≡ true) ↔ BreaksNothing self.now.world.now self.now.process.0 to.0 }
     {
         if to.0 == self.from.0 {
@@ -142,7 +144,7 @@ impl<'w, 'a> Shift<'w, 'a> {
     /// The cost after the shift to a machine, if it breaks nothing and costs less than a bound.
     #[inline(always)]
     pub fn cost_below(&self, to: Machine, bound: u128) -> Option<u128>
-        requires machine { to.0 < machine_count (tables_of self.now.world.now) }
+        requires machine { to.0 < machine_count self.now.world.now.tables }
         requires bound { bound ≤ 2 ^ 120 }
         ensures { IsCostBelow self.now.world.now self.now.process.0 to.0 bound result }
     {
@@ -157,7 +159,7 @@ impl<'w, 'a> Shift<'w, 'a> {
     /// breaks anything.
     #[inline(always)]
     fn cost_away(&self, to: Machine, bound: u128) -> Option<u128>
-        requires machine { to.0 < machine_count (tables_of self.now.world.now) }
+        requires machine { to.0 < machine_count self.now.world.now.tables }
         requires bound { bound ≤ 2 ^ 120 }
         requires apart { to.0 ≢ self.now.home.0 }
         ensures { IsCostBelow self.now.world.now self.now.process.0 to.0 bound result }
@@ -172,9 +174,9 @@ impl<'w, 'a> Shift<'w, 'a> {
     /// The same, if what the machine adds is known already, unless it is the initial one.
     #[inline(always)]
     pub fn cost_summed(&self, to: Machine, sum: u32, bound: u128) -> Option<u128>
-        requires machine { to.0 < machine_count (tables_of self.now.world.now) }
+        requires machine { to.0 < machine_count self.now.world.now.tables }
         requires bound { bound ≤ 2 ^ 120 }
-        requires sum { machine_at (start_of self.now.world.now) self.now.process.0 ≢ to.0 →
+        requires sum { machine_at self.now.world.now.start self.now.process.0 ≢ to.0 →
             sum ≡ sum_at self.now.world.now self.now.process.0 to.0 }
         ensures { IsCostBelow self.now.world.now self.now.process.0 to.0 bound result }
     {
@@ -188,9 +190,9 @@ impl<'w, 'a> Shift<'w, 'a> {
     /// The same for a machine other than the initial one.
     #[inline(always)]
     fn cost_away_summed(&self, to: Machine, sum: u128, bound: u128) -> Option<u128>
-        requires machine { to.0 < machine_count (tables_of self.now.world.now) }
+        requires machine { to.0 < machine_count self.now.world.now.tables }
         requires bound { bound ≤ 2 ^ 120 }
-        requires apart { machine_at (start_of self.now.world.now) self.now.process.0 ≢ to.0 }
+        requires apart { machine_at self.now.world.now.start self.now.process.0 ≢ to.0 }
         requires sum { sum ≡ sum_at self.now.world.now self.now.process.0 to.0 }
         ensures { IsCostBelow self.now.world.now self.now.process.0 to.0 bound result }
     {
@@ -217,7 +219,7 @@ impl<'w, 'a> Shift<'w, 'a> {
     /// Marks those of sixty-four machines from one on to which the shift may cost less than a bound, the initial one
     /// left out of account, with what each adds; or none if the numbers are too great to be added side by side.
     pub fn marks(&self, first: u32, bound: u128, sums: &mut [u32; 64]) -> Option<u64>
-        requires first { first < machine_count (tables_of self.now.world.now) }
+        requires first { first < machine_count self.now.world.now.tables }
         requires bound { bound ≤ 2 ^ 120 }
         ensures { IfSome result (λ marks.
             AreMarked self.now.world.now self.now.process.0 first bound marks sums.new) }
@@ -232,8 +234,8 @@ impl<'w, 'a> Shift<'w, 'a> {
 
     /// The initial machine.
     pub fn home(&self) -> Machine
-        ensures value { result.0 ≡ machine_at (start_of self.now.world.now) self.now.process.0 }
-        ensures within { result.0 < machine_count (tables_of self.now.world.now) }
+        ensures value { result.0 ≡ machine_at self.now.world.now.start self.now.process.0 }
+        ensures within { result.0 < machine_count self.now.world.now.tables }
     {
         self.home
     }
@@ -242,7 +244,7 @@ impl<'w, 'a> Shift<'w, 'a> {
     /// it, and on a large instance it is what comes from memory.
     #[inline(always)]
     fn sum_below(&self, to: Machine, bound: u128) -> Option<u128>
-        requires { to.0 < machine_count (tables_of self.now.world.now) }
+        requires { to.0 < machine_count self.now.world.now.tables }
         ensures { IsSumBelow self.now.world.now self.now.process.0 to.0 bound result }
     {
         let load = load_above(self.world, &self.required, to);
@@ -264,7 +266,7 @@ impl<'w, 'a> Shift<'w, 'a> {
 
     /// The cost after the shift to the initial machine, if it breaks nothing and costs less than a bound.
     fn cost_home(&self, to: Machine, bound: u128) -> Option<u128>
-        requires machine { to.0 < machine_count (tables_of self.now.world.now) }
+        requires machine { to.0 < machine_count self.now.world.now.tables }
         ensures { IsCostBelow self.now.world.now self.now.process.0 to.0 bound result }
     {
         if !self.fits(to) {
@@ -279,7 +281,7 @@ impl<'w, 'a> Shift<'w, 'a> {
 
     /// The cost after a shift that breaks nothing.
     fn cost_at(&self, to: Machine) -> u128
-        requires machine { to.0 < machine_count (tables_of self.now.world.now) }
+        requires machine { to.0 < machine_count self.now.world.now.tables }
         requires unbroken { BreaksNothing self.now.world.now self.now.process.0 to.0 }
         ensures { result ≡ cost_after self.now.world.now self.now.process.0 to.0 }
     {
@@ -294,9 +296,9 @@ impl<'w, 'a> Shift<'w, 'a> {
     /// Whether a machine is open, or is the initial one of the process.
     #[inline(always)]
     pub(crate) fn is_admitted(&self, to: Machine) -> bool
-        requires { to.0 < machine_count (tables_of self.now.world.now) }
+        requires { to.0 < machine_count self.now.world.now.tables }
         ensures { (result ≡ true) ↔ IsAdmitted
-            (tables_of self.now.world.now) (start_of self.now.world.now) self.now.process.0 to.0 }
+            self.now.world.now.tables self.now.world.now.start self.now.process.0 to.0 }
     {
         if self.home.0 == to.0 {
             return true;
@@ -307,9 +309,9 @@ impl<'w, 'a> Shift<'w, 'a> {
     /// Whether a machine has room for what the process requires.
     #[inline(always)]
     fn has_room(&self, to: Machine) -> bool
-        requires { to.0 < machine_count (tables_of self.now.world.now) }
+        requires { to.0 < machine_count self.now.world.now.tables }
         ensures { (result ≡ true) ↔ HasRoom
-            (tables_of self.now.world.now) (here_of self.now.world.now) self.now.process.0 to.0 }
+            self.now.world.now.tables self.now.world.now.here self.now.process.0 to.0 }
     {
         let inst = self.world.instance();
         let used = self.world.rows().usage_row(to);
@@ -326,9 +328,8 @@ impl<'w, 'a> Shift<'w, 'a> {
     /// Whether a machine has it while the process moves.
     #[inline(always)]
     fn has_room_between(&self, to: Machine) -> bool
-        requires { to.0 < machine_count (tables_of self.now.world.now) }
-        ensures { (result ≡ true) ↔ HasRoomBetween (tables_of self.now.world.now)
-            (start_of self.now.world.now) (here_of self.now.world.now) self.now.process.0 to.0 }
+        requires { to.0 < machine_count self.now.world.now.tables }
+        ensures { (result ≡ true) ↔ HasRoomBetween self.now.world.now self.now.process.0 to.0 }
     {
         if to.0 == self.home.0 {
             return true;
@@ -347,10 +348,10 @@ impl<'w, 'a> Shift<'w, 'a> {
     /// Whether an amount of a transient resource is above what a machine has.
     #[inline(always)]
     pub(crate) fn is_too_much(&self, to: Machine, r: Resource, wanted: u64) -> bool
-        requires machine { to.0 < machine_count (tables_of self.now.world.now) }
-        requires resource { r.0 < resource_count (tables_of self.now.world.now) }
-        ensures { (result ≡ true) ↔ ((transient_at (tables_of self.now.world.now) r.0 ≡ true) ×
-            (capacity_of (tables_of self.now.world.now) to.0 r.0 < wanted)) }
+        requires machine { to.0 < machine_count self.now.world.now.tables }
+        requires resource { r.0 < resource_count self.now.world.now.tables }
+        ensures { (result ≡ true) ↔ ((transient_at self.now.world.now.tables r.0 ≡ true) ×
+            (capacity_of self.now.world.now.tables to.0 r.0 < wanted)) }
     {
         let inst = self.world.instance();
         if !inst.transient(r) {
@@ -363,7 +364,7 @@ impl<'w, 'a> Shift<'w, 'a> {
     #[inline(always)]
     pub(crate) fn is_alone(&self, to: Machine) -> bool
         ensures { (result ≡ true) ↔ IsAlone
-            (tables_of self.now.world.now) (here_of self.now.world.now) self.now.process.0 to.0 }
+            self.now.world.now.tables self.now.world.now.here self.now.process.0 to.0 }
     {
         self.world.cells().on_machine(self.service, to) == 0
     }
@@ -371,9 +372,9 @@ impl<'w, 'a> Shift<'w, 'a> {
     /// Whether the service is then in as many locations as it has to be.
     #[inline(always)]
     pub(crate) fn keeps_spread(&self, to: Machine) -> bool
-        requires { to.0 < machine_count (tables_of self.now.world.now) }
+        requires { to.0 < machine_count self.now.world.now.tables }
         ensures { (result ≡ true) ↔ KeepsSpread
-            (tables_of self.now.world.now) (here_of self.now.world.now) self.now.process.0 to.0 }
+            self.now.world.now.tables self.now.world.now.here self.now.process.0 to.0 }
     {
         if self.spread_min < self.world.cells().locations(self.service) {
             return true;
@@ -383,9 +384,9 @@ impl<'w, 'a> Shift<'w, 'a> {
 
     /// In how many locations the service is then.
     pub(crate) fn locations_with(&self, to: Machine) -> u32
-        requires { to.0 < machine_count (tables_of self.now.world.now) }
+        requires { to.0 < machine_count self.now.world.now.tables }
         ensures { result ≡ locations_after
-            (tables_of self.now.world.now) (here_of self.now.world.now) self.now.process.0 to.0 }
+            self.now.world.now.tables self.now.world.now.here self.now.process.0 to.0 }
     {
         let without = spread_without(self.world, self.process, self.service, self.location);
         let label = self.world.instance().location(to);
@@ -397,9 +398,9 @@ impl<'w, 'a> Shift<'w, 'a> {
     /// Whether no service stays behind that depends on the process.
     #[inline(always)]
     pub(crate) fn keeps_dependants(&self, to: Machine) -> bool
-        requires { to.0 < machine_count (tables_of self.now.world.now) }
+        requires { to.0 < machine_count self.now.world.now.tables }
         ensures { (result ≡ true) ↔ KeepsDependants
-            (tables_of self.now.world.now) (here_of self.now.world.now) self.now.process.0 to.0 }
+            self.now.world.now.tables self.now.world.now.here self.now.process.0 to.0 }
     {
         if self.world.instance().neighbourhood(to) == self.neighbourhood {
             return true;
@@ -410,9 +411,9 @@ impl<'w, 'a> Shift<'w, 'a> {
     /// Whether what the service needs is in the neighbourhood of a machine.
     #[inline(always)]
     pub(crate) fn finds_needs(&self, to: Machine) -> bool
-        requires { to.0 < machine_count (tables_of self.now.world.now) }
+        requires { to.0 < machine_count self.now.world.now.tables }
         ensures { (result ≡ true) ↔ FindsNeeds
-            (tables_of self.now.world.now) (here_of self.now.world.now) self.now.process.0 to.0 }
+            self.now.world.now.tables self.now.world.now.here self.now.process.0 to.0 }
     {
         let label = self.world.instance().neighbourhood(to);
         let needs = self.world.topology().distinct_needs(self.service);
@@ -427,12 +428,12 @@ impl<'w, 'a> Shift<'w, 'a> {
     /// Whether a service is another one and has no process in a neighbourhood.
     #[inline(always)]
     fn is_missing(&self, need: Service, label: u32) -> bool
-        requires { need.0 < service_count (tables_of self.now.world.now) }
+        requires { need.0 < service_count self.now.world.now.tables }
         ensures other { result ≡ true →
-            need.0 ≢ service_of (tables_of self.now.world.now) self.now.process.0 }
+            need.0 ≢ service_of self.now.world.now.tables self.now.process.0 }
         ensures none { result ≡ true → members_in self.now.world.now need.0 label ≡ 0 }
         ensures some { result ≡ false →
-            need.0 ≢ service_of (tables_of self.now.world.now) self.now.process.0 →
+            need.0 ≢ service_of self.now.world.now.tables self.now.process.0 →
             0 < members_in self.now.world.now need.0 label }
     {
         if need.0 == self.service.0 {
@@ -444,7 +445,7 @@ impl<'w, 'a> Shift<'w, 'a> {
     /// The moved count of the service after it.
     pub(crate) fn moved(&self, to: Machine) -> u32
         ensures value { result ≡ moved_after self.now.world.now self.now.process.0 to.0 }
-        ensures few { result ≤ process_count (tables_of self.now.world.now) }
+        ensures few { result ≤ process_count self.now.world.now.tables }
     {
         let before = self.world.cells().moved(self.service);
         let gone = is_away(self.home, self.from);
@@ -456,13 +457,13 @@ impl<'w, 'a> Shift<'w, 'a> {
 /// What is added for each machine but the initial one besides the costs of the machine that is left: the process cost and
 /// the service cost.
 fn added_away(world: &World<'_>, p: Process, s: Service, home: Machine, from: Machine) -> u128
-    requires process { p.0 < process_count (tables_of world.now) }
-    requires service { s.0 ≡ service_of (tables_of world.now) p.0 }
-    requires home { home.0 ≡ machine_at (start_of world.now) p.0 }
-    requires from { from.0 ≡ machine_at (here_of world.now) p.0 }
+    requires process { p.0 < process_count world.now.tables }
+    requires service { s.0 ≡ service_of world.now.tables p.0 }
+    requires home { home.0 ≡ machine_at world.now.start p.0 }
+    requires from { from.0 ≡ machine_at world.now.here p.0 }
     ensures value { result ≡
-        process_weight_of (tables_of world.now) * process_cost_of (tables_of world.now) p.0
-        + service_away (tables_of world.now) (start_of world.now) (here_of world.now) p.0 }
+        process_weight_of world.now.tables * process_cost_of world.now.tables p.0
+        + service_away world.now p.0 }
     ensures bound { result < 2 ^ 65 }
 {
     let inst = world.instance();
@@ -472,12 +473,14 @@ fn added_away(world: &World<'_>, p: Process, s: Service, home: Machine, from: Ma
 
 /// The load and balance cost of the machine of a process, and what the process's own way costs.
 fn cost_before(world: &World<'_>, p: Process, home: Machine, from: Machine) -> u128
-    requires process { p.0 < process_count (tables_of world.now) }
-    requires home { home.0 ≡ machine_at (start_of world.now) p.0 }
-    requires from { from.0 ≡ machine_at (here_of world.now) p.0 }
+    requires process { p.0 < process_count world.now.tables }
+    requires home { home.0 ≡ machine_at world.now.start p.0 }
+    requires from { from.0 ≡ machine_at world.now.here p.0 }
     ensures value { result ≡ cost_before world.now p.0 }
     ensures bound { result ≤ 2 ^ 102 }
 {
+    // What is known of every world.
+    let _known = world.instance();
     let load = world.machine_load(from);
     let balance = world.machine_balance(from);
     load + balance + way_cost(world, p, home, from)

@@ -3,7 +3,6 @@ ghost use Rattle.ra_model.specs.Numbers.{machine_count, service_of};
 ghost use Rattle.ra_model.specs.Assignments.{machine_at};
 ghost use Rattle.ra_moves.specs.Weighing.{local_change, moved_count, weighed_of};
 ghost use Rattle.ra_weigh_shift.specs.Arriving.{steps_to, BreaksNothing};
-ghost use Rattle.ra_world.specs.Worlds.{tables_of, start_of, here_of};
 
 use crate::costs::{cost_with, way_cost};
 use crate::shift::Shift;
@@ -13,10 +12,10 @@ use ra_moves::Weighed;
 impl<'w, 'a> Shift<'w, 'a> {
     /// The weighing of the shift to a machine, if it breaks nothing. The time grows with the number of resources.
     pub fn weighed(&self, to: Machine) -> Weighed
-        requires machine { to.0 < machine_count (tables_of self.now.world.now) }
+        requires machine { to.0 < machine_count self.now.world.now.tables }
         requires unbroken { BreaksNothing self.now.world.now self.now.process.0 to.0 }
-        ensures { result ≡ weighed_of (tables_of self.now.world.now) (start_of self.now.world.now)
-            (here_of self.now.world.now) (steps_to self.now.world.now self.now.process.0 to.0) }
+        ensures { result ≡ weighed_of self.now.world.now
+            (steps_to self.now.world.now self.now.process.0 to.0) }
     {
         Weighed {
             broken: None,
@@ -29,10 +28,10 @@ impl<'w, 'a> Shift<'w, 'a> {
 
     /// The change of load, balance, process and machine cost together.
     fn change(&self, to: Machine) -> i128
-        requires machine { to.0 < machine_count (tables_of self.now.world.now) }
-        requires apart { machine_at (here_of self.now.world.now) self.now.process.0 ≢ to.0 }
-        ensures { result ≡ local_change (tables_of self.now.world.now) (start_of self.now.world.now)
-            (here_of self.now.world.now) (steps_to self.now.world.now self.now.process.0 to.0) }
+        requires machine { to.0 < machine_count self.now.world.now.tables }
+        requires apart { machine_at self.now.world.now.here self.now.process.0 ≢ to.0 }
+        ensures { result ≡ local_change self.now.world.now
+            (steps_to self.now.world.now self.now.process.0 to.0) }
     {
         let world = self.world;
         let here = world.machine_load(to) + world.machine_balance(to);
@@ -43,9 +42,9 @@ impl<'w, 'a> Shift<'w, 'a> {
 
     /// The service with its moved counts before and after the shift.
     fn moved_count(&self, to: Machine) -> MovedCount
-        ensures { result ≡ moved_count (tables_of self.now.world.now) (start_of self.now.world.now)
-            (here_of self.now.world.now) (steps_to self.now.world.now self.now.process.0 to.0)
-            (service_of (tables_of self.now.world.now) self.now.process.0) }
+        ensures { result ≡ moved_count self.now.world.now
+            (steps_to self.now.world.now self.now.process.0 to.0)
+            (service_of self.now.world.now.tables self.now.process.0) }
     {
         MovedCount {
             service: self.service,

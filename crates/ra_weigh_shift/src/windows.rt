@@ -1,7 +1,6 @@
 ghost use Rattle.std.specs.Prelude.{◌≡◌, ℕ, ◌-◌, ◌^◌, ◌<◌, ◌≤◌, IfSome, min, length, slice_index};
 ghost use Rattle.ra_model.specs.Numbers.{machine_count};
 ghost use Rattle.ra_model.specs.Assignments.{machine_at};
-ghost use Rattle.ra_world.specs.Worlds.{tables_of, start_of};
 ghost use Rattle.ra_weigh_shift.specs.Lanes.{AreSums, HaveWays};
 ghost use Rattle.ra_weigh_shift.specs.Sharing.{AreRequired};
 
@@ -26,10 +25,10 @@ pub(crate) fn sums_of(
     limit: u32,
     sums: &mut [u32; 64],
 ) -> Option<u64>
-    requires home { home.0 < machine_count (tables_of world.now) }
-    requires first { first < machine_count (tables_of world.now) }
-    ensures { (p : ℕ) → AreRequired (tables_of world.now) p required.now →
-        home.0 ≡ machine_at (start_of world.now) p →
+    requires home { home.0 < machine_count world.now.tables }
+    requires first { first < machine_count world.now.tables }
+    ensures { (p : ℕ) → AreRequired world.now.tables p required.now →
+        home.0 ≡ machine_at world.now.start p →
         IfSome result (λ marks. AreSums world.now p first limit marks sums.new) }
 {
     let inst = world.instance();

@@ -10,12 +10,13 @@ use Rattle.ra_draws.specs.declared.budgets.Lots.{Lots}
 use Rattle.ra_model.specs.declared.raw.Tables.{Tables}
 use Rattle.ra_model.specs.Limits.{WellFormed}
 use Rattle.ra_model.specs.Assignments.{IsAssignment}
+use Rattle.ra_model.specs.Situations.{Situation, situation}
 use Rattle.ra_moves.specs.declared.steps.Step.{Step}
 use Rattle.ra_moves.specs.declared.verdicts.Verdict.{Verdict}
 use Rattle.ra_moves.specs.declared.verdicts.Verdict.TheVariants.{Done, Refused}
 use Rattle.ra_moves.specs.Judging.{broken_by, repeat_of}
 use Rattle.ra_moves.specs.Replacing.{applied}
-use Rattle.ra_moves.specs.Moving.{IsMove}
+use Rattle.ra_moves.specs.Moving.{MayMove}
 use Rattle.ra_journal.specs.declared.entries.Entry.{Entry}
 use Rattle.ra_journal.specs.Entries.{entry_at, entries_of, steps_made, made_by}
 use Rattle.ra_journal.specs.Legal.{Legal}
@@ -23,17 +24,25 @@ use Rattle.ra_journal.specs.States.{state, after_made}
 use Rattle.ra_journal.proofs.StandingLemmas.{unbroken_if_done, legal_offered}
 use Rattle.ra_worker.specs.Following.{IsJudged}
 
+-- a situation by its parts
+pub one_situation : (st : Situation) (i : Tables) (a0 a : List Machine) → st.tables ≡ i → st.start ≡ a0 → st.here ≡ a →
+    st ≡ situation i a0 a
+one_situation st i a0 a tables start here =
+    ap (λ (j : Tables). situation j st.start st.here) tables ∙ ap (λ (b : List Machine). situation i b st.here) start
+    ∙ ap (situation i a0) here
+
 -- a move that is done breaks nothing
-pub done_unbroken : (i : Tables) (a0 a : List Machine) (steps : List Step) (cost : ℕ) (verdict : Verdict) →
-    IsJudged i a0 a steps verdict → verdict ≡ Done cost → broken_by i a0 a steps ≡ None
-done_unbroken i a0 a steps cost verdict is done = unbroken_if_done i a0 a steps is.allowed cost verdict is.judged done
+pub done_unbroken : (st : Situation) (steps : List Step) (cost : ℕ) (verdict : Verdict) →
+    IsJudged st steps verdict → verdict ≡ Done cost → broken_by st steps ≡ None
+done_unbroken st steps cost verdict is done =
+    unbroken_if_done st.tables st.start st.here steps is.allowed cost verdict is.judged done
 
 -- so what was offered is a move
-pub done_moves : (i : Tables) (a0 a : List Machine) (steps : List Step) (cost : ℕ) (verdict : Verdict) →
-    IsJudged i a0 a steps verdict → verdict ≡ Done cost → IsMove i a steps
+pub done_moves : (st : Situation) (steps : List Step) (cost : ℕ) (verdict : Verdict) →
+    IsJudged st steps verdict → verdict ≡ Done cost → MayMove st steps
 unfolding broken_by
-done_moves i a0 a steps cost verdict is done =
-    is.offered (left_none (repeat_of steps) _ (done_unbroken i a0 a steps cost verdict is done))
+done_moves st steps cost verdict is done =
+    is.offered (left_none (repeat_of steps) _ (done_unbroken st steps cost verdict is done))
 
 -- the state after an entry by its verdict
 pub after_done : (a : List Machine) (steps : List Step) (cost : ℕ) (verdict : Verdict) → verdict ≡ Done cost →
@@ -49,7 +58,7 @@ after_refused a steps cause verdict refused = rw refused refl
 -- each entry of a legal journal was offered and judged at the state of its own place
 pub entry_judged : (i : Tables) (a0 a : List Machine) (l : Lots) (h : List Entry) (j : ℕ) (e : Entry) → WellFormed i →
     IsAssignment i a0 → Legal i a0 l h → j < length h → e ≡ entry_at h j → a ≡ state a0 h j →
-    IsJudged i a0 a e.mv.steps e.verdict
+    IsJudged (situation i a0 a) e.mv.steps e.verdict
 entry_judged i a0 a l h j e limits fits legal within e_is a_is = rw (e_is, a_is) (record {
   allowed = _;
   offered = (legal_offered i a0 l h limits fits legal j within).here;

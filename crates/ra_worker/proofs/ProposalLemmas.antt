@@ -1,13 +1,12 @@
 -- The words of a worker's next proposal.
 use Rattle.std.proofs.Common.{◌≡◌, ℕ, ◌+◌, ◌<◌, ◌≤◌, List, length, refl, sym, ap, ◌∙◌, arith}
 use Rattle.ra_base.specs.declared.causes.Drawing.{Drawing}
-use Rattle.ra_base.specs.declared.ids.Machine.{Machine}
 use Rattle.ra_draws.specs.declared.budgets.Lots.{Lots}
 use Rattle.ra_draws.specs.declared.sources.Lot.{Lot}
 use Rattle.ra_draws.specs.Drawn.{Drawn}
 use Rattle.ra_draws.specs.Lots.{lot_at, budget_of, words_of}
 use Rattle.ra_draws.specs.Words.{proposal_words}
-use Rattle.ra_model.specs.declared.raw.Tables.{Tables}
+use Rattle.ra_model.specs.Situations.{Situation}
 use Rattle.ra_moves.specs.Options.{plan_of}
 use Rattle.ra_journal.specs.Entries.{worker_count, budget, words}
 use Rattle.ra_worker.specs.Proposals.{AreDrawn}
@@ -36,6 +35,6 @@ drawn_next l w k lot before after x exists within lot_is before_lot after_lot ma
     }
 
 -- what is planned from the same words
-pub plan_alike : (i : Tables) (a0 a : List Machine) (x y : List ℕ) (d e : Drawing) (r s : ℕ) → x ≡ y → d ≡ e → r ≡ s →
-    plan_of i a0 a x d r ≡ plan_of i a0 a y e s
-plan_alike i a0 a x y d e r s x_is d_is r_is = rw (x_is, d_is, r_is) refl
+pub plan_alike : (st : Situation) (x y : List ℕ) (d e : Drawing) (r s : ℕ) → x ≡ y → d ≡ e → r ≡ s →
+    plan_of st x d r ≡ plan_of st y e s
+plan_alike st x y d e r s x_is d_is r_is = rw (x_is, d_is, r_is) refl

@@ -19,6 +19,7 @@ use Rattle.ra_journal.specs.States.{state}
 use Rattle.ra_worker.specs.declared.replica.Replica.{Replica}
 use Rattle.ra_worker.specs.Skipping.{has_used, is_behind, is_skipped}
 use Rattle.ra_worker.specs.Replicas.{IsAt, ArePartOf, AreNext, HasTaken}
+use Rattle.ra_worker.proofs.FollowingLemmas.{one_situation}
 
 -- how long a batch is
 pub batch_long : (h : List Entry) (at : ℕ) → length (batch_from h at) ≡ min 1024 (length h - at)
@@ -48,16 +49,16 @@ same_legal i j a0 b0 l m h legal inst initial lots = rw (← inst, ← initial, 
 pub batch_next : (i : Tables) (a0 : List Machine) (l : Lots) (h b : List Entry) (r : Replica) → IsAt i a0 l h r →
     Legal i a0 l h → b ≡ batch_from h r.place → AreNext r b h
 batch_next i a0 l h b r at legal b_is = record {
-  legal = same_legal r.world.inst.now.tables i r.world.start.now.items a0 r.proposals.lots.now l h legal
+  legal = same_legal r.world.tables i r.world.start a0 r.proposals.lots.now l h legal
       (sym at.instance) (sym at.initial) (sym at.lots);
-  here = same_opening r.world.inst.now.tables i r.world.start.now.items a0 r.proposals.lots.now l h r at
+  here = same_opening r.world.tables i r.world.start a0 r.proposals.lots.now l h r at
       (sym at.instance) (sym at.initial) (sym at.lots);
   part = rw b_is (batch_part h r.place at.place);
 }
 
 pub taken_at : (i : Tables) (a0 : List Machine) (l : Lots) (h b : List Entry) (r s : Replica) (n : ℕ) →
     IsAt i a0 l h r → Legal i a0 l h → b ≡ batch_from h r.place → HasTaken r s b n → IsAt i a0 l h s
-taken_at i a0 l h b r s n at legal b_is taken = same_opening i r.world.inst.now.tables a0 r.world.start.now.items l
+taken_at i a0 l h b r s n at legal b_is taken = same_opening i r.world.tables a0 r.world.start l
     r.proposals.lots.now h s (taken.at h (batch_next i a0 l h b r at legal b_is)) at.instance at.initial at.lots
 
 -- a worker that is not behind has all its entries before its place
@@ -93,19 +94,16 @@ not_behind h w q within not_later =
 -- the next proposal of such a worker may be handed in
 pub may_commit : (i : Tables) (a0 : List Machine) (l : Lots) (h : List Entry) (r : Replica) (plan : Plan) →
     IsAt i a0 l h r → is_skipped l h r.proposals.worker r.place ≡ false → plan.q ≡ r.place →
-    plan.k ≡ r.proposals.number → plan.mv ≡ plan_of r.world.inst.now.tables r.world.start.now.items
-    r.world.kept.assignment.items (words r.proposals.lots.now r.proposals.worker r.proposals.number)
+    plan.k ≡ r.proposals.number → plan.mv ≡ plan_of r.world
+    (words r.proposals.lots.now r.proposals.worker r.proposals.number)
     r.proposals.lots.now.drawing (allowed r.proposals.lots.now r.proposals.worker r.proposals.number) →
-    plan.weighed ≡ weighed_of r.world.inst.now.tables r.world.start.now.items r.world.kept.assignment.items
-    plan.mv.steps → IsCommit i a0 l h r.proposals.worker plan
+    plan.weighed ≡ weighed_of r.world plan.mv.steps → IsCommit i a0 l h r.proposals.worker plan
 unfolding is_skipped
 may_commit i a0 l h r plan at not_skipped q_is k_is mv weighed =
     let w = r.proposals.worker in
     let parts = or_parts (has_used l h w) (is_behind h w r.place) not_skipped in
     let exists : w < worker_count l = subst (λ m. w < worker_count m) at.lots r.proposals.drawn.worker in
-    let instance : r.world.inst.now.tables ≡ i = at.instance in
-    let initial : r.world.start.now.items ≡ a0 = at.initial in
-    let here : r.world.kept.assignment.items ≡ state a0 h r.place = at.state in
+    let world = one_situation r.world i a0 (state a0 h r.place) at.instance at.initial at.state in
     let lots : r.proposals.lots.now ≡ l = at.lots in
     record {
       worker = exists;
@@ -113,6 +111,6 @@ may_commit i a0 l h r plan at not_skipped q_is k_is mv weighed =
       within = omega (arith, k_is, at.number, not_behind h w r.place at.place parts.1, some_left l h w parts.0);
       place = omega (arith, q_is, at.place);
       seen = λ j there own. omega (arith, q_is, seen_before h w r.place parts.1 j there own);
-      planned = rw (q_is, k_is) (rw (instance, initial, here, lots) at mv);
-      weighed = rw q_is (rw (instance, initial, here) at weighed);
+      planned = rw (q_is, k_is) (rw (world, lots) at mv);
+      weighed = rw q_is (rw world at weighed);
     }

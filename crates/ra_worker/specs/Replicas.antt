@@ -1,10 +1,8 @@
 -- A replica of a worker, which stands for a state of a journal. It keeps no journal.
 use Rattle.std.specs.Prelude.{◌≡◌, ℕ, ◌+◌, ◌<◌, ◌≤◌, ◌==◌, List, length}
-use Rattle.ra_base.specs.Listed.{Listed}
 use Rattle.ra_base.specs.Sums.{one_if}
 use Rattle.ra_base.specs.declared.ids.Machine.{Machine}
 use Rattle.ra_draws.specs.declared.budgets.Lots.{Lots}
-use Rattle.ra_model.specs.declared.numbers.Instance.{Instance}
 use Rattle.ra_model.specs.declared.raw.Tables.{Tables}
 use Rattle.ra_moves.specs.declared.verdicts.Plan.{Plan}
 use Rattle.ra_moves.specs.Options.{plan_of}
@@ -12,26 +10,21 @@ use Rattle.ra_moves.specs.Weighing.{weighed_of}
 use Rattle.ra_journal.specs.declared.entries.Entry.{Entry}
 use Rattle.ra_journal.specs.Entries.{entry_at, entries_of, budget, words, allowed, made_by}
 use Rattle.ra_journal.specs.Legal.{Legal}
+use Rattle.ra_journal.specs.Quiet.{AreRefused}
 use Rattle.ra_journal.specs.States.{state, after_made}
 use Rattle.ra_worker.specs.declared.replica.Replica.{Replica}
 
--- its instance, and the tables of it
-abbrev pub instance_at : Replica → Instance
-instance_at r = r.world.inst.now
-
+-- the tables of its instance
 abbrev pub tables_at : Replica → Tables
-tables_at r = r.world.inst.now.tables
+tables_at r = r.world.tables
 
--- the initial assignment, with the room of its list, and as a list of machines
-abbrev pub initial_at : Replica → Listed Machine
-initial_at r = r.world.start.now
-
+-- the initial assignment
 abbrev pub start_at : Replica → List Machine
-start_at r = r.world.start.now.items
+start_at r = r.world.start
 
 -- the assignment for which it stands
 abbrev pub here_at : Replica → List Machine
-here_at r = r.world.kept.assignment.items
+here_at r = r.world.here
 
 -- the lots of the workers, and which of them its own is
 abbrev pub lots_at : Replica → Lots
@@ -56,16 +49,16 @@ pub record IsNextPlan (r : Replica) (plan : Plan) : Type 0 where
   pub place : plan.q ≡ place_at r
   pub number : plan.k ≡ next_at r
   pub planned :
-      plan.mv ≡ plan_of (tables_at r) (start_at r) (here_at r)
+      plan.mv ≡ plan_of r.world
       (words (lots_at r) (worker_at r) (next_at r)) (lots_at r).drawing
       (allowed (lots_at r) (worker_at r) (next_at r))
-  pub weighed : plan.weighed ≡ weighed_of (tables_at r) (start_at r) (here_at r) plan.mv.steps
+  pub weighed : plan.weighed ≡ weighed_of r.world plan.mv.steps
 
 -- a replica has taken in one entry: its place has grown by one, and its worker's number if the entry is that worker's
 pub record HasFollowed (before after : Replica) (e : Entry) : Type 0 where
   pub assignment : here_at after ≡ after_made (here_at before) (made_by e)
-  pub instance : instance_at after ≡ instance_at before
-  pub initial : initial_at after ≡ initial_at before
+  pub instance : tables_at after ≡ tables_at before
+  pub initial : start_at after ≡ start_at before
   pub lots : lots_at after ≡ lots_at before
   pub worker : worker_at after ≡ worker_at before
   pub number : next_at after ≡ next_at before + one_if (e.worker == worker_at before)
@@ -101,10 +94,32 @@ pub record AreTold (r : Replica) (entries : List Entry) : Type 0 where
 -- a replica has taken in the first n of these entries: its place has grown by n, and it is at a state of each legal
 -- journal that they are next of
 pub record HasTaken (before after : Replica) (entries : List Entry) (n : ℕ) : Type 0 where
-  pub instance : instance_at after ≡ instance_at before
-  pub initial : initial_at after ≡ initial_at before
+  pub instance : tables_at after ≡ tables_at before
+  pub initial : start_at after ≡ start_at before
   pub lots : lots_at after ≡ lots_at before
   pub worker : worker_at after ≡ worker_at before
   pub place : place_at after ≡ place_at before + n
   pub at : (h : List Entry) → AreNext before entries h
+      → IsAt (tables_at before) (start_at before) (lots_at before) h after
+
+-- a replica is at a state of a journal, whose entries from its place on, before another place, are refused; one of
+-- these is its worker's
+pub record ArePassed (r : Replica) (to : ℕ) (h : List Entry) : Type 0 where
+  pub here : IsAt (tables_at r) (start_at r) (lots_at r) h r
+  pub from : place_at r ≤ to
+  pub within : to ≤ length h
+  pub refused : AreRefused h (place_at r) to
+  pub own : entries_of h to (worker_at r) ≡ next_at r + 1
+
+-- a replica has passed over the entries before a place: it stands for the assignment for which it stood, and is at a
+-- state of each journal of which that is so
+pub record HasPassed (before after : Replica) (to : ℕ) : Type 0 where
+  pub instance : tables_at after ≡ tables_at before
+  pub initial : start_at after ≡ start_at before
+  pub here : here_at after ≡ here_at before
+  pub lots : lots_at after ≡ lots_at before
+  pub worker : worker_at after ≡ worker_at before
+  pub number : next_at after ≡ next_at before + 1
+  pub place : place_at after ≡ to
+  pub at : (h : List Entry) → ArePassed before to h
       → IsAt (tables_at before) (start_at before) (lots_at before) h after

@@ -1,6 +1,6 @@
 ghost use Rattle.std.specs.Prelude.{◌≡◌, ◌+◌, ◌<◌, ◌≤◌, length};
-ghost use Rattle.ra_world.specs.Worlds.{instance_of, topology_of, initial_of, here_of};
-ghost use Rattle.ra_journal.specs.Journals.{instance_in, initial_in, start_in, entries_in};
+ghost use Rattle.ra_model.specs.Situations.{situation};
+ghost use Rattle.ra_journal.specs.Journals.{tables_in, start_in, entries_in};
 ghost use Rattle.ra_journal.specs.States.{state};
 
 use crate::following::follow;
@@ -16,15 +16,12 @@ pub fn replay<'a, L: Ledger>(
     world: &mut World<'a>,
     steps: &mut Steps<L>,
 )
-    requires instance { instance_of world.old ≡ instance_in journal.now }
-    requires initial { initial_of world.old ≡ initial_in journal.now }
-    requires at_start { here_of world.old ≡ start_in journal.now }
+    requires at_start { world.old ≡
+        situation (tables_in journal.now) (start_in journal.now) (start_in journal.now) }
     requires within { upto ≤ length (entries_in journal.now) }
-    ensures assignment { here_of world.new ≡
-        state (start_in journal.now) (entries_in journal.now) upto }
-    ensures instance { instance_of world.new ≡ instance_of world.old }
-    ensures topology { topology_of world.new ≡ topology_of world.old }
-    ensures initial { initial_of world.new ≡ initial_of world.old }
+    ensures { world.new ≡ record world.old {
+      here = state (start_in journal.now) (entries_in journal.now) upto;
+    } }
 {
     for at in 0..upto {
         replay_entry(journal, at, world, steps);
@@ -38,16 +35,12 @@ fn replay_entry<L: Ledger>(
     world: &mut World<'_>,
     steps: &mut Steps<L>,
 )
-    requires instance { instance_of world.old ≡ instance_in journal.now }
-    requires initial { initial_of world.old ≡ initial_in journal.now }
-    requires here { here_of world.old ≡
-        state (start_in journal.now) (entries_in journal.now) at }
+    requires here { world.old ≡ situation (tables_in journal.now) (start_in journal.now)
+        (state (start_in journal.now) (entries_in journal.now) at) }
     requires within { at < length (entries_in journal.now) }
-    ensures assignment { here_of world.new ≡
-        state (start_in journal.now) (entries_in journal.now) (at + 1) }
-    ensures instance { instance_of world.new ≡ instance_of world.old }
-    ensures topology { topology_of world.new ≡ topology_of world.old }
-    ensures initial { initial_of world.new ≡ initial_of world.old }
+    ensures { world.new ≡ record world.old {
+      here = state (start_in journal.now) (entries_in journal.now) (at + 1);
+    } }
 {
     let entry = journal.entry(at);
     follow(world, &entry.mv, &entry.verdict, steps);

@@ -1,4 +1,4 @@
-ghost use Rattle.std.specs.Prelude.{◌≡◌, ◌+◌, ◌*◌, ◌^◌, ◌<◌, ◌≤◌, ◌-◌, ◌==◌, List, [], ◌∷◌, length, IfOk};
+ghost use Rattle.std.specs.Prelude.{◌≡◌, ◌+◌, ◌*◌, ◌^◌, ◌<◌, ◌≤◌, ◌-◌, ◌==◌, List, length, IfOk};
 ghost use Rattle.ra_base.specs.Sums.{one_if};
 ghost use Rattle.ra_base.specs.declared.causes.Drawing.TheVariants.{One, Two};
 ghost use Rattle.ra_model.specs.Numbers.{resource_count};
@@ -6,7 +6,7 @@ ghost use Rattle.ra_journal.specs.declared.entries.Entry.{Entry as Recorded};
 ghost use Rattle.ra_journal.specs.Entries.{worker_count, budget};
 ghost use Rattle.ra_topology.specs.Starts.{IsFeasibleStart};
 ghost use Rattle.ra_worker.specs.Following.{IsJudged};
-ghost use Rattle.ra_worker.specs.Replicas.{tables_at, start_at, here_at, lots_at, worker_at, next_at, budget_at, place_at, IsNextPlan, HasFollowed, IsAt, AreTold, HasTaken};
+ghost use Rattle.ra_worker.specs.Replicas.{tables_at, start_at, lots_at, worker_at, next_at, budget_at, place_at, IsNextPlan, HasFollowed, IsAt, AreTold, HasTaken, HasPassed};
 
 use crate::following::follow;
 use crate::proposals::Proposals;
@@ -131,25 +131,27 @@ impl<'a> Replica<'a> {
         requires told { AreTold self.old batch.now }
         ensures { HasTaken self.old self.new batch.now (length batch.now) }
     {
+        // What is known of every world.
+        let _known = self.world.instance();
         for j in 0..batch.len() {
             let entry = batch.entry(j);
             self.take_entry(&entry, steps);
         }
     }
 
-    /// Takes in the next entry of the journal, if it is known without a batch. It stands for the state behind it
-    /// afterwards.
-    pub fn take_one<L: Ledger>(&mut self, entry: &Entry, steps: &mut Steps<L>)
-        requires told { AreTold self.old (entry.now ∷ []) }
-        ensures { HasTaken self.old self.new (entry.now ∷ []) 1 }
+    /// Passes over entries of the journal up to a place. They are refused, so they change nothing, and one of them is its
+    /// worker's next proposal.
+    pub fn pass_over(&mut self, to: u64)
+        requires left { next_at self.old < budget_at self.old }
+        ensures { HasPassed self.old self.new to }
     {
-        self.take_entry(entry, steps);
+        self.proposals.advance();
+        self.place = to;
     }
 
     /// Takes in one entry, which was judged at the state for which it stands.
     pub fn take_entry<L: Ledger>(&mut self, entry: &Entry, steps: &mut Steps<L>)
-        requires judged { IsJudged (tables_at self.old) (start_at self.old) (here_at self.old)
-            entry.now.mv.steps entry.now.verdict }
+        requires judged { IsJudged self.old.world entry.now.mv.steps entry.now.verdict }
         requires left { entry.now.worker ≡ worker_at self.old →
             next_at self.old < budget_at self.old }
         requires few { place_at self.old < 2 ^ 63 }

@@ -1,10 +1,11 @@
 -- A replica that takes in one entry after another of a journal that it can read.
-use Rattle.std.proofs.Common.{◌≡◌, ◌^◌, ◌<◌, List, length, sym, ap, ◌∙◌, subst, arith}
+use Rattle.std.proofs.Common.{◌≡◌, ◌^◌, ◌<◌, List, length, refl, sym, ap, ◌∙◌, subst, arith}
 use Rattle.ra_base.specs.declared.ids.Machine.{Machine}
 use Rattle.ra_draws.specs.declared.budgets.Lots.{Lots}
 use Rattle.ra_model.specs.declared.raw.Tables.{Tables}
 use Rattle.ra_model.specs.Limits.{WellFormed}
 use Rattle.ra_model.specs.Assignments.{IsAssignment}
+use Rattle.ra_model.specs.Situations.{Situation}
 use Rattle.ra_journal.specs.declared.entries.Entry.{Entry}
 use Rattle.ra_journal.specs.Entries.{entry_at, entries_of, budget}
 use Rattle.ra_journal.specs.Legal.{Legal}
@@ -12,15 +13,16 @@ use Rattle.ra_journal.proofs.RoomLemmas.{AreNumbered, entries_few, proposals_few
 use Rattle.ra_worker.specs.declared.replica.Replica.{Replica}
 use Rattle.ra_worker.specs.Following.{IsJudged}
 use Rattle.ra_worker.specs.Replicas.{IsAt}
-use Rattle.ra_worker.proofs.FollowingLemmas.{entry_judged}
+use Rattle.ra_worker.proofs.FollowingLemmas.{entry_judged, one_situation}
 
 -- the entry at the place of a replica was judged at its state
 pub here_judged : (i : Tables) (a0 : List Machine) (l : Lots) (h : List Entry) (r : Replica) (e : Entry) →
     WellFormed i → IsAssignment i a0 → Legal i a0 l h → IsAt i a0 l h r → r.place < length h → e ≡ entry_at h r.place →
-    IsJudged r.world.inst.now.tables r.world.start.now.items r.world.kept.assignment.items e.mv.steps e.verdict
+    IsJudged r.world e.mv.steps e.verdict
 here_judged i a0 l h r e limits fits legal at within e_is =
-    rw (at.instance, at.initial)
-    (entry_judged i a0 r.world.kept.assignment.items l h r.place e limits fits legal within e_is at.state)
+    subst (λ (st : Situation). IsJudged st e.mv.steps e.verdict)
+    (sym (one_situation r.world i a0 r.world.here at.instance at.initial refl))
+    (entry_judged i a0 r.world.here l h r.place e limits fits legal within e_is at.state)
 
 -- if that entry is of its worker, the worker has some budget left
 pub here_left : (i : Tables) (a0 : List Machine) (l : Lots) (h : List Entry) (r : Replica) (e : Entry) →

@@ -1,16 +1,13 @@
 -- A worker while it runs: its replica follows what its pass has seen of the journal.
-use Rattle.std.specs.Prelude.{◌≡◌, ℕ, ◌+◌, ◌<◌, ◌≤◌, [], ◌∷◌, length}
-use Rattle.ra_moves.specs.declared.verdicts.Plan.{Plan}
-use Rattle.ra_moves.specs.declared.verdicts.Verdict.{Verdict}
+use Rattle.std.specs.Prelude.{◌≡◌, ℕ, ◌+◌, ◌<◌, ◌≤◌, length}
 use Rattle.ra_journal.specs.Batches.{batch_from}
-use Rattle.ra_journal.specs.declared.entries.Entry.{Entry}
 use Rattle.ra_journal.specs.declared.replies.Reply.{Reply}
 use Rattle.ra_journal.specs.declared.replies.Reply.TheVariants.{Recorded, Stale}
 use Rattle.ra_journal.specs.Entries.{entries_of, proposal_count}
 use Rattle.ra_turn.specs.Passes.{seen_by, made_by}
 use Rattle.ra_shared.specs.declared.shared.Shared.{Shared}
 use Rattle.ra_shared.specs.Shares.{start_of, IsAtRest}
-use Rattle.ra_worker.specs.Replicas.{IsAt}
+use Rattle.ra_worker.specs.Replicas.{IsAt, ArePassed}
 use Rattle.ra_worker_crew.specs.declared.worker.Worker.{Worker}
 
 -- a worker that has no turn: its pass is at rest, and its replica is the same worker's, at a state of what that has
@@ -47,19 +44,13 @@ pub record HasMoved (before after : Worker) : Type 0 where
   pub turns : before.pass.left + before.replica.place ≤ after.pass.left + after.replica.place
   pub fewer : after.pass.left < before.pass.left
 
--- the entry of a worker's plan with a verdict
-abbrev pub entry_of : ℕ → Plan → Verdict → Entry
-entry_of worker plan verdict =
-    record { worker = worker; k = plan.k; q = plan.q; mv = plan.mv; verdict = verdict }
-
 -- its batch is what it has seen and not taken in, at most 1,024 entries
 pub record HasNext (w : Worker) : Type 0 where
   pub next : w.batch ≡ batch_from (seen_by w.pass) w.replica.place
 
--- what it has seen and not taken in is one entry: its own, of this plan
-pub record IsOwnNext (w : Worker) (plan : Plan) (verdict : Verdict) : Type 0 where
-  pub next :
-      batch_from (seen_by w.pass) w.replica.place ≡ entry_of w.pass.number plan verdict ∷ []
+-- what it has seen and not taken in is refused, and one entry of that is its own
+abbrev pub IsQuiet : Worker → Type 0
+IsQuiet w = ArePassed w.replica (length (seen_by w.pass)) (seen_by w.pass)
 
 -- the place of the entry that an answer shows
 unfoldable pub shown_in : Reply → ℕ

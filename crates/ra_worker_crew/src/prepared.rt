@@ -9,12 +9,12 @@ ghost use Rattle.ra_worker_crew.specs.Runs.{IsRun};
 
 use crate::crew::Crew;
 use crate::solved::Solved;
-use ra_base::{Assignment, Fixed, NoMemory, Parts};
+use ra_base::{Assignment, NoMemory, Parts};
 use ra_check::{Scratch, parts};
 use ra_draws::Lots;
 use ra_io::Gate;
 use ra_journal::Journal;
-use ra_model::Instance;
+use ra_model::{Instance, copied};
 use ra_topology::Topology;
 use ra_worker::restore;
 use std::alloc::Global;
@@ -53,7 +53,7 @@ impl<'a> Prepared<'a> {
         ensures initial { IfOk result (λ prepared. prepared.a0.now ≡ a0.now) }
         ensures lots { IfOk result (λ prepared. prepared.lots.now ≡ lots.now) }
     {
-        let best = copy_of(alloc, a0)?;
+        let best = copied(alloc, a0)?;
         let scratch = Scratch::make(alloc, inst)?;
         let crew = Crew::make(alloc, inst, topo, a0, start, lots)?;
         Ok(Prepared {
@@ -109,13 +109,4 @@ fn bring_to_best(
 {
     restore(journal, journal.best_at(), best);
     parts(journal.instance(), a0, best, scratch)
-}
-
-/// A copy of an assignment.
-fn copy_of(alloc: Global, a: &Assignment) -> Result<Assignment, NoMemory>
-    ensures { IfOk result (λ copy. copy.items ≡ a.now.items) }
-{
-    let mut copy = Fixed::make(alloc, a.len())?;
-    copy.extend_from_slice(a.as_slice());
-    Ok(copy)
 }

@@ -1,15 +1,13 @@
-ghost use Rattle.std.specs.Prelude.{◌≡◌, ◌+◌, ◌*◌, ◌<◌, true, false, [], ◌∷◌, length, IfOk, IfSome, IfNone};
+ghost use Rattle.std.specs.Prelude.{◌≡◌, ◌+◌, ◌*◌, ◌<◌, true, false, length, IfOk};
 ghost use mathlib.Core.List.{IsPrefix};
-ghost use Rattle.ra_journal.specs.declared.replies.Reply.TheVariants.{Recorded};
 ghost use Rattle.ra_journal.specs.Entries.{budget};
 ghost use Rattle.ra_turn.specs.Passes.{seen_by, made_by};
-ghost use Rattle.ra_shared.specs.Copies.{is_recorded_at};
 ghost use Rattle.ra_worker.specs.Replicas.{IsNextPlan, AreTold, HasTaken};
-ghost use Rattle.ra_worker_crew.specs.Working.{IsAtWork, IsOwnNext, HasNext, HasOwn, HasRoom, IsBehind, HasMoved, HasTurned, shown_in};
+ghost use Rattle.ra_worker_crew.specs.Working.{IsAtWork, IsQuiet, HasNext, HasOwn, HasRoom, IsBehind, HasMoved, HasTurned, shown_in};
 
 use ra_base::{NoMemory, Steps};
-use ra_journal::{Batch, Entry, Reply};
-use ra_moves::{Plan, Verdict};
+use ra_journal::{Batch, Reply};
+use ra_moves::Plan;
 use ra_shared::{Shared, WorkerPass};
 use ra_worker::Replica;
 use std::alloc::Global;
@@ -85,9 +83,9 @@ impl<'a> Worker<'a> {
         offer::<Brand>(&self.replica, Blank::new(1))
     }
 
-    /// Hands in a plan of its next proposal. If the plan was recorded at the replica's place, the worker knows that
-    /// entry and takes it in. Else it takes in what the commit copied, and catches up past the entry that the answer
-    /// shows: its own, or the one that made the plan stale.
+    /// Hands in a plan of its next proposal. If the commit copied nothing, all that its pass has seen and its replica
+    /// hasn't taken in is refused, so it passes over that. Else it takes in what was copied, and catches up past the
+    /// entry that the answer shows: its own, or the one that made the plan stale.
     pub(crate) fn hand_in<R: Wait>(&mut self, rt: &R, shared: &Shared<'a>, plan: &Plan)
         requires work { IsAtWork shared.now self.old }
         requires own { HasOwn self.old }
@@ -99,32 +97,30 @@ impl<'a> Worker<'a> {
         ensures own { HasOwn self.new }
         ensures moved { HasMoved self.old self.new }
     {
-        let reply = shared.commit(rt, &mut self.pass, plan, &mut self.batch);
-        match recorded_at(&reply, self.replica.place()) {
-            Some(verdict) => self.take_own(shared, plan, verdict),
-            None => {
-                self.take_copied(shared);
-                self.catch_up_past(rt, shared, shown_by(&reply));
-            }
+        let reply = shared.commit_and_copy(rt, &mut self.pass, plan, &mut self.batch);
+        let copied = self.batch.len();
+        if copied == 0 {
+            self.pass_over(shared);
+        } else {
+            self.take_copied(shared);
+            self.catch_up_past(rt, shared, shown_by(&reply));
         }
     }
 
-    /// Takes in the entry of its own plan, which is all that it has seen and not taken in.
-    fn take_own(&mut self, _shared: &Shared<'a>, plan: &Plan, verdict: Verdict)
+    /// Passes over all that its pass has seen: what its replica hasn't taken in of that is refused.
+    fn pass_over(&mut self, _shared: &Shared<'a>)
         requires work { IsAtWork _shared.now self.old }
-        requires own { IsOwnNext self.old plan.now verdict }
+        requires left { self.old.replica.proposals.number <
+            budget self.old.replica.proposals.lots.now self.old.replica.proposals.worker }
+        requires quiet { IsQuiet self.old }
         ensures work { IsAtWork _shared.now self.new }
         ensures pass { self.new.pass ≡ self.old.pass }
-        ensures place { self.new.replica.place ≡ self.old.replica.place + 1 }
+        ensures place { self.new.replica.place ≡ length (seen_by self.old.pass) }
+        ensures number { self.new.replica.proposals.number ≡
+            self.old.replica.proposals.number + 1 }
     {
-        let entry = Entry {
-            worker: self.pass.number(),
-            k: plan.k,
-            q: plan.q,
-            mv: plan.mv,
-            verdict,
-        };
-        take_one::<Brand>(&mut self.replica, &entry, Blank::new(1));
+        let seen = self.pass.seen();
+        self.replica.pass_over(seen);
     }
 
     /// Takes in the entries that a turn copied into its batch. There is at least one that it hasn't taken in.
@@ -183,18 +179,6 @@ fn shown_by(reply: &Reply) -> u64
     }
 }
 
-/// The verdict, if an answer says that the plan was recorded at this place.
-#[tactic(auto, unfolding(ra_shared::specs::Copies::is_recorded_at))]
-fn recorded_at(reply: &Reply, place: u64) -> Option<Verdict>
-    ensures some { IfSome result (λ verdict. reply.now ≡ Recorded place verdict) }
-    ensures none { IfNone result (is_recorded_at reply.now place ≡ false) }
-{
-    match reply {
-        Reply::Recorded { at, verdict } if *at == place => Some(*verdict),
-        _ => None,
-    }
-}
-
 /// Plans a replica's next proposal.
 fn offer<L: Ledger>(replica: &Replica<'_>, blank: Blank) -> Plan
     requires name { blank.name ≡ L.name }
@@ -218,16 +202,4 @@ fn take_in<L: Ledger>(replica: &mut Replica<'_>, batch: &Batch, blank: Blank)
 {
     let mut steps = Steps::<L>::make(blank);
     replica.take_in(batch, &mut steps);
-}
-
-/// A replica takes in an entry that is known without a batch.
-fn take_one<L: Ledger>(replica: &mut Replica<'_>, entry: &Entry, blank: Blank)
-    requires name { blank.name ≡ L.name }
-    requires parts { blank.parts ≡ L.parts }
-    requires some { 0 < blank.parts }
-    requires told { AreTold replica.old (entry.now ∷ []) }
-    ensures { HasTaken replica.old replica.new (entry.now ∷ []) 1 }
-{
-    let mut steps = Steps::<L>::make(blank);
-    replica.take_one(entry, &mut steps);
 }

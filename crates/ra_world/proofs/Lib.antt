@@ -4,3 +4,4 @@ pub mod StepLaws
 pub mod FollowLaws
 pub mod RequiredLaws
 pub mod FilterTableLaws
+pub mod WorldLaws

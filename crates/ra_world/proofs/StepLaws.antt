@@ -7,18 +7,20 @@ use Rattle.ra_model.specs.declared.raw.Tables.{Tables}
 use Rattle.ra_model.specs.Numbers.{machine_count}
 use Rattle.ra_model.specs.Assignments.{IsAssignment}
 use Rattle.ra_model.specs.Broken.{first_broken}
+use Rattle.ra_model.specs.Situations.{Situation, broken_at}
 use Rattle.ra_moves.specs.declared.steps.Step.{Step}
 use Rattle.ra_moves.specs.Steps.{step_at, from_in, to_in, StandsAt}
-use Rattle.ra_moves.specs.Replacing.{after_steps, applied}
+use Rattle.ra_moves.specs.Replacing.{after_steps, applied, after_move}
 use Rattle.ra_moves.specs.Judging.{repeat_of, same_of, broken_by}
 use Rattle.ra_moves.proofs.FollowLemmas.{apart_from_none, IsStep, step_needs}
 use Rattle.ra_moves.proofs.Repeats.{distinct_from_none}
 use Rattle.ra_world.specs.Following.{AreSteps}
 
-pub steps_from : (i : Tables) (a0 a : List Machine) (steps : List Step) → StandsAt from_in steps a →
-    ((j : ℕ) → j < length steps → to_in steps j < machine_count i) → broken_by i a0 a steps ≡ None → AreSteps i a steps
+pub steps_from : (st : Situation) (steps : List Step) → StandsAt from_in steps st.here →
+    ((j : ℕ) → j < length steps → to_in steps j < machine_count st.tables) → broken_by st steps ≡ None →
+    AreSteps st.tables st.here steps
 unfolding broken_by
-steps_from i a0 a steps stand reach none = record {
+steps_from st steps stand reach none = record {
   stand = stand;
   distinct = distinct_from_none steps (left_none (repeat_of steps) _ none);
   apart = apart_from_none steps (left_none (same_of steps) _ (right_none (repeat_of steps) _ none));
@@ -26,11 +28,11 @@ steps_from i a0 a steps stand reach none = record {
 }
 
 -- no constraint is broken after the move
-pub unbroken_from : (i : Tables) (a0 a b : List Machine) (steps : List Step) → broken_by i a0 a steps ≡ None →
-    b ≡ applied a steps → first_broken i a0 b ≡ None
+pub unbroken_from : (st : Situation) (b : List Machine) (steps : List Step) → broken_by st steps ≡ None →
+    b ≡ applied st.here steps → first_broken st.tables st.start b ≡ None
 unfolding broken_by
-unbroken_from i a0 a b steps none is = ap (first_broken i a0) is
-    ∙ right_none (same_of steps) (first_broken i a0 (applied a steps)) (right_none (repeat_of steps) _ none)
+unbroken_from st b steps none is = ap (first_broken st.tables st.start) is
+    ∙ right_none (same_of steps) (broken_at (after_move st steps)) (right_none (repeat_of steps) _ none)
 
 -- what one of the steps needs, where those before it are done
 pub step_of : (i : Tables) (a b : List Machine) (steps : List Step) (j : ℕ) (s : Step) → IsAssignment i a →

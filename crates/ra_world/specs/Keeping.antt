@@ -1,11 +1,14 @@
 -- What is kept of an assignment, and that it is what the definitions give.
-use Rattle.std.specs.Prelude.{◌≡◌, List}
+use Rattle.std.specs.Prelude.{◌≡◌, List, None}
 use Rattle.ra_base.specs.declared.ids.Machine.{Machine}
 use Rattle.ra_model.specs.declared.raw.Tables.{Tables}
 use Rattle.ra_model.specs.Numbers.{machine_count}
 use Rattle.ra_model.specs.Assignments.{IsAssignment}
+use Rattle.ra_model.specs.Broken.{first_broken}
 use Rattle.ra_model.specs.Costs.{parts_of}
 use Rattle.ra_model.specs.MachineCosts.{machine_load, machine_balance}
+use Rattle.ra_topology.specs.Fits.{IsTopologyOf}
+use Rattle.ra_topology.specs.TopologyLists.{TopologyLists}
 use Rattle.ra_rows.specs.Rows as rows
 use Rattle.ra_cells.specs.Stands as cells
 use Rattle.ra_world.specs.declared.kept.Kept.{Kept}
@@ -28,3 +31,11 @@ pub record Keeps (kept : Kept) (i : Tables) (a0 : List Machine) : Type 0 where
       AreCosts kept.balances.items (machine_count i) (machine_balance i kept.assignment.items)
   pub filters : IsRowTable i kept.assignment.items kept.filters.items
   pub parts : kept.parts ≡ parts_of i a0 kept.assignment.items
+
+-- a world: a0 is an assignment of an instance with this topology, and what is kept of the assignment reached from it
+-- is right and breaks nothing
+pub record IsWorld (i : Tables) (a0 : List Machine) (topo : TopologyLists) (kept : Kept) : Type 0 where
+  pub fits : IsAssignment i a0
+  pub topology : IsTopologyOf topo i
+  pub keeps : Keeps kept i a0
+  pub unbroken : first_broken i a0 kept.assignment.items ≡ None

@@ -3,4 +3,3 @@ pub mod Keeping
 pub mod Following
 pub mod Required
 pub mod FilterTables
-pub mod Worlds

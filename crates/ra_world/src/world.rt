@@ -1,13 +1,13 @@
 ghost use Rattle.std.specs.Prelude.{◌≡◌, ℕ, ◌+◌, ◌*◌, ◌<◌, ◌≤◌, length, None, IfOk};
 ghost use Rattle.ra_model.specs.Numbers.{resource_count, machine_count};
 ghost use Rattle.ra_model.specs.Assignments.{IsAssignment};
-ghost use Rattle.ra_model.specs.Broken.{first_broken};
 ghost use Rattle.ra_model.specs.Costs.{parts_of};
 ghost use Rattle.ra_model.specs.MachineCosts.{machine_load, machine_balance};
+ghost use Rattle.ra_model.specs.Situations.{situation, parts_at, IsSound};
 ghost use Rattle.ra_topology.specs.Fits.{IsTopologyOf};
 ghost use Rattle.ra_topology.specs.Starts.{IsFeasibleStart};
 ghost use Rattle.ra_moves.specs.Steps.{StandsAt, from_in, to_in};
-ghost use Rattle.ra_moves.specs.Replacing.{applied};
+ghost use Rattle.ra_moves.specs.Replacing.{after_move};
 ghost use Rattle.ra_moves.specs.Judging.{broken_by};
 ghost use Rattle.ra_rows.specs.Rows as rows;
 ghost use Rattle.ra_cells.specs.Stands as cells;
@@ -18,34 +18,39 @@ use crate::filters::filters_of;
 use crate::following::follow;
 use crate::kept::Kept;
 use crate::renewal::{balances_of, loads_of};
-use ra_base::{Assignment, Fixed, Machine, NoMemory, Parts, Steps};
+use ra_base::{Assignment, Machine, NoMemory, Parts, Steps};
 use ra_cells::Cells;
-use ra_model::Instance;
+use ra_model::{Instance, copied};
 use ra_moves::Move;
 use ra_rows::Rows;
 use ra_topology::Topology;
 use std::alloc::Global;
+use std::marker::Model;
 use std::sync::ledger::Ledger;
 
 /// The replica of a feasible assignment of an instance, reached from an initial one: the assignment itself, its use
 /// and its counters, the cost of each machine and the parts of its cost. `apply` changes all of them by a move, and
-/// what a world tells is at all times what the definitions give for its assignment. Only `make` takes memory.
+/// what a world tells is at all times what the definitions give for its situation. Only `make` takes memory.
 #[derive(Drop)]
 pub struct World<'a> {
     inst: &'a Instance,
     topo: &'a Topology,
     start: &'a Assignment,
     kept: Kept<'a>,
-    pub ghost fits: { IsAssignment inst.now.tables start.now.items },
-    pub ghost topology: { IsTopologyOf topo.now inst.now.tables },
-    pub ghost keeps: { Keeps kept inst.now.tables start.now.items },
-    pub ghost unbroken: { first_broken inst.now.tables start.now.items kept.assignment.items ≡
-        None },
+}
+
+impl<'a> Model for World<'a> {
+    ghost use Rattle.ra_model.specs.Situations.{Situation, situation};
+    ghost use Rattle.ra_world.specs.Keeping.{IsWorld};
+
+    ghost Value = { Situation };
+
+    ghost view = { λ w. situation w.inst.now.tables w.start.now.items w.kept.assignment.items };
+
+    ghost invariant = { λ w. IsWorld w.inst.now.tables w.start.now.items w.topo.now w.kept };
 }
 
 impl<'a> World<'a> {
-    ghost use Rattle.ra_world.specs.Worlds.{instance_of, tables_of, topology_of, initial_of, start_of, assignment_of, here_of, rows_of, cells_of};
-
     /// The world of an initial assignment that is feasible, whose cost has these parts.
     pub fn make(
         alloc: Global,
@@ -55,10 +60,8 @@ impl<'a> World<'a> {
         start: Parts,
     ) -> Result<World<'a>, NoMemory>
         requires { IsFeasibleStart inst.now.tables topo.now a0.now.items start }
-        ensures instance { IfOk result (λ world. instance_of world ≡ inst.now) }
-        ensures topology { IfOk result (λ world. topology_of world ≡ topo.now) }
-        ensures initial { IfOk result (λ world. initial_of world ≡ a0.now) }
-        ensures assignment { IfOk result (λ world. here_of world ≡ a0.now.items) }
+        ensures { IfOk result (λ world. world ≡
+            situation inst.now.tables a0.now.items a0.now.items) }
     {
         let kept = kept_of(alloc, inst, a0, start)?;
         Ok(World {
@@ -71,76 +74,78 @@ impl<'a> World<'a> {
 
     /// The assignment that the world stands for.
     pub fn assignment(&self) -> &Assignment
-        ensures value { result.now ≡ assignment_of self.now }
-        ensures fits { IsAssignment (tables_of self.now) result.now.items }
+        ensures value { result.now.items ≡ self.now.here }
+        ensures fits { IsAssignment self.now.tables result.now.items }
+        ensures sound { IsSound self.now }
     {
         &self.kept.assignment
     }
 
     /// The parts of its cost.
     pub fn parts(&self) -> Parts
-        ensures { result ≡
-            parts_of (tables_of self.now) (start_of self.now)
-            (here_of self.now) }
+        ensures value { result ≡ parts_at self.now }
+        ensures sound { IsSound self.now }
     {
         self.kept.parts
     }
 
     /// The initial assignment.
     pub fn initial(&self) -> &'a Assignment
-        ensures { result.now ≡ initial_of self.now }
+        ensures value { result.now.items ≡ self.now.start }
+        ensures sound { IsSound self.now }
     {
         self.start
     }
 
     /// The rows of its use and of its transient use.
     pub fn rows(&self) -> &Rows<'a>
-        ensures value { result.now ≡ rows_of self.now }
-        ensures instance { result.now.tables ≡ tables_of self.now }
-        ensures initial { result.now.start ≡ start_of self.now }
-        ensures stand { rows.StandFor result.now (here_of self.now) }
+        ensures instance { result.now.tables ≡ self.now.tables }
+        ensures initial { result.now.start ≡ self.now.start }
+        ensures stand { rows.StandFor result.now self.now.here }
+        ensures sound { IsSound self.now }
     {
         &self.kept.rows
     }
 
     /// The counters of its services.
     pub fn cells(&self) -> &Cells<'a>
-        ensures value { result.now ≡ cells_of self.now }
-        ensures instance { result.now.inst.now.tables ≡ tables_of self.now }
-        ensures stand { cells.StandFor result.now (tables_of self.now) (start_of self.now)
-            (here_of self.now) }
+        ensures instance { result.now.inst.now.tables ≡ self.now.tables }
+        ensures stand { cells.StandFor result.now self.now.tables self.now.start self.now.here }
+        ensures sound { IsSound self.now }
     {
         &self.kept.cells
     }
 
     /// The instance.
     pub fn instance(&self) -> &'a Instance
-        ensures { result.now ≡ instance_of self.now }
+        ensures value { result.now.tables ≡ self.now.tables }
+        ensures sound { IsSound self.now }
     {
         self.inst
     }
 
     /// The topology of the instance.
     pub fn topology(&self) -> &'a Topology
-        ensures { result.now ≡ topology_of self.now }
+        ensures fits { IsTopologyOf result.now self.now.tables }
+        ensures sound { IsSound self.now }
     {
         self.topo
     }
 
     /// What a machine adds to the load cost.
     pub fn machine_load(&self, m: Machine) -> u128
-        requires { m.0 < machine_count (tables_of self.now) }
-        ensures { result ≡
-            machine_load (tables_of self.now) (here_of self.now) m.0 }
+        requires { m.0 < machine_count self.now.tables }
+        ensures value { result ≡ machine_load self.now.tables self.now.here m.0 }
+        ensures sound { IsSound self.now }
     {
         self.kept.loads.get(m.0 as usize)
     }
 
     /// What a machine adds to the balance cost.
     pub fn machine_balance(&self, m: Machine) -> u128
-        requires { m.0 < machine_count (tables_of self.now) }
-        ensures { result ≡
-            machine_balance (tables_of self.now) (here_of self.now) m.0 }
+        requires { m.0 < machine_count self.now.tables }
+        ensures value { result ≡ machine_balance self.now.tables self.now.here m.0 }
+        ensures sound { IsSound self.now }
     {
         self.kept.balances.get(m.0 as usize)
     }
@@ -148,7 +153,8 @@ impl<'a> World<'a> {
     /// The filter rows of all machines, row after row: what a machine has of each resource and for each balance objective
     /// before a process that comes costs more there.
     pub fn filter_rows(&self) -> &[u32]
-        ensures { IsRowTable (tables_of self.now) (here_of self.now) result.now }
+        ensures rows { IsRowTable self.now.tables self.now.here result.now }
+        ensures sound { IsSound self.now }
     {
         self.kept.filters.as_slice()
     }
@@ -156,19 +162,14 @@ impl<'a> World<'a> {
     /// Follows a move that the judge refuses for no cause other than a rise of the cost. It reads the requirements of
     /// its processes, each once, whatever the number of all processes is.
     pub fn apply<L: Ledger>(&mut self, mv: &Move, steps: &mut Steps<L>)
-        requires at_from { StandsAt from_in mv.now.steps (here_of self.old) }
+        requires at_from { StandsAt from_in mv.now.steps self.old.here }
         requires to { (j : ℕ) → j < length mv.now.steps →
-            to_in mv.now.steps j < machine_count (tables_of self.old) }
-        requires unbroken { broken_by (tables_of self.old) (start_of self.old)
-            (here_of self.old) mv.now.steps ≡ None }
-        ensures assignment { here_of self.new ≡
-            applied (here_of self.old) mv.now.steps }
-        ensures instance { instance_of self.new ≡ instance_of self.old }
-        ensures topology { topology_of self.new ≡ topology_of self.old }
-        ensures initial { initial_of self.new ≡ initial_of self.old }
+            to_in mv.now.steps j < machine_count self.old.tables }
+        requires unbroken { broken_by self.old mv.now.steps ≡ None }
+        ensures moved { self.new ≡ after_move self.old mv.now.steps }
         ensures counted { steps.new ≡
-            steps.old + length mv.now.steps * resource_count (tables_of self.old) }
-        ensures at_most { steps.new ≤ steps.old + 3 * resource_count (tables_of self.old) }
+            steps.old + length mv.now.steps * resource_count self.old.tables }
+        ensures at_most { steps.new ≤ steps.old + 3 * resource_count self.old.tables }
     {
         let inst = self.inst;
         let start = self.start;
@@ -188,7 +189,7 @@ fn kept_of<'a>(
     ensures keeps { IfOk result (λ kept. Keeps kept inst.now.tables a0.now.items) }
     ensures assignment { IfOk result (λ kept. kept.assignment.items ≡ a0.now.items) }
 {
-    let assignment = copy_of(alloc, a0)?;
+    let assignment = copied(alloc, a0)?;
     let rows = Rows::make(alloc, inst, a0)?;
     let cells = Cells::make(alloc, inst, a0)?;
     let loads = loads_of(alloc, inst, &rows)?;
@@ -203,13 +204,4 @@ fn kept_of<'a>(
         filters,
         parts,
     })
-}
-
-/// A copy of an assignment.
-pub(crate) fn copy_of(alloc: Global, a: &Assignment) -> Result<Assignment, NoMemory>
-    ensures { IfOk result (λ copy. copy.items ≡ a.now.items) }
-{
-    let mut copy = Fixed::make(alloc, a.len())?;
-    copy.extend_from_slice(a.as_slice());
-    Ok(copy)
 }

@@ -3,19 +3,19 @@ ghost use Rattle.ra_base.specs.declared.causes.Cause.{Cause};
 ghost use Rattle.ra_model.specs.Numbers.{machine_count};
 ghost use Rattle.ra_model.specs.Assignments.{IsAssignment};
 ghost use Rattle.ra_model.specs.Broken.{first_broken};
-ghost use Rattle.ra_model.specs.Costs.{parts_of};
+ghost use Rattle.ra_model.specs.Situations.{situation, parts_at};
 ghost use Rattle.ra_check.specs.Made.{IsMadeFor};
 ghost use Rattle.ra_topology.specs.Fits.{IsTopologyOf};
 ghost use Rattle.ra_moves.specs.declared.verdicts.Verdict.TheVariants.{Done, Refused};
 ghost use Rattle.ra_moves.specs.Steps.{StandsAt, from_in, to_in};
-ghost use Rattle.ra_moves.specs.Replacing.{applied};
+ghost use Rattle.ra_moves.specs.Replacing.{after_move};
 ghost use Rattle.ra_moves.specs.Judging.{judge};
 ghost use Rattle.test_compare.specs.Asked.{asked};
 
 use plain_judge::judge_plainly;
-use ra_base::{Assignment, Drawing, Fixed, NoMemory, Parts, Steps};
+use ra_base::{Assignment, Drawing, NoMemory, Parts, Steps};
 use ra_check::{Scratch, first_broken, parts};
-use ra_model::Instance;
+use ra_model::{Instance, copied};
 use ra_moves::{Move, Verdict, apply, options, resolve};
 use ra_topology::Topology;
 use ra_world::World;
@@ -28,8 +28,8 @@ pub struct Beside<'a> {
     world: World<'a>,
     other: Assignment,
     scratch: Scratch,
-    pub ghost same: { other.items ≡ world.kept.assignment.items },
-    pub ghost made: { IsMadeFor scratch world.inst.now.tables },
+    pub ghost same: { other.items ≡ world.here },
+    pub ghost made: { IsMadeFor scratch world.tables },
 }
 
 impl<'a> Beside<'a> {
@@ -42,12 +42,8 @@ impl<'a> Beside<'a> {
     ) -> Result<Option<Beside<'a>>, NoMemory>
         requires fits { IsAssignment inst.now.tables a0.now.items }
         requires topology { IsTopologyOf topo.now inst.now.tables }
-        ensures instance { IfOk result (λ made.
-            IfSome made (λ b. b.world.inst.now ≡ inst.now)) }
-        ensures initial { IfOk result (λ made.
-            IfSome made (λ b. b.world.start.now ≡ a0.now)) }
-        ensures assignment { IfOk result (λ made.
-            IfSome made (λ b. b.world.kept.assignment.items ≡ a0.now.items)) }
+        ensures world { IfOk result (λ made. IfSome made (λ b. b.world ≡
+            situation inst.now.tables a0.now.items a0.now.items)) }
         ensures none { IfOk result (λ made. made ≡ None →
             first_broken inst.now.tables a0.now.items a0.now.items ≡ None → ⊥) }
     {
@@ -57,7 +53,7 @@ impl<'a> Beside<'a> {
         }
         let costs = parts(inst, a0, a0, &mut scratch);
         let world = World::make(alloc, inst, topo, a0, costs)?;
-        let other = copy_of(alloc, a0)?;
+        let other = copied(alloc, a0)?;
         Ok(Some(Beside {
             world,
             other,
@@ -74,8 +70,7 @@ impl<'a> Beside<'a> {
 
     /// The parts of the cost of its assignment, from scratch.
     pub fn checked_parts(&mut self) -> Parts
-        ensures parts { result ≡ parts_of self.old.world.inst.now.tables
-            self.old.world.start.now.items self.old.world.kept.assignment.items }
+        ensures parts { result ≡ parts_at self.old.world }
         ensures world { self.new.world ≡ self.old.world }
     {
         let inst = self.world.instance();
@@ -85,18 +80,17 @@ impl<'a> Beside<'a> {
 
     /// Follows a move on both sides, if the plain checker judges it Done; a rise of the cost is allowed.
     pub fn follow<L: Ledger>(&mut self, mv: &Move, steps: &mut Steps<L>) -> Verdict
-        requires stands { StandsAt from_in mv.now.steps self.old.world.kept.assignment.items }
+        requires stands { StandsAt from_in mv.now.steps self.old.world.here }
         requires reaches { (j : ℕ) → j < length mv.now.steps →
-            to_in mv.now.steps j < machine_count self.old.world.inst.now.tables }
-        ensures verdict { result ≡ judge self.old.world.inst.now.tables
-            self.old.world.start.now.items self.old.world.kept.assignment.items
+            to_in mv.now.steps j < machine_count self.old.world.tables }
+        ensures verdict { result ≡ judge self.old.world
             mv.now.steps 18446744073709551615 }
-        ensures done { (cost : ℕ) → result ≡ Done cost → self.new.world.kept.assignment.items
-            ≡ applied self.old.world.kept.assignment.items mv.now.steps }
+        ensures done { (cost : ℕ) → result ≡ Done cost →
+            self.new.world ≡ after_move self.old.world mv.now.steps }
         ensures refused { (cause : Cause) → result ≡ Refused cause →
             self.new.world ≡ self.old.world }
-        ensures instance { self.new.world.inst.now ≡ self.old.world.inst.now }
-        ensures initial { self.new.world.start.now ≡ self.old.world.start.now }
+        ensures instance { self.new.world.tables ≡ self.old.world.tables }
+        ensures initial { self.new.world.start ≡ self.old.world.start }
     {
         let inst = self.world.instance();
         let a0 = self.world.initial();
@@ -114,17 +108,16 @@ impl<'a> Beside<'a> {
     /// name.
     #[tactic(auto, unfolding(crate::specs::Asked::asked))]
     pub fn propose<L: Ledger>(&mut self, words: &[u64; 8], steps: &mut Steps<L>) -> Verdict
-        ensures verdict { result ≡ judge self.old.world.inst.now.tables
-            self.old.world.start.now.items self.old.world.kept.assignment.items
-            (asked self.old.world.inst.now.tables self.old.world.kept.assignment.items words.now)
+        ensures verdict { result ≡ judge self.old.world
+            (asked self.old.world.tables self.old.world.here words.now)
             18446744073709551615 }
-        ensures done { (cost : ℕ) → result ≡ Done cost → self.new.world.kept.assignment.items
-            ≡ applied self.old.world.kept.assignment.items
-            (asked self.old.world.inst.now.tables self.old.world.kept.assignment.items words.now) }
+        ensures done { (cost : ℕ) → result ≡ Done cost →
+            self.new.world ≡ after_move self.old.world
+            (asked self.old.world.tables self.old.world.here words.now) }
         ensures refused { (cause : Cause) → result ≡ Refused cause →
             self.new.world ≡ self.old.world }
-        ensures instance { self.new.world.inst.now ≡ self.old.world.inst.now }
-        ensures initial { self.new.world.start.now ≡ self.old.world.start.now }
+        ensures instance { self.new.world.tables ≡ self.old.world.tables }
+        ensures initial { self.new.world.start ≡ self.old.world.start }
     {
         let machines = self.world.instance().machines();
         let count = options(words, machines, Drawing::Two);
@@ -133,13 +126,4 @@ impl<'a> Beside<'a> {
         let mv = resolve(assignment, words, machines, Drawing::Two, option);
         self.follow(&mv, steps)
     }
-}
-
-/// A copy of an assignment.
-fn copy_of(alloc: Global, a: &Assignment) -> Result<Assignment, NoMemory>
-    ensures { IfOk result (λ copy. copy.items ≡ a.now.items) }
-{
-    let mut copy = Fixed::make(alloc, a.len())?;
-    copy.extend_from_slice(a.as_slice());
-    Ok(copy)
 }

@@ -6,7 +6,7 @@ mod sinks;
 use ra_io::MemorySink;
 use ra_report::WriteFault;
 use running::{Written, write_words};
-use sinks::{sink, sound};
+use sinks::{long_sink, sink, sound};
 use std::alloc::{AllocError, Global};
 use std::process::Abort;
 use std::sync::Wait;
@@ -101,5 +101,47 @@ fn a_long_text_is_put_in_few_pieces(rt: HostRuntime) -> Result<(), Fail> {
         Ok(())
     );
     assert_eq!(rt; out.bytes().len(), 109 + 10 * 35 + 90 * 38 + 400 * 41);
+    Ok(())
+}
+
+/// Words of 20,000 proposals of one worker.
+const LONG: &[&str] = &["solve", "m", "i", "7:20000"];
+
+/// One desk writes the lines of 4,096 entries at a time, three write 12,288, and sixteen have some to spare.
+#[test]
+fn desks_write_the_report_that_one_thread_writes(rt: HostRuntime) -> Result<(), Fail> {
+    let mut out = long_sink(&rt, 1_000_000)?;
+    assert_eq!(rt;
+        write_on_sample(&rt, rt.alloc(), LONG, Written::Report, &mut out),
+        Ok(())
+    );
+    for number in [1, 3, 16] {
+        let mut other = long_sink(&rt, 1_000_000)?;
+        let told = Written::ReportAt(number);
+        assert_eq!(rt;
+            write_on_sample(&rt, rt.alloc(), LONG, told, &mut other),
+            Ok(())
+        );
+        assert!(rt; other.bytes() == out.bytes());
+    }
+    Ok(())
+}
+
+/// The head is put first, and then the lines of a desk each time.
+#[test]
+fn a_failed_put_of_a_desk_ends_the_report(rt: HostRuntime) -> Result<(), Fail> {
+    let mut whole = long_sink(&rt, 1_000_000)?;
+    assert_eq!(rt;
+        write_on_sample(&rt, rt.alloc(), LONG, Written::Report, &mut whole),
+        Ok(())
+    );
+    let mut out = long_sink(&rt, 3)?;
+    let told = Written::ReportAt(3);
+    assert_eq!(rt;
+        write_on_sample(&rt, rt.alloc(), LONG, told, &mut out),
+        Err(WriteFault::Put)
+    );
+    assert!(rt; whole.bytes().starts_with(out.bytes()));
+    assert!(rt; out.bytes().len() > 100_000 && out.bytes().len() < 500_000);
     Ok(())
 }

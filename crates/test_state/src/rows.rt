@@ -1,12 +1,12 @@
 //! Rows that follow a process, and rows of the greatest numbers.
-ghost use Rattle.std.specs.Prelude.{◌≡◌, ◌≢◌, ◌<◌, length};
+ghost use Rattle.std.specs.Prelude.{◌≡◌, ◌≢◌, ◌<◌};
 ghost use Rattle.ra_model.specs.Numbers.{resource_count, machine_count, process_count};
 ghost use Rattle.ra_model.specs.Assignments.{IsAssignment, machine_at};
 ghost use Rattle.ra_rows.specs.Rows.{HasAt};
 
 use crate::common::{fitting, same};
 use ra_base::{Assignment, Machine, Process, Resource, Steps};
-use ra_model::Instance;
+use ra_model::{Instance, machine_of};
 use ra_rows::Rows;
 use std::alloc::Global;
 use std::marker::Brand;
@@ -85,16 +85,6 @@ fn rows_at_start<'a>(
     ensures tables { result.tables ≡ inst.now.tables }
 {
     Rows::make(alloc, inst, a0).expect(rt, "no memory")
-}
-
-/// The machine of a process.
-#[tactic(auto, using(ra_model::proofs::TallyLemmas::machine_at_read))]
-fn machine_of(a: &Assignment, p: Process) -> Machine
-    requires { p.0 < length a.now.items }
-    ensures { result.0 ≡ machine_at a.now.items p.0 }
-{
-    let _count = a.len();
-    a.get(p.0 as usize)
 }
 
 /// The rows at the start, and while process 1 goes and comes.

@@ -38,9 +38,8 @@ pub(super) fn first_plan<L: Ledger>(
     worker: u32,
     steps: &mut Steps<L>,
 ) -> Plan
-    requires start { world.now.kept.assignment.items ≡ world.now.start.now.items }
-    ensures { IsFirstPlan world.now.inst.now.tables world.now.start.now.items lots.now worker
-        result }
+    requires start { world.now.here ≡ world.now.start }
+    ensures { IsFirstPlan world.now.tables world.now.start lots.now worker result }
 {
     assert!(rt; worker < lots.len());
     let lot = lots.lot(worker);

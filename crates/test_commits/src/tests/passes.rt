@@ -55,7 +55,7 @@ fn both<'a>(
     (first, second)
 }
 
-/// A worker hands in its first plan, in the first turn of its pass.
+/// A worker hands in its first plan, in the first turn of its pass. Worker 0 has nothing copied.
 fn commit_first<'a, R: Abort + Wait>(
     rt: &R,
     shared: &Shared<'a>,
@@ -74,7 +74,11 @@ fn commit_first<'a, R: Abort + Wait>(
     ensures left { 0 < pass.new.left }
 {
     assert!(rt; lots.lot(worker).budget > 0);
-    shared.commit(rt, pass, plan, batch)
+    if worker == 0 {
+        shared.commit(rt, pass, plan)
+    } else {
+        shared.commit_and_copy(rt, pass, plan, batch)
+    }
 }
 
 /// The entry of a batch of one.
@@ -193,7 +197,7 @@ pub(super) fn away() -> Entry {
 }
 
 /// What worker 1 is answered shows it the entry that made its plan stale, and its commit has copied it; nothing else is
-/// recorded. Worker 0 is copied nothing, since its plan is the entry at its own place.
+/// recorded.
 fn a_stale_pass_sees_the_entry<R: Abort + Wait>(rt: &R, alloc: Global, inst: &Instance) {
     let (answers, entries) = answers_on_sample(rt, alloc, inst);
     let wanted = Answers {

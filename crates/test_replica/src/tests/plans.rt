@@ -42,10 +42,8 @@ fn planned_plainly(
 
 /// The verdict on a plan at the world at which it was made.
 fn verdict_on(world: &World<'_>, planned: &Plan, allowed: u64) -> Verdict
-    requires offered { IsOffered world.now.inst.now.tables world.now.kept.assignment.items
-        planned.now.mv.steps }
-    requires weighed { planned.now.weighed ≡ weighed_of world.now.inst.now.tables
-        world.now.start.now.items world.now.kept.assignment.items planned.now.mv.steps }
+    requires offered { IsOffered world.now.tables world.now.here planned.now.mv.steps }
+    requires weighed { planned.now.weighed ≡ weighed_of world.now planned.now.mv.steps }
 {
     verdict(world, &planned.weighed, allowed)
 }

@@ -16,7 +16,7 @@ fn shift_to(p: u64, m: u64) -> [u64; 8] {
 
 /// The first option of words, at a world.
 fn offered(world: &World<'_>, words: &[u64; 8]) -> Move
-    ensures { IsOffered world.now.inst.now.tables world.now.kept.assignment.items result.steps }
+    ensures { IsOffered world.now.tables world.now.here result.steps }
 {
     let machines = world.instance().machines();
     let _some = options(words, machines, Drawing::One);

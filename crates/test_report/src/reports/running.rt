@@ -13,7 +13,7 @@ use ra_draws::Lots;
 use ra_io::{MemorySink, NoGate};
 use ra_model::Instance;
 use ra_pins::Pins;
-use ra_report::{WriteFault, write_report, write_summary};
+use ra_report::{Desks, WriteFault, write_report, write_report_at, write_summary};
 use ra_topology::Topology;
 use ra_words::{Job, read_words};
 use ra_worker_crew::{Prepared, Solved};
@@ -28,6 +28,8 @@ use test_samples::{assignment, strings};
 #[derive(Clone, Copy)]
 pub(super) enum Written {
     Report,
+    /// The report, written at so many desks.
+    ReportAt(u32),
     Summary,
 }
 
@@ -60,8 +62,36 @@ fn bound_from(rt: &impl Abort, alloc: Global, inst: &Instance, a0: &Assignment) 
     pinned_bound(inst, &pins)
 }
 
+/// Writes the report of a run that has ended at so many desks, with the bound of its instance and its start.
+fn write_at<R: Abort + Threads + Sync>(
+    rt: &R,
+    alloc: Global,
+    out: &mut MemorySink,
+    number: u32,
+    bound: &Bound,
+    run: &Solved<'_>,
+) -> Result<(), WriteFault>
+    requires bound { bound.now ≡ pinned_bound_of run.now.journal.inst.now.tables
+        run.now.journal.a0.now.items }
+    requires best { run.now.best.items ≡ best_state run.now.journal }
+{
+    assert!(rt; 1 <= number && number <= 16);
+    let mut desks = Desks::make(alloc, number).expect(rt, "no memory");
+    write_report_at(
+        rt,
+        &mut desks,
+        out,
+        run.best(),
+        &run.parts(),
+        bound,
+        run.journal(),
+    )
+}
+
 /// Writes what is told of a run that has ended, with the bound of its instance and its start.
-fn write_told(
+fn write_told<R: Abort + Threads + Sync>(
+    rt: &R,
+    alloc: Global,
     out: &mut MemorySink,
     told: Written,
     bound: &Bound,
@@ -73,6 +103,7 @@ fn write_told(
 {
     match told {
         Written::Report => write_report(out, run.best(), &run.parts(), bound, run.journal()),
+        Written::ReportAt(number) => write_at(rt, alloc, out, number, bound, run),
         Written::Summary => write_summary(out, &run.parts(), bound, run.journal()),
     }
 }
@@ -93,7 +124,7 @@ fn write_run<R: Abort + Threads + Wait + Sync>(
     let topo = Topology::make(alloc, inst).expect(rt, "no memory");
     let prepared = Prepared::make(alloc, inst, &topo, a0, start, lots).expect(rt, "no memory");
     let run = prepared.solve(rt, &NoGate);
-    let ended = write_told(out, told, &bound, &run);
+    let ended = write_told(rt, alloc, out, told, &bound, &run);
     drop(run);
     drop(topo);
     ended

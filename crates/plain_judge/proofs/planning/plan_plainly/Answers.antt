@@ -1,6 +1,7 @@
 use Rattle.std.proofs.Common.{◌≡◌, ◌<◌, length, sym, ap, ◌∙◌, arith}
 use Rattle.ra_base.specs.Listed.{Listed}
 use Rattle.ra_base.specs.declared.ids.Machine.{Machine}
+use Rattle.ra_model.specs.Situations.{situation}
 use Rattle.ra_moves.specs.Options.{option_cost, plan_place, plan_of}
 use Rattle.ra_moves.proofs.OptionLemmas.{option_stands, option_reaches}
 use Rattle.ra_moves.proofs.Repeats.{distinct_from_none}
@@ -9,7 +10,8 @@ use Rattle.plain_judge.proofs.planning.plan_plainly.Goals as goal
 
 pub loop-option-init : goal.loop-option-init
 loop-option-init c =
-    let cost = option_cost c.args.inst.now.tables c.args.a0.now.items c.args.a.now.items c.args.words.now c.args.drawing
+    let cost = option_cost (situation c.args.inst.now.tables c.args.a0.now.items c.args.a.now.items) c.args.words.now
+    c.args.drawing
     c.args.allowed in
     record {
       best = rw (first_place cost)

@@ -22,8 +22,8 @@ returns-then-at-gt1 c = λ e gone.
     c.requires.mine c.requires.here c.neighbourhood-label.ensures told
     (omega (arith, c.if-at-gt1.true))))
 
-pub of_service-services-requires : goal.of_service-services-requires
-of_service-services-requires c = omega (arith, c.requires.service, c.requires.dependants.one_each)
+pub dependants-services-requires : goal.dependants-services-requires
+dependants-services-requires c = omega (arith, c.requires.service, c.requires.topology.dependants.one_each)
 
 pub loop-k-init : goal.loop-k-init
 loop-k-init c = λ e left. first_none _
@@ -44,9 +44,9 @@ returns-in-Some c = λ e gone.
     let left : IsLeft d e c.args.s.0 c.neighbourhood-label.result =
     gone_left d e c.args.p.0 c.args.s.0 c.args.at.0 c.neighbourhood-label.result c.at.result gone
     c.requires.mine c.requires.here c.neighbourhood-label.ensures told (omega (arith, c.if-at-gt1.false)) in
-    let list = c.of_service-services.result.now in
+    let list = c.dependants-services.result.now in
     let are : AreDependantsOf c.args.inst.now.tables c.args.s.0 list =
-    rw c.of_service-services.ensures (c.requires.dependants.each c.args.s.0 c.requires.service) in
+    rw c.dependants-services.ensures (c.requires.topology.dependants.each c.args.s.0 c.requires.service) in
     rw (← c.neighbourhood-label.ensures)
     (sym (sym (left_listed e c.args.inst.now.tables c.args.s.0 c.neighbourhood-label.result list left.origin are)
     ∙ first_found c.loop-k.k (length list) _ c.in-Some.cause c.loop-k-test.true
@@ -61,9 +61,9 @@ returns c = λ e gone.
     let left : IsLeft d e c.args.s.0 c.neighbourhood-label.result =
     gone_left d e c.args.p.0 c.args.s.0 c.args.at.0 c.neighbourhood-label.result c.at.result gone
     c.requires.mine c.requires.here c.neighbourhood-label.ensures told (omega (arith, c.if-at-gt1.false)) in
-    let list = c.of_service-services.result.now in
+    let list = c.dependants-services.result.now in
     let are : AreDependantsOf c.args.inst.now.tables c.args.s.0 list =
-    rw c.of_service-services.ensures (c.requires.dependants.each c.args.s.0 c.requires.service) in
+    rw c.dependants-services.ensures (c.requires.topology.dependants.each c.args.s.0 c.requires.service) in
     let all : c.loop-k.k ≡ length list = omega (arith, c.loop-k-test.false, c.loop-k.auto.k-end) in
     rw (← c.neighbourhood-label.ensures)
     (sym (sym (left_listed e c.args.inst.now.tables c.args.s.0 c.neighbourhood-label.result list left.origin are)

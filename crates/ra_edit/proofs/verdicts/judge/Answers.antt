@@ -7,9 +7,7 @@ pub judge_added-requires : goal.judge_added-requires
 judge_added-requires c =
     let fits = rw c.in-Add.is at c.requires.fits in
     record {
-      kept = c.requires.kept;
-      loads = c.requires.loads;
-      members = c.requires.members;
+      held = c.requires.held;
       service = fits.0;
       machine = fits.1;
       asked = c.requires.asked;
@@ -17,18 +15,13 @@ judge_added-requires c =
 
 pub judge_retired-requires : goal.judge_retired-requires
 judge_retired-requires c = record {
-  kept = c.requires.kept;
-  loads = c.requires.loads;
-  members = c.requires.members;
-  dependants = c.requires.dependants;
-  moved = c.requires.moved;
+  held = c.requires.held;
   process = (free_retire _ _ (rw c.in-Retire.is at c.requires.free)).0;
 }
 
 pub judge_resized-requires : goal.judge_resized-requires
 judge_resized-requires c = record {
-  kept = c.requires.kept;
-  loads = c.requires.loads;
+  held = c.requires.held;
   process = free_resize _ _ (rw c.in-Resize.is at c.requires.free);
   asked = c.requires.asked;
 }

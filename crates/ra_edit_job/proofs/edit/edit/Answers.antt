@@ -27,7 +27,7 @@ returns g c =
           c.in_ok-taken.ensures.read) c.edit_from.ensures.refused;
       no_output = if_err_then c.edit_from.result _ _ (λ r same first. same (not_write r first))
           c.edit_from.ensures.no_output;
-      leaves = record { kept = c.read_taken.ensures.kept; never_fall = c.read_taken.ensures.never_fall };
+      leaves = c.read_taken.ensures.leaves;
       never_falls = c.edit_from.ensures.out_never_falls;
     }
 
@@ -42,4 +42,4 @@ returns-in_err-taken g c =
     c.from_residual.ensures
     (reason_untaken held names (g.F.Files.faults c.args.files.now) (g.F.Files.faults c.read_taken.new.files)
     (Edited held names (BrokeOff out.sink)) _ c.in_err-taken.ensures.refused)
-    refl (record { kept = c.read_taken.ensures.kept; never_fall = c.read_taken.ensures.never_fall }) (omega arith)
+    refl c.read_taken.ensures.leaves (omega arith)

@@ -1,8 +1,7 @@
-use Rattle.std.proofs.Common.{◌∙◌, le_trans}
 use Rattle.std.specs.Option.{option_copied}
 use Rattle.ra_token.proofs.ToldLemmas.{at_exit}
 use Rattle.ra_jobs.specs.Files.{edit_names}
-use Rattle.ra_jobs.proofs.StageLemmas.{reason_source}
+use Rattle.ra_jobs.proofs.StageLemmas.{reason_source, leaves_both}
 use Rattle.ra_edit_job.specs.Editing.{EditOwn}
 use Rattle.ra_edit_job.proofs.EditLemmas.{accepts_lists, reason_edits, reason_listed, taken_all}
 use Rattle.ra_edit_job.proofs.edit.read_taken.Goals as goal
@@ -14,10 +13,10 @@ returns-clause-read g c =
     let l = c.in_ok-lists.lists in
     let accepts = accepts_lists held (g.F.Files.held c.read_instance.new.files) c.args.model.now
     (option_copied c.args.closed) c.args.initial.now c.args.current.now c.args.edits.now i l.initial.items
-    l.changed.items c.read_instance.ensures.kept c.in_ok-inst.ensures.read c.in_ok-lists.ensures.read in
+    l.changed.items c.read_instance.ensures.leaves.kept c.in_ok-inst.ensures.read c.in_ok-lists.ensures.read in
     taken_all held (g.F.Files.held c.read_lists.new.files) c.args.model.now (option_copied c.args.closed)
     c.args.initial.now c.args.current.now c.args.edits.now i l.initial.items l.changed.items c.in_ok-edits.edits
-    (λ other. c.read_lists.ensures.kept other ∙ c.read_instance.ensures.kept other) accepts
+    (leaves_both c.read_instance.ensures.leaves c.read_lists.ensures.leaves).kept accepts
     c.in_ok-lists.ensures.read.initial_fits c.in_ok-lists.ensures.read.changed_fits c.in_ok-edits.ensures.read
 
 pub returns-in_err-edits-clause-refused : goal.returns-in_err-edits-clause-refused
@@ -27,14 +26,14 @@ returns-in_err-edits-clause-refused g c =
     let l = c.in_ok-lists.lists in
     let accepts = accepts_lists held (g.F.Files.held c.read_instance.new.files) c.args.model.now
     (option_copied c.args.closed) c.args.initial.now c.args.current.now c.args.edits.now i l.initial.items
-    l.changed.items c.read_instance.ensures.kept c.in_ok-inst.ensures.read c.in_ok-lists.ensures.read in
+    l.changed.items c.read_instance.ensures.leaves.kept c.in_ok-inst.ensures.read c.in_ok-lists.ensures.read in
     at_exit _ _ _ c.from_residual-in_err-edits.ensures
     (reason_edits held (g.F.Files.held c.read_lists.new.files) c.args.model.now (option_copied c.args.closed)
     c.args.initial.now c.args.current.now c.args.edits.now i l.initial.items l.changed.items
     (g.F.Files.faults c.args.files.now) (g.F.Files.faults c.read_lists.new.files)
     (g.F.Files.faults c.take_edits.new.files) ⊥
-    (λ other. c.read_lists.ensures.kept other ∙ c.read_instance.ensures.kept other)
-    (λ other. le_trans (c.read_instance.ensures.never_fall other) (c.read_lists.ensures.never_fall other)) accepts _
+    (leaves_both c.read_instance.ensures.leaves c.read_lists.ensures.leaves).kept
+    (leaves_both c.read_instance.ensures.leaves c.read_lists.ensures.leaves).never_fall accepts _
     c.in_err-edits.ensures.refused)
 
 pub returns-in_err-lists-clause-refused : goal.returns-in_err-lists-clause-refused
@@ -46,7 +45,7 @@ returns-in_err-lists-clause-refused g c =
     (g.F.Files.faults c.read_lists.new.files)
     (EditOwn (g.F.Files.held c.args.files.now)
     (edit_names c.args.model.now c.args.initial.now c.args.current.now c.args.edits.now
-    (option_copied c.args.closed)) ⊥) c.read_instance.ensures.kept c.read_instance.ensures.never_fall
+    (option_copied c.args.closed)) ⊥) c.read_instance.ensures.leaves.kept c.read_instance.ensures.leaves.never_fall
     c.in_ok-inst.ensures.read _ c.in_err-lists.ensures.refused)
 
 pub returns-in_err-inst-clause-refused : goal.returns-in_err-inst-clause-refused
@@ -60,25 +59,13 @@ returns-in_err-inst-clause-refused g c =
     (edit_names c.args.model.now c.args.initial.now c.args.current.now c.args.edits.now
     (option_copied c.args.closed)) ⊥) _ c.in_err-inst.ensures.refused)
 
-pub returns-clause-kept : goal.returns-clause-kept
-returns-clause-kept g c =
-    λ other. c.take_edits.ensures.kept other ∙ (c.read_lists.ensures.kept other ∙ c.read_instance.ensures.kept other)
+pub returns-clause-leaves : goal.returns-clause-leaves
+returns-clause-leaves g c = leaves_both c.read_instance.ensures.leaves
+    (leaves_both c.read_lists.ensures.leaves c.take_edits.ensures.leaves)
 
-pub returns-clause-never_fall : goal.returns-clause-never_fall
-returns-clause-never_fall g c = λ other. le_trans (c.read_instance.ensures.never_fall other)
-    (le_trans (c.read_lists.ensures.never_fall other) (c.take_edits.ensures.never_fall other))
+pub returns-in_err-edits-clause-leaves : goal.returns-in_err-edits-clause-leaves
+returns-in_err-edits-clause-leaves g c = leaves_both c.read_instance.ensures.leaves
+    (leaves_both c.read_lists.ensures.leaves c.take_edits.ensures.leaves)
 
-pub returns-in_err-edits-clause-kept : goal.returns-in_err-edits-clause-kept
-returns-in_err-edits-clause-kept g c =
-    λ other. c.take_edits.ensures.kept other ∙ (c.read_lists.ensures.kept other ∙ c.read_instance.ensures.kept other)
-
-pub returns-in_err-edits-clause-never_fall : goal.returns-in_err-edits-clause-never_fall
-returns-in_err-edits-clause-never_fall g c = λ other. le_trans (c.read_instance.ensures.never_fall other)
-    (le_trans (c.read_lists.ensures.never_fall other) (c.take_edits.ensures.never_fall other))
-
-pub returns-in_err-lists-clause-kept : goal.returns-in_err-lists-clause-kept
-returns-in_err-lists-clause-kept g c = λ other. c.read_lists.ensures.kept other ∙ c.read_instance.ensures.kept other
-
-pub returns-in_err-lists-clause-never_fall : goal.returns-in_err-lists-clause-never_fall
-returns-in_err-lists-clause-never_fall g c =
-    λ other. le_trans (c.read_instance.ensures.never_fall other) (c.read_lists.ensures.never_fall other)
+pub returns-in_err-lists-clause-leaves : goal.returns-in_err-lists-clause-leaves
+returns-in_err-lists-clause-leaves g c = leaves_both c.read_instance.ensures.leaves c.read_lists.ensures.leaves

@@ -6,27 +6,35 @@ use Rattle.ra_jobs.specs.Files.{bound_names}
 use Rattle.ra_jobs.specs.Output.{output, BrokeOff}
 use Rattle.ra_jobs.specs.Outputs.{BoundPrinted, bound_command}
 use Rattle.ra_jobs.specs.Refusals.{OnlyWrites}
-use Rattle.ra_jobs.proofs.DoesLemmas.{not_tried}
+use Rattle.ra_jobs.proofs.DoesLemmas.{not_tried, not_written_whole}
 use Rattle.ra_jobs.proofs.StageLemmas.{reason_anywhere}
 use Rattle.ra_jobs.proofs.bound.print_bound.Goals as goal
 
-pub returns-in-Ok : goal.returns-in-Ok
-returns-in-Ok g c = record {
-  printed = record { bound = c.in_ok-bound.bound; read = c.in_ok-bound.ensures.read; text = c.in-Ok.ensures.whole };
+pub returns : goal.returns
+returns g c = record {
+  printed = record {
+    bound = c.in_ok-bound.bound;
+    read = c.in_ok-bound.ensures.read;
+    text = c.in_ok-write_bound.ensures.whole;
+  };
   refused = tt;
   no_output = tt;
-  leaves = record { kept = c.read_bound.ensures.kept; never_fall = c.read_bound.ensures.never_fall };
+  leaves = c.read_bound.ensures.leaves;
   never_falls = c.write_bound.ensures.never_falls;
 }
 
-pub returns-in-Err : goal.returns-in-Err
-returns-in-Err g c = record {
-  printed = tt;
-  refused = record { bound = c.in_ok-bound.bound; read = c.in_ok-bound.ensures.read; text = c.in-Err.ensures.part };
-  no_output = λ first. absurd cc;
-  leaves = record { kept = c.read_bound.ensures.kept; never_fall = c.read_bound.ensures.never_fall };
-  never_falls = c.write_bound.ensures.never_falls;
-}
+pub returns-in_err-write_bound : goal.returns-in_err-write_bound
+returns-in_err-write_bound g c =
+    not_written_whole
+    (bound_command c.args.model.now (option_copied c.args.initial) (option_copied c.args.closed))
+    (reading g.F.Files c.args.files.now c.read_bound.new.files)
+    (output g.O.Sink c.args.out.now c.write_bound.new.sink) _ c.from_residual-in_err-write_bound.ensures
+    (record {
+      bound = c.in_ok-bound.bound;
+      read = c.in_ok-bound.ensures.read;
+      text = c.in_err-write_bound.ensures.part;
+    })
+    c.read_bound.ensures.leaves c.write_bound.ensures.never_falls
 
 pub returns-in_err-bound : goal.returns-in_err-bound
 returns-in_err-bound g c =
@@ -37,4 +45,4 @@ returns-in_err-bound g c =
     (reading g.F.Files c.args.files.now c.read_bound.new.files) out _ _ c.from_residual.ensures
     (reason_anywhere held names (g.F.Files.faults c.args.files.now) (g.F.Files.faults c.read_bound.new.files)
     (OnlyWrites (BoundPrinted held names (BrokeOff out.sink))) _ c.in_err-bound.ensures.refused)
-    refl (record { kept = c.read_bound.ensures.kept; never_fall = c.read_bound.ensures.never_fall }) (omega arith)
+    refl c.read_bound.ensures.leaves (omega arith)

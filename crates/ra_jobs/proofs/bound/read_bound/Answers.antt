@@ -1,11 +1,10 @@
 -- The instance was read, and then the initial list if one is named.
-use Rattle.std.proofs.Common.{◌∙◌, le_trans}
 use Rattle.std.specs.Option.{option_copied}
 use Rattle.ra_token.proofs.ToldLemmas.{at_exit}
 use Rattle.ra_jobs.specs.Files.{bound_names}
 use Rattle.ra_jobs.specs.Refusals.{Nothing}
 use Rattle.ra_jobs.proofs.ResultLemmas.{if_ok_then, if_err_then}
-use Rattle.ra_jobs.proofs.StageLemmas.{reason_named, reason_source, bound_read}
+use Rattle.ra_jobs.proofs.StageLemmas.{reason_named, reason_source, bound_read, leaves_both}
 use Rattle.ra_jobs.proofs.bound.read_bound.Goals as goal
 
 pub returns-clause-read : goal.returns-clause-read
@@ -13,7 +12,7 @@ returns-clause-read g c =
     if_ok_then c.bound_over-ended.result _ _
     (λ bound is. bound_read (g.F.Files.held c.args.files.now) (g.F.Files.held c.read_instance.new.files)
     c.args.model.now (option_copied c.args.closed) (option_copied c.args.initial) c.in_ok-inst.inst.tables bound
-    c.read_instance.ensures.kept c.in_ok-inst.ensures.read is) c.bound_over-ended.ensures.read
+    c.read_instance.ensures.leaves.kept c.in_ok-inst.ensures.read is) c.bound_over-ended.ensures.read
 
 pub returns-clause-refused : goal.returns-clause-refused
 returns-clause-refused g c =
@@ -21,8 +20,8 @@ returns-clause-refused g c =
     (reason_named (g.F.Files.held c.args.files.now) (g.F.Files.held c.read_instance.new.files) c.args.model.now
     (option_copied c.args.closed) (option_copied c.args.initial) c.in_ok-inst.inst.tables
     (g.F.Files.faults c.args.files.now) (g.F.Files.faults c.read_instance.new.files)
-    (g.F.Files.faults c.bound_over-ended.new.files) Nothing c.read_instance.ensures.kept
-    c.read_instance.ensures.never_fall c.in_ok-inst.ensures.read) c.bound_over-ended.ensures.refused
+    (g.F.Files.faults c.bound_over-ended.new.files) Nothing c.read_instance.ensures.leaves.kept
+    c.read_instance.ensures.leaves.never_fall c.in_ok-inst.ensures.read) c.bound_over-ended.ensures.refused
 
 pub returns-in_err-inst-clause-refused : goal.returns-in_err-inst-clause-refused
 returns-in_err-inst-clause-refused g c =
@@ -32,9 +31,5 @@ returns-in_err-inst-clause-refused g c =
     (g.F.Files.faults c.args.files.now) (g.F.Files.faults c.read_instance.new.files) Nothing _
     c.in_err-inst.ensures.refused)
 
-pub returns-clause-kept : goal.returns-clause-kept
-returns-clause-kept g c = λ other. c.bound_over-ended.ensures.kept other ∙ c.read_instance.ensures.kept other
-
-pub returns-clause-never_fall : goal.returns-clause-never_fall
-returns-clause-never_fall g c =
-    λ other. le_trans (c.read_instance.ensures.never_fall other) (c.bound_over-ended.ensures.never_fall other)
+pub returns-clause-leaves : goal.returns-clause-leaves
+returns-clause-leaves g c = leaves_both c.read_instance.ensures.leaves c.bound_over-ended.ensures.leaves

@@ -1,17 +1,17 @@
-use Rattle.std.proofs.Common.{refl, ◌∙◌, le_trans}
+use Rattle.std.proofs.Common.{refl}
 use Rattle.std.proofs.lemmas.Result.{MatchResult-weaker}
 use Rattle.std.specs.Option.{option_copied}
 use Rattle.ra_token.proofs.ToldLemmas.{at_exit}
 use Rattle.ra_jobs.specs.Files.{check_names}
 use Rattle.ra_jobs.specs.Refusals.{Judges}
-use Rattle.ra_jobs.proofs.StageLemmas.{accepts_all, passed_all, reason_judge, reason_lists, reason_source}
+use Rattle.ra_jobs.proofs.StageLemmas.{accepts_all, passed_all, reason_judge, reason_lists, reason_source, leaves_both}
 use Rattle.ra_jobs.proofs.check.read_parts.Goals as goal
 
 pub returns-clause-passed : goal.returns-clause-passed
 returns-clause-passed g c =
     let accepts = accepts_all (g.F.Files.held c.args.files.now) (g.F.Files.held c.read_instance.new.files)
     c.args.model.now (option_copied c.args.closed) c.args.initial.now c.args.changed.now c.in_ok-inst.inst.tables
-    c.in_ok-lists.lists.initial.items c.in_ok-lists.lists.changed.items c.read_instance.ensures.kept
+    c.in_ok-lists.lists.initial.items c.in_ok-lists.lists.changed.items c.read_instance.ensures.leaves.kept
     c.in_ok-inst.ensures.read c.in_ok-lists.ensures.read in
     MatchResult-weaker c.judge.result c.judge.ensures.passes
     (λ x h. passed_all (g.F.Files.held c.args.files.now)
@@ -23,7 +23,7 @@ pub returns-clause-refused : goal.returns-clause-refused
 returns-clause-refused g c =
     let accepts = accepts_all (g.F.Files.held c.args.files.now) (g.F.Files.held c.read_instance.new.files)
     c.args.model.now (option_copied c.args.closed) c.args.initial.now c.args.changed.now c.in_ok-inst.inst.tables
-    c.in_ok-lists.lists.initial.items c.in_ok-lists.lists.changed.items c.read_instance.ensures.kept
+    c.in_ok-lists.lists.initial.items c.in_ok-lists.lists.changed.items c.read_instance.ensures.leaves.kept
     c.in_ok-inst.ensures.read c.in_ok-lists.ensures.read in
     MatchResult-weaker c.judge.result c.judge.ensures.refused
     (λ x h. h)
@@ -41,7 +41,7 @@ returns-in_err-lists-clause-refused g c =
     (g.F.Files.faults c.read_lists.new.files)
     (Judges (g.F.Files.held c.args.files.now)
     (check_names c.args.model.now c.args.initial.now c.args.changed.now (option_copied c.args.closed)) ⊥)
-    c.read_instance.ensures.kept c.read_instance.ensures.never_fall c.in_ok-inst.ensures.read _
+    c.read_instance.ensures.leaves.kept c.read_instance.ensures.leaves.never_fall c.in_ok-inst.ensures.read _
     c.in_err-lists.ensures.refused)
 
 pub returns-in_err-inst-clause-refused : goal.returns-in_err-inst-clause-refused
@@ -54,16 +54,8 @@ returns-in_err-inst-clause-refused g c =
     (check_names c.args.model.now c.args.initial.now c.args.changed.now (option_copied c.args.closed)) ⊥) _
     c.in_err-inst.ensures.refused)
 
-pub returns-clause-kept : goal.returns-clause-kept
-returns-clause-kept g c = λ other. c.read_lists.ensures.kept other ∙ c.read_instance.ensures.kept other
+pub returns-clause-leaves : goal.returns-clause-leaves
+returns-clause-leaves g c = leaves_both c.read_instance.ensures.leaves c.read_lists.ensures.leaves
 
-pub returns-clause-never_fall : goal.returns-clause-never_fall
-returns-clause-never_fall g c =
-    λ other. le_trans (c.read_instance.ensures.never_fall other) (c.read_lists.ensures.never_fall other)
-
-pub returns-in_err-lists-clause-kept : goal.returns-in_err-lists-clause-kept
-returns-in_err-lists-clause-kept g c = λ other. c.read_lists.ensures.kept other ∙ c.read_instance.ensures.kept other
-
-pub returns-in_err-lists-clause-never_fall : goal.returns-in_err-lists-clause-never_fall
-returns-in_err-lists-clause-never_fall g c =
-    λ other. le_trans (c.read_instance.ensures.never_fall other) (c.read_lists.ensures.never_fall other)
+pub returns-in_err-lists-clause-leaves : goal.returns-in_err-lists-clause-leaves
+returns-in_err-lists-clause-leaves g c = leaves_both c.read_instance.ensures.leaves c.read_lists.ensures.leaves

@@ -1,8 +1,8 @@
-use Rattle.std.proofs.Common.{refl, ◌∙◌, le_trans}
+use Rattle.std.proofs.Common.{refl}
 use Rattle.std.proofs.lemmas.Result.{MatchResult-weaker}
 use Rattle.std.specs.Option.{option_copied}
 use Rattle.ra_token.proofs.ToldLemmas.{at_exit}
-use Rattle.ra_jobs.proofs.StageLemmas.{instance_open, instance_closed, source_model, source_closed}
+use Rattle.ra_jobs.proofs.StageLemmas.{instance_open, instance_closed, source_model, source_closed, leaves_both}
 use Rattle.ra_jobs.proofs.reading.read_instance.Goals as goal
 
 pub returns-in-None-clause-read : goal.returns-in-None-clause-read
@@ -13,7 +13,7 @@ pub returns-in-Some-clause-read : goal.returns-in-Some-clause-read
 returns-in-Some-clause-read g c = MatchResult-weaker c.close.result c.close.ensures.read
     (λ x h. instance_closed (g.F.Files.held c.args.files.now) (g.F.Files.held c.read_open.new.files) c.args.model.now
     (option_copied c.args.closed) c.in-Some.closed.now c.in_ok-inst.inst.tables x.tables
-    c.read_open.ensures.kept (rw c.in-Some.is refl) c.in_ok-inst.ensures.read h)
+    c.read_open.ensures.leaves.kept (rw c.in-Some.is refl) c.in_ok-inst.ensures.read h)
     (λ y h. h)
 
 pub returns-in-Some-clause-refused : goal.returns-in-Some-clause-refused
@@ -21,7 +21,7 @@ returns-in-Some-clause-refused g c = MatchResult-weaker c.close.result c.close.e
     (λ y h. source_closed (g.F.Files.held c.args.files.now) (g.F.Files.held c.read_open.new.files) c.args.model.now
     (option_copied c.args.closed) c.in-Some.closed.now c.in_ok-inst.inst.tables
     (g.F.Files.faults c.args.files.now) (g.F.Files.faults c.read_open.new.files)
-    (g.F.Files.faults c.close.new.files) c.read_open.ensures.kept c.read_open.ensures.never_fall
+    (g.F.Files.faults c.close.new.files) c.read_open.ensures.leaves.kept c.read_open.ensures.leaves.never_fall
     (rw c.in-Some.is refl) c.in_ok-inst.ensures.read y h)
 
 pub returns-in_err-inst-clause-refused : goal.returns-in_err-inst-clause-refused
@@ -30,9 +30,5 @@ returns-in_err-inst-clause-refused g c =
     (source_model (g.F.Files.held c.args.files.now) c.args.model.now (option_copied c.args.closed)
     (g.F.Files.faults c.args.files.now) (g.F.Files.faults c.read_open.new.files) _ c.in_err-inst.ensures.refused)
 
-pub returns-in-Some-clause-kept : goal.returns-in-Some-clause-kept
-returns-in-Some-clause-kept g c = λ other. c.close.ensures.kept other ∙ c.read_open.ensures.kept other
-
-pub returns-in-Some-clause-never_fall : goal.returns-in-Some-clause-never_fall
-returns-in-Some-clause-never_fall g c =
-    λ other. le_trans (c.read_open.ensures.never_fall other) (c.close.ensures.never_fall other)
+pub returns-in-Some-clause-leaves : goal.returns-in-Some-clause-leaves
+returns-in-Some-clause-leaves g c = leaves_both c.read_open.ensures.leaves c.close.ensures.leaves

@@ -38,7 +38,7 @@ returns g c =
           (reason_try held names lots i a0 c.lot.result.now before now (Took out) (BrokeOff out) start one r reason))
           c.try_from-ended.ensures.refused;
       no_output = c.try_from-ended.ensures.no_output;
-      leaves = record { kept = c.read_start.ensures.kept; never_fall = c.read_start.ensures.never_fall };
+      leaves = c.read_start.ensures.leaves;
       never_falls = c.try_from-ended.ensures.out_never_falls;
     }
 
@@ -52,4 +52,4 @@ returns-in_err-start g c =
     (reason_anywhere held names (g.F.Files.faults c.args.files.now) (g.F.Files.faults c.read_start.new.files)
     ((repaired names (These c.args.lots.now)).refuses held (Took out.sink) (BrokeOff out.sink)) _
     c.in_err-start.ensures.refused)
-    refl (record { kept = c.read_start.ensures.kept; never_fall = c.read_start.ensures.never_fall }) (omega arith)
+    refl c.read_start.ensures.leaves (omega arith)

@@ -10,8 +10,8 @@ returns-in-Ok-Some-clause-refused g c =
     run_tried c.args.inst.now c.args.initial.now c.assignment.result.now c.args.lot.now c.run.new.self
     c.first_broken-broken.result (Some c.in-Ok-Some.cause)
     (Took (writing g.O.Sink c.args.out.now c.write_repair-ended.new.sink)) c.run.ensures.run
-    (c.run.ensures.instance ∙ c.in-Ok.ensures.instance) (c.run.ensures.initial ∙ c.in-Ok.ensures.initial)
-    (c.run.ensures.lot ∙ c.in-Ok.ensures.lot) c.assignment.ensures.value c.first_broken-broken.ensures.first
+    (c.run.ensures.instance ∙ c.in_ok-repair.ensures.instance) (c.run.ensures.initial ∙ c.in_ok-repair.ensures.initial)
+    (c.run.ensures.lot ∙ c.in_ok-repair.ensures.lot) c.assignment.ensures.value c.first_broken-broken.ensures.first
     c.first_broken-broken.ensures.feasible.0 c.in-Ok-Some.is-1
     (rw c.in-Ok-Some.is-0 at c.write_repair-ended.ensures.whole)
 
@@ -19,8 +19,8 @@ pub returns-in-Ok-None-clause-printed : goal.returns-in-Ok-None-clause-printed
 returns-in-Ok-None-clause-printed g c =
     run_tried c.args.inst.now c.args.initial.now c.assignment.result.now c.args.lot.now c.run.new.self
     c.first_broken-broken.result None (Took (writing g.O.Sink c.args.out.now c.write_repair-ended.new.sink))
-    c.run.ensures.run (c.run.ensures.instance ∙ c.in-Ok.ensures.instance)
-    (c.run.ensures.initial ∙ c.in-Ok.ensures.initial) (c.run.ensures.lot ∙ c.in-Ok.ensures.lot)
+    c.run.ensures.run (c.run.ensures.instance ∙ c.in_ok-repair.ensures.instance)
+    (c.run.ensures.initial ∙ c.in_ok-repair.ensures.initial) (c.run.ensures.lot ∙ c.in_ok-repair.ensures.lot)
     c.assignment.ensures.value c.first_broken-broken.ensures.first c.first_broken-broken.ensures.feasible.0
     c.in-Ok-None.is-1
     (rw c.in-Ok-None.is-0 at c.write_repair-ended.ensures.whole)
@@ -31,8 +31,8 @@ returns-in-Err-default-clause-refused g c = (
   run_tried c.args.inst.now c.args.initial.now c.assignment.result.now c.args.lot.now c.run.new.self
       c.first_broken-broken.result c.first_broken-broken.result
       (BrokeOff (writing g.O.Sink c.args.out.now c.write_repair-ended.new.sink)) c.run.ensures.run
-      (c.run.ensures.instance ∙ c.in-Ok.ensures.instance) (c.run.ensures.initial ∙ c.in-Ok.ensures.initial)
-      (c.run.ensures.lot ∙ c.in-Ok.ensures.lot) c.assignment.ensures.value c.first_broken-broken.ensures.first
+      (c.run.ensures.instance ∙ c.in_ok-repair.ensures.instance) (c.run.ensures.initial ∙ c.in_ok-repair.ensures.initial)
+      (c.run.ensures.lot ∙ c.in_ok-repair.ensures.lot) c.assignment.ensures.value c.first_broken-broken.ensures.first
       c.first_broken-broken.ensures.feasible.0 refl
       (rw c.in-Err-default.is-0 at c.write_repair-ended.ensures.part),
 )

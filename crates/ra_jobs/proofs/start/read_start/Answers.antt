@@ -1,9 +1,8 @@
-use Rattle.std.proofs.Common.{◌∙◌, le_trans}
 use Rattle.std.specs.Option.{option_copied}
 use Rattle.ra_token.proofs.ToldLemmas.{at_exit}
 use Rattle.ra_jobs.specs.Files.{solve_names}
 use Rattle.ra_jobs.specs.Refusals.{Nothing}
-use Rattle.ra_jobs.proofs.StageLemmas.{reason_initial, reason_source, starts}
+use Rattle.ra_jobs.proofs.StageLemmas.{reason_initial, reason_source, starts, leaves_both}
 use Rattle.ra_jobs.proofs.start.read_start.Goals as goal
 
 pub returns-in_err-initial-clause-refused : goal.returns-in_err-initial-clause-refused
@@ -12,7 +11,7 @@ returns-in_err-initial-clause-refused g c =
     (reason_initial (g.F.Files.held c.args.files.now) (g.F.Files.held c.read_instance.new.files) c.args.model.now
     (option_copied c.args.closed) c.args.initial.now c.in_ok-inst.inst.tables (g.F.Files.faults c.args.files.now)
     (g.F.Files.faults c.read_instance.new.files) (g.F.Files.faults c.read_list.new.files) Nothing
-    c.read_instance.ensures.kept c.read_instance.ensures.never_fall c.in_ok-inst.ensures.read _
+    c.read_instance.ensures.leaves.kept c.read_instance.ensures.leaves.never_fall c.in_ok-inst.ensures.read _
     c.in_err-initial.ensures.refused)
 
 pub returns-in_err-inst-clause-refused : goal.returns-in_err-inst-clause-refused
@@ -23,21 +22,14 @@ returns-in_err-inst-clause-refused g c =
     (g.F.Files.faults c.args.files.now) (g.F.Files.faults c.read_instance.new.files) Nothing _
     c.in_err-inst.ensures.refused)
 
-pub returns-clause-kept : goal.returns-clause-kept
-returns-clause-kept g c = λ other. c.read_list.ensures.kept other ∙ c.read_instance.ensures.kept other
+pub returns-clause-leaves : goal.returns-clause-leaves
+returns-clause-leaves g c = leaves_both c.read_instance.ensures.leaves c.read_list.ensures.leaves
 
-pub returns-clause-never_fall : goal.returns-clause-never_fall
-returns-clause-never_fall g c =
-    λ other. le_trans (c.read_instance.ensures.never_fall other) (c.read_list.ensures.never_fall other)
-
-pub returns-in_err-initial-clause-kept : goal.returns-in_err-initial-clause-kept
-returns-in_err-initial-clause-kept g c = λ other. c.read_list.ensures.kept other ∙ c.read_instance.ensures.kept other
-
-pub returns-in_err-initial-clause-never_fall : goal.returns-in_err-initial-clause-never_fall
-returns-in_err-initial-clause-never_fall g c =
-    λ other. le_trans (c.read_instance.ensures.never_fall other) (c.read_list.ensures.never_fall other)
+pub returns-in_err-initial-clause-leaves : goal.returns-in_err-initial-clause-leaves
+returns-in_err-initial-clause-leaves g c = leaves_both c.read_instance.ensures.leaves c.read_list.ensures.leaves
 
 pub returns-clause-read : goal.returns-clause-read
 returns-clause-read g c = starts (g.F.Files.held c.args.files.now) (g.F.Files.held c.read_instance.new.files)
     c.args.model.now (option_copied c.args.closed) c.args.initial.now c.in_ok-inst.inst.tables
-    c.in_ok-initial.initial.items c.read_instance.ensures.kept c.in_ok-inst.ensures.read c.in_ok-initial.ensures.read
+    c.in_ok-initial.initial.items c.read_instance.ensures.leaves.kept c.in_ok-inst.ensures.read
+    c.in_ok-initial.ensures.read

@@ -3,6 +3,7 @@ use Rattle.ra_moves.specs.Judging.{judge}
 use Rattle.ra_journal.specs.States.{state}
 use Rattle.ra_journal.proofs.EndLemmas.{settling_now, has_settling}
 use Rattle.ra_journal.proofs.recording.judge_now.Goals as goal
+use Rattle.ra_model.specs.Situations.{situation}
 
 pub allowed-rise-requires-clause-worker : goal.allowed-rise-requires-clause-worker
 allowed-rise-requires-clause-worker c = c.requires.next.commit.worker
@@ -28,4 +29,4 @@ returns c =
     let settling = settling_now i a0 c.args.lots.now c.args.book.now c.args.worker c.args.plan.now c.requires.start
     c.requires.kept c.requires.next.commit c.requires.next.untouched in
     c.settle_now.ensures a0 (state a0 h (length h)) steps settling
-    ∙ ap (judge i a0 (state a0 h (length h)) steps) c.allowed-rise.ensures
+    ∙ ap (judge (situation i a0 (state a0 h (length h))) steps) c.allowed-rise.ensures

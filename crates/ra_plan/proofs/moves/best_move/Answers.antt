@@ -19,13 +19,13 @@ pub loop-option-preserved : goal.loop-option-preserved
 unfolding parts_of
 loop-option-preserved g c =
     let world = c.args.world.now in
-    let machines : c.machines-machines.result ≡ machine_count world.inst.now.tables =
-    rw c.instance.ensures at c.machines-machines.ensures in
+    let machines : c.machines-machines.result ≡ machine_count world.tables =
+    rw c.instance.ensures.value at c.machines-machines.ensures in
     let option = rw c.assignment.ensures.value at c.resolve-mv.ensures.option in
     let size : length c.resolve-mv.result.steps ≡ step_count (kind_of c.args.words.now) =
     rw option (option_length _ _ _ _ _) in
     let reads = rw size at c.cost_below-found.ensures.counted in
-    let kept : c.parts.result.total ≡ cost_now world = ap (λ (x : Parts). x.total) c.parts.ensures in
+    let kept : c.parts.result.total ≡ cost_now world = ap (λ (x : Parts). x.total) c.parts.ensures.value in
     let most : c.parts.result.total + c.from.result + 1 ≡ cost_now world + c.args.allowed + 1 =
     omega (arith, kept, c.from.ensures) in
     let bound = c.bound.ensures ∙ ap (bound_of c.loop-option.best.cost) most in
@@ -40,11 +40,11 @@ loop-option-preserved g c =
 pub returns : goal.returns
 returns g c =
     let world = c.args.world.now in
-    let machines : c.machines-machines.result ≡ machine_count world.inst.now.tables =
-    rw c.instance.ensures at c.machines-machines.ensures in
+    let machines : c.machines-machines.result ≡ machine_count world.tables =
+    rw c.instance.ensures.value at c.machines-machines.ensures in
     let end : c.loop-option.option ≡ c.options-count.result =
     omega (arith, c.loop-option-test.false, c.loop-option.auto.option-end, c.options-count.ensures.some) in
-    let all : c.loop-option.option ≡ option_count c.args.words.now (machine_count world.inst.now.tables)
+    let all : c.loop-option.option ≡ option_count c.args.words.now (machine_count world.tables)
     c.args.drawing =
     end ∙ c.options-count.ensures.value ∙ ap (λ m. option_count c.args.words.now m c.args.drawing) machines in
     record { best = rw all at c.loop-option.invariant.best; counted = rw all at c.loop-option.invariant.counted }
@@ -53,24 +53,24 @@ pub overflow_add-most : goal.overflow_add-most
 unfolding parts_of
 overflow_add-most g c =
     let world = c.args.world.now in
-    let kept : c.parts.result.total ≡ cost_now world = ap (λ (x : Parts). x.total) c.parts.ensures in
+    let kept : c.parts.result.total ≡ cost_now world = ap (λ (x : Parts). x.total) c.parts.ensures.value in
     omega (
       arith,
       kept,
       c.from.ensures,
-      objective_under world.inst.now.tables world.start.now.items
-          world.kept.assignment.items world.inst.now.well_formed world.inst.now.small,
+      objective_under world.tables world.start
+          world.here c.instance.ensures.sound.well_formed c.instance.ensures.sound.small,
     )
 
 pub overflow_add-most-2 : goal.overflow_add-most-2
 unfolding parts_of
 overflow_add-most-2 g c =
     let world = c.args.world.now in
-    let kept : c.parts.result.total ≡ cost_now world = ap (λ (x : Parts). x.total) c.parts.ensures in
+    let kept : c.parts.result.total ≡ cost_now world = ap (λ (x : Parts). x.total) c.parts.ensures.value in
     omega (
       arith,
       kept,
       c.from.ensures,
-      objective_under world.inst.now.tables world.start.now.items
-          world.kept.assignment.items world.inst.now.well_formed world.inst.now.small,
+      objective_under world.tables world.start
+          world.here c.instance.ensures.sound.well_formed c.instance.ensures.sound.small,
     )

@@ -9,6 +9,6 @@ use Rattle.ra_plan.proofs.moves.best_move.Given as goal
 abbrev pub invariant-loop-option : goal.invariant-loop-option
 invariant-loop-option g l = record {
   best : IsBest l.world l.words l.drawing l.allowed l.option l.best;
-  counted : l.steps + 2 * (step_count (kind_of l.words) * resource_count l.world.inst.now.tables) ≤ l.fn.steps
-      + l.option * (2 * (step_count (kind_of l.words) * resource_count l.world.inst.now.tables));
+  counted : l.steps + 2 * (step_count (kind_of l.words) * resource_count l.world.tables) ≤ l.fn.steps
+      + l.option * (2 * (step_count (kind_of l.words) * resource_count l.world.tables));
 }

@@ -6,40 +6,40 @@ use Rattle.ra_plan.proofs.moves.cost_below.Goals as goal
 
 pub requirements-requires : goal.requirements-requires
 requirements-requires g c =
-    rw c.instance.ensures (processes_known _ _ _ (flawless_move _ _ _ c.requires.offered c.in_default.ensures))
+    rw c.instance.ensures.value (processes_known _ _ _ (flawless_move _ _ _ c.requires.offered c.in_default.ensures))
 
 pub has_room-requires-clause-moves : goal.has_room-requires-clause-moves
 has_room-requires-clause-moves g c = flawless_move _ _ _ c.requires.offered c.in_default.ensures
 
 pub has_room-requires-clause-required : goal.has_room-requires-clause-required
-has_room-requires-clause-required g c = rw c.instance.ensures at c.requirements.ensures.required
+has_room-requires-clause-required g c = rw c.instance.ensures.value at c.requirements.ensures.required
 
 pub cost_after_move-requires-clause-moves : goal.cost_after_move-requires-clause-moves
 cost_after_move-requires-clause-moves g c = flawless_move _ _ _ c.requires.offered c.in_default.ensures
 
 pub cost_after_move-requires-clause-required : goal.cost_after_move-requires-clause-required
-cost_after_move-requires-clause-required g c = rw c.instance.ensures at c.requirements.ensures.required
+cost_after_move-requires-clause-required g c = rw c.instance.ensures.value at c.requirements.ensures.required
 
 pub is_unbroken-requires-clause-moves : goal.is_unbroken-requires-clause-moves
 is_unbroken-requires-clause-moves g c = flawless_move _ _ _ c.requires.offered c.in_default.ensures
 
 pub is_unbroken-requires-clause-required : goal.is_unbroken-requires-clause-required
-is_unbroken-requires-clause-required g c = rw c.instance.ensures at c.requirements.ensures.required
+is_unbroken-requires-clause-required g c = rw c.instance.ensures.value at c.requirements.ensures.required
 
 pub returns-in-Some-clause-below : goal.returns-in-Some-clause-below
-returns-in-Some-clause-below g c = none_below _ _ _ (λ none. absurd (cc (none, flawed _ _ _ _ _ c.in-Some.ensures)))
+returns-in-Some-clause-below g c = none_below _ _ _ (λ none. absurd (cc (none, flawed _ _ _ c.in-Some.ensures)))
 
 pub returns-then-not-has_room-clause-below : goal.returns-then-not-has_room-clause-below
 returns-then-not-has_room-clause-below g c =
     unfit_below c.args.world.now c.args.mv.now.steps c.args.bound c.has_room.result c.has_room.ensures
-    c.if-not-has_room.true (room_free _ _ _ _ (flawless_move _ _ _ c.requires.offered c.in_default.ensures))
+    c.if-not-has_room.true (room_free _ _ (flawless_move _ _ _ c.requires.offered c.in_default.ensures))
 
 pub returns-then-not-is_unbroken-clause-below : goal.returns-then-not-is_unbroken-clause-below
 returns-then-not-is_unbroken-clause-below g c =
     unfit_below c.args.world.now c.args.mv.now.steps c.args.bound c.is_unbroken.result c.is_unbroken.ensures
-    c.if-not-is_unbroken.true (λ none. sym (flawless _ _ _ _ c.in_default.ensures) ∙ none)
+    c.if-not-is_unbroken.true (λ none. sym (flawless _ _ c.in_default.ensures) ∙ none)
 
 pub returns-clause-below : goal.returns-clause-below
 returns-clause-below g c = some_below c.args.world.now c.args.mv.now.steps c.args.bound c.in_ok-cost.cost
-    (flawless _ _ _ _ c.in_default.ensures ∙ c.is_unbroken.ensures.0 c.if-not-is_unbroken.false)
+    (flawless _ _ c.in_default.ensures ∙ c.is_unbroken.ensures.0 c.if-not-is_unbroken.false)
     (c.in_ok-cost.ensures.is _ refl) (c.in_ok-cost.ensures.low _ refl)

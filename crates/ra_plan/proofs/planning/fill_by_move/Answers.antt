@@ -10,14 +10,14 @@ use Rattle.ra_plan.proofs.planning.fill_by_move.Goals as goal
 pub weigh-plan-requires : goal.weigh-plan-requires
 weigh-plan-requires g c =
     rw c.requires.first
-    (option_offered _ _ _ _ _ c.args.world.now.inst.now.well_formed c.args.world.now.keeps.stand.fits)
+    (option_offered _ _ _ _ _ c.instance-known.ensures.sound.well_formed c.instance-known.ensures.sound.fits)
 
 pub verdict-requires : goal.verdict-requires
 verdict-requires g c = record {
   some = record {
     steps = c.args.first.now.steps;
     offered = rw c.requires.first
-        (option_offered _ _ _ _ _ c.args.world.now.inst.now.well_formed c.args.world.now.keeps.stand.fits);
+        (option_offered _ _ _ _ _ c.instance-known.ensures.sound.well_formed c.instance-known.ensures.sound.fits);
     is = c.weigh-plan.ensures.value;
   };
 }
@@ -25,8 +25,9 @@ verdict-requires g c = record {
 pub best_move-best-requires : goal.best_move-best-requires
 best_move-best-requires g c =
     let world = c.args.world.now in
-    let offered : IsOffered world.inst.now.tables world.kept.assignment.items c.args.first.now.steps =
-    rw c.requires.first (option_offered _ _ _ _ _ world.inst.now.well_formed world.keeps.stand.fits) in
+    let offered : IsOffered world.tables world.here c.args.first.now.steps =
+    rw c.requires.first (option_offered _ _ _ _ _ c.instance-known.ensures.sound.well_formed
+    c.instance-known.ensures.sound.fits) in
     let judged = c.verdict.ensures c.args.first.now.steps offered c.weigh-plan.ensures.value in
     let same = option_in world _ _ _ 0 _ refl c.requires.first in
     record {
@@ -37,13 +38,13 @@ best_move-best-requires g c =
 
 pub move_of-mv-requires-clause-named : goal.move_of-mv-requires-clause-named
 move_of-mv-requires-clause-named g c =
-    best_below c.args.world.now _ _ _ _ _ refl c.args.world.now.inst.now.well_formed.some_machine
+    best_below c.args.world.now _ _ _ _ _ refl c.instance-known.ensures.sound.well_formed.some_machine
     c.best_move-best.ensures.best
 
 pub weighing-plan-requires-clause-offered : goal.weighing-plan-requires-clause-offered
 weighing-plan-requires-clause-offered g c =
     rw c.move_of-mv.ensures
-    (option_offered _ _ _ _ _ c.args.world.now.inst.now.well_formed c.args.world.now.keeps.stand.fits)
+    (option_offered _ _ _ _ _ c.instance-known.ensures.sound.well_formed c.instance-known.ensures.sound.fits)
 
 pub weighing-plan-requires-clause-free : goal.weighing-plan-requires-clause-free
 weighing-plan-requires-clause-free g c =
@@ -53,15 +54,16 @@ weighing-plan-requires-clause-free g c =
 pub returns : goal.returns
 returns g c =
     let world = c.args.world.now in
-    let reads = rest_reads c.args.words.now (machine_count world.inst.now.tables) c.args.drawing
-    (resource_count world.inst.now.tables) c.requires.other in
+    let reads = rest_reads c.args.words.now (machine_count world.tables) c.args.drawing
+    (resource_count world.tables) c.requires.other in
     record {
       numbers_q = refl;
       numbers_k = refl;
       planned = record {
         planned = best_planned world _ _ _ _ _ _ refl c.best_move-best.ensures.best c.move_of-mv.ensures;
         weighing = c.weighing-plan.ensures.value;
-        offered = rw c.move_of-mv.ensures (option_offered _ _ _ _ _ world.inst.now.well_formed world.keeps.stand.fits);
+        offered = rw c.move_of-mv.ensures (option_offered _ _ _ _ _ c.instance-known.ensures.sound.well_formed
+            c.instance-known.ensures.sound.fits);
       };
       counted = omega (
         arith,
@@ -75,18 +77,19 @@ returns g c =
 pub returns-then-best-eq0 : goal.returns-then-best-eq0
 returns-then-best-eq0 g c =
     let world = c.args.world.now in
-    let reads = rest_reads c.args.words.now (machine_count world.inst.now.tables) c.args.drawing
-    (resource_count world.inst.now.tables) c.requires.other in
+    let reads = rest_reads c.args.words.now (machine_count world.tables) c.args.drawing
+    (resource_count world.tables) c.requires.other in
     record {
       numbers_q = refl;
       numbers_k = refl;
       planned = planned_same world _ _ _ _ _ _ c.requires.begun (record {
         planned = best_planned world _ _ _ _ _ _ refl c.best_move-best.ensures.best
             (c.requires.first
-            ∙ ap (λ o. option_at world.kept.assignment.items c.args.words.now (machine_count world.inst.now.tables)
+            ∙ ap (λ o. option_at world.here c.args.words.now (machine_count world.tables)
             c.args.drawing o) (sym c.if-best-eq0.true));
         weighing = c.weigh-plan.ensures.value;
-        offered = rw c.requires.first (option_offered _ _ _ _ _ world.inst.now.well_formed world.keeps.stand.fits);
+        offered = rw c.requires.first (option_offered _ _ _ _ _ c.instance-known.ensures.sound.well_formed
+            c.instance-known.ensures.sound.fits);
       });
       counted = omega (arith, reads, c.weigh-plan.ensures.counted, c.best_move-best.ensures.counted);
     }

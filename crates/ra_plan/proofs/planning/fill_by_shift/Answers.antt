@@ -12,12 +12,12 @@ step-requires g c = omega (arith, shift_length _ _ _ _ _ _ c.requires.first c.re
 pub make-shift-requires : goal.make-shift-requires
 make-shift-requires g c =
     let world = c.args.world.now in
-    let process : c.step.result.process.0 ≡ drawn world.kept.assignment.items c.args.words.now 1 =
+    let process : c.step.result.process.0 ≡ drawn world.here c.args.words.now 1 =
     ap (λ (s : Step). s.process.0) c.step.ensures
     ∙ process_drawn _ _ _ _ _ _ c.requires.first (is_shift _ _ _ _ _ _ c.requires.first c.requires.shift) in
-    let fits = world.keeps.stand.fits.one_each in
-    let some : 0 < length world.kept.assignment.items = omega (arith, fits, world.inst.now.well_formed.some_process) in
-    omega (arith, process, fits, drawn_below world.kept.assignment.items c.args.words.now 1 some)
+    let fits = c.instance-known.ensures.sound.fits.one_each in
+    let some : 0 < length world.here = omega (arith, fits, c.instance-known.ensures.sound.well_formed.some_process) in
+    omega (arith, process, fits, drawn_below world.here c.args.words.now 1 some)
 
 pub best_shift-best-requires-clause-named : goal.best_shift-best-requires-clause-named
 best_shift-best-requires-clause-named g c = ap (λ (p : Process). p.0) c.make-shift.ensures.process
@@ -26,13 +26,13 @@ best_shift-best-requires-clause-named g c = ap (λ (p : Process). p.0) c.make-sh
 
 pub move_of-plan-requires-clause-named : goal.move_of-plan-requires-clause-named
 move_of-plan-requires-clause-named g c =
-    best_below c.args.world.now _ _ _ _ _ refl c.args.world.now.inst.now.well_formed.some_machine
+    best_below c.args.world.now _ _ _ _ _ refl c.instance-known.ensures.sound.well_formed.some_machine
     c.best_shift-best.ensures
 
 pub shift_weighing-plan-requires-clause-offered : goal.shift_weighing-plan-requires-clause-offered
 shift_weighing-plan-requires-clause-offered g c =
     rw c.move_of-plan.ensures
-    (option_offered _ _ _ _ _ c.args.world.now.inst.now.well_formed c.args.world.now.keeps.stand.fits)
+    (option_offered _ _ _ _ _ c.instance-known.ensures.sound.well_formed c.instance-known.ensures.sound.fits)
 
 pub shift_weighing-plan-requires-clause-alone : goal.shift_weighing-plan-requires-clause-alone
 shift_weighing-plan-requires-clause-alone g c =
@@ -50,5 +50,5 @@ returns-clause-planned g c = record {
   planned = best_planned c.args.world.now _ _ _ _ _ _ refl c.best_shift-best.ensures c.move_of-plan.ensures;
   weighing = c.shift_weighing-plan.ensures.value;
   offered = rw c.move_of-plan.ensures
-      (option_offered _ _ _ _ _ c.args.world.now.inst.now.well_formed c.args.world.now.keeps.stand.fits);
+      (option_offered _ _ _ _ _ c.instance-known.ensures.sound.well_formed c.instance-known.ensures.sound.fits);
 }

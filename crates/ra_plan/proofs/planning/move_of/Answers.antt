@@ -6,18 +6,18 @@ use Rattle.ra_plan.proofs.planning.move_of.Goals as goal
 pub resolve-requires-clause-named : goal.resolve-requires-clause-named
 resolve-requires-clause-named c =
     let world = c.args.world.now in
-    let machines : c.machines-machines.result ≡ machine_count world.inst.now.tables =
-    rw c.instance.ensures at c.machines-machines.ensures in
+    let machines : c.machines-machines.result ≡ machine_count world.tables =
+    rw c.instance.ensures.value at c.machines-machines.ensures in
     rw machines c.requires.named
 
 pub returns : goal.returns
 returns c =
     let world = c.args.world.now in
-    let machines : c.machines-machines.result ≡ machine_count world.inst.now.tables =
-    rw c.instance.ensures at c.machines-machines.ensures in
+    let machines : c.machines-machines.result ≡ machine_count world.tables =
+    rw c.instance.ensures.value at c.machines-machines.ensures in
     rw (c.assignment.ensures.value, machines) at c.resolve.ensures.option
 
 pub returns-then-option-eq0 : goal.returns-then-option-eq0
 returns-then-option-eq0 c = c.requires.first
-    ∙ ap (λ o. option_at c.args.world.now.kept.assignment.items c.args.words.now
-    (machine_count c.args.world.now.inst.now.tables) c.args.drawing o) (sym c.if-option-eq0.true)
+    ∙ ap (λ o. option_at c.args.world.now.here c.args.words.now
+    (machine_count c.args.world.now.tables) c.args.drawing o) (sym c.if-option-eq0.true)

@@ -10,6 +10,6 @@ resolve-first-requires-clause-named g c =
 pub fill-requires-clause-first : goal.fill-requires-clause-first
 fill-requires-clause-first g c =
     let world = c.args.world.now in
-    let machines : c.machines-machines.result ≡ machine_count world.inst.now.tables =
-    rw c.instance.ensures at c.machines-machines.ensures in
+    let machines : c.machines-machines.result ≡ machine_count world.tables =
+    rw c.instance.ensures.value at c.machines-machines.ensures in
     rw (c.assignment.ensures.value, machines) at c.resolve-first.ensures.option

@@ -19,23 +19,23 @@ target-to-requires-clause-named c =
 pub nonzero_rem-first : goal.nonzero_rem-first
 nonzero_rem-first c =
     let world = c.args.world.now in
-    let machines : c.machines-machines.result ≡ machine_count world.inst.now.tables =
-    rw c.instance.ensures at c.machines-machines.ensures in
-    omega (arith, machines, world.inst.now.well_formed.some_machine)
+    let machines : c.machines-machines.result ≡ machine_count world.tables =
+    rw c.instance.ensures.value at c.machines-machines.ensures in
+    omega (arith, machines, c.instance.ensures.sound.well_formed.some_machine)
 
 pub target-to-requires-clause-some : goal.target-to-requires-clause-some
 target-to-requires-clause-some c =
     let world = c.args.world.now in
-    let machines : c.machines-machines.result ≡ machine_count world.inst.now.tables =
-    rw c.instance.ensures at c.machines-machines.ensures in
-    omega (arith, machines, world.inst.now.well_formed.some_machine)
+    let machines : c.machines-machines.result ≡ machine_count world.tables =
+    rw c.instance.ensures.value at c.machines-machines.ensures in
+    omega (arith, machines, c.instance.ensures.sound.well_formed.some_machine)
 
 pub target-to-requires-clause-few : goal.target-to-requires-clause-few
 target-to-requires-clause-few c =
     let world = c.args.world.now in
-    let machines : c.machines-machines.result ≡ machine_count world.inst.now.tables =
-    rw c.instance.ensures at c.machines-machines.ensures in
-    omega (arith, machines, world.inst.now.well_formed.few_machines)
+    let machines : c.machines-machines.result ≡ machine_count world.tables =
+    rw c.instance.ensures.value at c.machines-machines.ensures in
+    omega (arith, machines, c.instance.ensures.sound.well_formed.few_machines)
 
 pub target-to-requires-clause-first : goal.target-to-requires-clause-first
 target-to-requires-clause-first c = refl
@@ -46,18 +46,18 @@ with_shift-best-requires-clause-world c = c.requires.world
 pub with_shift-best-requires-clause-machine : goal.with_shift-best-requires-clause-machine
 with_shift-best-requires-clause-machine c =
     let world = c.args.world.now in
-    let machines : c.machines-machines.result ≡ machine_count world.inst.now.tables =
-    rw c.instance.ensures at c.machines-machines.ensures in
+    let machines : c.machines-machines.result ≡ machine_count world.tables =
+    rw c.instance.ensures.value at c.machines-machines.ensures in
     rw machines at c.target-to.ensures.within
 
 pub returns : goal.returns
 returns c =
     let world = c.args.world.now in
-    let machines : c.machines-machines.result ≡ machine_count world.inst.now.tables =
-    rw c.instance.ensures at c.machines-machines.ensures in
+    let machines : c.machines-machines.result ≡ machine_count world.tables =
+    rw c.instance.ensures.value at c.machines-machines.ensures in
     let end : c.loop-option.option ≡ c.options-count.result =
     omega (arith, c.loop-option-test.false, c.loop-option.auto.option-end) in
-    let all : c.loop-option.option ≡ option_count c.args.words.now (machine_count world.inst.now.tables)
+    let all : c.loop-option.option ≡ option_count c.args.words.now (machine_count world.tables)
     c.args.drawing =
     end ∙ c.options-count.ensures.value ∙ ap (λ m. option_count c.args.words.now m c.args.drawing) machines in
     rw all at c.loop-option.invariant
@@ -66,43 +66,44 @@ pub overflow_add-most : goal.overflow_add-most
 unfolding parts_of
 overflow_add-most c =
     let world = c.args.world.now in
-    let kept : c.parts.result.total ≡ cost_now world = ap (λ (x : Parts). x.total) c.parts.ensures in
+    let kept : c.parts.result.total ≡ cost_now world = ap (λ (x : Parts). x.total) c.parts.ensures.value in
     omega (
       arith,
       kept,
       c.from.ensures,
-      objective_under world.inst.now.tables world.start.now.items
-          world.kept.assignment.items world.inst.now.well_formed world.inst.now.small,
+      objective_under world.tables world.start
+          world.here c.instance.ensures.sound.well_formed c.instance.ensures.sound.small,
     )
 
 pub overflow_add-most-2 : goal.overflow_add-most-2
 unfolding parts_of
 overflow_add-most-2 c =
     let world = c.args.world.now in
-    let kept : c.parts.result.total ≡ cost_now world = ap (λ (x : Parts). x.total) c.parts.ensures in
+    let kept : c.parts.result.total ≡ cost_now world = ap (λ (x : Parts). x.total) c.parts.ensures.value in
     omega (
       arith,
       kept,
       c.from.ensures,
-      objective_under world.inst.now.tables world.start.now.items
-          world.kept.assignment.items world.inst.now.well_formed world.inst.now.small,
+      objective_under world.tables world.start
+          world.here c.instance.ensures.sound.well_formed c.instance.ensures.sound.small,
     )
 
 pub with_shift-best-requires-clause-bound : goal.with_shift-best-requires-clause-bound
 unfolding parts_of
 with_shift-best-requires-clause-bound c =
     let world = c.args.world.now in
-    let kept : c.parts.result.total ≡ cost_now world = ap (λ (x : Parts). x.total) c.parts.ensures in
+    let kept : c.parts.result.total ≡ cost_now world = ap (λ (x : Parts). x.total) c.parts.ensures.value in
     bound_fits world c.args.words.now c.args.drawing c.args.allowed c.loop-option.option
-    (c.parts.result.total + c.from.result + 1) c.loop-option.best c.loop-option.invariant
+    (c.parts.result.total + c.from.result + 1) c.loop-option.best c.instance.ensures.sound
+    c.loop-option.invariant
     (omega (arith, kept, c.from.ensures)) c.ranges.allowed.fits
 
 pub loop-option-preserved : goal.loop-option-preserved
 unfolding parts_of
 loop-option-preserved c =
     let world = c.args.world.now in
-    let machines : c.machines-machines.result ≡ machine_count world.inst.now.tables =
-    rw c.instance.ensures at c.machines-machines.ensures in
-    let kept : c.parts.result.total ≡ cost_now world = ap (λ (x : Parts). x.total) c.parts.ensures in
+    let machines : c.machines-machines.result ≡ machine_count world.tables =
+    rw c.instance.ensures.value at c.machines-machines.ensures in
+    let kept : c.parts.result.total ≡ cost_now world = ap (λ (x : Parts). x.total) c.parts.ensures.value in
     c.with_shift-best.ensures _ _ c.args.allowed (omega (arith, kept, c.from.ensures)) c.loop-option.invariant
     (shift_in world _ _ _ _ _ _ machines c.requires.shift c.requires.named c.target-to.ensures.value)

@@ -2,9 +2,8 @@
 use Rattle.std.proofs.Common.{◌≡◌, ◌+◌, ◌%◌, ◌≤◌, min, [], ap, subst, ◌∙◌, arith}
 use Rattle.ra_base.specs.declared.causes.Drawing.TheVariants.{Two}
 use Rattle.ra_model.specs.Numbers.{machine_count}
-use Rattle.ra_model.specs.declared.numbers.Instance.{Instance}
+use Rattle.ra_model.specs.declared.raw.Tables.{Tables}
 use Rattle.ra_weigh_shift.specs.Lanes.{machine_in}
-use Rattle.ra_world.specs.Worlds.{tables_of}
 use Rattle.ra_plan.specs.Choosing.{IsBest}
 use Rattle.ra_plan.proofs.Bests.{none_low}
 use Rattle.ra_plan.proofs.Marked.{with_home, skips, unmarked_dear, marked_sum}
@@ -12,24 +11,24 @@ use Rattle.ra_plan.proofs.shifts.best_marked.Goals as goal
 
 pub with_mark-all-requires-clause-first : goal.with_mark-all-requires-clause-first
 with_mark-all-requires-clause-first c =
-    let machines = c.machines-machines.ensures ∙ ap (λ (j : Instance). machine_count j.tables) c.instance.ensures in
+    let machines = c.machines-machines.ensures ∙ ap (λ (j : Tables). machine_count j) c.instance.ensures.value in
     omega (arith, machines, c.requires.first)
 
 pub with_mark-all-requires-clause-machine : goal.with_mark-all-requires-clause-machine
 with_mark-all-requires-clause-machine c =
-    let machines = c.machines-machines.ensures ∙ ap (λ (j : Instance). machine_count j.tables) c.instance.ensures in
+    let machines = c.machines-machines.ensures ∙ ap (λ (j : Tables). machine_count j) c.instance.ensures.value in
     omega (arith, machines, rw c.requires.world at c.home.ensures.within)
 
 pub with_mark-all-requires-clause-few : goal.with_mark-all-requires-clause-few
 with_mark-all-requires-clause-few c =
-    let machines = c.machines-machines.ensures ∙ ap (λ (j : Instance). machine_count j.tables) c.instance.ensures in
-    omega (arith, machines, c.args.world.now.inst.now.well_formed.few_machines)
+    let machines = c.machines-machines.ensures ∙ ap (λ (j : Tables). machine_count j) c.instance.ensures.value in
+    omega (arith, machines, c.instance.ensures.sound.well_formed.few_machines)
 
 pub loop-option-init : goal.loop-option-init
 loop-option-init c =
     let w = c.args.world.now in
     let p = c.args.shift.now.process.0 in
-    let machines = c.machines-machines.ensures ∙ ap (λ (j : Instance). machine_count j.tables) c.instance.ensures in
+    let machines = c.machines-machines.ensures ∙ ap (λ (j : Tables). machine_count j) c.instance.ensures.value in
     let few : c.min-count.result ≤ 64 = omega (arith, c.min-count.ensures) in
     let home = with_home w p c.args.first c.min-count.result c.home.result.0 c.machines-machines.result c.args.marks
     c.with_mark-all.result (rw c.requires.world at c.home.ensures.value) machines c.min-count.ensures
@@ -39,8 +38,8 @@ loop-option-init c =
       within = c.next_mark-option.ensures.end;
       set = c.next_mark-option.ensures.marked;
       bound = low;
-      best = λ x allowed is window.
-          skips w x allowed p c.args.first c.args.most 0 c.next_mark-option.result c.none-best.result is window low
+      best = λ x allowed is window. skips w x allowed p c.args.first c.args.most 0
+          c.next_mark-option.result c.none-best.result is window low
           c.next_mark-option.ensures.from
           (λ k after before. unmarked_dear w p c.args.first c.args.most c.min-count.result c.args.marks
           c.with_mark-all.result k c.args.sums.now c.requires.marked home few
@@ -53,7 +52,7 @@ pub loop-option-preserved : goal.loop-option-preserved
 loop-option-preserved c =
     let w = c.args.world.now in
     let p = c.args.shift.now.process.0 in
-    let machines = c.machines-machines.ensures ∙ ap (λ (j : Instance). machine_count j.tables) c.instance.ensures in
+    let machines = c.machines-machines.ensures ∙ ap (λ (j : Tables). machine_count j) c.instance.ensures.value in
     let few : c.min-count.result ≤ 64 = omega (arith, c.min-count.ensures) in
     let home = with_home w p c.args.first c.min-count.result c.home.result.0 c.machines-machines.result c.args.marks
     c.with_mark-all.result (rw c.requires.world at c.home.ensures.value) machines c.min-count.ensures
@@ -65,8 +64,8 @@ loop-option-preserved c =
       within = c.next_mark-option-in-loop-option.ensures.end;
       set = c.next_mark-option-in-loop-option.ensures.marked;
       bound = low;
-      best = λ x allowed is window.
-          skips w x allowed p c.args.first c.args.most (c.loop-option.option + 1)
+      best = λ x allowed is window. skips w x allowed p c.args.first c.args.most
+          (c.loop-option.option + 1)
           c.next_mark-option-in-loop-option.result c.with_sum-best.result is window low
           c.next_mark-option-in-loop-option.ensures.from
           (λ k after before. unmarked_dear w p c.args.first c.args.most c.min-count.result c.args.marks
@@ -81,7 +80,7 @@ pub with_sum-best-requires-clause-sum : goal.with_sum-best-requires-clause-sum
 with_sum-best-requires-clause-sum c = λ apart.
     let w = c.args.world.now in
     let p = c.args.shift.now.process.0 in
-    let machines = c.machines-machines.ensures ∙ ap (λ (j : Instance). machine_count j.tables) c.instance.ensures in
+    let machines = c.machines-machines.ensures ∙ ap (λ (j : Tables). machine_count j) c.instance.ensures.value in
     let few : c.min-count.result ≤ 64 = omega (arith, c.min-count.ensures) in
     let home = with_home w p c.args.first c.min-count.result c.home.result.0 c.machines-machines.result c.args.marks
     c.with_mark-all.result (rw c.requires.world at c.home.ensures.value) machines c.min-count.ensures
@@ -95,7 +94,7 @@ with_sum-best-requires-clause-sum c = λ apart.
 pub returns : goal.returns
 returns c = λ x allowed is window.
     let w = c.args.world.now in
-    let machines = c.machines-machines.ensures ∙ ap (λ (j : Instance). machine_count j.tables) c.instance.ensures in
-    let all : c.loop-option.option ≡ min 64 (machine_count (tables_of w)) =
+    let machines = c.machines-machines.ensures ∙ ap (λ (j : Tables). machine_count j) c.instance.ensures.value in
+    let all : c.loop-option.option ≡ min 64 (machine_count w.tables) =
     omega (arith, c.loop-option-test.false, c.loop-option.invariant.within, c.min-count.ensures, machines) in
     subst (λ n. IsBest w x Two allowed n c.loop-option.best) all (c.loop-option.invariant.best x allowed is window)

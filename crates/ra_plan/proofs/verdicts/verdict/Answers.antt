@@ -5,17 +5,19 @@ pub settle_now-requires : goal.settle_now-requires
 settle_now-requires c =
     let world = c.args.world.now in
     record {
-      some = rw c.instance.ensures
-          (has_settling world.inst.now.tables world.start.now.items world.kept.assignment.items c.cells.result.now _ _ _
-          world.fits world.keeps.stand.fits c.cells.ensures.stand c.greatest-greatest.ensures c.parts.ensures
+      some = rw c.instance.ensures.value
+          (has_settling world c.cells.result.now _ _ _
+          c.cells.ensures.sound.starts c.cells.ensures.sound.fits c.cells.ensures.stand c.greatest-greatest.ensures
+          c.parts.ensures.value
           c.requires.some);
     }
 
 pub returns : goal.returns
 returns c = λ steps offered is.
     let world = c.args.world.now in
-    let settled = rw c.instance.ensures at c.settle_now.ensures in
-    settled world.start.now.items world.kept.assignment.items steps
-    (settling_of world.inst.now.tables world.start.now.items world.kept.assignment.items steps c.cells.result.now _
-    _ _ world.fits world.keeps.stand.fits c.cells.ensures.stand c.greatest-greatest.ensures c.parts.ensures
+    let settled = rw c.instance.ensures.value at c.settle_now.ensures in
+    settled world.start world.here steps
+    (settling_of world steps c.cells.result.now _
+    _ _ c.cells.ensures.sound.starts c.cells.ensures.sound.fits c.cells.ensures.stand c.greatest-greatest.ensures
+    c.parts.ensures.value
     offered is)

@@ -37,7 +37,7 @@ returns g c =
           c.in_ok-start.ensures.read r reason)) c.run_from-ended.ensures.refused;
       no_output = if_err_then c.run_from-ended.result _ _ (λ r same first. same (not_write r first))
           c.run_from-ended.ensures.no_output;
-      leaves = record { kept = c.read_start.ensures.kept; never_fall = c.read_start.ensures.never_fall };
+      leaves = c.read_start.ensures.leaves;
       never_falls = c.run_from-ended.ensures.out_never_falls;
     }
 
@@ -51,4 +51,4 @@ returns-in_err-start g c =
     (reason_anywhere held names (g.F.Files.faults c.args.files.now) (g.F.Files.faults c.read_start.new.files)
     ((solving names (These c.args.lots.now)).refuses held (Took out.sink) (BrokeOff out.sink)) _
     c.in_err-start.ensures.refused)
-    refl (record { kept = c.read_start.ensures.kept; never_fall = c.read_start.ensures.never_fall }) (omega arith)
+    refl c.read_start.ensures.leaves (omega arith)

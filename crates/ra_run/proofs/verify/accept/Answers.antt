@@ -4,44 +4,43 @@ use Rattle.ra_io.specs.Outside.{reading}
 use Rattle.ra_jobs.specs.Commands.{These}
 use Rattle.ra_jobs.specs.Files.{verify_names}
 use Rattle.ra_jobs.specs.Output.{output, BrokeOff}
-use Rattle.ra_jobs.proofs.DoesLemmas.{not_tried}
+use Rattle.ra_jobs.proofs.DoesLemmas.{not_tried, not_written_whole}
 use Rattle.ra_run.specs.Verifying.{VerifyPrinted, verify_command}
 use Rattle.ra_run.proofs.VerifyLemmas.{reason_these_lots, reason_unwritten_verdict}
 use Rattle.ra_run.proofs.verify.accept.Goals as goal
 
-pub returns-in-Ok : goal.returns-in-Ok
-returns-in-Ok g c = record {
+pub returns : goal.returns
+returns g c = record {
   printed = (
     c.args.lots.now,
     refl,
     record {
       entries = c.in_ok-entries.entries;
       read = c.in_ok-entries.ensures.read;
-      text = c.in-Ok.ensures.whole;
+      text = c.in_ok-write_accepted.ensures.whole;
     },
   );
   refused = tt;
   no_output = tt;
-  leaves = record { kept = c.read_report.ensures.kept; never_fall = c.read_report.ensures.never_fall };
+  leaves = c.read_report.ensures.leaves;
   never_falls = c.write_accepted.ensures.never_falls;
 }
 
-pub returns-in-Err : goal.returns-in-Err
-returns-in-Err g c = record {
-  printed = tt;
-  refused = (
-    c.args.lots.now,
-    refl,
-    record {
-      entries = c.in_ok-entries.entries;
-      read = c.in_ok-entries.ensures.read;
-      text = c.in-Err.ensures.part;
-    },
-  );
-  no_output = λ first. absurd cc;
-  leaves = record { kept = c.read_report.ensures.kept; never_fall = c.read_report.ensures.never_fall };
-  never_falls = c.write_accepted.ensures.never_falls;
-}
+pub returns-in_err-write_accepted : goal.returns-in_err-write_accepted
+returns-in_err-write_accepted g c =
+    not_written_whole
+    (verify_command c.args.model.now c.args.initial.now c.args.report.now (option_copied c.args.closed)
+    (These c.args.lots.now)) (reading g.F.Files c.args.files.now c.read_report.new.files)
+    (output g.O.Sink c.args.out.now c.write_accepted.new.sink) _ c.from_residual-in_err-write_accepted.ensures (
+      c.args.lots.now,
+      refl,
+      record {
+        entries = c.in_ok-entries.entries;
+        read = c.in_ok-entries.ensures.read;
+        text = c.in_err-write_accepted.ensures.part;
+      },
+    )
+    c.read_report.ensures.leaves c.write_accepted.ensures.never_falls
 
 pub returns-in_err-entries : goal.returns-in_err-entries
 returns-in_err-entries g c =
@@ -56,4 +55,4 @@ returns-in_err-entries g c =
     (reason_these_lots held names lots before now (BrokeOff out.sink) _
     (reason_unwritten_verdict held names before now lots (VerifyPrinted held names lots (BrokeOff out.sink)) _
     c.in_err-entries.ensures.refused))
-    refl (record { kept = c.read_report.ensures.kept; never_fall = c.read_report.ensures.never_fall }) (omega arith)
+    refl c.read_report.ensures.leaves (omega arith)

@@ -10,7 +10,7 @@ pub returns-clause-read : goal.returns-clause-read
 returns-clause-read g c = MatchResult-weaker c.count_entries-counted.result c.count_entries-counted.ensures.counted
     (λ n counted. read_so (g.F.Files.held c.args.files.now) (g.F.Files.held c.read_start.new.files) c.args.model.now
     (option_copied c.args.closed) c.args.initial.now c.args.report.now c.in_ok-start.start.inst.tables
-    c.in_ok-start.start.initial.items c.args.lots.now n c.read_start.ensures.kept
+    c.in_ok-start.start.initial.items c.args.lots.now n c.read_start.ensures.leaves.kept
     c.in_ok-start.start.inst.well_formed c.in_ok-start.ensures.read counted)
     (λ y h. h)
 
@@ -21,7 +21,8 @@ returns-clause-refused g c = MatchResult-weaker c.count_entries-counted.result c
     c.args.model.now (option_copied c.args.closed) c.args.initial.now c.args.report.now
     c.in_ok-start.start.inst.tables c.in_ok-start.start.initial.items c.args.lots.now
     (g.F.Files.faults c.args.files.now) (g.F.Files.faults c.read_start.new.files)
-    (g.F.Files.faults c.count_entries-counted.new.files) ⊥ c.read_start.ensures.kept c.read_start.ensures.never_fall
+    (g.F.Files.faults c.count_entries-counted.new.files) ⊥ c.read_start.ensures.leaves.kept
+    c.read_start.ensures.leaves.never_fall
     c.in_ok-start.ensures.read refusal reason)
 
 pub returns-in_err-start-clause-refused : goal.returns-in_err-start-clause-refused

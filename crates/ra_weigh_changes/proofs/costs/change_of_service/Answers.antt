@@ -1,53 +1,55 @@
 use Rattle.std.proofs.Common.{arith, ◌∙◌, refl}
-use Rattle.ra_moves.specs.Replacing.{applied}
 use Rattle.ra_weigh_changes.proofs.CostLaws.{counts_of_cells, count_change, count_apart, greatest_then, greatest_now}
 use Rattle.ra_weigh_changes.proofs.CostLaws.{service_is}
 use Rattle.ra_weigh_changes.proofs.costs.change_of_service.Goals as goal
+use Rattle.ra_moves.specs.Replacing.{after_move}
 
 pub greatest_after-after-requires-clause-first : goal.greatest_after-after-requires-clause-first
 greatest_after-after-requires-clause-first c =
-    count_change _ _ _ _ _ _ 0 c.args.world.now.inst.now.well_formed c.requires
-    (counts_of_cells _ _ _ c.cells.result.now _ c.cells.ensures.stand c.greatest-greatest.ensures)
+    count_change _ _ _ _ 0 c.cells.ensures.sound.well_formed c.requires
+    (counts_of_cells _ c.cells.result.now _ c.cells.ensures.stand c.greatest-greatest.ensures)
     c.counts_of-counts.ensures (omega arith)
 
 pub greatest_after-after-requires-clause-second : goal.greatest_after-after-requires-clause-second
 greatest_after-after-requires-clause-second c =
-    count_change _ _ _ _ _ _ 1 c.args.world.now.inst.now.well_formed c.requires
-    (counts_of_cells _ _ _ c.cells.result.now _ c.cells.ensures.stand c.greatest-greatest.ensures)
+    count_change _ _ _ _ 1 c.cells.ensures.sound.well_formed c.requires
+    (counts_of_cells _ c.cells.result.now _ c.cells.ensures.stand c.greatest-greatest.ensures)
     c.counts_of-counts.ensures (omega arith)
 
 pub greatest_after-after-requires-clause-third : goal.greatest_after-after-requires-clause-third
 greatest_after-after-requires-clause-third c =
-    count_change _ _ _ _ _ _ 2 c.args.world.now.inst.now.well_formed c.requires
-    (counts_of_cells _ _ _ c.cells.result.now _ c.cells.ensures.stand c.greatest-greatest.ensures)
+    count_change _ _ _ _ 2 c.cells.ensures.sound.well_formed c.requires
+    (counts_of_cells _ c.cells.result.now _ c.cells.ensures.stand c.greatest-greatest.ensures)
     c.counts_of-counts.ensures (omega arith)
 
 pub greatest_after-after-requires-clause-first_second : goal.greatest_after-after-requires-clause-first_second
 greatest_after-after-requires-clause-first_second c =
-    count_apart _ _ _ _ _ 0 1 c.counts_of-counts.ensures (omega arith) (omega arith)
+    count_apart _ _ _ 0 1 c.counts_of-counts.ensures (omega arith) (omega arith)
 
 pub greatest_after-after-requires-clause-first_third : goal.greatest_after-after-requires-clause-first_third
 greatest_after-after-requires-clause-first_third c =
-    count_apart _ _ _ _ _ 0 2 c.counts_of-counts.ensures (omega arith) (omega arith)
+    count_apart _ _ _ 0 2 c.counts_of-counts.ensures (omega arith) (omega arith)
 
 pub greatest_after-after-requires-clause-second_third : goal.greatest_after-after-requires-clause-second_third
 greatest_after-after-requires-clause-second_third c =
-    count_apart _ _ _ _ _ 1 2 c.counts_of-counts.ensures (omega arith) (omega arith)
+    count_apart _ _ _ 1 2 c.counts_of-counts.ensures (omega arith) (omega arith)
 
 pub returns-clause-added : goal.returns-clause-added
 returns-clause-added c =
     let world = c.args.world.now in
-    let counts = counts_of_cells _ _ _ c.cells.result.now _ c.cells.ensures.stand c.greatest-greatest.ensures in
-    service_is world.inst.now.tables world.start.now.items (applied world.kept.assignment.items c.args.mv.now.steps)
+    let counts = counts_of_cells _ c.cells.result.now _ c.cells.ensures.stand
+    c.greatest-greatest.ensures in
+    service_is (after_move world c.args.mv.now.steps)
     c.from-weight.result c.from.result _ refl
-    (c.from-weight.ensures ∙ (rw c.instance.ensures at c.service_weight.ensures))
+    (c.from-weight.ensures ∙ (rw c.instance.ensures.value at c.service_weight.ensures))
     (c.from.ensures ∙ c.greatest_after-after.ensures.value
-    ∙ greatest_then _ _ _ _ _ _ c.requires counts c.counts_of-counts.ensures)
+    ∙ greatest_then _ _ _ _ c.requires counts c.counts_of-counts.ensures)
 
 pub returns-clause-taken : goal.returns-clause-taken
 returns-clause-taken c =
     let world = c.args.world.now in
-    let counts = counts_of_cells _ _ _ c.cells.result.now _ c.cells.ensures.stand c.greatest-greatest.ensures in
-    service_is world.inst.now.tables world.start.now.items world.kept.assignment.items c.from-weight.result
-    c.from-2.result _ refl (c.from-weight.ensures ∙ (rw c.instance.ensures at c.service_weight.ensures))
-    (c.from-2.ensures ∙ greatest_now _ _ _ _ _ counts c.greatest-now.ensures.value)
+    let counts = counts_of_cells _ c.cells.result.now _ c.cells.ensures.stand
+    c.greatest-greatest.ensures in
+    service_is world c.from-weight.result
+    c.from-2.result _ refl (c.from-weight.ensures ∙ (rw c.instance.ensures.value at c.service_weight.ensures))
+    (c.from-2.ensures ∙ greatest_now _ _ _ counts c.greatest-now.ensures.value)

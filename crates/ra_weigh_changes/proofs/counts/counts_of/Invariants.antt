@@ -6,7 +6,7 @@ use Rattle.ra_weigh_changes.proofs.counts.counts_of.Given as goal
 
 abbrev pub invariant-loop-j : goal.invariant-loop-j
 invariant-loop-j l = record {
-  filled : l.filled ≡ length (services_moved l.world.inst.now.tables l.mv.steps l.j);
-  counts : AreCountsOf l.world.inst.now.tables l.world.start.now.items l.world.kept.assignment.items l.mv.steps l.j
+  filled : l.filled ≡ length (services_moved l.world.tables l.mv.steps l.j);
+  counts : AreCountsOf l.world l.mv.steps l.j
       l.counts;
 }

@@ -5,4 +5,4 @@ use Rattle.ra_moves.specs.Touched.{service_in}
 use Rattle.ra_weigh_changes.proofs.counts.is_named_before.Given as goal
 
 abbrev pub invariant-loop-k : goal.invariant-loop-k
-invariant-loop-k l = is_named l.k (service_in l.world.inst.now.tables l.mv.steps) l.s.0 ≡ false
+invariant-loop-k l = is_named l.k (service_in l.world.tables l.mv.steps) l.s.0 ≡ false

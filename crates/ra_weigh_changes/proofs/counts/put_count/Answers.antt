@@ -1,6 +1,7 @@
 use Rattle.std.proofs.Common.{sym, ◌∙◌, arith}
 use Rattle.ra_weigh_changes.proofs.MovedNext.{counts_again, filled_again, filled_more, filled_few, counts_more}
 use Rattle.ra_weigh_changes.proofs.counts.put_count.Goals as goal
+use Rattle.ra_model.specs.Situations.{situation}
 
 pub returns-then-is_named_before-clause-filled : goal.returns-then-is_named_before-clause-filled
 returns-then-is_named_before-clause-filled c =
@@ -8,7 +9,7 @@ returns-then-is_named_before-clause-filled c =
     c.requires.filled
 
 pub returns-then-is_named_before-clause-counts : goal.returns-then-is_named_before-clause-counts
-returns-then-is_named_before-clause-counts c = counts_again _ _ _ _ _ _ _ c.service_in-s.ensures.value
+returns-then-is_named_before-clause-counts c = counts_again _ _ _ _ _ c.service_in-s.ensures.value
     (sym c.is_named_before.ensures ∙ c.if-is_named_before.true) c.requires.counts
 
 pub offset_bounds-counts-filled : goal.offset_bounds-counts-filled
@@ -30,7 +31,8 @@ returns-clause-filled c =
     c.requires.filled
 
 pub returns-clause-counts : goal.returns-clause-counts
-returns-clause-counts c = counts_more _ _ _ _ _ _ _ _ _ c.service_in-s.ensures.value (sym c.is_named_before.ensures
+returns-clause-counts c = counts_more _ _ _ _ _ _ _ c.service_in-s.ensures.value
+    (sym c.is_named_before.ensures
     ∙ c.if-is_named_before.false) c.requires.filled
     (omega (arith, filled_few _ _ _ _ c.requires.filled c.requires.step c.requires.moves.few)) c.count_of.ensures
     c.requires.counts

@@ -4,16 +4,16 @@ use Rattle.ra_weigh_changes.proofs.counts.service_in.Goals as goal
 
 pub service_of-requires : goal.service_of-requires
 service_of-requires c =
-    rw c.instance.ensures
-    (process_known c.args.world.now.inst.now.tables c.args.world.now.kept.assignment.items c.args.mv.now.steps c.args.j
+    rw c.instance.ensures.value
+    (process_known c.args.world.now.tables c.args.world.now.here c.args.mv.now.steps c.args.j
     c.step.result c.requires.moves c.requires.step c.step.ensures)
 
 pub returns-clause-value : goal.returns-clause-value
-returns-clause-value c = service_read c.args.world.now.inst.now.tables c.args.mv.now.steps c.args.j
-    c.service_of.result.0 c.step.result c.step.ensures (rw c.instance.ensures at c.service_of.ensures)
+returns-clause-value c = service_read c.args.world.now.tables c.args.mv.now.steps c.args.j
+    c.service_of.result.0 c.step.result c.step.ensures (rw c.instance.ensures.value at c.service_of.ensures)
 
 pub returns-clause-there : goal.returns-clause-there
-returns-clause-there c = service_known c.args.world.now.inst.now.tables c.service_of.result.0 c.step.result.process.0
-    c.args.world.now.inst.now.well_formed
-    (process_known c.args.world.now.inst.now.tables c.args.world.now.kept.assignment.items c.args.mv.now.steps c.args.j
-    c.step.result c.requires.moves c.requires.step c.step.ensures) (rw c.instance.ensures at c.service_of.ensures)
+returns-clause-there c = service_known c.args.world.now.tables c.service_of.result.0 c.step.result.process.0
+    c.instance.ensures.sound.well_formed
+    (process_known c.args.world.now.tables c.args.world.now.here c.args.mv.now.steps c.args.j
+    c.step.result c.requires.moves c.requires.step c.step.ensures) (rw c.instance.ensures.value at c.service_of.ensures)

@@ -11,13 +11,13 @@ use Rattle.ra_weigh_changes.proofs.ends.change_at.Goals as goal
 pub cost_after-requires-clause-machine : goal.cost_after-requires-clause-machine
 cost_after-requires-clause-machine c =
     rw c.end_of-m.ensures
-    (end_known c.args.world.now.inst.now.tables c.args.world.now.kept.assignment.items c.args.mv.now.steps c.args.j
+    (end_known c.args.world.now.tables c.args.world.now.here c.args.mv.now.steps c.args.j
     c.requires.moves c.requires.end)
 
 pub cost_now-requires : goal.cost_now-requires
 cost_now-requires c = record {
   machine = rw c.end_of-m.ensures
-      (end_known c.args.world.now.inst.now.tables c.args.world.now.kept.assignment.items c.args.mv.now.steps c.args.j
+      (end_known c.args.world.now.tables c.args.world.now.here c.args.mv.now.steps c.args.j
       c.requires.moves c.requires.end);
 }
 
@@ -27,22 +27,22 @@ returns-then-is_named_before-clause-added c =
     let before = ap (is_named c.args.j e) (sym c.end_of-m.ensures) ∙ sym c.is_named_before.ensures
     ∙ c.if-is_named_before.true in
     sym (fresh_again e
-    (row_cost c.args.world.now.inst.now.tables
-    (applied c.args.world.now.kept.assignment.items c.args.mv.now.steps)) c.args.j before)
+    (row_cost c.args.world.now.tables
+    (applied c.args.world.now.here c.args.mv.now.steps)) c.args.j before)
 
 pub returns-then-is_named_before-clause-taken : goal.returns-then-is_named_before-clause-taken
 returns-then-is_named_before-clause-taken c =
     let e = end_in c.args.mv.now.steps in
     let before = ap (is_named c.args.j e) (sym c.end_of-m.ensures) ∙ sym c.is_named_before.ensures
     ∙ c.if-is_named_before.true in
-    sym (fresh_again e (row_cost c.args.world.now.inst.now.tables c.args.world.now.kept.assignment.items) c.args.j
+    sym (fresh_again e (row_cost c.args.world.now.tables c.args.world.now.here) c.args.j
     before)
 
 pub returns-clause-added : goal.returns-clause-added
 returns-clause-added c =
     let e = end_in c.args.mv.now.steps in
-    let f = row_cost c.args.world.now.inst.now.tables
-    (applied c.args.world.now.kept.assignment.items c.args.mv.now.steps) in
+    let f = row_cost c.args.world.now.tables
+    (applied c.args.world.now.here c.args.mv.now.steps) in
     let new = ap (is_named c.args.j e) (sym c.end_of-m.ensures) ∙ sym c.is_named_before.ensures
     ∙ c.if-is_named_before.false in
     c.cost_after.ensures.value ∙ ap f c.end_of-m.ensures ∙ sym (fresh_new e f c.args.j new)
@@ -50,7 +50,7 @@ returns-clause-added c =
 pub returns-clause-taken : goal.returns-clause-taken
 returns-clause-taken c =
     let e = end_in c.args.mv.now.steps in
-    let f = row_cost c.args.world.now.inst.now.tables c.args.world.now.kept.assignment.items in
+    let f = row_cost c.args.world.now.tables c.args.world.now.here in
     let new = ap (is_named c.args.j e) (sym c.end_of-m.ensures) ∙ sym c.is_named_before.ensures
     ∙ c.if-is_named_before.false in
     c.cost_now.ensures.value ∙ ap f c.end_of-m.ensures ∙ sym (fresh_new e f c.args.j new)

@@ -17,8 +17,8 @@ loop-j-init c = record {
 
 pub loop-j-preserved : goal.loop-j-preserved
 loop-j-preserved c =
-    let i = c.args.world.now.inst.now.tables in
-    let a = c.args.world.now.kept.assignment.items in
+    let i = c.args.world.now.tables in
+    let a = c.args.world.now.here in
     let steps = c.args.mv.now.steps in
     record {
       added = omega (

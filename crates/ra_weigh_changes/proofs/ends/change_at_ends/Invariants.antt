@@ -10,9 +10,9 @@ abbrev pub invariant-loop-j : goal.invariant-loop-j
 invariant-loop-j l = record {
   added : l.change.added ≡
       total l.j (fresh (end_in l.mv.steps)
-      (row_cost l.world.inst.now.tables (applied l.world.kept.assignment.items l.mv.steps)));
+      (row_cost l.world.tables (applied l.world.here l.mv.steps)));
   taken : l.change.taken ≡
-      total l.j (fresh (end_in l.mv.steps) (row_cost l.world.inst.now.tables l.world.kept.assignment.items));
+      total l.j (fresh (end_in l.mv.steps) (row_cost l.world.tables l.world.here));
   added_few : l.change.added ≤ l.j * 2 ^ 106;
   taken_few : l.change.taken ≤ l.j * 2 ^ 106;
 }

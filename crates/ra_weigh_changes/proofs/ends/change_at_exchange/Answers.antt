@@ -34,8 +34,8 @@ cost_now-requires-2 c = record {
 
 pub returns : goal.returns
 returns c =
-    let i = c.args.world.now.inst.now.tables in
-    let a = c.args.world.now.kept.assignment.items in
+    let i = c.args.world.now.tables in
+    let a = c.args.world.now.here in
     let steps = c.args.mv.now.steps in
     record {
       added = cost_exchanged steps (row_cost i (applied a steps)) c.step-step.result _ _ c.requires.exchange

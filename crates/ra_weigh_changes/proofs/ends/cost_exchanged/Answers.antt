@@ -9,11 +9,11 @@ use Rattle.ra_weigh_changes.proofs.ends.cost_exchanged.Goals as goal
 
 pub exchange_row-requires-clause-enough : goal.exchange_row-requires-clause-enough
 exchange_row-requires-clause-enough c r inside =
-    let i = c.args.world.now.inst.now.tables in
-    let a = c.args.world.now.kept.assignment.items in
+    let i = c.args.world.now.tables in
+    let a = c.args.world.now.here in
     let steps = c.args.mv.now.steps in
     let within = step_within steps c.args.m.0 c.args.comes c.args.goes c.requires.exchanged in
-    let width = rw c.instance-inst.ensures at c.resources-width.ensures in
+    let width = rw c.instance-inst.ensures.value at c.resources-width.ensures in
     let used : IsUsageRow i a c.args.m.0 c.usage_row-used.result.now =
     rw c.rows.ensures.instance at (c.usage_row-used.ensures.values a c.rows.ensures.stand) in
     let many : length c.usage_row-used.result.now ≡ resource_count i =
@@ -27,11 +27,11 @@ exchange_row-requires-clause-enough c r inside =
 
 pub returns-clause-value : goal.returns-clause-value
 returns-clause-value c =
-    let i = c.args.world.now.inst.now.tables in
-    let a = c.args.world.now.kept.assignment.items in
+    let i = c.args.world.now.tables in
+    let a = c.args.world.now.here in
     let steps = c.args.mv.now.steps in
     let within = step_within steps c.args.m.0 c.args.comes c.args.goes c.requires.exchanged in
-    let width = rw c.instance-inst.ensures at c.resources-width.ensures in
+    let width = rw c.instance-inst.ensures.value at c.resources-width.ensures in
     let used : IsUsageRow i a c.args.m.0 c.usage_row-used.result.now =
     rw c.rows.ensures.instance at (c.usage_row-used.ensures.values a c.rows.ensures.stand) in
     let many : length c.usage_row-used.result.now ≡ resource_count i =
@@ -43,4 +43,4 @@ returns-clause-value c =
     c.required_row-come.ensures.each)
     (required_from i steps (length steps) c.args.goes _ _ _ c.requires.required within.1 width
     c.required_row-gone.ensures.each) c.exchange_row.ensures in
-    let cost = rw c.instance-inst.ensures at c.cost_of_row.ensures.value in cost (applied a steps) after
+    let cost = rw c.instance-inst.ensures.value at c.cost_of_row.ensures.value in cost (applied a steps) after

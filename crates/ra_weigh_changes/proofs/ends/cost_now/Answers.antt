@@ -3,18 +3,20 @@ use Rattle.ra_weigh_changes.proofs.ChangeLaws.{row_cost_is, row_cost_few}
 use Rattle.ra_weigh_changes.proofs.ends.cost_now.Goals as goal
 
 pub overflow_add-result : goal.overflow_add-result
-overflow_add-result c = let i = c.args.world.now.inst.now in record {
+overflow_add-result c = let i = c.args.world.now in record {
   fits =
       omega (
         arith,
-        row_cost_few i.tables _ _ _ _ i.well_formed i.small c.machine_load.ensures
-            c.machine_balance.ensures,
+        row_cost_few i.tables _ _ _ _ c.machine_load.ensures.sound.well_formed c.machine_load.ensures.sound.small
+            c.machine_load.ensures.value
+            c.machine_balance.ensures.value,
       );
 }
 
 pub returns-clause-value : goal.returns-clause-value
-returns-clause-value c = row_cost_is _ _ _ _ _ c.machine_load.ensures c.machine_balance.ensures
+returns-clause-value c = row_cost_is _ _ _ _ _ c.machine_load.ensures.value c.machine_balance.ensures.value
 
 pub returns-clause-few : goal.returns-clause-few
-returns-clause-few c = let i = c.args.world.now.inst.now in
-    row_cost_few i.tables _ _ _ _ i.well_formed i.small c.machine_load.ensures c.machine_balance.ensures
+returns-clause-few c = let i = c.args.world.now in
+    row_cost_few i.tables _ _ _ _ c.machine_load.ensures.sound.well_formed c.machine_load.ensures.sound.small
+    c.machine_load.ensures.value c.machine_balance.ensures.value

@@ -7,7 +7,7 @@ use Rattle.ra_weigh_changes.proofs.room.has_room.Goals as goal
 
 pub loop-j-init : goal.loop-j-init
 loop-j-init c =
-    room_none c.args.world.now.inst.now.tables (applied c.args.world.now.kept.assignment.items c.args.mv.now.steps)
+    room_none c.args.world.now.tables (applied c.args.world.now.here c.args.mv.now.steps)
     c.args.mv.now.steps
 
 pub machine_has_room-requires-clause-machine : goal.machine_has_room-requires-clause-machine

@@ -4,4 +4,4 @@ use Rattle.ra_weigh_changes.specs.Room.{HaveRoom}
 use Rattle.ra_weigh_changes.proofs.room.has_room.Given as goal
 
 abbrev pub invariant-loop-j : goal.invariant-loop-j
-invariant-loop-j l = HaveRoom l.world.inst.now.tables (applied l.world.kept.assignment.items l.mv.steps) l.mv.steps l.j
+invariant-loop-j l = HaveRoom l.world.tables (applied l.world.here l.mv.steps) l.mv.steps l.j

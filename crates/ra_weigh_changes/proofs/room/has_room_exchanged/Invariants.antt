@@ -5,5 +5,5 @@ use Rattle.ra_weigh_changes.specs.Room.{AreWithin}
 use Rattle.ra_weigh_changes.proofs.room.has_room_exchanged.Given as goal
 
 abbrev pub invariant-loop-r : goal.invariant-loop-r
-invariant-loop-r l = AreWithin l.world.inst.now.tables l.m.0
-    (use_of l.world.inst.now.tables (applied l.world.kept.assignment.items l.mv.steps) l.m.0) l.r
+invariant-loop-r l = AreWithin l.world.tables l.m.0
+    (use_of l.world.tables (applied l.world.here l.mv.steps) l.m.0) l.r

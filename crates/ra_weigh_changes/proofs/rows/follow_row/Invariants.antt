@@ -7,6 +7,6 @@ use Rattle.ra_weigh_changes.proofs.rows.follow_row.Given as goal
 
 abbrev pub invariant-loop-j : goal.invariant-loop-j
 invariant-loop-j l = record {
-  width : length l.row ≡ resource_count l.world.inst.now.tables;
-  now : IsUsageRow l.world.inst.now.tables (after_steps l.world.kept.assignment.items l.mv.steps l.j) l.m.0 l.row;
+  width : length l.row ≡ resource_count l.world.tables;
+  now : IsUsageRow l.world.tables (after_steps l.world.here l.mv.steps l.j) l.m.0 l.row;
 }

@@ -7,6 +7,6 @@ use Rattle.ra_weigh_changes.proofs.ways.cost_entered.Given as goal
 
 abbrev pub invariant-loop-j : goal.invariant-loop-j
 invariant-loop-j l = record {
-  value : l.cost ≡ total l.j (come (place_cost l.world.inst.now.tables l.world.start.now.items) l.mv.steps);
+  value : l.cost ≡ total l.j (come (place_cost l.world.tables l.world.start) l.mv.steps);
   few : l.cost ≤ l.j * 2 ^ 100;
 }

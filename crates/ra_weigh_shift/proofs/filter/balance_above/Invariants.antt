@@ -7,10 +7,10 @@ use Rattle.ra_weigh_shift.proofs.filter.balance_above.Given as goal
 
 abbrev pub invariant-loop-b : goal.invariant-loop-b
 invariant-loop-b l = record {
-  value : (p : ℕ) → AreRequired l.world.inst.now.tables p l.required →
+  value : (p : ℕ) → AreRequired l.world.tables p l.required →
       l.sum ≡ total l.b
-      (λ k. first_asked l.world.inst.now.tables p k - first_row l.world.inst.now.tables l.world.kept.assignment.items
-      l.to.0 k + (second_asked l.world.inst.now.tables p k - second_row l.world.inst.now.tables
-      l.world.kept.assignment.items l.to.0 k));
+      (λ k. first_asked l.world.tables p k - first_row l.world.tables l.world.here
+      l.to.0 k + (second_asked l.world.tables p k - second_row l.world.tables
+      l.world.here l.to.0 k));
   bound : l.sum ≤ l.b * 2 ^ 96;
 }

@@ -7,9 +7,9 @@ use Rattle.ra_weigh_shift.proofs.filter.load_above.Given as goal
 
 abbrev pub invariant-loop-r : goal.invariant-loop-r
 invariant-loop-r l = record {
-  value : (p : ℕ) → AreRequired l.world.inst.now.tables p l.required →
+  value : (p : ℕ) → AreRequired l.world.tables p l.required →
       l.sum ≡ total l.r
-      (λ k. load_asked l.world.inst.now.tables p k - load_row l.world.inst.now.tables l.world.kept.assignment.items
+      (λ k. load_asked l.world.tables p k - load_row l.world.tables l.world.here
       l.to.0 k);
   bound : l.sum ≤ l.r * 2 ^ 64;
 }

@@ -6,5 +6,5 @@ use Rattle.ra_weigh_shift.proofs.reads.may_leave.Given as goal
 
 abbrev pub invariant-loop-d : goal.invariant-loop-d
 invariant-loop-d l = (k : ℕ) → k < l.d-index → service_at l.dependants k ≢ l.s.0 →
-    in_neighbourhood l.world.inst.now.tables l.world.kept.assignment.items (service_at l.dependants k) l.neighbourhood ≡
+    in_neighbourhood l.world.tables l.world.here (service_at l.dependants k) l.neighbourhood ≡
     0

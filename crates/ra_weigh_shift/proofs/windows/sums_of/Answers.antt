@@ -11,9 +11,9 @@ returns-then-marks_of-eq0 c = λ p are home.
     let terms = c.find_terms.new.terms.items in
     let table = c.filter_rows.result.now in
     let small = c.find_terms.ensures.small c.if-not-find_terms.false in
-    let these = (rw c.instance-inst.ensures at c.find_terms.ensures.terms) p are c.if-not-find_terms.false in
+    let these = (rw c.instance-inst.ensures.value at c.find_terms.ensures.terms) p are c.if-not-find_terms.false in
     far_sums w p c.args.first c.args.limit table c.add_up.new.sums c.add_up.new.sums terms small
-    (window_lacks w p c.args.first table terms c.filter_rows.ensures these small c.requires.first)
+    (window_lacks w p c.args.first table terms c.filter_rows.ensures.rows these small c.requires.first)
     (rw c.as_slice.ensures.value at c.add_up.ensures) (rw c.if-marks_of-eq0.true at c.marks_of.ensures)
 
 pub with_ways-requires-clause-small : goal.with_ways-requires-clause-small
@@ -33,9 +33,9 @@ returns c = λ p are home.
     let terms = c.find_terms.new.terms.items in
     let table = c.filter_rows.result.now in
     let small = c.find_terms.ensures.small c.if-not-find_terms.false in
-    let these = (rw c.instance-inst.ensures at c.find_terms.ensures.terms) p are c.if-not-find_terms.false in
-    let have = rw c.instance-inst.ensures at c.with_ways.ensures in
+    let these = (rw c.instance-inst.ensures.value at c.find_terms.ensures.terms) p are c.if-not-find_terms.false in
+    let have = rw c.instance-inst.ensures.value at c.with_ways.ensures in
     IfSome_then c.with_ways.result (rw home at have)
     (λ marks with. near_sums w p c.args.first c.args.limit marks table c.add_up.new.sums c.with_ways.new.sums terms
-    small (window_lacks w p c.args.first table terms c.filter_rows.ensures these small c.requires.first)
+    small (window_lacks w p c.args.first table terms c.filter_rows.ensures.rows these small c.requires.first)
     (rw c.as_slice.ensures.value at c.add_up.ensures) with)

@@ -4,9 +4,5 @@ use Rattle.ra_journal.specs.States.{state}
 use Rattle.ra_worker.proofs.replaying.replay.Given as goal
 
 abbrev pub invariant-loop-at : goal.invariant-loop-at
-invariant-loop-at g l = record {
-  here : l.world.kept.assignment.items ≡ state l.journal.a0.now.items l.journal.book.entries.items l.at;
-  instance : l.world.inst.now ≡ l.fn.world.inst.now;
-  topology : l.world.topo.now ≡ l.fn.world.topo.now;
-  initial : l.world.start.now ≡ l.fn.world.start.now;
-}
+invariant-loop-at g l =
+    l.world ≡ (record l.fn.world { here = state l.journal.a0.now.items l.journal.book.entries.items l.at })

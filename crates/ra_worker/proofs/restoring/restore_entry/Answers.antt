@@ -8,7 +8,7 @@ apply-requires-clause-distinct c =
     let judged = entry_judged journal.inst.now.tables journal.a0.now.items c.args.best.now.items journal.lots.now
     journal.book.entries.items c.args.at c.entry-entry.result journal.start.limits journal.start.fits
     journal.kept.legal c.requires.within c.entry-entry.ensures c.requires.here in
-    (done_moves _ _ _ _ c.in-Done.cost _ judged c.in-Done.is).distinct
+    (done_moves _ _ c.in-Done.cost _ judged c.in-Done.is).distinct
 
 pub apply-requires-clause-at_from : goal.apply-requires-clause-at_from
 apply-requires-clause-at_from c =
@@ -16,7 +16,7 @@ apply-requires-clause-at_from c =
     let judged = entry_judged journal.inst.now.tables journal.a0.now.items c.args.best.now.items journal.lots.now
     journal.book.entries.items c.args.at c.entry-entry.result journal.start.limits journal.start.fits
     journal.kept.legal c.requires.within c.entry-entry.ensures c.requires.here in
-    (done_moves _ _ _ _ c.in-Done.cost _ judged c.in-Done.is).stands
+    (done_moves _ _ c.in-Done.cost _ judged c.in-Done.is).stands
 
 pub returns-in-Done-clause-items : goal.returns-in-Done-clause-items
 returns-in-Done-clause-items c = next_stated _ _ _ _ c.args.at c.entry-entry.result c.requires.here

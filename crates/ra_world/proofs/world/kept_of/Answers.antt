@@ -1,4 +1,7 @@
 -- What is made is that of the initial assignment.
+use Rattle.std.proofs.Common.{ap}
+use Rattle.ra_base.specs.Listed.{Listed}
+use Rattle.ra_base.specs.declared.ids.Machine.{Machine}
 use Rattle.ra_world.proofs.FollowLaws.{keeps_on}
 use Rattle.ra_world.proofs.world.kept_of.Goals as goal
 
@@ -7,9 +10,10 @@ returns-clause-keeps c =
     let i = c.args.inst.now.tables in
     let a0 = c.args.a0.now.items in
     let stands = c.in_ok-rows.ensures.stands in
-    keeps_on _ i a0 a0 c.in_ok-assignment.ensures c.requires.fits c.in_ok-rows.ensures.tables c.in_ok-rows.ensures.start
+    keeps_on _ i a0 a0 (ap (λ (l : Listed Machine). l.items) c.in_ok-assignment.ensures) c.requires.fits
+    c.in_ok-rows.ensures.tables c.in_ok-rows.ensures.start
     stands c.in_ok-cells.ensures (c.in_ok-loads.ensures a0 stands) (c.in_ok-balances.ensures a0 stands)
     (c.in_ok-filters.ensures a0 stands) c.requires.parts
 
 pub returns-clause-assignment : goal.returns-clause-assignment
-returns-clause-assignment c = c.in_ok-assignment.ensures
+returns-clause-assignment c = ap (λ (l : Listed Machine). l.items) c.in_ok-assignment.ensures

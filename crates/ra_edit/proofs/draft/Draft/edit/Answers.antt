@@ -5,6 +5,7 @@ use Rattle.ra_edit.specs.Drafts.{Drafted}
 use Rattle.ra_edit.specs.Editing.{edited}
 use Rattle.ra_edit.specs.Replies.{barred, edit_answer, after_edit}
 use Rattle.ra_edit.specs.Keeping.{drafted}
+use Rattle.ra_edit.specs.Loads.{draft_in}
 use Rattle.ra_edit.specs.Kinds.{IsEdited}
 use Rattle.ra_edit.proofs.DraftLaws.{answered_barred, kept_barred, answered_broken, kept_broken, answered_done}
 use Rattle.ra_edit.proofs.DraftLaws.{kept_done, next_sound, next_edited, next_fits, next_width}
@@ -12,27 +13,23 @@ use Rattle.ra_edit.proofs.draft.Draft.edit.Goals as goal
 
 pub returns-in-Some-clause-reply : goal.returns-in-Some-clause-reply
 returns-in-Some-clause-reply c =
-    let d = drafted c.self.inside.inst.now.tables c.self.inside.lists in
+    let d = draft_in c.self.inside.kept in
     subst (λ (o : Drafted). c.in-Some.reply ≡ edit_answer o c.args.edits.now c.args.i) c.self.view_is
     (answered_barred d c.args.edits.now c.args.i c.in-Some.reply
     (ap (barred (length d.rows)) (sym c.edit-edit.ensures) ∙ sym c.barred.ensures ∙ c.in-Some.is))
 
 pub returns-in-Some-clause-after : goal.returns-in-Some-clause-after
 returns-in-Some-clause-after c =
-    let d = drafted c.self.inside.inst.now.tables c.self.inside.lists in
+    let d = draft_in c.self.inside.kept in
     subst (λ (o : Drafted). o ≡ after_edit o c.args.edits.now c.args.i) c.self.view_is
     (kept_barred d c.args.edits.now c.args.i c.in-Some.reply (ap (barred (length d.rows)) (sym c.edit-edit.ensures)
     ∙ sym c.barred.ensures ∙ c.in-Some.is))
 
 pub judge-requires : goal.judge-requires
 judge-requires c =
-    let d = drafted c.self.inside.inst.now.tables c.self.inside.lists in
+    let d = draft_in c.self.inside.kept in
     record {
-      kept = c.self.invariant.kept;
-      loads = c.self.invariant.loads_are;
-      members = c.self.invariant.members_are;
-      dependants = c.self.invariant.dependants_are;
-      moved = c.self.invariant.moved_are;
+      held = c.self.invariant;
       free = sym c.barred.ensures ∙ c.in_default.is;
       fits = next_fits d c.args.self.now c.args.edits.now c.args.i c.edit-edit.result c.self.view_is c.requires.fits
           c.requires.edit c.edit-edit.ensures;
@@ -42,7 +39,7 @@ judge-requires c =
 
 pub returns-in-Refused-clause-reply : goal.returns-in-Refused-clause-reply
 returns-in-Refused-clause-reply c =
-    let d = drafted c.self.inside.inst.now.tables c.self.inside.lists in
+    let d = draft_in c.self.inside.kept in
     let next = edited d (edit_at c.args.edits.now c.args.i)
     (row_of c.args.edits.now.width c.args.edits.now.requirements c.args.i) in
     let free = ap (barred (length d.rows)) (sym c.edit-edit.ensures) ∙ sym c.barred.ensures ∙ c.in_default.is in
@@ -57,7 +54,7 @@ returns-in-Refused-clause-reply c =
 
 pub returns-in-Refused-clause-after : goal.returns-in-Refused-clause-after
 returns-in-Refused-clause-after c =
-    let d = drafted c.self.inside.inst.now.tables c.self.inside.lists in
+    let d = draft_in c.self.inside.kept in
     let next = edited d (edit_at c.args.edits.now c.args.i)
     (row_of c.args.edits.now.width c.args.edits.now.requirements c.args.i) in
     let free = ap (barred (length d.rows)) (sym c.edit-edit.ensures) ∙ sym c.barred.ensures ∙ c.in_default.is in
@@ -72,7 +69,7 @@ returns-in-Refused-clause-after c =
 
 pub follow-requires : goal.follow-requires
 follow-requires c =
-    let d = drafted c.self.inside.inst.now.tables c.self.inside.lists in
+    let d = draft_in c.self.inside.kept in
     record {
       sound = c.self.invariant.kept.sound;
       members = c.self.invariant.members_are;
@@ -83,7 +80,7 @@ follow-requires c =
 
 pub follow-requires-in-Fine : goal.follow-requires-in-Fine
 follow-requires-in-Fine c =
-    let d = drafted c.self.inside.inst.now.tables c.self.inside.lists in
+    let d = draft_in c.self.inside.kept in
     record {
       sound = c.self.invariant.kept.sound;
       loads = c.self.invariant.loads_are;
@@ -103,7 +100,7 @@ follow_moved-requires c = record {
 
 pub edit-requires : goal.edit-requires
 edit-requires c =
-    let d = drafted c.self.inside.inst.now.tables c.self.inside.lists in
+    let d = draft_in c.self.inside.kept in
     record {
       sound = c.self.invariant.kept.sound;
       room = c.self.invariant.room;
@@ -118,15 +115,15 @@ invariant_of-self c = record {
   kept = c.self.invariant.kept;
   loads_are = c.self.invariant.loads_are;
   members_are = c.in_err-follow-in-Fine.ensures.memory;
-  dependants_are = c.self.invariant.dependants_are;
+  topology_is = c.self.invariant.topology_is;
   moved_are = c.self.invariant.moved_are;
   room = c.self.invariant.room;
 }
 
 pub invariant_of-self-in-Fine : goal.invariant_of-self-in-Fine
 invariant_of-self-in-Fine c =
-    let d = drafted c.self.inside.inst.now.tables c.self.inside.lists in
-    let next = drafted c.self.inside.inst.now.tables c.edit.new.self in
+    let d = draft_in c.self.inside.kept in
+    let next = drafted c.self.inside.kept.inst.now.tables c.edit.new.self in
     let free = ap (barred (length d.rows)) (sym c.edit-edit.ensures) ∙ sym c.barred.ensures ∙ c.in_default.is in
     let same : next ≡ edited d (edit_at c.args.edits.now c.args.i)
     (row_of c.args.edits.now.width c.args.edits.now.requirements c.args.i) = c.edit.ensures.lists
@@ -147,15 +144,15 @@ invariant_of-self-in-Fine c =
       };
       loads_are = c.follow-in-Fine.ensures next made;
       members_are = c.in_ok-follow-in-Fine.ensures.after next c.requirements_of-asked.result.now made;
-      dependants_are = c.self.invariant.dependants_are;
+      topology_is = c.self.invariant.topology_is;
       moved_are = c.follow_moved.ensures next c.requirements_of-asked.result.now made;
       room = c.edit.ensures.room;
     }
 
 pub returns-in_ok-follow-in-Fine-clause-reply : goal.returns-in_ok-follow-in-Fine-clause-reply
 returns-in_ok-follow-in-Fine-clause-reply c =
-    let d = drafted c.self.inside.inst.now.tables c.self.inside.lists in
-    let next = drafted c.self.inside.inst.now.tables c.edit.new.self in
+    let d = draft_in c.self.inside.kept in
+    let next = drafted c.self.inside.kept.inst.now.tables c.edit.new.self in
     let free = ap (barred (length d.rows)) (sym c.edit-edit.ensures) ∙ sym c.barred.ensures ∙ c.in_default.is in
     let same : next ≡ edited d (edit_at c.args.edits.now c.args.i)
     (row_of c.args.edits.now.width c.args.edits.now.requirements c.args.i) = c.edit.ensures.lists
@@ -172,8 +169,8 @@ returns-in_ok-follow-in-Fine-clause-reply c =
 
 pub returns-in_ok-follow-in-Fine-clause-after : goal.returns-in_ok-follow-in-Fine-clause-after
 returns-in_ok-follow-in-Fine-clause-after c =
-    let d = drafted c.self.inside.inst.now.tables c.self.inside.lists in
-    let next = drafted c.self.inside.inst.now.tables c.edit.new.self in
+    let d = draft_in c.self.inside.kept in
+    let next = drafted c.self.inside.kept.inst.now.tables c.edit.new.self in
     let free = ap (barred (length d.rows)) (sym c.edit-edit.ensures) ∙ sym c.barred.ensures ∙ c.in_default.is in
     let same : next ≡ edited d (edit_at c.args.edits.now c.args.i)
     (row_of c.args.edits.now.width c.args.edits.now.requirements c.args.i) = c.edit.ensures.lists

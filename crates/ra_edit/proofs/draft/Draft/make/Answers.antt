@@ -29,7 +29,7 @@ invariant_of-result c = record {
       c.requires.parts;
   loads_are = c.in_ok-loads.ensures;
   members_are = c.in_ok-members.ensures;
-  dependants_are = c.in_ok-dependants.ensures;
+  topology_is = c.requires.topology;
   moved_are = c.in_ok-moved.ensures;
   room = c.in_ok-lists.ensures.room;
 }

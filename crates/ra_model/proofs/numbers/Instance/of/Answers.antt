@@ -8,4 +8,5 @@ invariant_of-result c = record {
   small = small_tables (all_open c.args.raw) (record { each = c.numbers_in-capacities.ensures.small })
       (record { each = c.numbers_in-safeties.ensures.small }) (record { each = c.numbers_in-move_costs.ensures.small })
       (record { each = c.numbers_in-requirements.ensures.small });
+  flagged = tt;
 }

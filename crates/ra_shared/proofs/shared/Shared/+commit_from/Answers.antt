@@ -1,5 +1,5 @@
 -- Each write guard is held before the next one, and given back after it.
-use Rattle.std.proofs.Common.{◌≡◌, ◌+◌, ◌-◌, ◌<◌, ◌≤◌, ℕ, length, Contains, rules, refl, ap, sym, subst, ◌∙◌}
+use Rattle.std.proofs.Common.{◌≡◌, ◌+◌, ◌-◌, ◌<◌, ◌≤◌, ℕ, List, length, Contains, IfSome, rules, refl, ap, sym, subst, ◌∙◌}
 use Rattle.std.proofs.Common.{arith}
 use Rattle.std.proofs.lemmas.List.Elements.{All-contains}
 use Rattle.ra_model.specs.declared.numbers.Instance.{Instance}
@@ -67,7 +67,6 @@ returns-in_default-clause-none g t c =
         above = newer.above;
         told = subst (λ (m : ℕ). Contains (news_of c.hold.new.pass) (grip m c.in_default.field-0)) number newer.news;
       };
-      kept = refl;
     }
 
 pub commit_from-reply-requires : goal.commit_from-reply-requires
@@ -103,10 +102,10 @@ release-requires-clause-grip g t c =
     c.in-Held.version q number inside pass.0 pass.1 pass.2 gripped in
     let own : KnowsOwn q.number (seen_by q) (made_by q) =
     subst (λ (w : ℕ). KnowsOwn w (seen_by q) (made_by q)) q.numbered q.owned in
-    let longer = longer_back s plan p q r r c.args.batch.now c.commit_from-reply.new.batch c.commit_from-reply.result
+    let longer = longer_back s plan p q r r c.commit_from-reply.result
     own holds.may.commit e.some e.none in (
       c.in-Held.version,
-      still_held s plan c.args.guards.now c.args.k p _ _ q r _ _ _ gripped.grips e.some e.none,
+      still_held s plan c.args.guards.now c.args.k p _ _ q r _ gripped.grips e.some e.none,
       omega (arith, holds.reached, longer),
     )
 
@@ -129,13 +128,13 @@ release-requires-clause-version g t c =
     let next = next_guard s plan guards c.args.k p c.requires.may c.requires.guards c.requires.held _ number inside in
     let holds = holds_next s plan guards c.args.k p c.requires.may c.requires.guards c.requires.held _ v q number inside
     pass.0 pass.1 pass.2 gripped in
-    let has = still_held s plan guards c.args.k p c.number_of-guard.result v q r c.args.batch.now
-    c.commit_from-reply.new.batch c.commit_from-reply.result gripped.grips e.some e.none in
+    let has = still_held s plan guards c.args.k p c.number_of-guard.result v q r c.commit_from-reply.result
+    gripped.grips e.some e.none in
     let own : KnowsOwn q.number (seen_by q) (made_by q) =
     subst (λ (w : ℕ). KnowsOwn w (seen_by q) (made_by q)) q.numbered q.owned in
     let before : IsVersion (touching entry_touches o (number_at o.inst.tables guards c.args.k)) (seen_by q) v =
     subst (λ (m : ℕ). IsVersion (touching entry_touches o m) (seen_by q) v) number (gripped.version holds.reached) in
-    let there = version_back s plan p q r r c.args.batch.now c.commit_from-reply.new.batch (guard_at guards c.args.k) v
+    let there = version_back s plan p q r r (guard_at guards c.args.k) v
     next.known next.written c.commit_from-reply.result _ e.shut
     (λ shut. subst (λ (m : ℕ). OnlyBy (touching entry_touches o m) (λ (x : Entry). x.worker) r.number (seen_by r) v)
     number
@@ -160,8 +159,8 @@ returns-clause-some g t c =
     c.number_of-guard.ensures in
     let next = next_guard s plan c.args.guards.now c.args.k p c.requires.may c.requires.guards c.requires.held _ number
     inside in
-    handed_back s plan p c.hold.new.pass c.commit_from-reply.new.pass c.release.new.pass c.args.batch.now
-    c.commit_from-reply.new.batch c.number_of-guard.result c.in-Held.version pass.1 pass.2
+    handed_back s plan p c.hold.new.pass c.commit_from-reply.new.pass c.release.new.pass
+    c.number_of-guard.result c.in-Held.version pass.1 pass.2
     c.in-Held.ensures.answer.grips next.below gave.pass.0 gave.pass.1 gave.pass.2 gave.pass.3 gave.grips
     c.commit_from-reply.result c.commit_from-reply.ensures.some
 
@@ -178,7 +177,13 @@ returns-clause-none g t c =
     c.number_of-guard.ensures in
     let next = next_guard s plan c.args.guards.now c.args.k p c.requires.may c.requires.guards c.requires.held _ number
     inside in
-    held_back s plan p c.hold.new.pass c.commit_from-reply.new.pass c.release.new.pass c.args.batch.now
-    c.commit_from-reply.new.batch c.number_of-guard.result c.in-Held.version pass.1 pass.2
+    held_back s plan p c.hold.new.pass c.commit_from-reply.new.pass c.release.new.pass
+    c.number_of-guard.result c.in-Held.version pass.1 pass.2
     c.in-Held.ensures.answer.grips next.below gave.pass.0 gave.pass.1 gave.pass.2 gave.pass.3 gave.grips
     c.commit_from-reply.result c.commit_from-reply.ensures.none
+
+pub returns-clause-copied : goal.returns-clause-copied
+returns-clause-copied g t c =
+    subst (λ (xs : List Entry). IfSome c.commit_from-reply.result
+    (λ _. g.C.Copying.copied c.commit_from-reply.new.copy xs c.args.plan.now.q))
+    (sym c.release.ensures.pass.2.0) c.commit_from-reply.ensures.copied

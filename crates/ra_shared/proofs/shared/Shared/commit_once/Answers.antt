@@ -8,7 +8,6 @@ use Rattle.ra_turn.specs.declared.sight.Grip.{Grip}
 use Rattle.ra_turn.specs.Notes.{grip}
 use Rattle.ra_shared.specs.declared.books.Opening.{Opening}
 use Rattle.ra_shared.specs.Books.{opening_of_journal}
-use Rattle.ra_shared.specs.Copies.{CopiesUnlessOwn}
 use Rattle.ra_shared.specs.Numbers.{number_of}
 use Rattle.ra_shared.specs.Shares.{start_of}
 use Rattle.ra_shared.proofs.Known.{by_guards, of_given}
@@ -53,7 +52,7 @@ commit_with-reply-requires-clause-held g c =
     took.made.0 in
     let commit = turned_commit o o p.number p.number p.seat.me.0.own.seen p.seat.me.0.own.mine j.book.entries.items
     c.args.plan.now refl refl turned may.commit in
-    of_given {P = HasHeld j c.args.plan.now} o.inst.tables c.args.plan.now p (option_copied c.args.guards)
+    of_given {P = HasHeld j c.args.plan.now} o c.args.plan.now p (option_copied c.args.guards)
     c.requires.guards (λ given listed holds. record {
       listed = subst (λ (x : Opening). AreWrites x.inst.tables c.args.plan.now.mv.steps given) (sym opened) listed;
       known = turned_held o (opening_of_journal j) p.number q.number j.book.entries.items q.seat.me.0.own.seen
@@ -61,8 +60,8 @@ commit_with-reply-requires-clause-held g c =
           j.kept.legal commit holds took.guards.1;
     })
 
-pub copy_unless_own-requires : goal.copy_unless_own-requires
-copy_unless_own-requires g c =
+pub copy-requires : goal.copy-requires
+copy-requires g c =
     let o : Opening = start_of c.args.self.now in
     let j : Journal = c.deref_mut.result.now in
     let p = c.args.pass.now in
@@ -102,15 +101,15 @@ give-requires-clause-notes g c =
     took.made.0 in
     let commit = turned_commit o o p.number p.number p.seat.me.0.own.seen p.seat.me.0.own.mine j.book.entries.items
     c.args.plan.now refl refl turned may.commit in
-    by_guards o.inst.tables c.args.plan.now p (option_copied c.args.guards) c.requires.guards
+    by_guards o c.args.plan.now p (option_copied c.args.guards) c.requires.guards
     (λ holds. turned_gives o (opening_of_journal j) p.number q.number c.number-worker.result j.book.entries.items
     q.seat.me.0.own.seen c.commit_with-reply.new.self.book.entries.items c.args.plan.now p.seat.me.0.grips
     q.seat.me.0.grips opened took.pass.1.2 c.number-worker.ensures seen took.guards.0.0 commit holds
     c.commit_with-reply.ensures.journal)
     (λ free. ⊎_elim
-    (λ broken. turned_refused o (opening_of_journal j) p.number q.number c.number-worker.result j.book.entries.items
-    q.seat.me.0.own.seen c.commit_with-reply.new.self.book.entries.items c.args.plan.now q.seat.me.0.grips
-    broken.0 opened took.pass.1.2 c.number-worker.ensures seen j.start j.kept.legal commit broken.1
+    (λ refused. turned_refused o (opening_of_journal j) p.number q.number c.number-worker.result j.book.entries.items
+    q.seat.me.0.own.seen c.commit_with-reply.new.self.book.entries.items c.args.plan.now q.seat.me.0.grips opened
+    took.pass.1.2 c.number-worker.ensures seen j.start j.kept.legal commit refused
     c.commit_with-reply.ensures.journal)
     (λ newer. let told : Contains q.seat.me.0.news (grip (number_of o.inst.tables newer.guard) newer.version) =
     subst (λ (ks : List Grip). Contains ks (grip (number_of o.inst.tables newer.guard) newer.version))
@@ -157,7 +156,9 @@ returns-clause-done g c =
           c.give.new.pass.seat.me.0.own.seen c.give.new.pass.seat.me.0.own.mine c.commit_with-reply.result opened
           c.number-worker.ensures turned j.kept.legal seen took.made.0 gave.seen gave.made
           c.commit_with-reply.ensures.journal c.commit_with-reply.ensures.reply;
-      copied = subst (λ (xs : List Entry). CopiesUnlessOwn c.args.plan.now.q xs c.args.batch.now
-          c.copy_unless_own.new.batch c.commit_with-reply.result)
-          (ap (λ (x : Journal). x.book.entries.items) c.deref.ensures ∙ sym gave.seen) c.copy_unless_own.ensures;
     }
+
+pub returns-clause-copied : goal.returns-clause-copied
+returns-clause-copied g c =
+    subst (λ (xs : List Entry). g.C.Copying.copied c.copy.new.self xs c.args.plan.now.q)
+    (ap (λ (x : Journal). x.book.entries.items) c.deref.ensures ∙ sym c.give.ensures.seen) c.copy.ensures

@@ -4,23 +4,24 @@ use Rattle.ra_journal.specs.declared.journal.Journal.{Journal}
 use Rattle.ra_journal.specs.Entries.{worker_count}
 use Rattle.ra_turn.specs.Passes.{opening_of}
 use Rattle.ra_shared.specs.Books.{opened_by, opening_of_journal, IsStartOf}
-use Rattle.ra_shared.specs.Numbers.{first_number, place_count, guard_count}
+use Rattle.ra_shared.specs.Numbers.{guard_count}
 use Rattle.ra_shared.specs.declared.books.Opening.{Opening}
 use Rattle.ra_shared.proofs.Resting.{new_pass}
 use Rattle.ra_shared.proofs.shared.Shared.make.Goals as goal
 
 pub invariant_of-result : goal.invariant_of-result
-unfolding guard_count place_count first_number worker_count
+unfolding guard_count worker_count
 invariant_of-result c =
     let opened : opening_of opened_by c.in_ok-turn.turn ≡ opening_of_journal c.args.journal =
     c.in_ok-turn.ensures.turn.0 ∙ ap (λ (j : Journal). opening_of_journal j) c.in_ok-journal.ensures.ok in
-    let lots = ap (λ (l : Lots). worker_count l) c.lots.ensures
+    let lots = ap (λ (l : Lots). worker_count l) c.lots-lots.ensures
     ∙ ap (λ (o : Opening). worker_count o.lots) (sym opened) in
     record {
       instance = c.instance-inst.ensures ∙ ap (λ (o : Opening). o.inst) (sym opened);
+      allotted = c.lots-lots.ensures ∙ ap (λ (o : Opening). o.lots) (sym opened);
       started = subst IsStartOf (sym opened) c.args.journal.start;
       guards = omega (arith, c.in_ok-turn.ensures.turn.2, c.machines.ensures, c.services.ensures);
-      workers = omega (arith, c.in_ok-turn.ensures.turn.1, c.len-workers.ensures.value, lots);
+      workers = omega (arith, c.in_ok-turn.ensures.turn.1, c.len.ensures.value, lots);
     }
 
 pub returns-clause-passes : goal.returns-clause-passes

@@ -9,37 +9,37 @@ use Rattle.ra_weigh_shift.proofs.shift.Shift.change.Goals as goal
 
 pub overflow_add-here : goal.overflow_add-here
 overflow_add-here c =
-    let w = c.args.self.now.world.now in
+    let shift = c.args.self.now in
+    let w = shift.world.now in
     omega (
       arith,
-      c.machine_load.ensures,
-      c.machine_balance.ensures,
-      cost_small w.inst.now.tables
-          w.kept.assignment.items c.args.to.0 w.inst.now.well_formed w.inst.now.small,
+      c.machine_load.ensures.value,
+      c.machine_balance.ensures.value,
+      cost_small w.tables w.here c.args.to.0 shift.sound.well_formed shift.sound.small,
     )
 
 pub overflow_add-self-3 : goal.overflow_add-self-3
 overflow_add-self-3 c =
-    let w = c.args.self.now.world.now in
+    let shift = c.args.self.now in
+    let w = shift.world.now in
     omega (
       arith,
       c.args.self.now.before_small,
-      c.machine_load.ensures,
-      c.machine_balance.ensures,
-      cost_small
-          w.inst.now.tables w.kept.assignment.items c.args.to.0 w.inst.now.well_formed w.inst.now.small,
+      c.machine_load.ensures.value,
+      c.machine_balance.ensures.value,
+      cost_small w.tables w.here c.args.to.0 shift.sound.well_formed shift.sound.small,
     )
 
 pub difference-requires-clause-taken : goal.difference-requires-clause-taken
 difference-requires-clause-taken c =
-    let w = c.args.self.now.world.now in
+    let shift = c.args.self.now in
+    let w = shift.world.now in
     omega (
       arith,
       c.args.self.now.before_small,
-      c.machine_load.ensures,
-      c.machine_balance.ensures,
-      cost_small
-          w.inst.now.tables w.kept.assignment.items c.args.to.0 w.inst.now.well_formed w.inst.now.small,
+      c.machine_load.ensures.value,
+      c.machine_balance.ensures.value,
+      cost_small w.tables w.here c.args.to.0 shift.sound.well_formed shift.sound.small,
     )
 
 pub returns : goal.returns
@@ -47,10 +47,10 @@ unfolding cost_of
 returns c =
     let shift = c.args.self.now in
     let w = shift.world.now in
-    let start = start_of w.inst.now.tables w.start.now.items w.kept.assignment.items shift.process.0 c.args.to.0
-    (at_of w shift.process.0 c.args.to.0 shift.process_known c.requires.machine) c.requires.apart in
-    let change = change_is w.inst.now.tables w.start.now.items w.kept.assignment.items shift.process.0 c.args.to.0
+    let start = start_of w shift.process.0 c.args.to.0
+    (at_of w shift.process.0 c.args.to.0 shift.sound shift.process_known c.requires.machine) c.requires.apart in
+    let change = change_is w shift.process.0 c.args.to.0
     shift.without shift.before c.cost_with-with.result c.way_cost-way.result _ start shift.without_is shift.before_is
     c.cost_with-with.ensures.value c.way_cost-way.ensures.value
-    (ap₂ (λ x y. x + y) c.machine_load.ensures c.machine_balance.ensures) in
+    (ap₂ (λ x y. x + y) c.machine_load.ensures.value c.machine_balance.ensures.value) in
     to_z-of_z w128 c.difference.result c.difference.ensures.fits ∙ c.difference.ensures.value ∙ change

@@ -10,7 +10,8 @@ returns-in_err-sum c =
     let p = shift.process.0 in
     let to = c.args.to.0 in
     dear_cost w p to c.args.bound shift.taken shift.added c.saturating_sub.result c.sum_below.result _
-    shift.process_known c.requires.machine (λ same. c.requires.apart (sym (shift.home_is ∙ same))) shift.taken_is
+    shift.sound shift.process_known c.requires.machine (λ same. c.requires.apart (sym (shift.home_is ∙ same)))
+    shift.taken_is
     shift.added_is c.saturating_sub.ensures c.sum_below.ensures c.in_err-sum.was c.from_residual.ensures
 
 pub overflow_sub-result : goal.overflow_sub-result
@@ -20,7 +21,7 @@ overflow_sub-result c =
     let p = shift.process.0 in
     let to = c.args.to.0 in
     (summed_cost w p to c.args.bound shift.taken shift.added c.saturating_sub.result c.in_ok-sum.sum c.sum_below.result
-    shift.process_known c.requires.machine (λ same. c.requires.apart (sym (shift.home_is ∙ same)))
+    shift.sound shift.process_known c.requires.machine (λ same. c.requires.apart (sym (shift.home_is ∙ same)))
     shift.taken_is shift.added_is c.saturating_sub.ensures c.sum_below.ensures c.in_ok-sum.was
     (c.fits.ensures.0 c.if-not-fits.false)).0
 
@@ -31,6 +32,6 @@ returns c =
     let p = shift.process.0 in
     let to = c.args.to.0 in
     (summed_cost w p to c.args.bound shift.taken shift.added c.saturating_sub.result c.in_ok-sum.sum c.sum_below.result
-    shift.process_known c.requires.machine (λ same. c.requires.apart (sym (shift.home_is ∙ same)))
+    shift.sound shift.process_known c.requires.machine (λ same. c.requires.apart (sym (shift.home_is ∙ same)))
     shift.taken_is shift.added_is c.saturating_sub.ensures c.sum_below.ensures c.in_ok-sum.was
     (c.fits.ensures.0 c.if-not-fits.false)).1

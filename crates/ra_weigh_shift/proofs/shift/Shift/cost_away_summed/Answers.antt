@@ -11,7 +11,7 @@ returns-then-sum-room c =
     let p = shift.process.0 in
     let to = c.args.to.0 in
     let room = c.room_below-room.result in
-    dear_cost w p to c.args.bound (cost_taken w p) (cost_added w p) room None None shift.process_known
+    dear_cost w p to c.args.bound (cost_taken w p) (cost_added w p) room None None shift.sound shift.process_known
     c.requires.machine c.requires.apart refl refl c.room_below-room.ensures
     (sum_none w p to room c.args.sum c.if-sum-room.true (omega (arith, c.requires.sum))) refl refl
 
@@ -24,7 +24,8 @@ overflow_sub-result c =
     let room = c.room_below-room.result in
     let room_is : room ≡ c.args.bound + shift.taken - shift.added =
     omega (arith, c.room_below-room.ensures, shift.taken_is, shift.added_is) in
-    (summed_cost w p to c.args.bound shift.taken shift.added room c.args.sum (Some c.args.sum) shift.process_known
+    (summed_cost w p to c.args.bound shift.taken shift.added room c.args.sum (Some c.args.sum) shift.sound
+    shift.process_known
     c.requires.machine c.requires.apart shift.taken_is shift.added_is room_is
     (sum_some w p to room c.args.sum c.if-sum-room.false c.requires.sum) refl
     (c.fits.ensures.0 c.if-not-fits.false)).0
@@ -38,7 +39,8 @@ returns c =
     let room = c.room_below-room.result in
     let room_is : room ≡ c.args.bound + shift.taken - shift.added =
     omega (arith, c.room_below-room.ensures, shift.taken_is, shift.added_is) in
-    (summed_cost w p to c.args.bound shift.taken shift.added room c.args.sum (Some c.args.sum) shift.process_known
+    (summed_cost w p to c.args.bound shift.taken shift.added room c.args.sum (Some c.args.sum) shift.sound
+    shift.process_known
     c.requires.machine c.requires.apart shift.taken_is shift.added_is room_is
     (sum_some w p to room c.args.sum c.if-sum-room.false c.requires.sum) refl
     (c.fits.ensures.0 c.if-not-fits.false)).1

@@ -15,7 +15,7 @@ unfolding IsFinding
 returns-then-to-self c =
     let shift = c.args.self.now in
     let w = shift.world.now in
-    broken_same w.inst.now.tables w.start.now.items w.kept.assignment.items shift.process.0 c.args.to.0
+    broken_same w shift.process.0 c.args.to.0
     (sym shift.from_is ∙ sym c.if-to-self.true)
 
 pub returns-in-Some : goal.returns-in-Some
@@ -23,30 +23,31 @@ unfolding IsFinding
 returns-in-Some c =
     let shift = c.args.self.now in
     let w = shift.world.now in
-    let i = w.inst.now.tables in
-    let a0 = w.start.now.items in
-    let a = w.kept.assignment.items in
+    let i = w.tables in
+    let a0 = w.start in
+    let a = w.here in
     let p = shift.process.0 in
     let to = c.args.to.0 in
-    let start = start_of i a0 a p to (at_of w p to shift.process_known c.requires)
+    let start = start_of w p to (at_of w p to shift.sound shift.process_known c.requires)
     (λ same. c.if-to-self.false (sym same ∙ sym shift.from_is)) in
     let over = c.in-Some.ensures.some in
-    broken_over i a0 a p to over.r start over.within over.before over.above ∙ ap Some (sym over.named)
+    broken_over w p to over.r start over.within over.before over.above ∙ ap Some (sym over.named)
 
 pub returns-in-Some-over_between : goal.returns-in-Some-over_between
 unfolding IsFinding
 returns-in-Some-over_between c =
     let shift = c.args.self.now in
     let w = shift.world.now in
-    let i = w.inst.now.tables in
-    let a0 = w.start.now.items in
-    let a = w.kept.assignment.items in
+    let i = w.tables in
+    let a0 = w.start in
+    let a = w.here in
     let p = shift.process.0 in
     let to = c.args.to.0 in
-    let start = start_of i a0 a p to (at_of w p to shift.process_known c.requires)
+    let start = start_of w p to (at_of w p to shift.sound shift.process_known c.requires)
     (λ same. c.if-to-self.false (sym same ∙ sym shift.from_is)) in
     let over = c.in-Some-over_between.ensures.some in
-    broken_between i a0 a p to over.r start c.in_default.ensures.none over.away over.within over.transient over.before
+    broken_between w p to over.r start c.in_default.ensures.none over.away over.within over.transient
+    over.before
     over.above ∙ ap Some (sym over.named)
 
 pub returns-then-not-is_alone : goal.returns-then-not-is_alone
@@ -54,17 +55,17 @@ unfolding IsFinding
 returns-then-not-is_alone c =
     let shift = c.args.self.now in
     let w = shift.world.now in
-    let i = w.inst.now.tables in
-    let a0 = w.start.now.items in
-    let a = w.kept.assignment.items in
+    let i = w.tables in
+    let a0 = w.start in
+    let a = w.here in
     let p = shift.process.0 in
     let to = c.args.to.0 in
-    let start = start_of i a0 a p to (at_of w p to shift.process_known c.requires)
+    let start = start_of w p to (at_of w p to shift.sound shift.process_known c.requires)
     (λ same. c.if-to-self.false (sym same ∙ sym shift.from_is)) in
     let none : on_machine i a (service_of i p) to ≢ 0 =
     λ alone. both_ways c.is_alone.result c.if-not-is_alone.true (c.is_alone.ensures.1 alone) in
     let some : 0 < on_machine i a (service_of i p) to = omega (arith, none) in
-    broken_twice i a0 a p to start c.in_default.ensures.none c.in_default-over_between.ensures.none some
+    broken_twice w p to start c.in_default.ensures.none c.in_default-over_between.ensures.none some
     ∙ ap (λ (s : ℕ). Some (Conflict (record { 0 = s }) (record { 0 = to }))) (sym shift.service_is)
 
 pub returns-then-not-keeps_spread : goal.returns-then-not-keeps_spread
@@ -72,19 +73,19 @@ unfolding IsFinding
 returns-then-not-keeps_spread c =
     let shift = c.args.self.now in
     let w = shift.world.now in
-    let i = w.inst.now.tables in
-    let a0 = w.start.now.items in
-    let a = w.kept.assignment.items in
+    let i = w.tables in
+    let a0 = w.start in
+    let a = w.here in
     let p = shift.process.0 in
     let to = c.args.to.0 in
-    let start = start_of i a0 a p to (at_of w p to shift.process_known c.requires)
+    let start = start_of w p to (at_of w p to shift.sound shift.process_known c.requires)
     (λ same. c.if-to-self.false (sym same ∙ sym shift.from_is)) in
     let alone = c.is_alone.ensures.0 c.if-not-is_alone.false in
     let enough : spread_of i (service_of i p) ≤ locations_of i (shifted a p to) (service_of i p) → ⊥ =
     λ many. both_ways c.keeps_spread.result c.if-not-keeps_spread.true (c.keeps_spread.ensures.1 many) in
     let few : c.locations_with.result < spread_of i (service_of i p) =
     omega (arith, c.locations_with.ensures, enough) in
-    broken_apart i a0 a p to c.locations_with.result start c.in_default.ensures.none
+    broken_apart w p to c.locations_with.result start c.in_default.ensures.none
     c.in_default-over_between.ensures.none alone c.locations_with.ensures few
     ∙ ap₂ (λ (s n : ℕ). Some (Spread (record { 0 = s }) c.locations_with.result n)) (sym shift.service_is)
     (sym shift.wants_is)
@@ -94,7 +95,7 @@ unfolding IsFinding
 returns-then-not-keeps_dependants c =
     let shift = c.args.self.now in
     let w = shift.world.now in
-    let at = at_of w shift.process.0 c.args.to.0 shift.process_known c.requires in
+    let at = at_of w shift.process.0 c.args.to.0 shift.sound shift.process_known c.requires in
     record {
       apart = λ same. c.if-to-self.false (sym same ∙ sym shift.from_is);
       room = c.in_default.ensures.none;
@@ -103,7 +104,8 @@ returns-then-not-keeps_dependants c =
       spread = c.keeps_spread.ensures.0 c.if-not-keeps_spread.false;
       broken = λ none. both_ways c.keeps_dependants.result c.if-not-keeps_dependants.true
           (c.keeps_dependants.ensures.1
-          (allowed w.inst.now.tables w.start.now.items w.kept.assignment.items shift.process.0 c.args.to.0 at none).leaves);
+          (allowed w shift.process.0 c.args.to.0
+          at none).leaves);
     }
 
 pub returns-then-not-finds_needs : goal.returns-then-not-finds_needs
@@ -111,7 +113,7 @@ unfolding IsFinding
 returns-then-not-finds_needs c =
     let shift = c.args.self.now in
     let w = shift.world.now in
-    let at = at_of w shift.process.0 c.args.to.0 shift.process_known c.requires in
+    let at = at_of w shift.process.0 c.args.to.0 shift.sound shift.process_known c.requires in
     record {
       apart = λ same. c.if-to-self.false (sym same ∙ sym shift.from_is);
       room = c.in_default.ensures.none;
@@ -120,7 +122,8 @@ returns-then-not-finds_needs c =
       spread = c.keeps_spread.ensures.0 c.if-not-keeps_spread.false;
       broken = λ none. both_ways c.finds_needs.result c.if-not-finds_needs.true
           (c.finds_needs.ensures.1
-          (allowed w.inst.now.tables w.start.now.items w.kept.assignment.items shift.process.0 c.args.to.0 at none).needs);
+          (allowed w shift.process.0 c.args.to.0
+          at none).needs);
     }
 
 pub returns-then-not-is_admitted : goal.returns-then-not-is_admitted
@@ -128,7 +131,7 @@ unfolding IsFinding
 returns-then-not-is_admitted c =
     let shift = c.args.self.now in
     let w = shift.world.now in
-    let at = at_of w shift.process.0 c.args.to.0 shift.process_known c.requires in
+    let at = at_of w shift.process.0 c.args.to.0 shift.sound shift.process_known c.requires in
     record {
       apart = λ same. c.if-to-self.false (sym same ∙ sym shift.from_is);
       room = c.in_default.ensures.none;
@@ -137,7 +140,8 @@ returns-then-not-is_admitted c =
       spread = c.keeps_spread.ensures.0 c.if-not-keeps_spread.false;
       broken = λ none. both_ways c.is_admitted.result c.if-not-is_admitted.true
           (c.is_admitted.ensures.1
-          (allowed w.inst.now.tables w.start.now.items w.kept.assignment.items shift.process.0 c.args.to.0 at none).admitted);
+          (allowed w shift.process.0 c.args.to.0
+          at none).admitted);
     }
 
 pub returns : goal.returns
@@ -145,8 +149,9 @@ unfolding IsFinding
 returns c =
     let shift = c.args.self.now in
     let w = shift.world.now in
-    let at = at_of w shift.process.0 c.args.to.0 shift.process_known c.requires in
-    unbroken w.inst.now.tables w.start.now.items w.kept.assignment.items shift.process.0 c.args.to.0 at (record {
+    let at = at_of w shift.process.0 c.args.to.0 shift.sound shift.process_known c.requires in
+    unbroken w shift.process.0 c.args.to.0 at
+    (record {
       apart = λ same. c.if-to-self.false (sym same ∙ sym shift.from_is);
       admitted = c.is_admitted.ensures.0 c.if-not-is_admitted.false;
       room = c.in_default.ensures.none;

@@ -6,4 +6,9 @@ pub returns-clause-within : goal.returns-clause-within
 returns-clause-within c =
     let shift = c.args.self.now in
     let w = shift.world.now in
-    omega (arith, shift.home_is, w.fits.in_range shift.process.0 (omega (arith, w.fits.one_each, shift.process_known)))
+    omega (
+      arith,
+      shift.home_is,
+      shift.sound.starts.in_range shift.process.0
+          (omega (arith, shift.sound.starts.one_each, shift.process_known)),
+    )

@@ -8,6 +8,6 @@ pub returns : goal.returns
 returns c =
     let world = c.args.self.now.world.now in
     let counted = c.on_machine.ensures.count _ _ _ c.cells.ensures.stand
-    ∙ ap (λ s. on_machine world.inst.now.tables world.kept.assignment.items s c.args.to.0)
+    ∙ ap (λ s. on_machine world.tables world.here s c.args.to.0)
     c.args.self.now.service_is in
     (λ test. sym counted ∙ eqb-true c.on_machine.result 0 test, λ alone. eq-eqb c.on_machine.result 0 (counted ∙ alone))

@@ -10,9 +10,9 @@ returns-then-self-locations c =
     let shift = c.args.self.now in
     let w = shift.world.now in
     let all = c.locations.ensures.count _ _ _ c.cells.ensures.stand
-    ∙ ap (locations_of w.inst.now.tables w.kept.assignment.items) shift.service_is in (
-      λ _. keeps_anyway w.inst.now.tables w.kept.assignment.items shift.process.0 c.args.to.0 shift.spread_min
-          w.inst.now.small w.keeps.stand.fits shift.process_known shift.wants_is
+    ∙ ap (locations_of w.tables w.here) shift.service_is in (
+      λ _. keeps_anyway w.tables w.here shift.process.0 c.args.to.0 shift.spread_min
+          shift.sound.small shift.sound.fits shift.process_known shift.wants_is
           (omega (arith, c.if-self-locations.true, all)),
       λ _. refl,
     )

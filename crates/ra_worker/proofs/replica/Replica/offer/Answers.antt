@@ -11,7 +11,7 @@ returns-clause-next g c = record {
   place = c.plan.ensures.numbers_q;
   number = c.plan.ensures.numbers_k;
   planned = c.plan.ensures.planned
-      ∙ plan_alike _ _ _ _ _ _ _ _ _ (c.args.self.now.proposals.drawn.words c.requires.left) c.drawing.ensures
+      ∙ plan_alike _ _ _ _ _ _ _ (c.args.self.now.proposals.drawn.words c.requires.left) c.drawing.ensures
       c.allowed-rise.ensures;
   weighed = c.plan.ensures.weighed;
 }

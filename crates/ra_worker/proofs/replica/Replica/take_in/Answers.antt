@@ -8,7 +8,8 @@ loop-j-init g c = taken_none c.args.self.now c.args.batch.now
 pub take_entry-requires-clause-judged : goal.take_entry-requires-clause-judged
 take_entry-requires-clause-judged g c =
     next_judged c.args.self.now c.loop-j.self c.args.batch.now c.requires.told.journal c.loop-j.j c.entry-entry.result
-    c.loop-j.self.world.inst.now.well_formed c.loop-j.self.world.fits c.requires.told.next c.loop-j.invariant
+    c.instance-known.ensures.sound.well_formed c.instance-known.ensures.sound.starts c.requires.told.next
+    c.loop-j.invariant
     (omega (arith, c.loop-j-test.true, c.len-j-end.ensures.value)) c.entry-entry.ensures
 
 pub take_entry-requires-clause-left : goal.take_entry-requires-clause-left

@@ -1,6 +1,8 @@
 -- What is made is kept of the initial assignment.
-use Rattle.std.proofs.Common.{◌∙◌, ap}
+use Rattle.std.proofs.Common.{◌∙◌, ap, List}
+use Rattle.ra_base.specs.declared.ids.Machine.{Machine}
 use Rattle.ra_model.specs.Broken.{first_broken}
+use Rattle.ra_model.specs.Situations.{situation}
 use Rattle.ra_world.proofs.world.World.make.Goals as goal
 
 pub invariant_of-result : goal.invariant_of-result

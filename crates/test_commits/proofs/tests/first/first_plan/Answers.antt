@@ -1,4 +1,4 @@
-use Rattle.std.proofs.Common.{◌≡◌, ℕ, List, refl, ap₂, ◌∙◌}
+use Rattle.std.proofs.Common.{◌≡◌, ℕ, List, refl, ap, ap₂, ◌∙◌}
 use Rattle.ra_draws.specs.Allowance.{allowance}
 use Rattle.ra_draws.specs.declared.budgets.Lots.{Lots}
 use Rattle.ra_draws.specs.Lots.{lot_at, budget_of, words_of, allowance_of}
@@ -7,6 +7,8 @@ use Rattle.ra_draws.specs.declared.sources.Lot.{Lot}
 use Rattle.ra_moves.specs.Options.{plan_of}
 use Rattle.ra_journal.specs.Entries.{words, allowed}
 use Rattle.test_commits.proofs.tests.first.first_plan.Goals as goal
+use Rattle.ra_model.specs.Situations.{Situation, situation}
+use Rattle.ra_moves.specs.Weighing.{weighed_of}
 
 words_same : (l : Lots) (w : ℕ) (lot : Lot) (made : ℕ) (given : List ℕ) → given ≡ proposal_words lot.source made →
     lot ≡ lot_at l.lots.items w → made ≡ 0 → given ≡ words l w 0
@@ -21,20 +23,22 @@ allowed_same l w slack lot given is slack_is lot_is = is ∙ ap₂ (λ s (x : Lo
 pub returns : goal.returns
 returns g c =
     let world = c.args.world.now in
-    let i = world.inst.now.tables in
-    let a0 = world.start.now.items in
+    let i = world.tables in
+    let a0 = world.start in
     let l = c.args.lots.now in
     let w = c.args.worker in
     let words_is = words_same l w c.make-draws.result.lot c.make-draws.result.made c.words_for_next-words.result
     c.words_for_next-words.ensures.words (c.make-draws.ensures.lot ∙ c.lot-lot.ensures) c.make-draws.ensures.made in
     let allowed_is = allowed_same l w c.slack.result c.lot-lot.result.now c.allow-allowed.result c.allow-allowed.ensures
     c.slack.ensures c.lot-lot.ensures in
-    let same : plan_of i a0 world.kept.assignment.items c.words_for_next-words.result c.drawing.result
-    c.allow-allowed.result ≡ plan_of i a0 a0 (words l w 0) l.drawing (allowed l w 0) =
-    rw (c.requires.start, words_is, c.drawing.ensures, allowed_is) refl in
+    let begun : world ≡ situation i a0 a0 = ap (situation i a0) c.requires.start in
+    let same : plan_of world c.words_for_next-words.result c.drawing.result c.allow-allowed.result ≡
+    plan_of (situation i a0 a0) (words l w 0) l.drawing (allowed l w 0) =
+    ap (λ (st : Situation). plan_of st c.words_for_next-words.result c.drawing.result c.allow-allowed.result) begun
+    ∙ rw (words_is, c.drawing.ensures, allowed_is) refl in
     record {
       place = c.plan.ensures.numbers_q;
       number = c.plan.ensures.numbers_k;
       planned = c.plan.ensures.planned ∙ same;
-      weighing = rw c.requires.start at c.plan.ensures.weighed;
+      weighing = c.plan.ensures.weighed ∙ ap (λ (st : Situation). weighed_of st c.plan.result.mv.steps) begun;
     }

@@ -12,15 +12,36 @@ pub lot-requires : goal.lot-requires
 unfolding worker_count
 lot-requires g c = c.requires.exists
 
-pub commit-requires-clause-commit : goal.commit-requires-clause-commit
+pub commit-requires : goal.commit-requires
 unfolding budget budget_of
-commit-requires-clause-commit g c =
+commit-requires g c =
     let w = c.args.worker in
     let o = start_of c.args.shared.now in
     let own = ap (λ (x : Lot). x.budget) c.lot.ensures in
     let some : 0 < budget c.args.lots.now w = omega (arith, own) in
-    new_commit o (seen_by c.args.pass.now) c.args.pass.now.number w c.args.plan.now c.requires.new.seen
-    c.requires.new.number
-    (subst (λ (l : Lots). w < worker_count l) c.requires.lots c.requires.exists)
-    (subst (λ (l : Lots). 0 < budget l w) c.requires.lots some)
-    c.requires.plan
+    record {
+      rest = c.requires.new.rest;
+      left = omega (arith, c.requires.new.left);
+      commit = new_commit o (seen_by c.args.pass.now) c.args.pass.now.number w c.args.plan.now c.requires.new.seen
+          c.requires.new.number
+          (subst (λ (l : Lots). w < worker_count l) c.requires.lots c.requires.exists)
+          (subst (λ (l : Lots). 0 < budget l w) c.requires.lots some)
+          c.requires.plan;
+    }
+
+pub commit_and_copy-requires : goal.commit_and_copy-requires
+unfolding budget budget_of
+commit_and_copy-requires g c =
+    let w = c.args.worker in
+    let o = start_of c.args.shared.now in
+    let own = ap (λ (x : Lot). x.budget) c.lot.ensures in
+    let some : 0 < budget c.args.lots.now w = omega (arith, own) in
+    record {
+      rest = c.requires.new.rest;
+      left = omega (arith, c.requires.new.left);
+      commit = new_commit o (seen_by c.args.pass.now) c.args.pass.now.number w c.args.plan.now c.requires.new.seen
+          c.requires.new.number
+          (subst (λ (l : Lots). w < worker_count l) c.requires.lots c.requires.exists)
+          (subst (λ (l : Lots). 0 < budget l w) c.requires.lots some)
+          c.requires.plan;
+    }

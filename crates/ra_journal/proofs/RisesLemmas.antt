@@ -1,0 +1,170 @@
+-- A plan that is too dear is refused wherever its guards are untouched.
+use Rattle.std.proofs.Common.{◌≡◌, ◌⊎◌, ℕ, zero, suc, ◌+◌, ◌*◌, ◌<◌, ◌≤◌, ℤ, pos, negsuc, ◌<ℤ◌, ◌-ℤ◌, true, false}
+use Rattle.std.proofs.Common.{List, length, get_or, Option, Some, None, IfSome, refl, sym, ap, ◌∙◌, subst, ⊎_elim}
+use Rattle.std.proofs.Common.{lt-ltb, arith}
+use Rattle.std.specs.Prelude.{unsigned_abs}
+use Rattle.std.proofs.Math.Nat.{mul-le-mul_left}
+use Rattle.std.proofs.lemmas.Bool.{cases_Bool}
+use Rattle.std.proofs.lemmas.Int.{ints}
+use Rattle.ra_base.specs.Searches.{or_else}
+use Rattle.ra_base.specs.Sums.{is_named, greatest}
+use Rattle.ra_base.specs.declared.causes.Cause.{Cause}
+use Rattle.ra_base.specs.declared.causes.Cause.TheVariants.{Rise}
+use Rattle.ra_base.specs.declared.costs.MovedCount.{MovedCount}
+use Rattle.ra_base.specs.declared.ids.Machine.{Machine}
+use Rattle.ra_base.proofs.Greatest.{greatest_at, greatest_least}
+use Rattle.ra_base.proofs.Searches.{left_none}
+use Rattle.ra_draws.specs.declared.budgets.Lots.{Lots}
+use Rattle.ra_model.specs.declared.raw.Tables.{Tables}
+use Rattle.ra_model.specs.Broken.{cause_if}
+use Rattle.ra_model.specs.Costs.{service_cost, objective}
+use Rattle.ra_model.specs.Numbers.{service_count, service_weight_of}
+use Rattle.ra_model.specs.Services.{moved_of}
+use Rattle.ra_model.specs.Situations.{situation}
+use Rattle.ra_moves.specs.declared.steps.Step.{Step}
+use Rattle.ra_moves.specs.declared.verdicts.Plan.{Plan}
+use Rattle.ra_moves.specs.declared.verdicts.Weighed.{Weighed}
+use Rattle.ra_moves.specs.declared.verdicts.Verdict.TheVariants.{Refused}
+use Rattle.ra_moves.specs.Judging.{repeat_of, broken_by, rise_test, verdict_of, judge}
+use Rattle.ra_moves.specs.Moving.{IsMove}
+use Rattle.ra_moves.specs.Replacing.{applied}
+use Rattle.ra_moves.specs.Touched.{service_in, moves_service}
+use Rattle.ra_moves.specs.Weighing.{local_cost, local_change, moved_count, services_moved, changed_count, weighed_of}
+use Rattle.ra_moves.proofs.MovedServices.{services_few, services_placed, count_there}
+use Rattle.ra_weigh_settle.proofs.MovedAfter.{moved_stays}
+use Rattle.ra_weigh_settle.proofs.Settles.{whole_is}
+use Rattle.ra_journal.specs.declared.entries.Entry.{Entry}
+use Rattle.ra_journal.specs.Committing.{next_entry, newer_since, IsCommit}
+use Rattle.ra_journal.specs.Entries.{allowed}
+use Rattle.ra_journal.specs.Keeping.{IsStart}
+use Rattle.ra_journal.specs.Legal.{Legal}
+use Rattle.ra_journal.specs.Refusing.{FallsBy, IsDear, IsRefused}
+use Rattle.ra_journal.specs.States.{state}
+use Rattle.ra_journal.proofs.EndLemmas.{planned_at_end, next_entry_is}
+use Rattle.ra_journal.proofs.Refusals.{broken_of, broken_is_refused}
+
+pub above : (change : ℤ) (most : ℕ) → pos 0 <ℤ change → most < unsigned_abs change → pos most <ℤ change
+above (pos n) most positive more = omega (arith, ints)
+above (negsuc n) most positive more = absurd (omega (arith, ints))
+
+-- a count that falls by no more than m falls by no more than n
+pub falls_less : (count : Option MovedCount) (m n : ℕ) → m ≤ n →
+    IfSome count (λ (c : MovedCount). c.before ≤ c.after + m) →
+    IfSome count (λ (c : MovedCount). c.before ≤ c.after + n)
+falls_less (Some c) m n less falls = omega arith
+falls_less None m n less falls = tt
+
+-- the count at each place
+falls_some : (count : Option MovedCount) (c : MovedCount) (n : ℕ) →
+    IfSome count (λ (d : MovedCount). d.before ≤ d.after + n) → count ≡ Some c → c.before ≤ c.after + n
+falls_some count c n falls is = rw is at falls
+
+falls_at : (i : Tables) (a0 a : List Machine) (steps : List Step) (fall k : ℕ) (c : MovedCount) → k < 3 →
+    IfSome (changed_count (situation i a0 a) steps 0) (λ (d : MovedCount). d.before ≤ d.after + fall) →
+    IfSome (changed_count (situation i a0 a) steps 1) (λ (d : MovedCount). d.before ≤ d.after + fall) →
+    IfSome (changed_count (situation i a0 a) steps 2) (λ (d : MovedCount). d.before ≤ d.after + fall) →
+    changed_count (situation i a0 a) steps k ≡ Some c → c.before ≤ c.after + fall
+falls_at i a0 a steps fall zero c few first second third is =
+    falls_some (changed_count (situation i a0 a) steps 0) c fall first is
+falls_at i a0 a steps fall (suc zero) c few first second third is =
+    falls_some (changed_count (situation i a0 a) steps 1) c fall second is
+falls_at i a0 a steps fall (suc (suc zero)) c few first second third is =
+    falls_some (changed_count (situation i a0 a) steps 2) c fall third is
+falls_at i a0 a steps fall (suc (suc (suc k))) c few first second third is = absurd (omega arith)
+
+module _ (i : Tables) (a0 a : List Machine) (steps : List Step) (fall : ℕ) (move : IsMove i a steps)
+    (first : IfSome (changed_count (situation i a0 a) steps 0) (λ (d : MovedCount). d.before ≤ d.after + fall))
+    (second : IfSome (changed_count (situation i a0 a) steps 1) (λ (d : MovedCount). d.before ≤ d.after + fall))
+    (third : IfSome (changed_count (situation i a0 a) steps 2) (λ (d : MovedCount). d.before ≤ d.after + fall)) where
+  -- no service's moved count falls by more
+  each_falls : (s : ℕ) → moved_of i a0 a s ≤ moved_of i a0 (applied a steps) s + fall
+  unfolding moves_service changed_count moved_count
+  each_falls s = ⊎_elim
+      (λ (moves : is_named (length steps) (service_in i steps) s ≡ true).
+      let placed = services_placed i steps (length steps) s moves in
+      falls_at i a0 a steps fall placed.place (moved_count (situation i a0 a) steps s)
+      (omega (arith, placed.within, services_few i steps (length steps), move.few)) first second third
+      (count_there (situation i a0 a) steps (services_moved i steps (length steps)) placed.place placed.within
+      ∙ ap (λ (t : ℕ). Some (moved_count (situation i a0 a) steps t)) placed.here))
+      (λ (stays : is_named (length steps) (service_in i steps) s ≡ false).
+      omega (arith, moved_stays i a0 a steps s move stays))
+      (cases_Bool (is_named (length steps) (service_in i steps) s))
+
+  -- so neither does the greatest
+  greatest_falls : greatest (service_count i) (moved_of i a0 a) ≤
+      greatest (service_count i) (moved_of i a0 (applied a steps)) + fall
+  greatest_falls =
+      greatest_least (service_count i) (greatest (service_count i) (moved_of i a0 (applied a steps)) + fall)
+      (moved_of i a0 a)
+      (λ k lt. omega (
+        arith,
+        each_falls k,
+        greatest_at (service_count i) k (moved_of i a0 (applied a steps)) lt,
+      ))
+
+-- the cost rises by more than is allowed
+cost_rises : (i : Tables) (a0 a b : List Machine) (rise fall : ℕ) →
+    pos (rise + service_weight_of i * fall)
+    <ℤ (pos (local_cost (situation i a0 b)) -ℤ pos (local_cost (situation i a0 a))) →
+    greatest (service_count i) (moved_of i a0 a) ≤ greatest (service_count i) (moved_of i a0 b) + fall →
+    objective i a0 a + rise < objective i a0 b
+unfolding objective local_cost service_cost
+cost_rises i a0 a b rise fall more falls =
+    omega (arith, ints, mul-le-mul_left (service_weight_of i) falls)
+
+judged_rise : (i : Tables) (a0 a : List Machine) (steps : List Step) (rise : ℕ) →
+    broken_by (situation i a0 a) steps ≡ None →
+    objective i a0 a + rise < objective i a0 (applied a steps) →
+    Refused (Rise rise (objective i a0 a) (objective i a0 (applied a steps))) ≡ judge (situation i a0 a) steps rise
+unfolding judge or_else verdict_of rise_test cause_if
+judged_rise i a0 a steps rise none more =
+    rw (none, lt-ltb (objective i a0 a + rise) (objective i a0 (applied a steps)) more) refl
+
+-- a move of an assignment that is too dear
+dear_rises : (i : Tables) (a0 a : List Machine) (steps : List Step) (rise : ℕ) (weighed : Weighed) →
+    broken_by (situation i a0 a) steps ≡ None → IsMove i a steps →
+    weighed ≡ weighed_of (situation i a0 a) steps → IsDear i rise weighed →
+    objective i a0 a + rise < objective i a0 (applied a steps)
+unfolding local_change
+dear_rises i a0 a steps rise weighed none move is dear =
+    let whole = is ∙ whole_is i a0 a steps none in
+    let falls : FallsBy (record {
+      broken = None;
+      local = local_change (situation i a0 a) steps;
+      first = changed_count (situation i a0 a) steps 0;
+      second = changed_count (situation i a0 a) steps 1;
+      third = changed_count (situation i a0 a) steps 2;
+    }) dear.fall = subst (λ (x : Weighed). FallsBy x dear.fall) whole dear.falls in
+    cost_rises i a0 a (applied a steps) rise dear.fall
+    (subst (λ (x : Weighed). pos (rise + service_weight_of i * dear.fall) <ℤ x.local) whole dear.above)
+    (greatest_falls i a0 a steps dear.fall move falls.first falls.second falls.third)
+
+pub dear_is_refused : (i : Tables) (a0 : List Machine) (l : Lots) (h : List Entry) (w : ℕ) (plan : Plan) →
+    IsStart i a0 → Legal i a0 l h → IsCommit i a0 l h w plan → newer_since i h plan.q plan.mv.steps ≡ None →
+    IsDear i (allowed l w plan.k) plan.weighed →
+    (cause : Cause) × ((next_entry i a0 l h w plan.q).verdict ≡ Refused cause)
+unfolding broken_by
+dear_is_refused i a0 l h w plan start legal commit none dear =
+    let a = state a0 h (length h) in
+    let steps = plan.mv.steps in
+    let rise = allowed l w plan.k in
+    let end = planned_at_end i a0 l h w plan start legal commit none in
+    let unbroken : broken_by (situation i a0 a) steps ≡ None =
+    sym (broken_of i a0 a steps) ∙ (ap (λ (x : Weighed). x.broken) (sym end.weighed) ∙ dear.unbroken) in
+    let move : IsMove i a steps = end.offered (left_none (repeat_of steps) _ unbroken) in
+    let more = dear_rises i a0 a steps rise plan.weighed unbroken move end.weighed dear in
+    let cause : Cause = Rise rise (objective i a0 a) (objective i a0 (applied a steps)) in (
+      cause,
+      sym (ap (λ (e : Entry). e.verdict)
+          (next_entry_is i a0 l h w plan (Refused cause) commit (judged_rise i a0 a steps rise unbroken more))),
+    )
+
+-- so is a plan that is known to be refused
+pub refused_at_end : (i : Tables) (a0 : List Machine) (l : Lots) (h : List Entry) (w : ℕ) (plan : Plan) →
+    IsStart i a0 → Legal i a0 l h → IsCommit i a0 l h w plan → newer_since i h plan.q plan.mv.steps ≡ None →
+    IsRefused i (allowed l w plan.k) plan →
+    (cause : Cause) × ((next_entry i a0 l h w plan.q).verdict ≡ Refused cause)
+refused_at_end i a0 l h w plan start legal commit none refused = ⊎_elim
+    (λ broken. (broken.0, broken_is_refused i a0 l h w plan broken.0 start legal commit none broken.1))
+    (λ dear. dear_is_refused i a0 l h w plan start legal commit none dear)
+    refused

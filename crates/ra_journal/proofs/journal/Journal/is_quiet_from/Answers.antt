@@ -1,0 +1,7 @@
+use Rattle.ra_journal.proofs.QuietLemmas.{quiet_from}
+use Rattle.ra_journal.proofs.journal.Journal.is_quiet_from.Goals as goal
+
+pub returns : goal.returns
+returns c is =
+    let s = c.args.self.now in
+    quiet_from s.inst.now.tables s.a0.now.items s.lots.now s.book c.args.at s.start s.kept (c.is_at_most.ensures is)

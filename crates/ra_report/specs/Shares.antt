@@ -1,0 +1,19 @@
+-- The lines of a journal in shares, of which desks write one each.
+use Rattle.std.specs.Prelude.{◌≡◌, ℕ, ◌+◌, ◌*◌, min, List, ◌++◌, length}
+use Rattle.ra_journal.specs.declared.entries.Entry.{Entry}
+use Rattle.ra_report.specs.declared.desks.TheConstants.{SHARE}
+use Rattle.ra_report.specs.JournalTexts.{entries_text}
+
+-- a text is the lines of the entries from place m on, before place n: the lines of the first n entries are those of the
+-- first m, and then the text
+abbrev pub AreLines : List Entry → ℕ → ℕ → List ℕ → Type 0
+AreLines h m n text = entries_text h n ≡ entries_text h m ++ text
+
+-- where share number n of the entries from a place on begins: each share has so many entries, the last ones fewer or
+-- none
+unfoldable pub share_start : List Entry → ℕ → ℕ → ℕ
+share_start h from n = min (from + SHARE * n) (length h)
+
+-- a text is the lines of a share
+abbrev pub IsShare : List Entry → ℕ → ℕ → List ℕ → Type 0
+IsShare h from n text = AreLines h (share_start h from n) (share_start h from (n + 1)) text

@@ -1,0 +1,11 @@
+use Rattle.std.proofs.Common.{refl, ◌∙◌}
+use Rattle.ra_worker_crew.proofs.Owning.{work_passed}
+use Rattle.ra_worker_crew.proofs.worker.Worker.pass_over.Goals as goal
+
+pub returns-clause-work : goal.returns-clause-work
+returns-clause-work c =
+    work_passed c.args._shared.now c.args.self.now (record c.args.self.now { replica = c.pass_over.new.self })
+    c.seen-seen.result c.requires.work c.requires.quiet c.seen-seen.ensures c.pass_over.ensures refl
+
+pub returns-clause-place : goal.returns-clause-place
+returns-clause-place c = c.pass_over.ensures.place ∙ c.seen-seen.ensures
