@@ -87,7 +87,7 @@ module _ (i : Tables) (a0 a : List Machine) (steps : List Step) (fall : ℕ) (mo
       (count_there (situation i a0 a) steps (services_moved i steps (length steps)) placed.place placed.within
       ∙ ap (λ (t : ℕ). Some (moved_count (situation i a0 a) steps t)) placed.here))
       (λ (stays : is_named (length steps) (service_in i steps) s ≡ false).
-      omega (arith, moved_stays i a0 a steps s move stays))
+      omega (arith, moved_stays (situation i a0 a) steps s move stays))
       (cases_Bool (is_named (length steps) (service_in i steps) s))
 
   -- so neither does the greatest
@@ -127,7 +127,7 @@ dear_rises : (i : Tables) (a0 a : List Machine) (steps : List Step) (rise : ℕ)
     objective i a0 a + rise < objective i a0 (applied a steps)
 unfolding local_change
 dear_rises i a0 a steps rise weighed none move is dear =
-    let whole = is ∙ whole_is i a0 a steps none in
+    let whole = is ∙ whole_is (situation i a0 a) steps none in
     let falls : FallsBy (record {
       broken = None;
       local = local_change (situation i a0 a) steps;
