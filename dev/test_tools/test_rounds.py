@@ -2,7 +2,7 @@
 import os
 import signal
 
-from common import ToolCase, begin, put, text_of
+from common import ToolCase, begin, put, put_slow_program, text_of
 
 # Process 0 stands on machine 0 and costs 100 to move; process 1 stands on machine 2, which is above its safety capacity.
 MODEL = """1
@@ -47,13 +47,13 @@ class Rounds(ToolCase):
 
     def test_two_calls(self):
         """The second call of one --out is refused as long as the first runs."""
-        model, initial = self.make_instance("two", 20, 100, 3, 1)
-        words = [model, initial, "--out", "shared", "--workers", 1, "--budget", 50]
-        first = begin("rounds", *words, "--minutes", 5)
+        words = ["model", "initial", "--out", "shared", "--workers", 1, "--budget", 50, "--rounds", 1]
+        put_slow_program("slow", '[ "$1" = solve ]')
+        first = begin("rounds", *words, "--program", os.path.abspath("slow"))
         self.addCleanup(first.communicate)
         self.addCleanup(first.kill)
-        self.wait_for(lambda: os.path.exists("shared.rounds/lock") and text_of("shared.rounds/lock"), first)
-        self.expect(7, "rounds", *words, "--rounds", 1)
+        self.wait_for(lambda: os.path.exists("slow.runs"), first)
+        self.expect(7, "rounds", *words)
         first.send_signal(signal.SIGINT)
         first.communicate()
-        self.expect(0, "rounds", *words, "--rounds", 1)
+        self.expect(0, "rounds", *words)
