@@ -20,7 +20,7 @@ import csv
 import os
 import sys
 
-from .files import target, write_whole
+from .files import is_same, target, write_whole
 from .fleets import kubernetes
 from .fleets.changes import MOST_EDITS, changes, edits_text, obstacles
 from .fleets.fleet import Fleet
@@ -128,9 +128,8 @@ def pack_fleet(words):
 def refuse_over(output, folder, files):
     """Refuses an output that is one of the files of a folder."""
     for file in files:
-        name = os.path.join(folder, file)
-        if os.path.exists(output) and os.path.exists(name) and os.path.samefile(output, name):
-            raise Problem(f"{output} is the input {name}, so nothing is written there", 2)
+        if is_same(output, os.path.join(folder, file)):
+            raise Problem(f"{output} and {os.path.join(folder, file)} are one file, which would be lost", 2)
 
 
 def check(words):

@@ -3,6 +3,7 @@ import graphlib
 from dataclasses import dataclass, field
 
 from ..models import LARGEST, MOST_RESOURCES
+from ..texts import counted
 from .measures import Measure, unit_for
 from .mistakes import Mistakes, Place
 from .settings import FILE as SETTINGS, Resource, Settings
@@ -132,6 +133,8 @@ class FleetReader:
             processes.knows({"process", "service", "machine", "move_cost", *names, *settings.ignored})
         if services and processes and services.columns and processes.columns:
             services.needs(*[name for name in names if name not in processes.columns], why=", and processes.csv has none")
+            for measure in self.requirements:
+                measure.has_failed = measure.resource.name not in {*services.columns, *processes.columns}
 
     def look_at_balances(self):
         names = [one.name for one in self.settings.resources]
@@ -148,8 +151,8 @@ class FleetReader:
         """The numbers of the names in a column, in the order of the rows; those that are wrong are told."""
         at, numbers = table.at(column), {}
         if len(table.rows) > most:
-            self.mistakes.add(Place(table.file, table.rows[most].line), f"{len(table.rows):,} {what}s; at most {most:,} are "
-                              "possible")
+            several = counted(len(table.rows), what, "processes" if what == "process" else "")
+            self.mistakes.add(Place(table.file, table.rows[most].line), f"{several}; at most {most:,} are possible")
         if at is None:
             return None
         if not table.rows and not table.faulty:
