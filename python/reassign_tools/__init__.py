@@ -9,6 +9,6 @@ Whatever can't be done raises Problem, with a line that says why and the status 
 
 __version__ = "1.0.0"
 
-from .calls import Costs, Solved, check, solve, verify
+from .calls import Costs, Solved, check, race, rounds, solve, verify
 from .models import Model
 from .problems import Problem
