@@ -5,9 +5,11 @@ The same sources make the same bytes: files stand in order, with one time.
 import base64
 import hashlib
 import os
-import re
 import tomllib
 import zipfile
+
+from reassign_tools import __version__
+from reassign_tools.__main__ import TOOLS
 
 HERE = os.path.dirname(os.path.realpath(__file__))
 PACKAGE = "reassign_tools"
@@ -17,11 +19,6 @@ TIME = (1980, 1, 1, 0, 0, 0)
 def project():
     with open(os.path.join(HERE, "pyproject.toml"), "rb") as file:
         return tomllib.load(file)["project"]
-
-
-def version():
-    with open(os.path.join(HERE, PACKAGE, "__init__.py"), encoding="utf-8") as file:
-        return re.search('^__version__ = "(.*)"$', file.read(), re.M).group(1)
 
 
 def sources():
@@ -36,11 +33,11 @@ def sources():
 def information(folder):
     """What stands beside the package in a wheel."""
     about = project()
-    metadata = (f"Metadata-Version: 2.1\nName: {about['name']}\nVersion: {version()}\nSummary: {about['description']}\n"
+    metadata = (f"Metadata-Version: 2.1\nName: {about['name']}\nVersion: {__version__}\nSummary: {about['description']}\n"
                 f"Requires-Python: {about['requires-python']}\nLicense: {about['license']['text']}\n")
     yield f"{folder}/METADATA", metadata.encode()
     yield f"{folder}/WHEEL", f"Wheel-Version: 1.0\nGenerator: {os.path.basename(__file__)}\nRoot-Is-Purelib: true\nTag: py3-none-any\n".encode()
-    scripts = "".join(f"{name} = {call}\n" for name, call in about["scripts"].items())
+    scripts = "".join(f"reassign-{tool} = {PACKAGE}.{tool}:main\n" for tool in TOOLS)
     yield f"{folder}/entry_points.txt", f"[console_scripts]\n{scripts}".encode()
 
 
@@ -50,7 +47,7 @@ def recorded(name, text):
 
 
 def build_wheel(wheel_directory, config_settings=None, metadata_directory=None):
-    name = f"{PACKAGE}-{version()}"
+    name = f"{PACKAGE}-{__version__}"
     folder = f"{name}.dist-info"
     files = [*sources(), *information(folder)]
     record = "".join(recorded(*file) for file in files) + f"{folder}/RECORD,,\n"

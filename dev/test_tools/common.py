@@ -43,11 +43,21 @@ def tool_path(tool):
 
 
 def begin(tool, *words, out=subprocess.PIPE, size=None):
-    """Begins a tool. `size` is the largest file that it may write."""
-    def limits():
-        resource.setrlimit(resource.RLIMIT_FSIZE, (size, size))
+    """Begins a tool, as a terminal would. `size` is the largest file that it may write."""
+    def prepare():
+        signal.signal(signal.SIGHUP, signal.SIG_DFL)
+        if size is not None:
+            resource.setrlimit(resource.RLIMIT_FSIZE, (size, size))
     return subprocess.Popen([tool_path(tool), *map(str, words)], stdin=subprocess.DEVNULL, stdout=out, stderr=subprocess.PIPE,
-                            text=True, errors="replace", preexec_fn=limits if size is not None else None)
+                            text=True, errors="replace", preexec_fn=prepare)
+
+
+def put_slow_program(name, condition):
+    """Writes a program that does nothing for long if a condition of the shell holds of its words, and tells its number in the
+    file NAME.runs then; else it is the program."""
+    put(name, f'#!/bin/sh\n{condition} || exec "{PROGRAM}" "$@"\necho $$ > "{os.path.abspath(name)}.new"\n'
+        f'mv "{os.path.abspath(name)}.new" "{os.path.abspath(name)}.runs"\nexec sleep 1000\n')
+    os.chmod(name, 0o755)
 
 
 def children(process):

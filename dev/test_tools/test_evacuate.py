@@ -2,7 +2,7 @@
 import os
 import signal
 
-from common import PROGRAM, ToolCase, begin, program, put, text_of
+from common import ToolCase, begin, program, put, put_slow_program, text_of
 
 # Process 0 can leave machine 0 for machine 1 alone, if process 1 goes to machine 2. Processes 2 to 9 stand on machine 3, where
 # they cost something, and could stand on machine 4, where they cost nothing.
@@ -67,13 +67,14 @@ class Evacuate(ToolCase):
         model, initial = self.make_instance("stopped", 30, 300, 4, 1)
         put("half", " ".join(map(str, range(0, 30, 2))) + "\n")
         # A program whose second run never ends.
-        put("slow", f'#!/bin/sh\n[ "$1" != solve ] || mkdir solved 2> /dev/null || exec sleep 1000\nexec "{PROGRAM}" "$@"\n')
-        os.chmod("slow", 0o755)
+        put_slow_program("slow", '[ "$1" = solve ] && ! mkdir solved 2> /dev/null')
         for by in (signal.SIGINT, signal.SIGTERM):
             if os.path.exists("solved"):
                 os.rmdir("solved")
             run = begin("evacuate", model, initial, "half", "--out", "so_far", "--workers", 1, "--program", os.path.abspath("slow"))
             first = run.stderr.readline()
+            self.wait_for(lambda: os.path.exists("slow.runs"), run)
+            os.remove("slow.runs")
             run.send_signal(by)
             printed, error = run.communicate()
             self.assertIn("turn 1: ", first)

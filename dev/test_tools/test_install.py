@@ -1,4 +1,5 @@
 """What tools/install installs: it works, it can be moved, and it goes again without a trace."""
+import importlib
 import os
 import re
 import shutil
@@ -84,6 +85,12 @@ class Install(ToolCase):
                 if shutil.which(reader[0]) and not os.path.islink(f"{place}/{folder}/{name}"):
                     self.expect_run(*reader, f"{place}/{folder}/{name}")
 
+    def commands_of(self, tool):
+        """The commands of a tool, and the tool itself, as words behind its name."""
+        parser = importlib.import_module(f"reassign_tools.{tool}").parser()
+        commands = [action.choices for action in parser._actions if isinstance(action.choices, dict)]
+        return [[], *([name] for names in commands for name in names)]
+
     def test_completions(self):
         """What bash offers."""
         room = os.path.abspath("described")
@@ -98,19 +105,24 @@ class Install(ToolCase):
         self.assertEqual(offered(file, "_reassign", "reassign", "t"), ["trial"])
         self.assertEqual(offered(file, "_reassign", "reassign", "trial", "''"), [])
         self.assertEqual(offered(file, "_reassign", "reassign", "check", "mod"), ["model"])
+        page, zsh = text_of(f"{room}/reassign-tools.1"), text_of(f"{room}/zsh/_reassign-tools")
         for tool in TOOLS:
-            told = run(os.path.join(ROOT, "tools", tool), "--help").stdout
-            file, function = f"{room}/bash/reassign-{tool}", f"_reassign_{tool}"
-            words = offered(file, function, f"reassign-{tool}", "--")
-            # The words of the usage, and no others.
-            usage = told.partition("\n\n")[0]
-            self.assertEqual(set(words), {"--help"} | set(re.findall(r"--[a-z][a-z-]*", usage)))
             fish = text_of(f"{room}/fish/reassign-{tool}.fish")
-            self.assertEqual({f"--{word}" for word in re.findall(r" -l (\S+)", fish)}, set(words))
-            page = text_of(f"{room}/reassign-tools.1")
-            for word in words:
-                self.assertIn(f".It Fl {word[1:]}", page)
-                self.assertIn(f"{word}[", text_of(f"{room}/zsh/_reassign-tools"))
+            for command in self.commands_of(tool):
+                # The words of the usage, and no others.
+                usage = run(os.path.join(ROOT, "tools", tool), *command, "--help").stdout.partition("\n\n")[0]
+                expected = {"--help"} | set(re.findall(r"--[a-z][a-z-]*", usage))
+                words = offered(f"{room}/bash/reassign-{tool}", f"_reassign_{tool}", f"reassign-{tool}", *command, "--")
+                self.assertEqual(set(words), expected, usage)
+                for word in words:
+                    self.assertIn(f" -l {word[2:]} ", fish)
+                    self.assertIn(f".It Fl {word[1:]}", page)
+                    self.assertIn(f"{word}[", zsh)
+                if command:
+                    told = offered(f"{room}/bash/reassign-{tool}", f"_reassign_{tool}", f"reassign-{tool}", *command)
+                    self.assertEqual(told, [name for name in told if name.startswith(command[0])])
+                    self.assertIn(f".Ss reassign-{tool} {command[0]}\n", page)
+                    self.assertIn(f" -a {command[0]} ", fish)
         self.assertEqual(offered(f"{room}/bash/reassign-rounds", "_reassign_rounds", "reassign-rounds", "--out", "mod"), ["model"])
         self.assertEqual(offered(f"{room}/bash/reassign-rounds", "_reassign_rounds", "reassign-rounds", "--seed", "''"), [])
 
@@ -139,6 +151,19 @@ class Install(ToolCase):
 
 class Others(ToolCase):
     """Wrong calls of what stands beside."""
+
+    def test_help(self):
+        """Each file of tools/ tells how to call it, and its version."""
+        version = text_in("VERSION").strip()
+        for name in sorted(os.listdir(os.path.join(ROOT, "tools"))):
+            path = os.path.join(ROOT, "tools", name)
+            if os.path.isfile(path):
+                told = run(path, "--help")
+                self.assertEqual((told.returncode, told.stderr), (0, ""), name)
+                self.assertIn("usage: ", told.stdout)
+                told = run(path, "--version")
+                self.assertEqual((told.returncode, told.stderr), (0, ""), name)
+                self.assertIn(told.stdout, (f"{name} {version}\n", f"reassign-{name} {version}\n"))
 
     def test_look(self):
         self.expect_line(2, None, os.path.join(ROOT, "tools", "look"))

@@ -2,20 +2,20 @@
 import os
 import signal
 import time
+import unittest.mock
 
-from common import PROGRAM, ToolCase, begin, put
+from common import ToolCase, begin, put_slow_program, text_of
 
 
 class Killed(ToolCase):
     def setUp(self):
-        os.environ["TMPDIR"] = os.path.abspath("tmp")
-        self.addCleanup(os.environ.pop, "TMPDIR")
+        place = unittest.mock.patch.dict(os.environ, TMPDIR=os.path.abspath("tmp"))
+        place.start()
+        self.addCleanup(place.stop)
         os.makedirs("tmp", exist_ok=True)
-        # A program whose runs take long: it writes its number, and then does nothing.
-        put("slow", f'#!/bin/sh\n[ "$1" = solve ] || [ "$1" = repair ] || exec "{PROGRAM}" "$@"\necho $$ > running\nexec sleep 1000\n')
-        os.chmod("slow", 0o755)
-        if os.path.exists("running"):
-            os.remove("running")
+        put_slow_program("slow", '[ "$1" = solve ] || [ "$1" = repair ]')
+        if os.path.exists("slow.runs"):
+            os.remove("slow.runs")
 
     def is_alive(self, process):
         try:
@@ -27,12 +27,13 @@ class Killed(ToolCase):
     def expect_end(self, tool, words, by):
         run = begin(tool, *words, "--program", os.path.abspath("slow"))
         self.addCleanup(run.communicate)
-        self.wait_for(lambda: os.path.exists("running") and os.path.getsize("running"), run)
-        with open("running", encoding="utf-8") as file:
-            process = int(file.read())
+        self.addCleanup(run.kill)
+        self.wait_for(lambda: os.path.exists("slow.runs"), run)
+        process = int(text_of("slow.runs"))
+        os.remove("slow.runs")
         self.assertTrue(self.is_alive(process))
         run.send_signal(by)
-        run.wait()
+        run.wait(timeout=120)
         end = time.monotonic() + 60
         while self.is_alive(process):
             self.assertLess(time.monotonic(), end, f"{tool} left its program running")
@@ -43,7 +44,6 @@ class Killed(ToolCase):
 
     def test_killed(self):
         for tool, words in self.CALLS:
-            os.path.exists("running") and os.remove("running")
             self.expect_end(tool, words, signal.SIGKILL)
             self.assertEqual(len(os.listdir("tmp")), 1)
         self.expect(0, "repair_words", "model", "crowded", "--out", "repaired")
@@ -52,7 +52,6 @@ class Killed(ToolCase):
     def test_hangup(self):
         """A terminal that is closed ends the tool as Ctrl-C does."""
         for by in (signal.SIGHUP, signal.SIGTERM):
-            os.path.exists("running") and os.remove("running")
             self.expect_end("evacuate", self.CALLS[1][1], by)
             self.assertEqual(os.listdir("tmp"), [])
 
@@ -61,6 +60,6 @@ class Killed(ToolCase):
         run = begin("rounds", "model", "initial", "--out", "best", "--program", os.path.abspath("slow"))
         self.addCleanup(run.communicate)
         self.addCleanup(run.kill)
-        self.wait_for(lambda: os.path.exists("running"), run)
+        self.wait_for(lambda: os.path.exists("slow.runs"), run)
         self.expect(0, "repair_words", "model", "crowded", "--out", "repaired")
         self.assertEqual(len(os.listdir("tmp")), 1)

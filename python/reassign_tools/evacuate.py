@@ -23,6 +23,7 @@ from .files import Room, list_text, read_list, target, write_whole
 from .going_on import going_on
 from .lots import lot_of
 from .models import LARGEST, Model, closed_flags, same_sizes
+from .problems import Problem
 from .program import COSTS, Program
 from .repair_words import Repair
 from .repair_words import parser as repair_parser
@@ -182,7 +183,7 @@ class Evacuation:
         return True
 
     def by_hand(self):
-        """Moves each process that is left to an open machine that takes it, if there is one."""
+        """Moves each process that stays to an open machine that takes it, if there is one."""
         state = State(self.model, self.start, self.now, self.flags)
         for process in self.staying()[:MOST_LOOKED]:
             machine = next((m for m in self.by_room(state, process) if state.breaks(process, m) is None), None)
@@ -280,6 +281,11 @@ def work(words):
         except KeyboardInterrupt:
             no_more_stops()
             say(f"stopped in turn {evacuation.turns}; {words.out} has the best list so far")
+        except Problem:
+            if evacuation.now != evacuation.start:
+                write_whole(evacuation.out, [list_text(evacuation.now)])
+                say(f"{words.out} has the best list so far")
+            raise
         write_whole(evacuation.out, [list_text(evacuation.now)])
     return evacuation.tell()
 

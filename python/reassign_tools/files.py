@@ -7,6 +7,7 @@ import tempfile
 from .problems import Problem
 
 PIECE = 1 << 20
+_locks = []  # files that are locked stay open as long as the process runs
 
 
 def is_same(one, other):
@@ -73,9 +74,6 @@ def lock(name, what):
     _locks.append(file)
 
 
-_locks = []  # the files that are locked stay open as long as the process runs
-
-
 class Room:
     """A folder for what a tool needs for a while. It is locked as long as the tool runs, so what a killed one left can be told,
     and the next tool removes it."""
@@ -85,23 +83,25 @@ class Room:
     def __enter__(self):
         try:
             remove_left(tempfile.gettempdir(), self.PREFIX)
-            self.folder, self.lock = None, None
-            while self.folder is None:
-                self.make()
+            while not self.make():
+                pass
         except OSError as fault:
             raise Problem(f"write fault: {fault.strerror}", 7) from None
         return lambda name: os.path.join(self.folder, name)
 
     def make(self):
-        """Makes the folder and locks it. Another tool may take it for a left one in between: then it is gone again."""
-        folder = tempfile.mkdtemp(prefix=self.PREFIX)
+        """Makes the folder and locks it. Answers whether it is still there then: another tool may have taken it for a left one
+        in between."""
+        self.folder = tempfile.mkdtemp(prefix=self.PREFIX)
         try:
-            self.lock = os.open(folder, os.O_RDONLY)
+            self.lock = os.open(self.folder, os.O_RDONLY)
             fcntl.flock(self.lock, fcntl.LOCK_EX)
-            if os.path.samestat(os.fstat(self.lock), os.stat(folder)):
-                self.folder = folder
         except FileNotFoundError:
-            pass
+            return False
+        if os.path.exists(self.folder):
+            return True
+        os.close(self.lock)
+        return False
 
     def __exit__(self, *_):
         shutil.rmtree(self.folder, ignore_errors=True)
@@ -111,18 +111,23 @@ class Room:
 def remove_left(place, prefix):
     """Removes the folders of tools that were killed: those of this user that nobody has locked."""
     for name in os.listdir(place):
-        folder = os.path.join(place, name)
-        if name.startswith(prefix) and os.path.isdir(folder) and os.stat(folder).st_uid == os.geteuid():
-            at = None
-            try:
-                at = os.open(folder, os.O_RDONLY | os.O_NOFOLLOW)
-                fcntl.flock(at, fcntl.LOCK_EX | fcntl.LOCK_NB)
-                shutil.rmtree(folder, ignore_errors=True)
-            except OSError:
-                pass  # its tool runs, or another call removes it
-            finally:
-                if at is not None:
-                    os.close(at)
+        if name.startswith(prefix):
+            remove_unlocked(os.path.join(place, name))
+
+
+def remove_unlocked(folder):
+    try:
+        at = os.open(folder, os.O_RDONLY | os.O_DIRECTORY | os.O_NOFOLLOW)
+    except OSError:
+        return
+    try:
+        if os.fstat(at).st_uid == os.geteuid():
+            fcntl.flock(at, fcntl.LOCK_EX | fcntl.LOCK_NB)
+            shutil.rmtree(folder, ignore_errors=True)
+    except OSError:
+        pass  # its tool runs, or another call removes it
+    finally:
+        os.close(at)
 
 
 class Numbers:
