@@ -27,7 +27,7 @@ from .texts import counted
 from .words import Words, file_name, number
 
 MOST_PROCESSES = 50_000
-BACKWARDS = 4_000  # up to so many moves, they are also left out one after another, and the better choice is taken
+BACKWARDS = 20_000  # up to so many moves are also left out one after another, and the better choice is taken
 
 
 def parser():
@@ -81,8 +81,8 @@ class Moves:
             if len(moved) > count:
                 break
             found = min(found, (cost, moved), key=lambda one: one[0])
-        if self.all.count <= BACKWARDS:
-            self.back.run(self.in_new)
+        if self.all.count - count <= BACKWARDS:
+            self.back.run(self.in_new - count)
             home, moved = set(), {p for p, (a, b) in enumerate(zip(self.start, self.all.machines)) if a != b}
             for group, cost in self.back.steps:
                 home |= set(group)
@@ -172,13 +172,14 @@ def curve_rows(moves, curve, plain):
 
 
 def print_rows(rows, plain):
-    """Prints a table: as comma-separated values, or in columns."""
+    """Prints a table: as comma-separated values, or in columns, of which those are left out that are all 0."""
     if plain:
         csv.writer(sys.stdout, lineterminator="\n").writerows(rows)
         return
-    rows = [list(map(str, row)) for row in rows]
-    widths = [max(map(len, column)) for column in zip(*rows)]
-    for row in rows:
+    columns = [list(map(str, column)) for column in zip(*rows)]
+    columns = [column for column in columns if set(column[1:]) - {"0"}]
+    widths = [max(map(len, column)) for column in columns]
+    for row in zip(*columns):
         print("  ".join(cell.ljust(width) for cell, width in zip(row, widths)).rstrip())
 
 

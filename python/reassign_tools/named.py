@@ -24,10 +24,9 @@ from .files import target, write_whole
 from .fleets import kubernetes
 from .fleets.changes import MOST_EDITS, changes, edits_text, obstacles
 from .fleets.fleet import Fleet
-from .fleets.mistakes import FleetMistakes
 from .fleets.packed import Packed, judge, unpack
 from .fleets.packing import FILES, pack
-from .problems import Problem
+from .problems import Problem, ProblemWithLines
 from .program import Program
 from .running import run_tool
 from .telling_rules import fullest, told
@@ -112,29 +111,11 @@ def parser():
     return words
 
 
-def read_fleet(folder):
-    """A fleet; its mistakes are told."""
-    try:
-        return Fleet.read(folder)
-    except FleetMistakes as wrong:
-        tell_mistakes(wrong)
-        raise
-
-
-def tell_mistakes(wrong):
-    for mistake in wrong.mistakes:
-        print(mistake, file=sys.stderr)
-
-
 def pack_fleet(words):
-    fleet = read_fleet(words.fleet)
+    fleet = Fleet.read(words.fleet)
     for name in FILES:
         refuse_over(os.path.join(words.out, name), words.fleet, fleet.texts)
-    try:
-        pack(fleet, words.out)
-    except FleetMistakes as wrong:
-        tell_mistakes(wrong)
-        raise
+    pack(fleet, words.out)
     print("\n".join(fleet.settings.lines()))
     print()
     for note in fleet.notes:
@@ -183,12 +164,11 @@ def unpack_list(words):
 
 
 def diff(words):
-    old, new = read_fleet(words.old), read_fleet(words.new)
+    old, new = Fleet.read(words.old), Fleet.read(words.new)
     wrong = list(obstacles(old, new))
     if wrong:
-        print("\n".join(wrong), file=sys.stderr)
-        raise Problem(f"{counted(len(wrong), 'difference')} can't be an edit, so nothing is written; `named pack {words.new}` "
-                      "makes a model of its own", 12)
+        raise ProblemWithLines(wrong, f"{counted(len(wrong), 'difference')} can't be an edit, so nothing is written; `named pack "
+                               f"{words.new}` makes a model of its own", 12)
     found = changes(old, new)
     if len(found) > MOST_EDITS:
         raise Problem(f"{len(found):,} edits; at most {MOST_EDITS:,} are possible", 12)
@@ -207,5 +187,14 @@ def from_kubectl(words):
         print(line)
 
 
+def work(words):
+    try:
+        return words.work(words)
+    except ProblemWithLines as problem:
+        for line in problem.lines:
+            print(line, file=sys.stderr)
+        raise
+
+
 def main(words=None):
-    run_tool(parser(), lambda given: given.work(given), words)
+    run_tool(parser(), work, words)

@@ -17,5 +17,13 @@ class Problem(Exception):
         self.line, self.status = line, status
 
 
+class ProblemWithLines(Problem):
+    """A problem of which there is more to tell: `lines`, which come before its own."""
+
+    def __init__(self, lines, line, status):
+        super().__init__(line, status)
+        self.lines = lines
+
+
 class Stopped(KeyboardInterrupt):
     """Ctrl-C, or the system's call to end. A notebook, in which no tool runs, gets its KeyboardInterrupt instead."""

@@ -50,9 +50,9 @@ def share_of(used, capacity):
 
 
 def fullest(names, model, now, top=3):
-    """The machines that are fullest, by names."""
+    """The machines that are fullest of the resources whose load costs something, by names."""
     rooms = [(used / capacity, machine, r, used, capacity)
              for machine, rows in enumerate(zip(model.use(now), model.capacity))
-             for r, (used, capacity) in enumerate(zip(*rows)) if used and capacity]
+             for r, (used, capacity) in enumerate(zip(*rows)) if used and capacity and model.load_weights[r]]
     for _, machine, r, used, capacity in sorted(rooms, key=lambda one: (-one[0], *one[1:3]))[:top]:
         yield f"{names.machines[machine]} {names.resources[r]} {used:,} of {capacity:,} ({share_of(used, capacity)})"

@@ -28,7 +28,7 @@ from fractions import Fraction
 
 from ..files import write_whole
 from ..models import MOST_RESOURCES
-from ..problems import Problem
+from ..problems import Problem, ProblemWithLines
 from ..texts import counted
 from .amounts import NoAmount, amount, amount_text
 from .fleet import MACHINES, PROCESSES, SERVICES
@@ -217,7 +217,9 @@ class Cluster:
         lines = [f"on {node} are {counted(len(names), 'pod')} of {owner[1]} {owner[0]}/{owner[2]}: {', '.join(names)}"
                  for (owner, node), names in pairs.items()]
         if pairs and not split:
-            raise TogetherOnNode(lines)
+            raise ProblemWithLines(lines, f"on {counted(len(pairs), 'node')} pods of one owner are together, which this problem "
+                                   "forbids, so nothing is written; --split makes each pod of such an owner a service of its "
+                                   "own", 6)
         apart = {owner for owner, _ in pairs}
         self.told += lines + [f"split: each pod of {owner[1]} {owner[0]}/{owner[2]} is a service of its own" for owner in sorted(apart)]
         kinds = {}
@@ -314,12 +316,3 @@ class Cluster:
         for name in self.rule_columns():
             lines += ["", "[[resource]]", f"name = {quoted(name)}", 'unit = "1"', "transient = true", "load_weight = 0", "safety = 1"]
         return "\n".join(lines) + "\n"
-
-
-class TogetherOnNode(Problem):
-    """Pods of one owner share a node. `lines` names them."""
-
-    def __init__(self, lines):
-        super().__init__(f"on {counted(len(lines), 'node')} two pods of one owner are together, which this problem forbids, so "
-                         "nothing is written; --split makes each pod of such an owner a service of its own", 6)
-        self.lines = lines

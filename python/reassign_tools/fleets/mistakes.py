@@ -2,7 +2,8 @@
 import difflib
 from dataclasses import dataclass
 
-from ..problems import Problem
+from ..problems import ProblemWithLines
+from ..texts import counted
 
 MOST_SOUGHT = 100  # names that are compared with all others, since each takes some time
 
@@ -32,12 +33,11 @@ class Mistake:
         return f"{place.file}{line}: {self.text}{column}"
 
 
-class FleetMistakes(Problem):
+class FleetMistakes(ProblemWithLines):
     """Tables or settings that are no fleet. `mistakes` has all of them, in the order of files and lines."""
 
     def __init__(self, mistakes, status=4):
-        count = len(mistakes)
-        super().__init__(f"{count} mistake{'s' if count > 1 else ''}, so nothing is written", status)
+        super().__init__(mistakes, f"{counted(len(mistakes), 'mistake')}, so nothing is written", status)
         self.mistakes = mistakes
 
 
