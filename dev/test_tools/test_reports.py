@@ -24,7 +24,7 @@ class Reports(ToolCase):
         self.expect(9, "summary", "cut", "model", "initial", "--lots", " ".join(LOTS))
 
     def test_other_files(self):
-        self.expect(9, "summary", "model", "model", "initial")
+        self.expect(5, "summary", "model", "model", "initial")
         self.expect(9, "summary", "empty", "model", "initial")
         self.expect(9, "summary", "report", "model", "other")
 

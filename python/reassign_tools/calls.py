@@ -6,9 +6,13 @@ import os
 from contextlib import contextmanager
 from dataclasses import dataclass
 
+from . import race as races, rounds as many_rounds
 from .files import Room, list_text, write_whole
 from .models import Model
+from .problems import Problem
 from .program import COSTS, Program, closed_words, slack_words
+from .race_plan import instances_of, solver_of
+from .words import processors
 
 
 @dataclass(frozen=True)
@@ -96,3 +100,44 @@ def verify(model, initial, report, lots, slack=0, closed=None, draws=None, progr
         words = files["model"], files["initial"], report, *run_words(slack, files["closed"], draws, lots)
         _, (line,), _ = Program(program).run("verify", *words)
         return int(line.split()[1])
+
+
+def rounds(model, initial, out, seconds=None, proposals=None, rounds=None, slack=None, workers=None, budget=None, seed=1,
+           closed=None, program=None):
+    """Goes on from run to run, and keeps the best list in the file `out`, from which it goes on if that is there already.
+
+    It ends after so many `seconds`, `proposals` or `rounds`, one of which may be given; else when four rounds in a row find
+    nothing. Without a slack it chooses by itself. Returns the Costs of the best list, which is in `out`. Raises Problem as
+    `check` does, with status 2 if the words are none, and 7 if `out` can't be written or another call writes it. Stopped by
+    KeyboardInterrupt, `out` has the best list so far.
+    """
+    given = {"--seconds": seconds, "--proposals": proposals, "--rounds": rounds, "--slack": slack, "--budget": budget,
+             "--workers": workers or processors(), "--seed": seed, "--program": program}
+    with named(model=model, initial=initial, closed=closed) as files:
+        words = [files["model"], files["initial"], "--out", os.fspath(out), *closed_words(files["closed"])]
+        words += [str(word) for name, value in given.items() if value is not None for word in (name, value)]
+        going = many_rounds.Rounds(many_rounds.parser().parse_args(words))
+        going.begin()
+        with Room() as room:
+            going.go(room)
+        return Costs(**going.end())
+
+
+def race(instances, seeds=(1,), slacks=(), proposals=(), seconds=(), solvers=None, workers=1, jobs=1, folder=None, program=None):
+    """Runs solvers on instances, with the same seeds and budgets, and judges every list by `reassign check`.
+
+    `instances` are names or patterns of model files or folders, as tools/race takes them; `proposals` and `seconds` are lists of
+    budgets. `solvers` are other programs: their commands, with {model}, {initial}, {new}, {seconds} and {seed}, by their names.
+    So many `jobs` run side by side. `folder` keeps the runs, and a call with the same words goes on there. Returns a list of
+    Row, one for each run. Raises Problem with status 2 if the words are no race, 3 if a file can't be read, 6 if a start breaks
+    a rule, 9 if `folder` has something else.
+    """
+    if bool(proposals) == bool(seconds):
+        raise Problem("a race wants either proposals or seconds", 2)
+    others = [solver_of(f"{name}: {command}") for name, command in (solvers or {}).items()]
+    plan = races.made_plan(instances_of(instances), others, list(seeds), [str(slack) for slack in slacks], list(proposals),
+                           list(seconds), workers)
+    rows, is_stopped = races.raced(plan, Program(program), folder, jobs)
+    if is_stopped:
+        raise KeyboardInterrupt
+    return rows

@@ -84,16 +84,20 @@ def plan_of(options):
         raise Problem("--instances is missing; race --help shows how to call it", 2)
     if not options.proposals and not options.seconds:
         raise Problem("--proposals or --seconds is missing; race --help shows how to call it", 2)
-    budgets = [(proposals, None) for proposals in options.proposals or []] + [(None, seconds) for seconds in options.seconds or []]
     solvers = [solver_of(word) for word in options.solver]
+    return made_plan(instances_of(options.instances), solvers, options.seeds, options.slack, options.proposals or [],
+                     options.seconds or [], options.workers)
+
+
+def made_plan(instances, solvers, seeds, slacks, proposals, seconds, workers):
+    """The plan of a race. A run of `solve` has slack 0 if no slacks are given, and `rounds` chooses."""
     if len({solver.name for solver in solvers}) < len(solvers):
         raise Problem("two solvers have one name", 2)
-    plan = planned(instances_of(options.instances), solvers, options.seeds, options.slack or [AUTO], budgets, options.workers)
-    return with_slacks(plan, options.slack)
+    budgets = [(one, None) for one in proposals] + [(None, one) for one in seconds]
+    return with_slacks(planned(instances, solvers, seeds, slacks or [AUTO], budgets, workers), slacks)
 
 
 def with_slacks(plan, asked):
-    """A run of `solve` has a slack that is a number: 0 if none was asked for."""
     jobs = [replace(job, slack="0") if job.slack == AUTO and is_one_run(job) else job for job in plan.jobs]
     if asked and AUTO in asked and any(one != job for one, job in zip(jobs, plan.jobs)):
         raise Problem("--slack auto is for --seconds, and for more than 1000000 proposals", 2)
@@ -132,7 +136,6 @@ class Race:
                     rows[job.number] = self.judge.row(job, self.place)
                     say(f"{len(rows)} of {len(self.plan.jobs)}: {job.told()}: {rows[job.number].told()}")
         except KeyboardInterrupt:
-            no_more_stops()
             is_stopped = True
         finally:
             self.running.end_all()
@@ -158,13 +161,19 @@ class Race:
         return [self.judge.row(job, self.place) for job in self.plan.jobs if self.place.has(job)]
 
 
-def raced(options):
+def raced(plan, program, folder, jobs):
+    """Runs a plan here, so many runs side by side. Answers its rows, and whether it was stopped."""
+    with Room() as room:
+        return Race(plan, program, kept_folder(folder, plan) if folder else room("")).run_all(jobs)
+
+
+def run_here(options):
     """Runs a race here. Answers its rows, and the status."""
     plan, program = plan_of(options), Program(options.program)
-    with Room() as room:
-        folder = kept_folder(options.folder, plan) if options.folder else room("")
-        rows, is_stopped = Race(plan, program, folder).run_all(options.jobs)
+    check_outputs(options, plan, program)
+    rows, is_stopped = raced(plan, program, options.folder, options.jobs)
     if is_stopped:
+        no_more_stops()
         again = "; the same call goes on" if options.folder else ""
         say(f"stopped after {len(rows)} of {len(plan.jobs)} runs{again}")
     return rows, 130 if is_stopped else 0
@@ -194,6 +203,7 @@ def kept_folder(folder, plan):
 def write_list(options):
     """Puts all that the hosts need into the folder, and writes the commands."""
     plan, program = plan_of(options), Program(options.program)
+    check_outputs(options, plan, program)
     folder = os.path.realpath(options.folder or f"{options.list}.race")
     kept_folder(folder, plan)
     try:
@@ -265,8 +275,9 @@ def collected(options):
         for name, one in plan.instances.items():
             if (digest(one.model), digest(one.initial)) != digests[name]:
                 raise Problem(f"{one.model} or {one.initial} is another file than when {options.collect} was made", 9)
-    race = Race(plan, Program(options.program), os.path.join(options.collect, RESULTS))
-    rows = race.rows()
+    program = Program(options.program)
+    check_outputs(options, plan, program)
+    rows = Race(plan, program, os.path.join(options.collect, RESULTS)).rows()
     say(f"{len(rows)} of {len(plan.jobs)} runs are there")
     if options.list:
         write_commands(options.list, os.path.realpath(options.collect), plan)
@@ -276,14 +287,20 @@ def collected(options):
 # The call
 
 
+def check_outputs(options, plan, program):
+    """Refuses an output that would destroy an input, or another output."""
+    outputs = list(filter(None, (options.csv, options.json, options.curves, options.list)))
+    inputs = [program.name, *(file for one in plan.instances.values() for file in (one.model, one.initial))]
+    for at, name in enumerate(outputs):
+        target(name, *inputs, *outputs[:at])
+
+
 def work(options):
     if options.run is not None:
         return run_one(options)
-    for name in filter(None, (options.csv, options.json, options.curves, options.list)):
-        target(name)
     if options.list and not options.collect:
         return write_list(options)
-    rows, status = collected(options) if options.collect else raced(options)
+    rows, status = collected(options) if options.collect else run_here(options)
     for name, text in ((options.csv, csv_text), (options.json, json_text), (options.curves, curves)):
         if name and rows:
             write_whole(name, text(rows))

@@ -6,8 +6,8 @@ SHARES = (0.0, 0.002, 0.01, 0.03)  # of the start's cost per process
 FIRST = 2  # of these, for the first round
 ANEW_ORDER = (2, 3, 1, 0)  # in which they are tried by rounds that begin anew
 ON_ORDER = (2, 1, 0)  # and by rounds that go on: these are short of room, and the most slack brings nothing there
-AGAIN = 5  # each so many rounds anew the slack is tried that has waited longest
-FADE = 0.5  # what a round that goes on gains is worth half after each later one
+AGAIN = 4  # each so many rounds of a kind the slack is tried that has waited longest
+FADE = 0.7  # what a round that went on gained counts so much of it after each later one
 DOUBT = 0.001  # how far runs anew lie apart before any is known, as a share of the fall
 
 
@@ -25,11 +25,14 @@ class Slacks:
     found: dict = field(default_factory=dict)  # the costs of runs anew, or what the last round that went on gained, by slack
     used: list = field(default_factory=list)
 
-    def untried(self):
-        return next((slack for slack in self.order if slack not in self.found), None)
-
-    def longest_unused(self):
-        return min(self.order, key=lambda slack: max((at for at, one in enumerate(self.used) if one == slack), default=-1))
+    def next(self, best):
+        """The first that wasn't tried, or from time to time the one that has waited longest, else the best."""
+        untried = [slack for slack in self.order if slack not in self.found]
+        if untried:
+            return untried[0]
+        if len(self.used) % AGAIN == AGAIN - 1:
+            return min(self.order, key=lambda slack: max(at for at, one in enumerate(self.used) if one == slack))
+        return best()
 
 
 class Chooser:
@@ -77,17 +80,11 @@ class Chooser:
 
     def slack_anew(self):
         slacks = self.anew
-        untried = slacks.untried()
-        if untried is not None:
-            return untried
-        if len(slacks.used) % AGAIN == AGAIN - 1:
-            return slacks.longest_unused()
-        return min(slacks.order, key=lambda slack: sum(slacks.found[slack]) / len(slacks.found[slack]))
+        mean = lambda slack: sum(slacks.found[slack]) / len(slacks.found[slack])
+        return slacks.next(lambda: min(slacks.order, key=mean))
 
     def slack_on(self):
-        slacks = self.on
-        untried = slacks.untried()
-        return untried if untried is not None else max(slacks.order, key=lambda slack: slacks.found[slack])
+        return self.on.next(lambda: max(self.on.order, key=self.on.found.get))
 
     def expected_anew(self, best_cost):
         """By how much a run anew is expected to be below the best, or 0 if it isn't."""

@@ -278,12 +278,10 @@ class Rounds:
             raise Problem(f"write fault: {self.words.log}: {fault.strerror}", 7) from None
 
     def end(self):
-        """What `check` says in the end."""
-        no_more_stops()
+        """What `check` says of the best list in the end."""
         if not os.path.exists(self.best):
             write_whole(self.best, [list_text(read_list(self.words.initial))])
-        costs = self.program.numbers("check", self.words.model, self.words.initial, self.best, *self.closing)
-        print("".join(f"{name} {costs[name]}\n" for name in COSTS), end="")
+        return self.program.numbers("check", self.words.model, self.words.initial, self.best, *self.closing)
 
 
 def work(words):
@@ -299,7 +297,9 @@ def work(words):
         except Stopped:
             no_more_stops()
             say(f"stopped in round {rounds.number}; {words.out} has the best list of the rounds before it")
-    rounds.end()
+    no_more_stops()
+    costs = rounds.end()
+    print("".join(f"{name} {costs[name]}\n" for name in COSTS), end="")
 
 
 def main(words=None):
