@@ -3,9 +3,9 @@ import json
 import os
 import resource
 
-from common import program, put, text_of
+from common import program, put, run, text_of, tool_path
 from fleet_cases import EXAMPLE, MACHINES, PROCESSES, SERVICES, SETTINGS, FleetCase
-from reassign_tools import Fleet, Model
+from reassign_tools import Fleet, Model, check
 from reassign_tools.fleets.mistakes import FleetMistakes
 
 
@@ -96,6 +96,26 @@ class Packing(FleetCase):
         os.link("fleet/machines.csv", "fleet/model")
         _, lines = self.named("pack", "fleet", "fleet", status=2)
         self.assertEqual((lines, text_of("fleet/machines.csv")), ([], MACHINES))
+
+    def test_names_of_any_letters(self):
+        self.write_fleet("fleet", processes=PROCESSES.replace("web-0", "wëb-0").replace("a2", "a2"))
+        self.pack()
+        ran = run(tool_path("named"), "list", "packed", "packed/initial", env={**os.environ, "PYTHONIOENCODING": "ascii"})
+        self.assertEqual((ran.returncode, ran.stdout.splitlines()[1]), (0, "wëb-0,a1"))
+
+    def test_full_disk(self):
+        self.expect(7, "named", "pack", "fleet", "packed", size=100)
+        self.assertFalse(os.path.exists("packed"))
+        self.pack()
+        before = {name: text_of(f"packed/{name}") for name in os.listdir("packed")}
+        self.write_fleet("fleet", processes=PROCESSES.replace("web-1,web,a2", "web-1,web,b1"))
+        self.expect(7, "named", "pack", "fleet", "packed", size=300)
+        self.assertEqual({name: text_of(f"packed/{name}") for name in os.listdir("packed")}, before)
+
+    def test_call(self):
+        fleet = Fleet.read("fleet")
+        self.assertEqual(check(fleet.model(), fleet.initial, closed=fleet.closed).cost, 0)
+        self.assertEqual([one.name for one in fleet.processes], ["web-0", "web-1", "db-0"])
 
     def test_example(self):
         printed = self.named("pack", EXAMPLE, "packed")[0]

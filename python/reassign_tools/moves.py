@@ -24,7 +24,7 @@ from .problems import Problem
 from .program import Program, closed_words
 from .reports import read_placement
 from .running import run_tool
-from .texts import counted
+from .texts import counted, print_in_utf8
 from .words import Words, file_name, number
 
 MOST_PROCESSES = 50_000
@@ -167,6 +167,7 @@ def moves(model, initial, new, at_most=None, closed=None, program=None):
 
 
 def work(words):
+    print_in_utf8()
     out = words.out and target(words.out, words.model, words.initial, words.new, words.names, words.closed)
     with Room() as room:
         judge = Judge(Program(words.program), words.model, words.initial, words.closed, room)
@@ -209,12 +210,12 @@ def curve_rows(found, curve, plain):
 
 
 def print_rows(rows, plain):
-    """Prints a table: as comma-separated values, or in columns, of which those are left out that are all 0."""
+    """Prints a table: as comma-separated values, or in columns, without those resources of which nobody requires any."""
     if plain:
         csv.writer(sys.stdout, lineterminator="\n").writerows(rows)
         return
     columns = [list(map(str, column)) for column in zip(*rows)]
-    columns = [column for column in columns if set(column[1:]) - {"0"}]
+    columns = columns[:4] + [column for column in columns[4:] if set(column[1:]) - {"0"}]
     widths = [max(map(len, column)) for column in columns]
     for row in zip(*columns):
         print("  ".join(cell.ljust(width) for cell, width in zip(row, widths)).rstrip())

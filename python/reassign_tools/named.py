@@ -30,7 +30,7 @@ from .problems import Problem, ProblemWithLines
 from .program import Program
 from .running import run_tool
 from .telling_rules import fullest, told
-from .texts import counted
+from .texts import counted, print_in_utf8
 from .words import Words, file_name
 
 PACK = """Makes a model from the tables of FLEET: OUT/model, OUT/initial (today's placement), OUT/closed (the closed machines)
@@ -120,8 +120,7 @@ def pack_fleet(words):
     print()
     for note in fleet.notes:
         print(f"note: {note}")
-    closed = sum(one.closed for one in fleet.machines)
-    print(f"packed {counted(len(fleet.machines), 'machine')} ({closed} closed), {counted(len(fleet.services), 'service')}, "
+    print(f"packed {counted(len(fleet.machines), 'machine')} ({len(fleet.closed)} closed), {counted(len(fleet.services), 'service')}, "
           f"{counted(len(fleet.processes), 'process', 'processes')} into {words.out}")
 
 
@@ -187,6 +186,7 @@ def from_kubectl(words):
 
 
 def work(words):
+    print_in_utf8()
     try:
         return words.work(words)
     except ProblemWithLines as problem:

@@ -6,6 +6,7 @@ from ..models import LARGEST, MOST_RESOURCES
 from ..texts import counted
 from .measures import Measure, unit_for
 from .mistakes import Mistakes, Place
+from .packing import model_of
 from .settings import FILE as SETTINGS, Resource, Settings
 from .tables import Table, read_text
 from .way_tables import read_ways
@@ -64,6 +65,21 @@ class Fleet:
     @property
     def resources(self):
         return self.settings.resources
+
+    @property
+    def initial(self):
+        """The machine of each process today, as numbers."""
+        return [one.machine for one in self.processes]
+
+    @property
+    def closed(self):
+        """The numbers of the closed machines."""
+        return [at for at, one in enumerate(self.machines) if one.closed]
+
+    def model(self):
+        """The Model of the fleet, which counts everything in the order of the tables. Raises FleetMistakes if a balance asks
+        for more than a model's number can say."""
+        return model_of(self)
 
 
 class FleetReader:
@@ -180,12 +196,12 @@ class FleetReader:
 
     def labels(self, table, names):
         """A function that gives what a row has in some columns, taken together."""
-        at = [table.at(name) for name in names if table.at(name) is not None]
+        at, name_at = [table.at(name) for name in names if table.at(name) is not None], table.at("machine")
 
         def label(row):
             for column in at:
                 if not row.cells[column]:
-                    self.mistakes.add(table.place(row, column), f"machine {row.cells[0]!r} has no {table.columns[column]}")
+                    self.mistakes.add(table.place(row, column), f"machine {row.cells[name_at]!r} has no {table.columns[column]}")
             return "/".join(row.cells[column] for column in at)
         return label
 
