@@ -122,24 +122,43 @@ class Race(ToolCase):
         self.race(9, "--collect", "hostile")
         self.race(0, "--collect", "hostile", "--instances", "made_b")
         self.race(2, "--collect", "hostile", "--instances", "made_a")
-        for text in ("", "{}", "[]", '{"seconds": "x"}', '{"seconds": -1}', '{"curve": [[1]]}', '{"curve": 5}', '{"seconds": 1e999}'):
-            put("hostile/results/0.json", text)
-            self.race(0 if text == "{}" else 9, "--collect", "hostile", "--instances", "made_b")
         put("hostile/plan.json", "{}")
         self.race(9, "--collect", "hostile")
+
+    def test_outcomes(self):
+        """What a run says of itself has to have its form."""
+        from reassign_tools import Problem
+        from reassign_tools.race_runs import read_outcome
+        for text in ("", "[]", "{", '{"seconds": "x"}', '{"seconds": -1}', '{"curve": [[1]]}', '{"curve": 5}', '{"seconds": 1e999}',
+                     '{"host": 5}', '{"more": 1}', '{"curve": [["x", 1]]}', '{"proposals": []}'):
+            put("outcome", text)
+            with self.assertRaises(Problem, msg=text):
+                read_outcome("outcome")
+        put("outcome", '{"seconds": 2, "curve": [[1, 5], [2, 4]]}')
+        self.assertEqual(read_outcome("outcome").curve, [(1, 5), (2, 4)])
+
+    def refused(self, status, *words):
+        """Words of which no plan is made."""
+        from reassign_tools import Problem
+        from reassign_tools.race import parser, plan_of
+        with self.assertRaises(Problem, msg=words) as refused:
+            plan_of(parser().parse_args(list(map(str, words))))
+        self.assertEqual(refused.exception.status, status)
 
     def test_refusals(self):
         good = ["--instances", "made_a", "--proposals", 50]
         for words in (["--proposals", 50], ["--instances", "made_a"], [*good, "--seconds", 1], [*good, "--seeds", "3-1"],
-                      [*good, "--seeds", "x"], [*good, "--slack", "1-2-3"], [*good, "--slack", "auto"], [*good, "--run", 1],
-                      [*good, "--solver", "x"], [*good, "--solver", "x: a {model} {initial}"],
-                      [*good, "--solver", "x: a {model} {initial} {new} {more}"], [*good, "--solver", "x: 'a {model} {initial} {new}"],
-                      [*good, "--solver", COPY, "--solver", COPY], [*good, "--solver", COPY.replace("copy", "reassign")],
-                      [*good, "--csv", "made_a/model"], [*good, "--csv", "x", "--json", "x"],
-                      ["--instances", "made_a", "--proposals", 0], ["--instances", "made_a", "--seconds", "0"]):
-            self.expect(2, "race", *words)
-        self.expect(3, "race", "--instances", "data/nothing_*", "--proposals", 50)
-        self.expect(3, "race", "--instances", "data/model_a.txt", "nowhere", "data/assignment_a.txt", "--proposals", 50)
+                      [*good, "--seeds", "x"], [*good, "--slack", "1-2-3"], [*good, "--slack", "auto"], [*good, "--solver", "x"],
+                      [*good, "--solver", "x: a {model} {initial}"], [*good, "--solver", "x: a {model} {initial} {new} {more}"],
+                      [*good, "--solver", "x: 'a {model} {initial} {new}"], [*good, "--solver", COPY, "--solver", COPY],
+                      [*good, "--solver", COPY.replace("copy", "reassign")], ["--instances", "made_a", "--proposals", 0],
+                      ["--instances", "made_a", "--seconds", "0"]):
+            self.refused(2, *words)
+        self.refused(3, "--instances", "data/nothing_*", "--proposals", 50)
+        self.refused(3, "--instances", "data/model_a.txt", "nowhere", "data/assignment_a.txt", "--proposals", 50)
+        self.expect(2, "race", *good, "--run", 1)
+        self.expect(2, "race", *good, "--csv", "made_a/model")
+        self.expect(2, "race", *good, "--csv", "x", "--json", "x")
         self.expect(3, "race", "--collect", "nowhere")
         self.expect(6, "race", "--instances", self.broken(), "--proposals", 50)
         self.assertEqual(text_of("made_a/model").split()[0], "3")

@@ -118,9 +118,12 @@ def rounds(model, initial, out, seconds=None, proposals=None, rounds=None, slack
         words += [str(word) for name, value in given.items() if value is not None for word in (name, value)]
         going = many_rounds.Rounds(many_rounds.parser().parse_args(words))
         going.begin()
-        with Room() as room:
-            going.go(room)
-        return Costs(**going.end())
+        try:
+            with Room() as room:
+                going.go(room)
+        finally:
+            costs = going.end()
+        return Costs(**costs)
 
 
 def race(instances, seeds=(1,), slacks=(), proposals=(), seconds=(), solvers=None, workers=1, jobs=1, folder=None, program=None):

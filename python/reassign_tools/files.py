@@ -7,7 +7,6 @@ import tempfile
 from .problems import Problem
 
 PIECE = 1 << 20
-_locks = []  # files that are locked stay open as long as the process runs
 
 
 def is_same(one, other):
@@ -57,7 +56,7 @@ def write_whole(name, pieces):
 
 
 def lock(name, what):
-    """Locks a file, which is made if it isn't there, until this process ends. Raises Problem with status 7 if another one has
+    """Locks a file, which is made if it isn't there, until what this answers is closed. Raises Problem with status 7 if another one has
     locked it, since both would write what it stands for."""
     try:
         file = open(name, "a+", encoding="utf-8")
@@ -71,7 +70,7 @@ def lock(name, what):
     file.truncate(0)
     file.write(f"{os.getpid()}\n")
     file.flush()
-    _locks.append(file)
+    return file
 
 
 class Room:

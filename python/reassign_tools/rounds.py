@@ -124,7 +124,7 @@ class Rounds:
         """The folder with its lock and the log, the number of the first round, and a list that is there already."""
         try:
             os.makedirs(self.folder, exist_ok=True)
-            lock(os.path.join(self.folder, "lock"), self.words.out)
+            self.locked = lock(os.path.join(self.folder, "lock"), self.words.out)
             with open(os.path.join(self.folder, "log"), "a+", encoding="utf-8") as file:
                 file.seek(0)
                 self.number = max(map(int, re.findall(r"^# round (\d+)", file.read(), re.M)), default=0)
@@ -278,7 +278,8 @@ class Rounds:
             raise Problem(f"write fault: {self.words.log}: {fault.strerror}", 7) from None
 
     def end(self):
-        """What `check` says of the best list in the end."""
+        """What `check` says of the best list in the end. Another call may go on then."""
+        self.locked.close()
         if not os.path.exists(self.best):
             write_whole(self.best, [list_text(read_list(self.words.initial))])
         return self.program.numbers("check", self.words.model, self.words.initial, self.best, *self.closing)
