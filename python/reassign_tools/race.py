@@ -119,22 +119,20 @@ class Race:
     def run_all(self, jobs):
         """Makes the runs that aren't there yet, so many side by side. Answers the rows of those that are there in the end, and
         whether it was stopped."""
-        units = units_of(self.plan)
         waiting, done = queue.SimpleQueue(), queue.SimpleQueue()
-        for unit in units:
+        for unit in units_of(self.plan):
             waiting.put(unit)
         workers = [threading.Thread(target=self.work_through, args=(waiting, done), daemon=True) for _ in range(jobs)]
         rows, is_stopped = {}, False
         try:
             for worker in workers:
                 worker.start()
-            for _ in units:
-                unit, fault = done.get()
+            for _ in self.plan.jobs:
+                job, fault = done.get()
                 if fault:
                     raise fault
-                for job in unit:
-                    rows[job.number] = self.judge.row(job, self.place)
-                    say(f"{len(rows)} of {len(self.plan.jobs)}: {job.told()}: {rows[job.number].told()}")
+                rows[job.number] = self.judge.row(job, self.place)
+                say(f"{len(rows)} of {len(self.plan.jobs)}: {job.told()}: {rows[job.number].told()}")
         except KeyboardInterrupt:
             is_stopped = True
         finally:
@@ -150,10 +148,10 @@ class Race:
             except queue.Empty:
                 return
             try:
-                run_unit(self.plan, unit, self.place)
-                done.put((unit, None))
+                for job in run_unit(self.plan, unit, self.place):
+                    done.put((job, None))
             except BaseException as fault:
-                done.put((unit, fault))
+                done.put((None, fault))
                 return
 
     def rows(self):
@@ -257,7 +255,9 @@ def run_one(options):
     plan.instances = {name: Instance(name, at_hand(at, "model"), at_hand(at, "initial")) for at, name in enumerate(plan.instances)}
     running = Running()
     try:
-        run_unit(plan, units[options.run], Place(os.path.join(options.folder, RESULTS), Program(options.program).binary(), running))
+        place = Place(os.path.join(options.folder, RESULTS), Program(options.program).binary(), running)
+        for _ in run_unit(plan, units[options.run], place):
+            pass
     finally:
         running.end_all()
 
