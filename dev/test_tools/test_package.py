@@ -123,7 +123,7 @@ class Wheel(ToolCase):
         """`pip install` without a network, if there is a pip."""
         if run(sys.executable, "-m", "pip", "--version").returncode:
             self.skipTest("no pip on this machine")
-        ran = run(sys.executable, "-m", "pip", "install", "--quiet", "--no-index", "--target", "site", os.path.join(ROOT, "python"),
+        ran = run(sys.executable, "-m", "pip", "install", "--quiet", "--no-compile", "--no-index", "--target", "site", os.path.join(ROOT, "python"),
                   env={**os.environ, "PIP_NO_INDEX": "1", "PIP_FIND_LINKS": "", "PIP_ROOT_USER_ACTION": "ignore"})
         self.assertEqual(ran.returncode, 0, ran.stderr)
         for tool in tools_here():

@@ -1,15 +1,18 @@
 """The models of rounds on tiny instances, against the second implementation of the rules in bench/compare.py."""
 import itertools
+import multiprocessing
 import os
 import random
 import sys
+import unittest.mock
 
-from common import ROOT, ToolCase, put
+from common import ROOT, ToolCase, program, put
 
 sys.path.append(os.path.join(ROOT, "bench"))
 from compare import Instance, random_instance
 
-from reassign_tools.going_on import going_on
+from reassign_tools.files import read_list
+from reassign_tools.going_on import going_on, rows_of
 from reassign_tools.models import Model
 
 
@@ -25,7 +28,7 @@ class RoundModels(ToolCase):
         """Each list that is feasible in a round is feasible from the true start; and with raised ways it is there as much
         cheaper as the round says."""
         chance, seen = random.Random(9), 0
-        for _ in range(2000):
+        for _ in range(1500):
             made = random_instance(chance)
             if len(made.locations) > 4 or len(made.services) > 5:
                 continue
@@ -60,3 +63,23 @@ class RoundModels(ToolCase):
                 if raised:
                     self.assertLessEqual(rise, in_round.parts(last, a)[0] - in_round.parts(last, last)[0], f"{told}\n{a}")
         return count
+
+    def test_by_several_processes(self):
+        """Many ways are computed by several processes, which come to the same, and end if the tool is stopped."""
+        model_name, initial = self.make_instance("raised", 30, 300, 3, 1)
+        _, report = program("solve", model_name, initial, "1:3000")
+        model, start = Model.read(model_name), read_list(initial)
+        last = list(map(int, report.splitlines()[8].split()[1:]))
+        self.assertNotEqual(start, last)
+        alone, _ = going_on(model, start, last, raised=True)
+        with unittest.mock.patch("reassign_tools.going_on.MOST_ALONE", 0):
+            with unittest.mock.patch("reassign_tools.going_on.processors", lambda: 3):
+                together, _ = going_on(model, start, last, raised=True)
+                self.assertEqual(alone.ways, together.ways)
+                with unittest.mock.patch("reassign_tools.models.Model.way_costs", stopped), self.assertRaises(KeyboardInterrupt):
+                    list(rows_of(range(30), lambda machine: model.way_costs(machine), True))
+        self.assertEqual(multiprocessing.active_children(), [])
+
+
+def stopped(*_):
+    raise KeyboardInterrupt

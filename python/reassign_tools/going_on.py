@@ -1,14 +1,17 @@
 """The model of a run that goes on from a list, so that whatever it makes is feasible from the true start (docs/ROUNDS.md)."""
 import copy
+import multiprocessing
 import os
 import signal
+from concurrent.futures import ProcessPoolExecutor
+from concurrent.futures.process import BrokenProcessPool
 
 from .children import end_with
-from .files import Room
 from .models import LARGEST, MOST_RESOURCES
 from .problems import Problem
 from .words import processors
 
+MOST_ALONE = 1_000_000  # numbers of ways that one process computes alone
 
 def going_on(model, start, last, raised=False):
     """The model of a run that begins at the list `last` and makes only lists that are feasible from `start`. With the ways
@@ -64,47 +67,37 @@ def raised_ways(model, start, last):
         return " ".join([str(min(cost + raised, LARGEST)) for cost in most]).encode()
 
     ways = list(model.ways)
-    for machine, row in side_by_side(changed, new_row, len(changed) * model.machines > 1_000_000):
+    for machine, row in zip(changed, rows_of(changed, new_row, len(changed) * model.machines > MOST_ALONE)):
         ways[machine] = row
     return ways
 
 
-def side_by_side(items, work, large):
-    """Each item with what the work gives, a line of bytes; on several processors if it is much."""
-    count = processors() if large else 1
-    if count == 1:
-        for item in items:
-            yield item, work(item)
+_row_of = None  # what the processes of a pool compute; they have it from the fork
+
+
+def prepare(parent):
+    """Called first in each process of a pool: it ends with the tool, and Ctrl-C is the tool's."""
+    end_with(parent)
+    signal.signal(signal.SIGINT, signal.SIG_IGN)
+    for other in (signal.SIGTERM, signal.SIGHUP):
+        signal.signal(other, signal.SIG_DFL)
+
+
+def row_of(machine):
+    return _row_of(machine)
+
+
+def rows_of(machines, compute, is_large):
+    """What is computed for each machine, in order; by several processes if it is much."""
+    global _row_of
+    if not is_large or processors() == 1:
+        yield from map(compute, machines)
         return
-    with Room() as room:
-        children, parent = [], os.getpid()
-        for part in range(count):
-            child = os.fork()
-            if child == 0:
-                status = 1
-                try:
-                    end_with(parent)
-                    signal.signal(signal.SIGINT, signal.SIG_DFL)
-                    signal.signal(signal.SIGTERM, signal.SIG_DFL)
-                    with open(room(str(part)), "wb") as file:
-                        for item in items[part::count]:
-                            file.write(work(item) + b"\n")
-                    status = 0
-                finally:
-                    os._exit(status)
-            children.append(child)
-        try:
-            ended = [os.waitpid(child, 0)[1] for child in children]
-        except BaseException:
-            for child in children:
-                try:
-                    os.kill(child, signal.SIGKILL)
-                except ProcessLookupError:
-                    pass
-            raise
-        if any(ended):
-            raise Problem("write fault: a part of a model couldn't be written", 7)
-        for part in range(count):
-            with open(room(str(part)), "rb") as lines:
-                for item, line in zip(items[part::count], lines):
-                    yield item, line.rstrip(b"\n")
+    _row_of = compute
+    pool = ProcessPoolExecutor(processors(), multiprocessing.get_context("fork"), prepare, (os.getpid(),))
+    try:
+        yield from pool.map(row_of, machines, chunksize=16)
+    except BrokenProcessPool:
+        raise Problem("no memory: a process that computed a part of a model was ended", 8) from None
+    finally:
+        pool.shutdown(cancel_futures=True)
