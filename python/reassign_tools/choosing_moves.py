@@ -14,8 +14,8 @@ MOST_TRIED = 24  # processes that are tried as companions of another
 class Choice:
     """Takes processes from the machines of one list to those of the other, step by step. `begin` is one of the lists."""
 
-    def __init__(self, model, start, new, begin):
-        self.model, self.standing = model, Standing(model, start, new, begin)
+    def __init__(self, model, start, new, begin, leaves=frozenset(), stay_cost=0):
+        self.model, self.standing = model, Standing(model, start, new, begin, leaves, stay_cost)
         self.left = {p for p, (home, there) in enumerate(zip(start, new)) if home != there}
         self.steps = []  # the processes that went at once, and the cost after it
         self.gone = 0

@@ -15,15 +15,16 @@ import json
 import sys
 from dataclasses import dataclass
 
+from .calls import named
 from .choosing_moves import Choice
 from .files import Room, list_text, read_list, target, write_whole
-from .models import Model, same_sizes
+from .models import Model, closed_flags
 from .names import Names
 from .problems import Problem
 from .program import Program, closed_words
 from .reports import read_placement
 from .running import run_tool
-from .texts import counted
+from .texts import counted, print_in_utf8
 from .words import Words, file_name, number
 
 MOST_PROCESSES = 50_000
@@ -47,6 +48,26 @@ def parser():
     return words
 
 
+@dataclass(frozen=True)
+class Move:
+    """A process that moves from the machine `start` to the machine `end`."""
+
+    process: int
+    service: int
+    start: int
+    end: int
+
+
+@dataclass(frozen=True)
+class MoveList:
+    """Moves, the list with them alone, and what it and the start cost."""
+
+    moves: list
+    assignment: list
+    cost: int
+    cost_before: int
+
+
 @dataclass
 class Kept:
     """Some of the moves: the list with them alone, its cost, and how many they are."""
@@ -57,17 +78,18 @@ class Kept:
 
 
 class Moves:
-    """The moves between two lists. `start_cost` and `new_cost` are what the lists cost; `all` has those that bring
-    something."""
+    """The moves between two lists. `start_cost` and `new_cost` are what the lists cost; `all` has those that bring something.
+    Who leaves a closed machine moves first, and whatever it costs."""
 
-    def __init__(self, model, start, new):
-        self.model, self.start = model, start
-        self.back = Choice(model, start, new, new)
-        self.new_cost, self.in_new = self.back.standing.cost, len(self.back.left)
+    def __init__(self, model, start, new, closed, start_cost, new_cost):
+        self.model, self.start, self.start_cost, self.new_cost = model, start, start_cost, new_cost
+        self.leaves = frozenset(p for p, (home, machine) in enumerate(zip(start, new)) if home != machine and closed[home])
+        self.stay_cost = 2 * (self.start_cost + self.new_cost) + 1
+        self.back = Choice(model, start, new, new, self.leaves, self.stay_cost)
+        self.in_new = len(self.back.left)
         self.back.run(self.in_new, while_lower=True)
         self.all = Kept(list(self.back.standing.now), self.back.standing.cost, len(self.back.left))
-        self.fore = Choice(model, start, self.all.machines, start)
-        self.start_cost = self.fore.standing.cost
+        self.fore = Choice(model, start, self.all.machines, start, self.leaves, self.stay_cost)
 
     def at_most(self, count):
         """The choice of at most so many moves that costs least, as far as it is known. Counts have to rise from call to
@@ -75,7 +97,7 @@ class Moves:
         if count >= self.all.count:
             return self.all
         self.fore.run(count)
-        moved, found = set(), (self.start_cost, set())
+        moved, found = set(), (self.start_cost + self.stay_cost * len(self.leaves), set())
         for group, cost in self.fore.steps:
             moved = moved | set(group)
             if len(moved) > count:
@@ -90,31 +112,32 @@ class Moves:
                     found = cost, moved - home
         cost, moved = found
         machines = [b if p in moved else a for p, (a, b) in enumerate(zip(self.start, self.all.machines))]
-        return Kept(machines, cost, len(moved))
+        return Kept(machines, cost - self.stay_cost * len(self.leaves - moved), len(moved))
 
     def curve(self, most):
         """What 10, 20, 50, 100 .. moves bring, up to so many, and all."""
         counts = [first * 10**power for power in range(1, 5) for first in (1, 2, 5)]
         return [self.at_most(count) for count in counts if count < min(most, self.all.count)] + [self.at_most(most)]
 
+    def moves_of(self, kept):
+        return [Move(p, self.model.service[p], a, b) for p, (a, b) in enumerate(zip(self.start, kept.machines)) if a != b]
+
     def share(self, kept):
-        """The share of the way from the start's cost to that of all moves."""
+        """The share of the way from the start's cost down to that of all moves; None if they don't lower the cost."""
         way = self.start_cost - self.all.cost
-        return (self.start_cost - kept.cost) / way if way else 1.0
+        return (self.start_cost - kept.cost) / way if way > 0 else None
 
 
 class Judge:
     """Judges lists by `reassign check`."""
 
-    def __init__(self, words, room):
-        self.words, self.room, self.program = words, room, Program(words.program)
+    def __init__(self, program, model, initial, closed, room):
+        self.program, self.room, self.files, self.closing = program, room, (model, initial), closed_words(closed)
 
     def cost(self, machines, name):
         """What a list costs. One that isn't feasible ends the tool, with its name in the program's line."""
         write_whole(self.room("list"), [list_text(machines)])
-        words = self.words
-        status, lines, error = self.program.run("check", words.model, words.initial, self.room("list"),
-                                                *closed_words(words.closed), endings=(0, 6))
+        status, lines, error = self.program.run("check", *self.files, self.room("list"), *self.closing, endings=(0, 6))
         if status:
             raise Problem(error.replace(self.room("list"), name, 1), status)
         return int(lines[0].split()[1])
@@ -127,82 +150,97 @@ class Judge:
         return kept
 
 
+def moves(model, initial, new, at_most=None, closed=None, program=None):
+    """Tells which processes move between two lists, without the moves that bring nothing.
+
+    Each list, and the closed list, is the name of a file or numbers; the model is the name of a file or a Model. With
+    `at_most` those so many moves are kept that bring most. Returns MoveList. Raises Problem as `check` does.
+    """
+    with named(model=model, initial=initial, new=new, closed=closed) as files, Room() as room:
+        judge = Judge(Program(program), files["model"], files["initial"], files["closed"], room)
+        lists = [read_list(files[name]) for name in ("initial", "new")]
+        costs = judge.cost(lists[0], files["initial"]), judge.cost(lists[1], files["new"])
+        model = Model.read(files["model"])
+        found = Moves(model, *lists, closed_flags(model, files["closed"]), *costs)
+        kept = judge.confirm(found.all if at_most is None else found.at_most(at_most))
+        return MoveList(found.moves_of(kept), kept.machines, kept.cost, found.start_cost)
+
+
 def work(words):
-    out = target(words.out) if words.out else None
+    print_in_utf8()
+    out = words.out and target(words.out, words.model, words.initial, words.new, words.names, words.closed)
     with Room() as room:
-        judge = Judge(words, room)
-        new = read_placement(words.new)
-        judge.cost(new, words.new)
-        start, model = read_list(words.initial), Model.read(words.model)
-        same_sizes(model, words.new, start, new)
+        judge = Judge(Program(words.program), words.model, words.initial, words.closed, room)
+        start, new = read_list(words.initial), read_placement(words.new)
+        costs = judge.cost(start, words.initial), judge.cost(new, words.new)
+        model = Model.read(words.model)
         names = Names.read(words.names, words.model) if words.names else Names.numbers(model)
-        moves = Moves(model, start, new)
-        most = moves.all.count if words.at_most is None else words.at_most
-        curve = [judge.confirm(one) for one in moves.curve(most)] if words.curve else []
-        kept = curve[-1] if curve else judge.confirm(moves.at_most(most))
+        found = Moves(model, start, new, closed_flags(model, words.closed), *costs)
+        most = found.all.count if words.at_most is None else words.at_most
+        curve = [judge.confirm(one) for one in found.curve(most)] if words.curve else []
+        kept = curve[-1] if curve else judge.confirm(found.at_most(most))
     if out:
         write_whole(out, [list_text(kept.machines)])
     if words.json:
-        print_json(moves, kept, names, curve)
+        print_json(found, kept, names, curve)
     elif words.curve:
-        print_rows(curve_rows(moves, curve, words.csv), words.csv)
+        print_rows(curve_rows(found, curve, words.csv), words.csv)
     else:
         if not words.csv:
-            tell(moves, kept)
-        print_rows(move_rows(moves, kept, names), words.csv)
+            tell(found, kept)
+        if words.csv or kept.count:
+            print_rows(move_rows(found, kept, names), words.csv)
 
 
-def moved_processes(moves, kept):
-    return [(p, a, b) for p, (a, b) in enumerate(zip(moves.start, kept.machines)) if a != b]
-
-
-def move_rows(moves, kept, names):
+def move_rows(found, kept, names):
     """A table of moves, in the order of the processes."""
     yield "process", "service", "from", "to", *names.resources
-    for p, a, b in moved_processes(moves, kept):
-        required = [names.amount(r, count) for r, count in enumerate(moves.model.required[p])]
-        yield names.processes[p], names.services[moves.model.service[p]], names.machines[a], names.machines[b], *required
+    for one in found.moves_of(kept):
+        required = [names.amount(r, count) for r, count in enumerate(found.model.required[one.process])]
+        yield (names.processes[one.process], names.services[one.service], names.machines[one.start], names.machines[one.end],
+               *required)
 
 
-def curve_rows(moves, curve, plain):
+def curve_rows(found, curve, plain):
     yield "moves", "cost", "share"
     for kept in curve:
-        share = moves.share(kept)
-        yield kept.count, kept.cost if plain else f"{kept.cost:,}", f"{share:.4f}" if plain else f"{100 * share:.1f} %"
+        share = found.share(kept)
+        told = "" if share is None else f"{share:.4f}" if plain else f"{100 * share:.1f} %"
+        yield kept.count, kept.cost if plain else f"{kept.cost:,}", told
 
 
 def print_rows(rows, plain):
-    """Prints a table: as comma-separated values, or in columns, of which those are left out that are all 0."""
+    """Prints a table: as comma-separated values, or in columns, without those resources of which nobody requires any."""
     if plain:
         csv.writer(sys.stdout, lineterminator="\n").writerows(rows)
         return
     columns = [list(map(str, column)) for column in zip(*rows)]
-    columns = [column for column in columns if set(column[1:]) - {"0"}]
+    columns = columns[:4] + [column for column in columns[4:] if set(column[1:]) - {"0"}]
     widths = [max(map(len, column)) for column in columns]
     for row in zip(*columns):
         print("  ".join(cell.ljust(width) for cell, width in zip(row, widths)).rstrip())
 
 
-def tell(moves, kept):
-    total = len(moves.start)
-    print(f"{kept.count:,} of {counted(total, 'process', 'processes')} move: cost {moves.start_cost:,} before, {kept.cost:,} after")
-    dropped = moves.in_new - moves.all.count
+def tell(found, kept):
+    total = len(found.start)
+    print(f"{kept.count:,} of {counted(total, 'process', 'processes')} move: cost {found.start_cost:,} before, {kept.cost:,} after")
+    dropped = found.in_new - found.all.count
     if dropped:
-        print(f"left out because they bring nothing: {counted(dropped, 'move')} of {moves.in_new:,}")
-    if kept.count < moves.all.count:
-        print(f"of the way to the cost of all {moves.all.count:,} moves: {100 * moves.share(kept):.1f} %")
+        print(f"left out because they bring nothing: {counted(dropped, 'move')} of {found.in_new:,}")
+    if kept.count < found.all.count and found.share(kept) is not None:
+        print(f"of the way to the cost of all {found.all.count:,} moves: {100 * found.share(kept):.1f} %")
 
 
-def print_json(moves, kept, names, curve):
-    header, *rows = move_rows(moves, kept, names)
-    found = {
-        "cost_before": moves.start_cost, "cost_after": kept.cost, "cost_of_new": moves.new_cost, "moves_in_new": moves.in_new,
-        "moves_that_bring_something": moves.all.count,
+def print_json(found, kept, names, curve):
+    header, *rows = move_rows(found, kept, names)
+    told = {
+        "cost_before": found.start_cost, "cost_after": kept.cost, "cost_of_new": found.new_cost, "moves_in_new": found.in_new,
+        "moves_that_bring_something": found.all.count,
         "moves": [{**dict(zip(header[:4], row)), "requires": dict(zip(header[4:], row[4:]))} for row in rows],
     }
     if curve:
-        found["curve"] = [{"moves": one.count, "cost": one.cost, "share": round(moves.share(one), 6)} for one in curve]
-    json.dump(found, sys.stdout, ensure_ascii=False)
+        told["curve"] = [{"moves": one.count, "cost": one.cost, "share": found.share(one)} for one in curve]
+    json.dump(told, sys.stdout, ensure_ascii=False)
     print()
 
 

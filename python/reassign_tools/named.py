@@ -20,7 +20,7 @@ import csv
 import os
 import sys
 
-from .files import target, write_whole
+from .files import is_same, target, write_whole
 from .fleets import kubernetes
 from .fleets.changes import MOST_EDITS, changes, edits_text, obstacles
 from .fleets.fleet import Fleet
@@ -30,7 +30,7 @@ from .problems import Problem, ProblemWithLines
 from .program import Program
 from .running import run_tool
 from .telling_rules import fullest, told
-from .texts import counted
+from .texts import counted, print_in_utf8
 from .words import Words, file_name
 
 PACK = """Makes a model from the tables of FLEET: OUT/model, OUT/initial (today's placement), OUT/closed (the closed machines)
@@ -120,17 +120,15 @@ def pack_fleet(words):
     print()
     for note in fleet.notes:
         print(f"note: {note}")
-    closed = sum(one.closed for one in fleet.machines)
-    print(f"packed {counted(len(fleet.machines), 'machine')} ({closed} closed), {counted(len(fleet.services), 'service')}, "
+    print(f"packed {counted(len(fleet.machines), 'machine')} ({len(fleet.closed)} closed), {counted(len(fleet.services), 'service')}, "
           f"{counted(len(fleet.processes), 'process', 'processes')} into {words.out}")
 
 
 def refuse_over(output, folder, files):
     """Refuses an output that is one of the files of a folder."""
     for file in files:
-        name = os.path.join(folder, file)
-        if os.path.exists(output) and os.path.exists(name) and os.path.samefile(output, name):
-            raise Problem(f"{output} is the input {name}, so nothing is written there", 2)
+        if is_same(output, os.path.join(folder, file)):
+            raise Problem(f"{output} and {os.path.join(folder, file)} are one file, which would be lost", 2)
 
 
 def check(words):
@@ -188,6 +186,7 @@ def from_kubectl(words):
 
 
 def work(words):
+    print_in_utf8()
     try:
         return words.work(words)
     except ProblemWithLines as problem:

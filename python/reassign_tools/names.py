@@ -67,9 +67,6 @@ class Names:
     def neighbourhood(self, label):
         return self.neighbourhoods[label] if label < len(self.neighbourhoods) else str(label)
 
-    def location(self, label):
-        return self.locations[label] if label < len(self.locations) else str(label)
-
 
 def hash_of(name):
     """The SHA-256 of a file."""

@@ -10,6 +10,7 @@ class Problem(Exception):
     7    an output couldn't be written
     9    a report isn't one, or isn't one of these files
     11   the tool ended short of its aim; its files are written whole
+    12   what differs between two fleets can't be written as edits
     """
 
     def __init__(self, line, status=3):

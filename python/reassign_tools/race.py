@@ -13,8 +13,8 @@ processor time, without reading: the median of all seeds. It may print `proposal
 Tables come on standard output: for each instance, budget, solver and slack the least, the median and the most cost, the
 spread (the most less the least, as a share of the way from the start's cost to the bound), the share of the way that is left
 at the median, the median of their times (by the clock with --seconds, else as above), and how many runs left no feasible list,
-or were late, which is a tenth of their seconds and one second more. --csv and --json have a row for each run, and --curves is a picture of the cost over
-seconds, by median and quartiles.
+or were late, which is a tenth of their seconds and one second more. --csv and --json have a row for each run, and --curves is a
+picture of what is left over seconds, by median and quartiles.
 
 On several machines: --list FILE writes one command a line, and puts all that they need into FOLDER, which the hosts share or
 which is copied to them. `parallel --sshloginfile HOSTS < FILE` or a Slurm array runs them; if a host has FOLDER elsewhere, its
@@ -25,9 +25,7 @@ runs of a call without --list: if it was stopped, the same call goes on."""
 import argparse
 import os
 import queue
-import shlex
 import shutil
-import sys
 import threading
 from dataclasses import replace
 
@@ -54,9 +52,12 @@ def parser():
     words.add_argument("--slack", metavar="SLACKS", type=listed(slacks_of),
                        help="of the program's runs, such as 0,30; `auto` lets tools/rounds choose (auto; 0 for runs of `solve`)")
     budgets = words.add_mutually_exclusive_group()
-    budgets.add_argument("--proposals", metavar="N", type=listed(proposals_of), help="the budget of each run; may be several: 1000,10000")
-    budgets.add_argument("--seconds", metavar="S", type=listed(seconds_of), help="the budget of each run, by the clock; may be several")
-    words.add_argument("--workers", metavar="W", type=number(1, MOST_LOTS), default=1, help="workers of each run of the program (1)")
+    budgets.add_argument("--proposals", metavar="N", type=listed(proposals_of),
+                         help="the budget of each run; may be several: 1000,10000")
+    budgets.add_argument("--seconds", metavar="S", type=listed(seconds_of),
+                         help="the budget of each run, by the clock; may be several")
+    words.add_argument("--workers", metavar="W", type=number(1, MOST_LOTS), default=1,
+                       help="workers of each run of the program (1)")
     words.add_argument("--solver", metavar="WORDS", action="append", default=[], help="another program: 'NAME: COMMAND'")
     words.add_argument("--jobs", metavar="J", type=number(1, 1000), default=1, help="runs side by side (1)")
     words.add_argument("--csv", metavar="FILE", type=file_name, help="a row for each run")
@@ -65,7 +66,8 @@ def parser():
     words.add_argument("--folder", metavar="FOLDER", type=file_name, help="keep the plan and the runs there")
     words.add_argument("--list", metavar="FILE", type=file_name, help="write the commands of the runs, and run nothing here")
     words.add_argument("--collect", metavar="FOLDER", type=file_name, help="judge what came back, and run nothing")
-    words.add_argument("--run", metavar="N", type=number(0, 10**9), help="what a command of the list does: run number N of FOLDER's plan")
+    words.add_argument("--run", metavar="N", type=number(0, 10**9),
+                       help="what a command of the list does: run number N of FOLDER's plan")
     return words
 
 
@@ -239,7 +241,8 @@ def write_commands(name, folder, plan):
 def quoted(folder):
     """A folder's name between double quotes of the shell."""
     if any(letter in folder for letter in '"$`\\}\n'):
-        raise Problem(f"{folder}: the name of a folder for other hosts may have no quotes, dollars, backslashes, braces or line ends", 2)
+        raise Problem(f"{folder}: the name of a folder for other hosts may have no quotes, dollars, backslashes, braces or line "
+                      "ends", 2)
     return folder
 
 

@@ -8,10 +8,14 @@ class Standing:
 
     Each process is on its machine of the start or on that of the new list. So transient use and closed machines break no rule:
     on a machine are or were never other processes than those of both lists. `cost` is the objective, and `broken` counts
-    capacities, conflicts, spreads and dependencies that aren't met; it is 0 exactly if the assignment is feasible."""
+    capacities, conflicts, spreads and dependencies that aren't met; it is 0 exactly if the assignment is feasible.
 
-    def __init__(self, model, start, new, now):
+    `leaves` has the processes that leave a closed machine. While one of them stays there, `cost` has `stay_cost` more, which is
+    more than any list between both costs."""
+
+    def __init__(self, model, start, new, now, leaves=frozenset(), stay_cost=0):
         self.model, self.start, self.new, self.now = model, start, new, list(now)
+        self.leaves, self.stay_cost = leaves, stay_cost
         self.use = model.use(now)
         self.rooms = list(zip(model.capacity, model.safety))
         self.ways = self.costs_of_ways()
@@ -29,6 +33,7 @@ class Standing:
         self.broken = sum(model.spreads) + sum(sum(map(gt, use, room)) for use, room in zip(self.use, model.capacity))
         stays = Counter(home for home, machine in zip(start, now) if home == machine)
         self.cost = sum(self.weighed) + model.weights[2] * sum(count * model.stay_cost(home) for home, count in stays.items())
+        self.cost += stay_cost * sum(start[process] == self.now[process] for process in leaves)
         for process, machine in enumerate(now):
             self.enter(process, machine)
             if machine != start[process]:
@@ -45,7 +50,7 @@ class Standing:
         for home, some in by_home.items():
             row = model.ways[home].split()
             for process in some:
-                ways[process] = (way_weight * int(row[home]),
+                ways[process] = (way_weight * int(row[home]) + (self.stay_cost if process in self.leaves else 0),
                                  way_weight * int(row[self.new[process]]) + weight * model.move_cost[process])
         return ways
 

@@ -3,8 +3,10 @@ import graphlib
 from dataclasses import dataclass, field
 
 from ..models import LARGEST, MOST_RESOURCES
+from ..texts import counted
 from .measures import Measure, unit_for
 from .mistakes import Mistakes, Place
+from .packing import model_of
 from .settings import FILE as SETTINGS, Resource, Settings
 from .tables import Table, read_text
 from .way_tables import read_ways
@@ -63,6 +65,21 @@ class Fleet:
     @property
     def resources(self):
         return self.settings.resources
+
+    @property
+    def initial(self):
+        """The machine of each process today, as numbers."""
+        return [one.machine for one in self.processes]
+
+    @property
+    def closed(self):
+        """The numbers of the closed machines."""
+        return [at for at, one in enumerate(self.machines) if one.closed]
+
+    def model(self):
+        """The Model of the fleet, which counts everything in the order of the tables. Raises FleetMistakes if a balance asks
+        for more than a model's number can say."""
+        return model_of(self)
 
 
 class FleetReader:
@@ -132,6 +149,8 @@ class FleetReader:
             processes.knows({"process", "service", "machine", "move_cost", *names, *settings.ignored})
         if services and processes and services.columns and processes.columns:
             services.needs(*[name for name in names if name not in processes.columns], why=", and processes.csv has none")
+            for measure in self.requirements:
+                measure.has_failed = measure.resource.name not in {*services.columns, *processes.columns}
 
     def look_at_balances(self):
         names = [one.name for one in self.settings.resources]
@@ -148,8 +167,8 @@ class FleetReader:
         """The numbers of the names in a column, in the order of the rows; those that are wrong are told."""
         at, numbers = table.at(column), {}
         if len(table.rows) > most:
-            self.mistakes.add(Place(table.file, table.rows[most].line), f"{len(table.rows):,} {what}s; at most {most:,} are "
-                              "possible")
+            several = counted(len(table.rows), what, "processes" if what == "process" else "")
+            self.mistakes.add(Place(table.file, table.rows[most].line), f"{several}; at most {most:,} are possible")
         if at is None:
             return None
         if not table.rows and not table.faulty:
@@ -177,12 +196,12 @@ class FleetReader:
 
     def labels(self, table, names):
         """A function that gives what a row has in some columns, taken together."""
-        at = [table.at(name) for name in names if table.at(name) is not None]
+        at, name_at = [table.at(name) for name in names if table.at(name) is not None], table.at("machine")
 
         def label(row):
             for column in at:
                 if not row.cells[column]:
-                    self.mistakes.add(table.place(row, column), f"machine {row.cells[0]!r} has no {table.columns[column]}")
+                    self.mistakes.add(table.place(row, column), f"machine {row.cells[name_at]!r} has no {table.columns[column]}")
             return "/".join(row.cells[column] for column in at)
         return label
 

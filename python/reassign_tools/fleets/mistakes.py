@@ -64,9 +64,11 @@ class Mistakes:
 
     def nearest(self, name, names):
         """The name that was meant, as a question to put behind a mistake, or nothing."""
-        if (name, id(names)) not in self.sought:
+        key = name, id(names)
+        if key not in self.sought:
             if len(self.sought) >= MOST_SOUGHT:
                 return ""
-            self.sought[name, id(names)] = difflib.get_close_matches(name, names, 1, 0.6)
-        near = self.sought[name, id(names)]
+            # The names are kept too, so that no others get their id.
+            self.sought[key] = difflib.get_close_matches(name, names, 1, 0.6), names
+        near, _ = self.sought[key]
         return f" (is it {near[0]!r}?)" if near else ""

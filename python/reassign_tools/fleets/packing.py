@@ -12,7 +12,8 @@ from .amounts import amount_text
 from .mistakes import Mistakes
 from .way_tables import way_rows
 
-FILES = ("model", "initial", "closed", "names.json")
+NAMES = "names.json"
+FILES = ("model", "initial", "closed", NAMES)
 
 
 def labels_of(names):
@@ -83,9 +84,9 @@ def names_of(fleet, model_hash):
 
 def pack(fleet, folder):
     """Writes the files of a fleet into a folder, which is made if it isn't there. The names come last, so that those of an
-    earlier fleet are known to be another model's if the writing ends before."""
+    earlier fleet are refused as another model's if the last step is broken off."""
     digest = hashlib.sha256()
-    model = model_of(fleet)
+    model = fleet.model()
 
     def hashed():
         for piece in model.pieces():
@@ -94,39 +95,38 @@ def pack(fleet, folder):
 
     with whole_folder(folder) as beside:
         write_whole(os.path.join(beside, "model"), hashed())
-        write_whole(os.path.join(beside, "initial"), [list_text(one.machine for one in fleet.processes)])
-        write_whole(os.path.join(beside, "closed"), [list_text(at for at, one in enumerate(fleet.machines) if one.closed)])
-        write_whole(os.path.join(beside, "names.json"), [names_of(fleet, digest.hexdigest()).text().encode()])
+        write_whole(os.path.join(beside, "initial"), [list_text(fleet.initial)])
+        write_whole(os.path.join(beside, "closed"), [list_text(fleet.closed)])
+        write_whole(os.path.join(beside, NAMES), [names_of(fleet, digest.hexdigest()).text().encode()])
 
 
 class whole_folder:
-    """A folder in which files are written. If it isn't there yet, it is made beside its place and then renamed, so that it is
-    there with all of its files or not at all."""
+    """A folder in which files are written, beside the place where they will stand: they are put there when all are whole, the
+    names last. A folder that isn't there yet is then there with all of its files, or not at all."""
 
     def __init__(self, folder):
         self.folder = os.path.realpath(folder)
         self.is_new = not os.path.exists(self.folder)
         above, name = os.path.split(self.folder)
-        self.beside = os.path.join(above, f".{name}.{os.getpid()}") if self.is_new else self.folder
+        self.beside = os.path.join(above if self.is_new else self.folder, f".{name}.{os.getpid()}")
 
     def __enter__(self):
         try:
-            if self.is_new:
-                os.mkdir(self.beside)
-            elif not os.path.isdir(self.folder):
+            if not self.is_new and not os.path.isdir(self.folder):
                 raise Problem(f"{self.folder} is no folder", 2)
+            os.mkdir(self.beside)
         except OSError as fault:
             raise Problem(f"write fault: {self.folder}: {fault.strerror}", 7) from None
         return self.beside
 
     def __exit__(self, kind, *_):
-        if not self.is_new:
-            return
-        if kind is None:
-            try:
+        try:
+            if kind is None and self.is_new:
                 os.rename(self.beside, self.folder)
-            except OSError as fault:
-                shutil.rmtree(self.beside, ignore_errors=True)
-                raise Problem(f"write fault: {self.folder}: {fault.strerror}", 7) from None
-        else:
+            elif kind is None:
+                for name in sorted(os.listdir(self.beside), key=lambda name: (name == NAMES, name)):
+                    os.replace(os.path.join(self.beside, name), os.path.join(self.folder, name))
+        except OSError as fault:
+            raise Problem(f"write fault: {self.folder}: {fault.strerror}", 7) from None
+        finally:
             shutil.rmtree(self.beside, ignore_errors=True)

@@ -84,8 +84,9 @@ class Settings:
         return settings
 
     def place(self, section, at=0, word=""):
-        """Where a word stands: that of a section, of which there may be several."""
-        line, column = self.places.get((section, at, word)) or self.places.get((section, at, "")) or (0, 0)
+        """Where a word stands: that of a section, of which there may be several, or a section itself."""
+        keys = (section, at, word), (section or word, at, "")
+        line, column = next((self.places[key] for key in keys if key in self.places), (0, 0))
         return Place(FILE, line, column)
 
     def lines(self):
@@ -234,7 +235,8 @@ class Reader:
             for word in lacking:
                 self.wrong((section, at, ""), f"this {section} has no {word!r}")
             one = kind(*[item.get(word) for word in needed])
-            if self.take(one, readers, item, section, at) and not lacking:
+            self.take(one, readers, item, section, at)
+            if not lacking:
                 made.append(one)
         return made
 
@@ -245,20 +247,16 @@ class Reader:
         return False
 
     def take(self, into, readers, words, section, at=0, also=()):
-        """Sets what the words say. Answers whether all was well."""
-        is_well = True
+        """Sets what the words say."""
         for word, value in words.items():
             if word not in readers:
                 hint = self.mistakes.nearest(word, [*readers, *also])
                 self.wrong((section, at, word), f"no setting {word!r}{f' of [{section}]' if section else ''}{hint}")
-                is_well = False
                 continue
             try:
                 setattr(into, word, readers[word](value))
             except Wrong as wrong:
                 self.wrong((section, at, word), f"{word} has to be {wrong}")
-                is_well = False
-        return is_well
 
     def wrong(self, key, text):
         self.mistakes.add(self.settings.place(*key), text)
