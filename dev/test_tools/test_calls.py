@@ -83,7 +83,7 @@ class Calls(ToolCase):
     def test_plot(self):
         for words in ([], ["report", "model"], ["--x", "report"], ["--run", "report"], ["--out"], ["-"], ["report", "--out", ""]):
             self.expect(2, "plot", *words)
-        for status, words in ((3, ["nowhere"]), (3, ["folder"]), (9, ["empty"]), (9, ["model"]), (9, ["report", "model", "other"]),
+        for status, words in ((3, ["nowhere"]), (3, ["folder"]), (9, ["empty"]), (2, ["model"]), (9, ["report", "model", "other"]),
                               (4, ["report", "initial", "model"]), (5, ["report", "model", "report"]),
                               (5, ["report", "model", "cut_list"]), (4, ["report", "report", "initial"]),
                               (4, ["report", "cut_model", "initial"]), (3, ["report", "model", "nowhere"]),

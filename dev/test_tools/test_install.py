@@ -175,11 +175,11 @@ class Others(ToolCase):
         for words in ([], ["x"], ["y", "10", "10", "1", "1", "skew"], ["y", "0", "10", "1", "1"]):
             self.expect_line(2, None, maker, *words)
         self.expect_line(1, None, maker, "/dev/null/x", "10", "10", "1", "1")
-        for script in ("judge_report", "compare", "make_pinned", "measure"):
+        for script in ("judge_report", "compare", "make_pinned"):
             self.expect_line(2, None, sys.executable, os.path.join(ROOT, "bench", f"{script}.py"))
-        for words in (["--x"], ["a", "b"], [""]):
-            self.expect_line(2, "usage: bench/run [OTHER]", os.path.join(ROOT, "bench", "run"), *words)
+        for words in (["--x"], ["a", "b"], ["--rounds", "x"]):
+            self.expect_line(2, "bench/run: ", os.path.join(ROOT, "bench", "run"), *words)
         for word in ("--help", "-h"):
             ran = run(os.path.join(ROOT, "bench", "run"), word)
             self.assertEqual((ran.returncode, ran.stderr), (0, ""))
-            self.assertIn("\nusage: bench/run [OTHER]\n", ran.stdout)
+            self.assertIn("\nusage: bench/run [--rounds N]", ran.stdout)

@@ -126,13 +126,15 @@ def draw_legend(picture, x, y, count):
     """What the colours mean, one below the other."""
     rows = []
     if count <= MOST_DOTS:
-        rows += [(lambda y: picture.dot(x + 8, y, 4, "white", FAINT), "before"), (lambda y: picture.dot(x + 8, y, 3.3, BLUE, BLUE), "after")]
+        rows += [(lambda y: picture.dot(x + 8, y, 4, "white", FAINT), "before"),
+                 (lambda y: picture.dot(x + 8, y, 3.3, BLUE, BLUE), "after")]
     elif count <= MOST_SINGLE:
         rows += [(line_of(picture, x, BLACK, 1.5), "before"), (bar_of(picture, x, MIDDLE), "after, a bar for each machine")]
     else:
         rows += [(line_of(picture, x, BLACK, 1.5, "2 3"), "before, the middle of a group"),
                  (line_of(picture, x, BLUE, 4), "after, the middle of a group"),
-                 (bar_of(picture, x, MIDDLE), "after, eight in ten of a group"), (bar_of(picture, x, PALE), "after, all of a group")]
+                 (bar_of(picture, x, MIDDLE), "after, eight in ten of a group"),
+                 (bar_of(picture, x, PALE), "after, all of a group")]
     middle = ", the middle of a group" if count > MOST_SINGLE else ""
     rows += [(line_of(picture, x, GREEN, 2), f"safety capacity{middle}"), (line_of(picture, x, ORANGE, 2), "capacity")]
     for at, (shape, words) in enumerate(rows):

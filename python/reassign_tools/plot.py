@@ -80,7 +80,8 @@ def machines(words, instance, end, command):
 
 
 def picture_of(words):
-    command = "tools/plot " + shown(shlex.join(["--run"] * words.run + list(filter(None, (words.report, words.model, words.initial)))))
+    names = filter(None, (words.report, words.model, words.initial))
+    command = "tools/plot " + shown(shlex.join(["--run"] * words.run + list(names)))
     instance = Instance(words.model, words.initial) if words.model else None
     if is_list(words.report):
         if words.run or not instance:

@@ -13,8 +13,8 @@ processor time, without reading: the median of all seeds. It may print `proposal
 Tables come on standard output: for each instance, budget, solver and slack the least, the median and the most cost, the
 spread (the most less the least, as a share of the way from the start's cost to the bound), the share of the way that is left
 at the median, the median of their times (by the clock with --seconds, else as above), and how many runs left no feasible list,
-or were late, which is a tenth of their seconds and one second more. --csv and --json have a row for each run, and --curves is a picture of the cost over
-seconds, by median and quartiles.
+or were late, which is a tenth of their seconds and one second more. --csv and --json have a row for each run, and --curves is a
+picture of what is left over seconds, by median and quartiles.
 
 On several machines: --list FILE writes one command a line, and puts all that they need into FOLDER, which the hosts share or
 which is copied to them. `parallel --sshloginfile HOSTS < FILE` or a Slurm array runs them; if a host has FOLDER elsewhere, its
@@ -25,9 +25,7 @@ runs of a call without --list: if it was stopped, the same call goes on."""
 import argparse
 import os
 import queue
-import shlex
 import shutil
-import sys
 import threading
 from dataclasses import replace
 
@@ -54,9 +52,12 @@ def parser():
     words.add_argument("--slack", metavar="SLACKS", type=listed(slacks_of),
                        help="of the program's runs, such as 0,30; `auto` lets tools/rounds choose (auto; 0 for runs of `solve`)")
     budgets = words.add_mutually_exclusive_group()
-    budgets.add_argument("--proposals", metavar="N", type=listed(proposals_of), help="the budget of each run; may be several: 1000,10000")
-    budgets.add_argument("--seconds", metavar="S", type=listed(seconds_of), help="the budget of each run, by the clock; may be several")
-    words.add_argument("--workers", metavar="W", type=number(1, MOST_LOTS), default=1, help="workers of each run of the program (1)")
+    budgets.add_argument("--proposals", metavar="N", type=listed(proposals_of),
+                         help="the budget of each run; may be several: 1000,10000")
+    budgets.add_argument("--seconds", metavar="S", type=listed(seconds_of),
+                         help="the budget of each run, by the clock; may be several")
+    words.add_argument("--workers", metavar="W", type=number(1, MOST_LOTS), default=1,
+                       help="workers of each run of the program (1)")
     words.add_argument("--solver", metavar="WORDS", action="append", default=[], help="another program: 'NAME: COMMAND'")
     words.add_argument("--jobs", metavar="J", type=number(1, 1000), default=1, help="runs side by side (1)")
     words.add_argument("--csv", metavar="FILE", type=file_name, help="a row for each run")
@@ -65,7 +66,8 @@ def parser():
     words.add_argument("--folder", metavar="FOLDER", type=file_name, help="keep the plan and the runs there")
     words.add_argument("--list", metavar="FILE", type=file_name, help="write the commands of the runs, and run nothing here")
     words.add_argument("--collect", metavar="FOLDER", type=file_name, help="judge what came back, and run nothing")
-    words.add_argument("--run", metavar="N", type=number(0, 10**9), help="what a command of the list does: run number N of FOLDER's plan")
+    words.add_argument("--run", metavar="N", type=number(0, 10**9),
+                       help="what a command of the list does: run number N of FOLDER's plan")
     return words
 
 
@@ -119,22 +121,20 @@ class Race:
     def run_all(self, jobs):
         """Makes the runs that aren't there yet, so many side by side. Answers the rows of those that are there in the end, and
         whether it was stopped."""
-        units = units_of(self.plan)
         waiting, done = queue.SimpleQueue(), queue.SimpleQueue()
-        for unit in units:
+        for unit in units_of(self.plan):
             waiting.put(unit)
         workers = [threading.Thread(target=self.work_through, args=(waiting, done), daemon=True) for _ in range(jobs)]
         rows, is_stopped = {}, False
         try:
             for worker in workers:
                 worker.start()
-            for _ in units:
-                unit, fault = done.get()
+            for _ in self.plan.jobs:
+                job, fault = done.get()
                 if fault:
                     raise fault
-                for job in unit:
-                    rows[job.number] = self.judge.row(job, self.place)
-                    say(f"{len(rows)} of {len(self.plan.jobs)}: {job.told()}: {rows[job.number].told()}")
+                rows[job.number] = self.judge.row(job, self.place)
+                say(f"{len(rows)} of {len(self.plan.jobs)}: {job.told()}: {rows[job.number].told()}")
         except KeyboardInterrupt:
             is_stopped = True
         finally:
@@ -150,10 +150,10 @@ class Race:
             except queue.Empty:
                 return
             try:
-                run_unit(self.plan, unit, self.place)
-                done.put((unit, None))
+                for job in run_unit(self.plan, unit, self.place):
+                    done.put((job, None))
             except BaseException as fault:
-                done.put((unit, fault))
+                done.put((None, fault))
                 return
 
     def rows(self):
@@ -241,7 +241,8 @@ def write_commands(name, folder, plan):
 def quoted(folder):
     """A folder's name between double quotes of the shell."""
     if any(letter in folder for letter in '"$`\\}\n'):
-        raise Problem(f"{folder}: the name of a folder for other hosts may have no quotes, dollars, backslashes, braces or line ends", 2)
+        raise Problem(f"{folder}: the name of a folder for other hosts may have no quotes, dollars, backslashes, braces or line "
+                      "ends", 2)
     return folder
 
 
@@ -257,7 +258,9 @@ def run_one(options):
     plan.instances = {name: Instance(name, at_hand(at, "model"), at_hand(at, "initial")) for at, name in enumerate(plan.instances)}
     running = Running()
     try:
-        run_unit(plan, units[options.run], Place(os.path.join(options.folder, RESULTS), Program(options.program).binary(), running))
+        place = Place(os.path.join(options.folder, RESULTS), Program(options.program).binary(), running)
+        for _ in run_unit(plan, units[options.run], place):
+            pass
     finally:
         running.end_all()
 

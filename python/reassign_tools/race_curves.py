@@ -133,7 +133,8 @@ def curves(rows):
             Panel(picture, lines, top).draw()
         top += HEIGHT + GAP
     is_timed = any(row.budget_proposals for row in rows)
-    picture.text(picture.left + ACROSS, top - GAP + 42, "seconds" + (" of processor time, without reading" if is_timed else ""), "end")
+    unit = "seconds of processor time, without reading" if is_timed else "seconds"
+    picture.text(picture.left + ACROSS, top - GAP + 42, unit, "end")
     return [picture.written(top - GAP + 60, "the share of the way from the start's cost to the bound that is left",
                             "by median (line) and quartiles (band) of the runs").encode()]
 

@@ -281,7 +281,7 @@ def units_of(plan):
 
 
 def run_unit(plan, unit, place):
-    """Makes those runs of a unit that aren't there yet. Each job's outcome is there when its list is."""
+    """Makes those runs of a unit that aren't there yet, and yields each job when its outcome and its list are there."""
     solving = []
     for job in unit:
         if not place.has(job):
@@ -289,6 +289,7 @@ def run_unit(plan, unit, place):
             write_whole(place.outcome_name(job), [json.dumps(asdict(outcome)).encode() + b"\n"])
         if job.solver == OWN:
             solving.append(read_outcome(place.outcome_name(job)).solving())
+        yield job
 
 
 def run_job(plan, job, place, as_long):

@@ -3,9 +3,8 @@ import math
 from dataclasses import dataclass, field
 
 SHARES = (0.0, 0.002, 0.01, 0.03)  # of the start's cost per process
-FIRST = 2  # of these, for the first round
-ANEW_ORDER = (2, 3, 1, 0)  # in which they are tried by rounds that begin anew
-ON_ORDER = (2, 1, 0)  # and by rounds that go on: these are short of room, and the most slack brings nothing there
+ANEW_ORDER = (2, 0, 1, 3)  # in which they are tried by rounds that begin anew
+ON_ORDER = (2, 0, 1)  # and by rounds that go on: these are short of room, and the most slack brings nothing there
 AGAIN = 4  # each so many rounds of a kind the slack is tried that has waited longest
 FADE = 0.7  # what a round that went on gained counts so much of it after each later one
 DOUBT = 0.001  # how far runs anew lie apart before any is known, as a share of the fall
@@ -38,45 +37,47 @@ class Slacks:
 class Chooser:
     """Chooses rounds by what those before brought.
 
-    A round that goes on from the best list is worth what the last such ones gained. A run anew is worth what one may be expected
-    to be below the best: runs anew differ by their seeds, and their costs are taken to be spread normally. The greater one is
-    chosen. If the slack is given, only where to begin is chosen."""
+    Rounds go on from the best list as long as that gains more than a run anew may be expected to: such runs differ by their
+    seeds, and their costs are taken to be spread normally. After a round that found nothing one of the other kind comes, but
+    none goes on from a list from which so many rounds in a row as there are slacks found nothing. If the slack is given, only
+    where to begin is chosen."""
 
     def __init__(self, start_cost, processes, slack=None):
         shares = [round(share * start_cost / max(processes, 1)) for share in SHARES]
         named = lambda order: list(dict.fromkeys([slack] if slack is not None else (shares[at] for at in order)))
         self.anew, self.on = Slacks(named(ANEW_ORDER)), Slacks(named(ON_ORDER))
-        self.first = slack if slack is not None else shares[FIRST]
         self.start_cost, self.costs = start_cost, []
-        self.is_fresh = True  # whether no round went on from the best list yet
-        self.gain = None  # what a round that goes on from the best list may be expected to gain; None if none ever did
-        self.first_gain = 0  # what the last one gained that went on from a list of a run anew
+        self.gain = None  # what a round that goes on from the best list may be expected to gain; None if none did
+        self.failed = 0  # rounds in a row that went on from the best list and found nothing
+        self.last = None  # the last choice, if it found nothing
 
     def next(self, best_cost, has_list, can_begin_anew=True):
         """The next round, if the best list so far costs so much. A list of an earlier call is gone on from first."""
-        if not has_list:
-            return Choice(True, self.slack_anew() if self.costs else self.first)
-        is_anew = can_begin_anew and self.gain is not None and self.expected_anew(best_cost) > self.gain
-        return Choice(True, self.slack_anew()) if is_anew else Choice(False, self.slack_on())
+        if not has_list or (can_begin_anew and self.is_anew_better(best_cost)):
+            return Choice(True, self.slack_anew())
+        return Choice(False, self.slack_on())
+
+    def is_anew_better(self, best_cost):
+        if self.last:
+            return not self.last.is_anew or self.failed >= len(self.on.order)
+        return self.gain is not None and self.expected_anew(best_cost) > self.gain
 
     def learn(self, choice, found, before):
         """What came: a list of cost `found` (None if there is none), where the best cost was `before`."""
         gain = 0 if found is None else max(before - found, 0)
+        self.last = None if gain else choice
         if choice.is_anew:
             cost = self.start_cost if found is None else found
             self.costs.append(cost)
             self.anew.found.setdefault(choice.slack, []).append(cost)
             self.anew.used.append(choice.slack)
-            if gain and self.gain is not None:
-                self.gain, self.is_fresh = self.first_gain, True
+            if gain:
+                self.gain, self.failed = None, 0
             return
         self.on.found = {slack: FADE * old for slack, old in self.on.found.items()} | {choice.slack: gain}
         self.on.used.append(choice.slack)
-        if self.is_fresh:
-            self.gain = self.first_gain = gain
-        else:
-            self.gain = (gain + FADE * self.gain) / (1 + FADE)
-        self.is_fresh = False
+        self.failed = 0 if gain else self.failed + 1
+        self.gain = gain if self.gain is None else (gain + FADE * self.gain) / (1 + FADE)
 
     def slack_anew(self):
         slacks = self.anew

@@ -12,7 +12,8 @@ class Ends:
     def __init__(self, rounds=None, proposals=None, seconds=None):
         self.rounds, self.proposals, self.seconds = rounds, proposals, seconds
         self.began, self.done, self.made = time.monotonic(), 0, 0
-        self.reading = self.each = self.closing = 0.0  # seconds of a run's reading, of a proposal, and of what comes after the rounds
+        self.reading = self.each = 0.0  # seconds of a run's reading, and of a proposal
+        self.closing = 0.0  # seconds of what comes after the rounds
 
     def passed(self):
         return time.monotonic() - self.began

@@ -7,9 +7,10 @@ closed machine who isn't there in the best list: so machines that were emptied s
 each round. If BEST is there already, the rounds go on from it. Without a limit they end when four in a row find nothing.
 Ctrl-C ends them well: what BEST has is judged and printed. After --seconds they end too: a run that isn't over then is lost.
 
-Where a round begins, and its slack if none is given, is chosen by what the rounds before brought: going on as long as that
-gains more than another run from the true start may be expected to; and of four slacks, shares of the start's cost per process,
-the one that brought most, where each is tried anew from time to time.
+Where a round begins, and its slack if none is given, is chosen by what the rounds before brought. They go on from the best
+list as long as that gains more than another run from the true start may be expected to; after a round that found nothing one
+of the other kind comes. Of four slacks, shares of the start's cost per process, each is tried, then the one that brought most,
+and from time to time the others again.
 
 A round charges each process the way from where it stands, as MODEL has it. If a list that a round calls better isn't, the
 rounds after it raise the ways to the most that they cost more from the true start, so that what is better there is better;

@@ -243,5 +243,6 @@ def draw_run(report, instance, command, title=None):
     end = draw_workers(picture, report, axis, 640) if report.marks else 600
     count, workers = len(report.marks), report.workers
     if title is None:
-        title = f"{shown(report.name)}: {grouped(count)} {'entry' if count == 1 else 'entries'} of {workers} worker{'s' * (workers > 1)}"
+        entries = "entry" if count == 1 else "entries"
+        title = f"{shown(report.name)}: {grouped(count)} {entries} of {workers} worker{'s' * (workers > 1)}"
     return picture.written(end + 4, title, command)
