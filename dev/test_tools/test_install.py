@@ -178,7 +178,7 @@ class Others(ToolCase):
         for script in ("judge_report", "compare", "make_pinned"):
             self.expect_line(2, None, sys.executable, os.path.join(ROOT, "bench", f"{script}.py"))
         for words in (["--x"], ["a", "b"], ["--rounds", "x"]):
-            self.expect_line(2, "bench/run: ", os.path.join(ROOT, "bench", "run"), *words)
+            self.expect_line(2, None, os.path.join(ROOT, "bench", "run"), *words)
         for word in ("--help", "-h"):
             ran = run(os.path.join(ROOT, "bench", "run"), word)
             self.assertEqual((ran.returncode, ran.stderr), (0, ""))
