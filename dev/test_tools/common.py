@@ -136,7 +136,7 @@ class ToolCase(unittest.TestCase):
         if line is not None:
             self.assertEqual(ran.stderr, line + "\n", told)
 
-    def wait_for(self, condition, begun, seconds=120):
+    def wait_for(self, condition, begun, seconds=600):
         """Waits until something is so, as long as what was begun runs."""
         end = time.monotonic() + seconds
         while not condition():
