@@ -83,7 +83,7 @@ class Install(ToolCase):
             self.assertTrue(any("rounds" in name or "tools" in name for name in names), names)
             for name in names:
                 if shutil.which(reader[0]) and not os.path.islink(f"{place}/{folder}/{name}"):
-                    self.expect_run(*reader, f"{place}/{folder}/{name}")
+                    self.expect_run(*reader, f"{place}/{folder}/{name}", env={**os.environ, "LC_ALL": "C.UTF-8"})
 
     def commands_of(self, tool):
         """The commands of a tool, and the tool itself, as words behind its name."""
