@@ -5,10 +5,10 @@ use Rattle.ra_run.proofs.SolveLemmas.{run_told, best_told, bound_told}
 use Rattle.ra_run.proofs.solve.run_over.Goals as goal
 
 pub report-ended-requires-clause-best : goal.report-ended-requires-clause-best
-report-ended-requires-clause-best g c = best_told _ _ _ _ c.solve-run.ensures
+report-ended-requires-clause-best g c κs within = best_told _ _ _ _ c.solve-run.ensures
 
 pub report-ended-requires-clause-bound : goal.report-ended-requires-clause-bound
-report-ended-requires-clause-bound g c =
+report-ended-requires-clause-bound g c κs within =
     let is = rw (c.in-Ok-make.ensures.instance, c.in-Ok-make.ensures.initial, c.in-Ok-make.ensures.lots) at
     c.solve-run.ensures in
     bound_told c.args.inst.now.tables c.args.initial.now.items c.args.lots.now c.solve-run.result _ is c.in-Ok.ensures
