@@ -6,5 +6,5 @@ use Rattle.test_replica.proofs.tests.plans.planned_plainly.Goals as goal
 pub plan_plainly-requires-clause-before : goal.plan_plainly-requires-clause-before
 unfolding parts_of
 plan_plainly-requires-clause-before g c =
-    rw (c.instance-inst.ensures, c.initial-a0.ensures, c.assignment-a.ensures.value)
-    (ap (λ (p : Parts). p.total) c.parts-cost.ensures)
+    rw (c.instance-inst.ensures.value, c.initial-a0.ensures.value, c.assignment-a.ensures.value)
+    (ap (λ (p : Parts). p.total) c.parts-cost.ensures.value)
