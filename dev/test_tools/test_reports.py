@@ -50,7 +50,8 @@ class Reports(ToolCase):
             put("forged", "".join(self.lines[:at] + [" ".join(words) + "\n"] + self.lines[at + 1:]))
             run = begin("summary", "forged", "model", "initial")
             _, error = run.communicate()
-            self.assertIn(run.returncode, (0, 9), f"{self.lines[at]} as {words}: {error}")
+            # (if its first line begins with a number, it reads as a list, and is none)
+            self.assertIn(run.returncode, (0, 9) if at else (5, 9), f"{self.lines[at]} as {words}: {error}")
             self.assertNotIn("Traceback", error)
         for at in (0, 5, 8, 9):
             put("forged", "".join(self.lines[:at] + self.lines[at + 1:]))
