@@ -1,6 +1,7 @@
 mod SeekLemmas
 mod FlowLemmas
 mod LocationLemmas
+mod SpreadLemmas
 mod RowLemmas
 mod StepLemmas
 mod HoldLemmas

@@ -86,7 +86,7 @@ small_end : (i : Tables) (steps : List Step) (j : ℕ) → Small i → end_locat
 unfolding end_location
 small_end i steps j small = small.locations (end_in steps j)
 
-locations_are : (i : Tables) (a : List Machine) (s : ℕ) → locations_of i a s ≡ total (2 ^ 32) (held_in i a s)
+pub locations_are : (i : Tables) (a : List Machine) (s : ℕ) → locations_of i a s ≡ total (2 ^ 32) (held_in i a s)
 unfolding locations_of held_in
 locations_are i a s = refl
 
@@ -160,7 +160,7 @@ unfolding fresh
 fresh_few e f j each =
     elim (is_named j e (e j)) as (λ t. cond t 0 (f (e j)) ≤ 1) [ true ↦ omega arith | false ↦ each (e j) ]
 
-held_few : (i : Tables) (a : List Machine) (s label : ℕ) → held_in i a s label ≤ 1
+pub held_few : (i : Tables) (a : List Machine) (s label : ℕ) → held_in i a s label ≤ 1
 unfolding held_in
 held_few i a s label = one_if_le (ltb 0 (in_location i a s label))
 
@@ -186,7 +186,7 @@ location_grows i a steps s label move none =
           (λ j within. step_stays i steps s label j none within),
     )
 
-one_grows : (m n : ℕ) → m ≤ n → one_if (ltb 0 m) ≤ one_if (ltb 0 n)
+pub one_grows : (m n : ℕ) → m ≤ n → one_if (ltb 0 m) ≤ one_if (ltb 0 n)
 one_grows m n more = ⊎_elim
     (λ (some : 0 < m). omega (
       arith,

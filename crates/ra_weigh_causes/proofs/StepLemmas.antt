@@ -1,12 +1,16 @@
 -- The steps of a move, as they are read.
-use Rattle.std.proofs.Common.{◌≡◌, ℕ, ◌+◌, ◌<◌, ◌||◌, cond, eqb, List, length, sym, ap, ◌∙◌, arith, ne_eqb, false, ◌≢◌}
+use Rattle.std.proofs.Common.{◌≡◌, ℕ, zero, suc, ◌+◌, ◌<◌, ◌≤◌, ◌||◌, cond, eqb, List, [], ◌∷◌, length, sym, ap, ◌∙◌}
+use Rattle.std.proofs.Common.{arith, ne_eqb, false, ◌≢◌, get_or, replicate, refl, take, drop, ◌*◌, ◌-◌}
+use Rattle.std.proofs.lemmas.List.{get_or-take, get_or-drop}
+use Rattle.ra_base.proofs.Tables.{cell_is}
 use Rattle.std.proofs.lemmas.Bool.{or_from}
 use Rattle.ra_base.specs.Sums.{is_named}
 use Rattle.ra_base.specs.declared.ids.Machine.{Machine}
 use Rattle.ra_base.proofs.Named.{is_named_more}
 use Rattle.ra_model.specs.declared.raw.Tables.{Tables}
 use Rattle.ra_model.specs.Limits.{WellFormed}
-use Rattle.ra_model.specs.Numbers.{machine_count, service_count, process_count, requirement_of, service_of}
+use Rattle.ra_model.specs.Numbers.{resource_count, machine_count, service_count, process_count, requirement_of}
+use Rattle.ra_model.specs.Numbers.{service_of}
 use Rattle.ra_model.specs.Numbers.{dependency_start, dependency_count, need_of}
 use Rattle.ra_model.specs.Assignments.{machine_at}
 use Rattle.ra_model.specs.Usage.{use_share, transient_share}
@@ -15,6 +19,45 @@ use Rattle.ra_moves.specs.Steps.{step_at, process_in, from_in, to_in}
 use Rattle.ra_moves.specs.Values.{gone, come}
 use Rattle.ra_moves.specs.Touched.{service_in}
 use Rattle.ra_moves.specs.Moving.{IsMove}
+use Rattle.ra_world.specs.Required.{AreRequired}
+use Rattle.ra_weigh_causes.specs.Flowing.{AreSteps, AreNone}
+
+-- three steps that are read
+read_each : (steps : List Step) (a b c : Step) → length steps ≤ 3 → (0 < length steps → a ≡ step_at steps 0) →
+    (1 < length steps → b ≡ step_at steps 1) → (2 < length steps → c ≡ step_at steps 2) → (j : ℕ) → j < length steps →
+    step_at (a ∷ b ∷ c ∷ []) j ≡ step_at steps j
+unfolding step_at
+read_each steps a b c few one two three zero within = one within
+read_each steps a b c few one two three (suc zero) within = two within
+read_each steps a b c few one two three (suc (suc zero)) within = three within
+read_each steps a b c few one two three (suc (suc (suc j))) within = absurd (omega arith)
+
+pub three_read : (steps : List Step) (a b c : Step) → length steps ≤ 3 → (0 < length steps → a ≡ step_at steps 0) →
+    (1 < length steps → b ≡ step_at steps 1) → (2 < length steps → c ≡ step_at steps 2) →
+    AreSteps steps (a ∷ b ∷ c ∷ [])
+three_read steps a b c few one two three = record { each = read_each steps a b c few one two three }
+
+-- what the process of a step requires, as it is read
+pub required_there : (i : Tables) (steps : List Step) (n j r width : ℕ) (table : List ℕ) → AreRequired i steps n table →
+    j < n → r < resource_count i → width ≡ resource_count i →
+    get_or (take (j * 20 + width - j * 20) (drop (j * 20) table)) r 0 ≡ requirement_of i (process_in steps j) r
+required_there i steps n j r width table are within inside all =
+    get_or-take (j * 20 + width - j * 20) (drop (j * 20) table) r 0 (omega arith)
+    ∙ get_or-drop (j * 20) table r 0 ∙ sym (cell_is 20 table j r) ∙ are.each j r within inside
+
+-- nothing of each resource
+nothings : ℕ → List ℕ
+nothings n = replicate n 0
+
+none_at : (n r : ℕ) → get_or (nothings n) r 0 ≡ 0
+unfolding nothings
+none_at zero r = refl
+none_at (suc n) zero = refl
+none_at (suc n) (suc r) = none_at n r
+
+pub none_each : (n : ℕ) → AreNone (replicate n 0)
+unfolding nothings
+none_each n = record { each = λ r within. none_at n r }
 
 -- its process and its machines exist
 pub step_process : (i : Tables) (a : List Machine) (steps : List Step) (j : ℕ) (s : Step) → IsMove i a steps →
@@ -37,6 +80,12 @@ step_from i a steps j s move is within =
 pub service_there : (i : Tables) (p s : ℕ) → WellFormed i → p < process_count i → s ≡ service_of i p →
     s < service_count i
 service_there i p s limits there is = rw is (limits.services p there)
+
+pub service_within : (i : Tables) (a : List Machine) (steps : List Step) (j : ℕ) → WellFormed i → IsMove i a steps →
+    j < length steps → service_in i steps j < service_count i
+unfolding service_in
+service_within i a steps j limits move within =
+    limits.services (process_in steps j) (omega (arith, move.stands.known j within, move.fits.one_each))
 
 pub need_there : (i : Tables) (s k need : ℕ) → WellFormed i → s < service_count i → k < dependency_count i s →
     need ≡ need_of i s k → need < service_count i

@@ -1,3 +1,4 @@
+pub mod Flowing
 pub mod Holding
 pub mod Marks
 pub mod Nearness

@@ -52,11 +52,14 @@ impl<'a, 'b> Trial<'a, 'b> {
         if !self.keeps_apart() {
             return self.broken_conflict();
         }
-        if let Some(cause) = self.broken_spread() {
-            return Some(cause);
+        if !self.keeps_spread() {
+            return self.broken_spread();
         }
         if let Some(cause) = self.broken_dependency() {
             return Some(cause);
+        }
+        if self.keeps_closed() {
+            return None;
         }
         self.broken_closed()
     }

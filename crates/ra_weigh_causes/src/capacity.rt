@@ -1,10 +1,12 @@
-ghost use Rattle.std.specs.Prelude.{◌≡◌, ◌↔◌, ◌^◌, ◌<◌, true};
+ghost use Rattle.std.specs.Prelude.{◌≡◌, ◌↔◌, ◌^◌, ◌<◌, true, length};
 ghost use Rattle.ra_model.specs.Numbers.{resource_count, machine_count};
 ghost use Rattle.ra_model.specs.Broken.{capacity_test, row_capacity, broken_capacity, transient_test, row_transient, broken_transient};
-ghost use Rattle.ra_model.specs.Usage.{use_of, transient_of};
+ghost use Rattle.ra_model.specs.Usage.{use_share, use_of, transient_share, transient_of};
+ghost use Rattle.ra_weigh_causes.specs.Flowing.{HasFlow};
 ghost use Rattle.ra_weigh_causes.specs.Holding.{FitsAt, FitsBelow};
-ghost use Rattle.ra_weigh_causes.specs.Trials.{tables_of, initial_of, before_of, after_of};
+ghost use Rattle.ra_weigh_causes.specs.Trials.{tables_of, initial_of, steps_of, before_of, after_of};
 
+use crate::flows::Flow;
 use crate::trial::Trial;
 use ra_base::{Cause, Machine, Resource};
 
@@ -39,13 +41,45 @@ impl<'a, 'b> Trial<'a, 'b> {
     }
 
     /// The first use on a machine that is above its capacity after the move.
+    #[inline(always)]
     pub(crate) fn row_capacity(&self, m: Machine) -> Option<Cause>
+        requires { m.0 < machine_count (tables_of self.now) }
+        ensures { result ≡ row_capacity (tables_of self.now) (after_of self.now) m.0 }
+    {
+        match self.flow(m) {
+            Some(flow) => self.capacity_by_flow(m, flow),
+            None => self.capacity_by_steps(m),
+        }
+    }
+
+    /// The same, if it is known what comes and what goes.
+    #[inline(always)]
+    fn capacity_by_flow(&self, m: Machine, flow: Flow<'_>) -> Option<Cause>
+        requires machine { m.0 < machine_count (tables_of self.now) }
+        requires flow { HasFlow (tables_of self.now) (use_share (tables_of self.now) m.0)
+            (steps_of self.now) (length (steps_of self.now)) flow.come.now flow.gone.now }
+        ensures { result ≡ row_capacity (tables_of self.now) (after_of self.now) m.0 }
+    {
+        let row = self.rows.usage_row(m);
+        for r in 0..self.inst.resources() {
+            let place = r as usize;
+            let used = row[place] + u64::from(flow.come[place]) - u64::from(flow.gone[place]);
+            if let Some(cause) = self.capacity_test(m, Resource(r), used) {
+                return Some(cause);
+            }
+        }
+        None
+    }
+
+    /// The same by a look at each step for each resource.
+    fn capacity_by_steps(&self, m: Machine) -> Option<Cause>
         requires { m.0 < machine_count (tables_of self.now) }
         ensures { result ≡ row_capacity (tables_of self.now) (after_of self.now) m.0 }
     {
         let row = self.rows.usage_row(m);
         for r in 0..self.inst.resources() {
-            if let Some(cause) = self.capacity_test(m, Resource(r), row[r as usize]) {
+            let used = self.use_after(m, Resource(r), row[r as usize]);
+            if let Some(cause) = self.capacity_test(m, Resource(r), used) {
                 return Some(cause);
             }
         }
@@ -53,14 +87,49 @@ impl<'a, 'b> Trial<'a, 'b> {
     }
 
     /// The first transient use on a machine that is above its capacity after the move.
+    #[inline(always)]
     pub(crate) fn row_transient(&self, m: Machine) -> Option<Cause>
+        requires { m.0 < machine_count (tables_of self.now) }
+        ensures { result ≡
+            row_transient (tables_of self.now) (initial_of self.now) (after_of self.now) m.0 }
+    {
+        match self.flow_between(m) {
+            Some(flow) => self.transient_by_flow(m, flow),
+            None => self.transient_by_steps(m),
+        }
+    }
+
+    /// The same, if it is known what comes and what goes.
+    #[inline(always)]
+    fn transient_by_flow(&self, m: Machine, flow: Flow<'_>) -> Option<Cause>
+        requires machine { m.0 < machine_count (tables_of self.now) }
+        requires flow { HasFlow (tables_of self.now)
+            (transient_share (tables_of self.now) (initial_of self.now) m.0) (steps_of self.now)
+            (length (steps_of self.now)) flow.come.now flow.gone.now }
+        ensures { result ≡
+            row_transient (tables_of self.now) (initial_of self.now) (after_of self.now) m.0 }
+    {
+        let row = self.rows.transient_row(m);
+        for r in 0..self.inst.resources() {
+            let place = r as usize;
+            let used = row[place] + u64::from(flow.come[place]) - u64::from(flow.gone[place]);
+            if let Some(cause) = self.transient_test(m, Resource(r), used) {
+                return Some(cause);
+            }
+        }
+        None
+    }
+
+    /// The same by a look at each step for each resource.
+    fn transient_by_steps(&self, m: Machine) -> Option<Cause>
         requires { m.0 < machine_count (tables_of self.now) }
         ensures { result ≡
             row_transient (tables_of self.now) (initial_of self.now) (after_of self.now) m.0 }
     {
         let row = self.rows.transient_row(m);
         for r in 0..self.inst.resources() {
-            if let Some(cause) = self.transient_test(m, Resource(r), row[r as usize]) {
+            let used = self.transient_after(m, Resource(r), row[r as usize]);
+            if let Some(cause) = self.transient_test(m, Resource(r), used) {
                 return Some(cause);
             }
         }
@@ -70,14 +139,12 @@ impl<'a, 'b> Trial<'a, 'b> {
     /// The use of a resource of a machine, if it is above its capacity after the move.
     #[inline(always)]
     #[tactic(auto, using(crate::proofs::TestLemmas::capacities))]
-    fn capacity_test(&self, m: Machine, r: Resource, kept: u64) -> Option<Cause>
+    fn capacity_test(&self, m: Machine, r: Resource, used: u64) -> Option<Cause>
         requires machine { m.0 < machine_count (tables_of self.now) }
         requires resource { r.0 < resource_count (tables_of self.now) }
-        requires kept { kept ≡ use_of (tables_of self.now) (before_of self.now) m.0 r.0 }
-        requires below { kept < 2 ^ 48 }
+        requires used { used ≡ use_of (tables_of self.now) (after_of self.now) m.0 r.0 }
         ensures { result ≡ capacity_test (tables_of self.now) (after_of self.now) m.0 r.0 }
     {
-        let used = self.use_after(m, r, kept);
         let cap = self.inst.capacity(m, r);
         if u64::from(cap) < used {
             Some(Cause::Capacity {
@@ -94,19 +161,17 @@ impl<'a, 'b> Trial<'a, 'b> {
     /// The transient use of a resource of a machine, if it is above its capacity after the move.
     #[inline(always)]
     #[tactic(auto, using(crate::proofs::TestLemmas::transients))]
-    fn transient_test(&self, m: Machine, r: Resource, kept: u64) -> Option<Cause>
+    fn transient_test(&self, m: Machine, r: Resource, used: u64) -> Option<Cause>
         requires machine { m.0 < machine_count (tables_of self.now) }
         requires resource { r.0 < resource_count (tables_of self.now) }
-        requires kept { kept ≡
-            transient_of (tables_of self.now) (initial_of self.now) (before_of self.now) m.0 r.0 }
-        requires below { kept < 2 ^ 48 }
+        requires used { used ≡
+            transient_of (tables_of self.now) (initial_of self.now) (after_of self.now) m.0 r.0 }
         ensures { result ≡
             transient_test (tables_of self.now) (initial_of self.now) (after_of self.now) m.0 r.0 }
     {
         if !self.inst.transient(r) {
             return None;
         }
-        let used = self.transient_after(m, r, kept);
         let cap = self.inst.capacity(m, r);
         if u64::from(cap) < used {
             Some(Cause::Transient {

@@ -84,8 +84,8 @@ impl<'a, 'b> Trial<'a, 'b> {
         ensures { (result ≡ true) ↔ StaysNear (tables_of self.now) (after_of self.now)
             (steps_of self.now) s.0 need.0 (length (steps_of self.now)) }
     {
-        for j in 0..self.mv.steps() {
-            let step = self.mv.step(j);
+        for j in 0..self.steps() {
+            let step = self.step(j);
             let own = self.inst.service_of(step.process);
             if !self.finds_one(s, need, own, step.to) {
                 return false;

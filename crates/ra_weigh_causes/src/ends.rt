@@ -34,8 +34,8 @@ impl<'a, 'b> Trial<'a, 'b> {
             low result }
     {
         let mut next = self.inst.machines();
-        for j in 0..self.mv.steps() {
-            next = nearer(low, next, self.mv.step(j).to.0);
+        for j in 0..self.steps() {
+            next = nearer(low, next, self.step(j).to.0);
         }
         next
     }
@@ -49,8 +49,8 @@ impl<'a, 'b> Trial<'a, 'b> {
             result }
     {
         let mut next = self.inst.services();
-        for j in 0..self.mv.steps() {
-            let s = self.inst.service_of(self.mv.step(j).process);
+        for j in 0..self.steps() {
+            let s = self.inst.service_of(self.step(j).process);
             next = nearer(low, next, s.0);
         }
         next
@@ -66,8 +66,8 @@ impl<'a, 'b> Trial<'a, 'b> {
             (is_named (length (steps_of self.now)) (process_in (steps_of self.now))) low result }
     {
         let mut next = self.inst.processes();
-        for j in 0..self.mv.steps() {
-            next = nearer(low, next, self.mv.step(j).process.0);
+        for j in 0..self.steps() {
+            next = nearer(low, next, self.step(j).process.0);
         }
         next
     }

@@ -20,8 +20,8 @@ impl<'a, 'b> Trial<'a, 'b> {
             service_dependency (tables_of self.now) (after_of self.now) result ≢ None }
     {
         let mut next = self.inst.services();
-        for j in 0..self.mv.steps() {
-            let step = self.mv.step(j);
+        for j in 0..self.steps() {
+            let step = self.step(j);
             let s = self.inst.service_of(step.process);
             next = self.far_mover(s, step.to, next);
             next = self.far_dependant(s, step.from, next);
@@ -63,12 +63,15 @@ impl<'a, 'b> Trial<'a, 'b> {
         ensures far { result < next → LeavesAlone (tables_of self.now) (after_of self.now) s.0
             (neighbourhood_of (tables_of self.now) from.0) result }
     {
+        let dependants = self.topo.dependants(s);
+        if dependants.len() == 0 {
+            return next;
+        }
         let label = self.inst.neighbourhood(from);
         let left = self.count_after(s, Mark::InNeighbourhood, label);
         if left > 0 {
             return next;
         }
-        let dependants = self.topo.dependants(s);
         for k in 0..dependants.len() {
             let u = dependants[k];
             if next <= u.0 {

@@ -36,8 +36,8 @@ impl<'a, 'b> Trial<'a, 'b> {
         ensures { (result ≡ true) ↔
             FitsAll (tables_of self.now) (initial_of self.now) (after_of self.now) }
     {
-        for j in 0..self.mv.steps() {
-            if !self.row_fits(self.mv.step(j).to) {
+        for j in 0..self.steps() {
+            if !self.row_fits(self.step(j).to) {
                 return false;
             }
         }
@@ -49,8 +49,8 @@ impl<'a, 'b> Trial<'a, 'b> {
         ensures { (result ≡ true) ↔
             (broken_conflict (tables_of self.now) (after_of self.now) ≡ None) }
     {
-        for j in 0..self.mv.steps() {
-            let step = self.mv.step(j);
+        for j in 0..self.steps() {
+            let step = self.step(j);
             if let Some(_cause) = self.conflict_test(self.inst.service_of(step.process), step.to) {
                 return false;
             }
@@ -59,13 +59,12 @@ impl<'a, 'b> Trial<'a, 'b> {
     }
 
     /// Whether each service that moves is in enough locations.
-    fn keeps_spread(&self) -> bool
+    pub(crate) fn keeps_spread(&self) -> bool
         ensures { (result ≡ true) ↔
             (broken_spread (tables_of self.now) (after_of self.now) ≡ None) }
     {
-        for j in 0..self.mv.steps() {
-            let s = self.inst.service_of(self.mv.step(j).process);
-            if let Some(_cause) = self.spread_test(s) {
+        for j in 0..self.steps() {
+            if let Some(_cause) = self.spread_after_step(j) {
                 return false;
             }
         }
@@ -77,8 +76,8 @@ impl<'a, 'b> Trial<'a, 'b> {
         ensures { (result ≡ true) ↔
             (broken_dependency (tables_of self.now) (after_of self.now) ≡ None) }
     {
-        for j in 0..self.mv.steps() {
-            let step = self.mv.step(j);
+        for j in 0..self.steps() {
+            let step = self.step(j);
             let s = self.inst.service_of(step.process);
             if !self.finds_needs(s, step.to) {
                 return false;
@@ -92,13 +91,14 @@ impl<'a, 'b> Trial<'a, 'b> {
 
     /// Whether no process enters a closed machine that isn't its initial one.
     #[tactic(auto, using(crate::proofs::StepLemmas::known))]
-    fn keeps_closed(&self) -> bool
+    pub(crate) fn keeps_closed(&self) -> bool
         ensures { (result ≡ true) ↔
             (broken_closed (tables_of self.now) (initial_of self.now) (after_of self.now)
             ≡ None) }
     {
-        for j in 0..self.mv.steps() {
-            if let Some(_cause) = self.closed_test(self.mv.step(j).process) {
+        for j in 0..self.steps() {
+            let step = self.step(j);
+            if let Some(_cause) = self.closed_there(step.process, step.to) {
                 return false;
             }
         }
@@ -132,12 +132,15 @@ impl<'a, 'b> Trial<'a, 'b> {
         ensures { (result ≡ true) ↔ LeavesNone (tables_of self.now) (after_of self.now) s.0
             (neighbourhood_of (tables_of self.now) from.0) }
     {
+        let dependants = self.topo.dependants(s);
+        if dependants.len() == 0 {
+            return true;
+        }
         let label = self.inst.neighbourhood(from);
         let left = self.count_after(s, Mark::InNeighbourhood, label);
         if left > 0 {
             return true;
         }
-        let dependants = self.topo.dependants(s);
         for k in 0..dependants.len() {
             let near = self.count_after(dependants[k], Mark::InNeighbourhood, label);
             if near > 0 {

@@ -7,6 +7,7 @@ mod closed;
 mod dependency;
 mod ends;
 mod far;
+mod flows;
 mod holding;
 mod locations;
 mod marks;

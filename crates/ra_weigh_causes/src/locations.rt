@@ -26,7 +26,7 @@ impl<'a, 'b> Trial<'a, 'b> {
         let kept = self.cells.locations(s);
         let mut came: u32 = 0;
         let mut went: u32 = 0;
-        for j in 0..2 * self.mv.steps() {
+        for j in 0..2 * self.steps() {
             let end = self.held_at(s, j);
             came += end.came;
             went += end.went;
@@ -79,11 +79,11 @@ impl<'a, 'b> Trial<'a, 'b> {
         requires { j < end_count (steps_of self.now) }
         ensures { result ≡ end_location (tables_of self.now) (steps_of self.now) j }
     {
-        let n = self.mv.steps();
+        let n = self.steps();
         if j < n {
-            return self.inst.location(self.mv.step(j).from);
+            return self.inst.location(self.step(j).from);
         }
-        self.inst.location(self.mv.step(j - n).to)
+        self.inst.location(self.step(j - n).to)
     }
 }
 

@@ -1,20 +1,21 @@
-ghost use Rattle.std.specs.Prelude.{◌≡◌, ◌<◌, length};
+ghost use Rattle.std.specs.Prelude.{◌≡◌, ◌<◌, ◌≤◌, length};
 ghost use Rattle.ra_model.specs.Numbers.{resource_count, requirement_of};
 ghost use Rattle.ra_model.specs.Assignments.{IsAssignment};
 ghost use Rattle.ra_model.proofs.BrokenLemmas.{Fine};
 ghost use Rattle.ra_topology.specs.Fits.{IsTopologyOf};
-ghost use Rattle.ra_moves.specs.Steps.{process_in};
+ghost use Rattle.ra_moves.specs.Steps.{process_in, step_at};
 ghost use Rattle.ra_moves.specs.Replacing.{applied};
 ghost use Rattle.ra_moves.specs.Moving.{IsMove, MayMove};
 ghost use Rattle.ra_moves.specs.Laws.{AreLocal};
 ghost use Rattle.ra_rows.specs.Rows as row_words;
 ghost use Rattle.ra_cells.specs.Stands as cell_words;
 ghost use Rattle.ra_world.specs.Required.{AreRequired};
+ghost use Rattle.ra_weigh_causes.specs.Flowing.{AreSteps, AreNone};
 
 use ra_base::{Assignment, Resource};
 use ra_cells::Cells;
 use ra_model::Instance;
-use ra_moves::Move;
+use ra_moves::{Move, Step};
 use ra_rows::Rows;
 use ra_topology::Topology;
 use ra_world::World;
@@ -31,6 +32,11 @@ pub(crate) struct Trial<'a, 'b> {
     pub(crate) cells: &'a Cells<'b>,
     pub(crate) mv: &'a Move,
     pub(crate) required: &'a [u32; 60],
+    /// The steps of the move, read once, and how many there are.
+    all: [Step; 3],
+    count: u32,
+    /// Nothing of each resource.
+    pub(crate) nothing: [u32; 20],
     pub ghost moves: { IsMove inst.now.tables at.now.items mv.now.steps },
     pub ghost begins: { IsAssignment inst.now.tables start.now.items },
     pub ghost fine: { Fine inst.now.tables start.now.items at.now.items },
@@ -45,10 +51,15 @@ pub(crate) struct Trial<'a, 'b> {
         at.now.items },
     pub ghost known: { AreRequired inst.now.tables mv.now.steps (length mv.now.steps)
         required.now },
+    pub ghost read: { AreSteps mv.now.steps all },
+    pub ghost counted: { count ≡ length mv.now.steps },
+    pub ghost nothing_each: { AreNone nothing },
+    pub ghost nothing_width: { length nothing ≡ 20 },
 }
 
 impl<'a, 'b> Trial<'a, 'b> {
     /// Puts a move of a world on trial.
+    #[inline(always)]
     pub(crate) fn of(world: &'a World<'b>, mv: &'a Move, required: &'a [u32; 60]) -> Trial<'a, 'b>
         requires moves { MayMove world.now mv.now.steps }
         requires required { AreRequired world.now.tables mv.now.steps
@@ -67,7 +78,28 @@ impl<'a, 'b> Trial<'a, 'b> {
             cells: world.cells(),
             mv,
             required,
+            all: steps_of(mv),
+            count: mv.steps(),
+            nothing: [0; 20],
         }
+    }
+
+    /// How many steps the move has.
+    #[inline(always)]
+    pub(crate) fn steps(&self) -> u32
+        ensures value { result ≡ length self.now.mv.now.steps }
+        ensures few { result ≤ 3 }
+    {
+        self.count
+    }
+
+    /// A step of the move, counted from 0.
+    #[inline(always)]
+    pub(crate) fn step(&self, j: u32) -> Step
+        requires { j < length self.now.mv.now.steps }
+        ensures { result ≡ step_at self.now.mv.now.steps j }
+    {
+        self.all[j as usize]
     }
 
     /// What the process of a step requires of a resource.
@@ -80,4 +112,21 @@ impl<'a, 'b> Trial<'a, 'b> {
     {
         self.required[j as usize * 20 + r.0 as usize]
     }
+}
+
+/// The steps of a move, and others after them.
+#[inline(always)]
+fn steps_of(mv: &Move) -> [Step; 3]
+    ensures { AreSteps mv.now.steps result }
+{
+    let count = mv.steps();
+    let one = mv.step(0);
+    if count == 1 {
+        return [one, one, one];
+    }
+    let two = mv.step(1);
+    if count == 2 {
+        return [one, two, two];
+    }
+    [one, two, mv.step(2)]
 }

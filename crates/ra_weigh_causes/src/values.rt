@@ -43,8 +43,8 @@ impl<'a, 'b> Trial<'a, 'b> {
     {
         let mut came: u64 = 0;
         let mut went: u64 = 0;
-        for j in 0..self.mv.steps() {
-            let step = self.mv.step(j);
+        for j in 0..self.steps() {
+            let step = self.step(j);
             let amount = self.required(j, r);
             came += amount_if(step.to.0 == m.0, amount);
             went += amount_if(step.from.0 == m.0, amount);
@@ -65,8 +65,8 @@ impl<'a, 'b> Trial<'a, 'b> {
     {
         let mut came: u64 = 0;
         let mut went: u64 = 0;
-        for j in 0..self.mv.steps() {
-            let step = self.mv.step(j);
+        for j in 0..self.steps() {
+            let step = self.step(j);
             let amount = self.required(j, r);
             let home = self.home(step.process);
             came += amount_of_either(home.0 == m.0, step.to.0 == m.0, amount);
@@ -134,8 +134,8 @@ impl<'a, 'b> Trial<'a, 'b> {
     {
         let mut came: u32 = 0;
         let mut went: u32 = 0;
-        for j in 0..self.mv.steps() {
-            let step = self.mv.step(j);
+        for j in 0..self.steps() {
+            let step = self.step(j);
             came += self.one_at(s, mark, x, step.process, step.to);
             went += self.one_at(s, mark, x, step.process, step.from);
         }
@@ -164,8 +164,8 @@ impl<'a, 'b> Trial<'a, 'b> {
         ensures machine { result.0 ≡ machine_at (after_of self.now) p.0 }
         ensures there { result.0 < machine_count (tables_of self.now) }
     {
-        for j in 0..self.mv.steps() {
-            let step = self.mv.step(j);
+        for j in 0..self.steps() {
+            let step = self.step(j);
             if step.process.0 == p.0 {
                 return step.to;
             }

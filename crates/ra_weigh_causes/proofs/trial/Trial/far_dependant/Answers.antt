@@ -1,12 +1,22 @@
 -- The dependants ascend, and none so far is near.
 use Rattle.std.proofs.Common.{get_or, refl, arith}
 use Rattle.ra_base.specs.declared.ids.Service.{Service}
+use Rattle.ra_model.specs.Numbers.{neighbourhood_of}
 use Rattle.ra_topology.specs.Lists.{service_at}
 use Rattle.ra_weigh_causes.specs.Trials.{tables_of, after_of}
 use Rattle.ra_weigh_causes.proofs.NextLemmas.{listed}
-use Rattle.ra_weigh_causes.proofs.NearLemmas.{near_next}
+use Rattle.ra_weigh_causes.proofs.NearLemmas.{near_start, near_next}
 use Rattle.ra_weigh_causes.proofs.FarLemmas.{some_left, none_before, none_there, left_alone_there}
 use Rattle.ra_weigh_causes.proofs.trial.Trial.far_dependant.Goals as goal
+
+pub returns-then-dependants-eq0-clause-leaves : goal.returns-then-dependants-eq0-clause-leaves
+returns-then-dependants-eq0-clause-leaves c =
+    let t = c.args.self.now in
+    let list = c.dependants-dependants.result.now in
+    none_there (tables_of t) (after_of t) c.args.s.0 (neighbourhood_of (tables_of t) c.args.from.0) c.args.next 0 list
+    (listed (tables_of t) t.topo.now c.args.s.0 list t.topology c.requires.service c.dependants-dependants.ensures)
+    c.requires.within (omega (arith, c.if-dependants-eq0.true))
+    (near_start (tables_of t) (after_of t) (neighbourhood_of (tables_of t) c.args.from.0) list)
 
 pub returns-then-left-gt0-clause-leaves : goal.returns-then-left-gt0-clause-leaves
 returns-then-left-gt0-clause-leaves c =

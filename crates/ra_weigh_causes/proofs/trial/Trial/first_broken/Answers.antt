@@ -1,7 +1,7 @@
 -- What is looked for is there, and what comes before it isn't.
 use Rattle.std.proofs.Common.{◌≡◌, None, sym}
 use Rattle.std.proofs.lemmas.Bool.{both_ways}
-use Rattle.ra_model.specs.Broken.{first_broken, broken_conflict}
+use Rattle.ra_model.specs.Broken.{first_broken, broken_conflict, broken_spread}
 use Rattle.ra_weigh_causes.specs.Trials.{tables_of, after_of}
 use Rattle.ra_weigh_causes.proofs.HoldLemmas.{found_first, found_later, found_at_once}
 use Rattle.ra_weigh_causes.proofs.trial.Trial.first_broken.Goals as goal
@@ -25,13 +25,16 @@ returns-then-not-keeps_apart c =
     both_ways c.keeps_apart.result c.if-not-keeps_apart.true (c.keeps_apart.ensures.1 none))
     c.broken_conflict.ensures))
 
-pub returns-in-Some-broken_spread : goal.returns-in-Some-broken_spread
+pub returns-then-not-keeps_spread : goal.returns-then-not-keeps_spread
 unfolding first_broken
-returns-in-Some-broken_spread c =
+returns-then-not-keeps_spread c =
     found_later _ _ _ c.in_default.ensures
     (found_later _ _ _ c.in_default-broken_transient.ensures
     (found_later _ _ _ (sym (c.keeps_apart.ensures.0 c.if-not-keeps_apart.false))
-    (found_first _ _ _ c.in-Some-broken_spread.ensures)))
+    (found_at_once _ _ _
+    (λ (none : broken_spread (tables_of c.args.self.now) (after_of c.args.self.now) ≡ None).
+    both_ways c.keeps_spread.result c.if-not-keeps_spread.true (c.keeps_spread.ensures.1 none))
+    c.broken_spread.ensures)))
 
 pub returns-in-Some-broken_dependency : goal.returns-in-Some-broken_dependency
 unfolding first_broken
@@ -39,8 +42,18 @@ returns-in-Some-broken_dependency c =
     found_later _ _ _ c.in_default.ensures
     (found_later _ _ _ c.in_default-broken_transient.ensures
     (found_later _ _ _ (sym (c.keeps_apart.ensures.0 c.if-not-keeps_apart.false))
-    (found_later _ _ _ c.in_default-broken_spread.ensures
+    (found_later _ _ _ (sym (c.keeps_spread.ensures.0 c.if-not-keeps_spread.false))
     (found_first _ _ _ c.in-Some-broken_dependency.ensures))))
+
+pub returns-then-keeps_closed : goal.returns-then-keeps_closed
+unfolding first_broken
+returns-then-keeps_closed c =
+    found_later _ _ _ c.in_default.ensures
+    (found_later _ _ _ c.in_default-broken_transient.ensures
+    (found_later _ _ _ (sym (c.keeps_apart.ensures.0 c.if-not-keeps_apart.false))
+    (found_later _ _ _ (sym (c.keeps_spread.ensures.0 c.if-not-keeps_spread.false))
+    (found_later _ _ _ c.in_default-broken_dependency.ensures
+    (sym (c.keeps_closed.ensures.0 c.if-keeps_closed.true))))))
 
 pub returns : goal.returns
 unfolding first_broken
@@ -48,5 +61,5 @@ returns c =
     found_later _ _ _ c.in_default.ensures
     (found_later _ _ _ c.in_default-broken_transient.ensures
     (found_later _ _ _ (sym (c.keeps_apart.ensures.0 c.if-not-keeps_apart.false))
-    (found_later _ _ _ c.in_default-broken_spread.ensures
+    (found_later _ _ _ (sym (c.keeps_spread.ensures.0 c.if-not-keeps_spread.false))
     (found_later _ _ _ c.in_default-broken_dependency.ensures c.broken_closed.ensures))))

@@ -10,6 +10,16 @@ use Rattle.ra_weigh_causes.proofs.HoldLemmas.{told_true, told_false}
 use Rattle.ra_weigh_causes.proofs.NearLemmas.{near_start, near_next, alone_all, alone_found, not_alone}
 use Rattle.ra_weigh_causes.proofs.trial.Trial.leaves_none_alone.Goals as goal
 
+pub returns-then-dependants-eq0 : goal.returns-then-dependants-eq0
+returns-then-dependants-eq0 c =
+    told_true (alone_all (tables_of c.args.self.now) (after_of c.args.self.now) c.args.s.0 c.args.s.0
+    (neighbourhood_of (tables_of c.args.self.now) c.args.from.0) c.dependants-dependants.result.now 0 refl
+    (listed (tables_of c.args.self.now) c.args.self.now.topo.now c.args.s.0 c.dependants-dependants.result.now
+    c.args.self.now.topology c.requires.service c.dependants-dependants.ensures)
+    (omega (arith, c.if-dependants-eq0.true))
+    (near_start (tables_of c.args.self.now) (after_of c.args.self.now)
+    (neighbourhood_of (tables_of c.args.self.now) c.args.from.0) c.dependants-dependants.result.now))
+
 pub returns-then-left-gt0 : goal.returns-then-left-gt0
 returns-then-left-gt0 c =
     told_true (rw (← c.neighbourhood-label.ensures)

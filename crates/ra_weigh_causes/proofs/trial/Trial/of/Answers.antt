@@ -1,6 +1,8 @@
 -- What a world keeps is what a trial needs.
+use Rattle.std.proofs.Common.{refl}
 use Rattle.ra_model.proofs.BrokenLemmas.{fine_from_unbroken}
 use Rattle.ra_moves.proofs.Local.{failures_are_local}
+use Rattle.ra_weigh_causes.proofs.StepLemmas.{none_each}
 use Rattle.ra_weigh_causes.proofs.trial.Trial.of.Goals as goal
 
 pub invariant_of-result : goal.invariant_of-result
@@ -20,4 +22,8 @@ invariant_of-result c = record {
   cells_stand = rw (c.instance.ensures.value, c.initial.ensures.value, c.assignment.ensures.value)
       c.cells.ensures.stand;
   known = rw c.instance.ensures.value c.requires.required;
+  read = c.steps_of.ensures;
+  counted = c.steps.ensures.value;
+  nothing_each = none_each 20;
+  nothing_width = refl;
 }

@@ -1,26 +1,43 @@
--- One resource after another.
-use Rattle.std.proofs.Common.{◌≡◌, ◌<◌, ◌∙◌, sym, arith}
+-- One resource after another, with what comes and without what goes.
+use Rattle.std.proofs.Common.{◌≡◌, ◌+◌, ◌<◌, get_or, ◌∙◌, sym, arith}
 use Rattle.ra_base.proofs.Searches.{first_none, first_more_none, first_found}
 use Rattle.ra_model.specs.Numbers.{resource_count}
+use Rattle.ra_model.specs.Usage.{use_share, use_of}
 use Rattle.ra_model.specs.Broken.{capacity_test, row_capacity}
-use Rattle.ra_weigh_causes.specs.Trials.{tables_of, before_of, after_of}
+use Rattle.ra_weigh_causes.specs.Trials.{tables_of, steps_of, before_of, after_of}
+use Rattle.ra_weigh_causes.proofs.FlowLemmas.{flow_sum}
 use Rattle.ra_weigh_causes.proofs.RowLemmas.{used_here}
-use Rattle.ra_weigh_causes.proofs.trial.Trial.row_capacity.Goals as goal
+use Rattle.ra_weigh_causes.proofs.trial.Trial.capacity_by_flow.Goals as goal
 
 pub loop-r-init : goal.loop-r-init
 loop-r-init c = first_none _
 
+pub overflow_sub-used : goal.overflow_sub-used
+unfolding use_of
+overflow_sub-used c =
+    let t = c.args.self.now in
+    let within : c.loop-r.r < resource_count (tables_of t) =
+    omega (arith, c.loop-r-test.true, c.resources-r-end.ensures) in
+    omega (
+      arith,
+      flow_sum (tables_of t) (before_of t) (steps_of t) (use_share (tables_of t) c.args.m.0) c.loop-r.r _ _ _ _ _ t.moves c.requires.flow within
+          (used_here (tables_of t) t.rows.now.tables (before_of t) c.args.m.0 c.loop-r.r c.usage_row-row.result.now t.rows_tables (c.usage_row-row.ensures.values _ t.rows_stand) within) c.from.ensures c.from-in-loop-r.ensures,
+    )
+
 pub capacity_test-requires : goal.capacity_test-requires
+unfolding use_of
 capacity_test-requires c =
     let t = c.args.self.now in
     let within : c.loop-r.r < resource_count (tables_of t) =
     omega (arith, c.loop-r-test.true, c.resources-r-end.ensures) in
     record {
-      machine = c.requires;
+      machine = c.requires.machine;
       resource = within;
-      kept = used_here (tables_of t) t.rows.now.tables (before_of t) c.args.m.0 c.loop-r.r c.usage_row-row.result.now
-          t.rows_tables (c.usage_row-row.ensures.values _ t.rows_stand) within;
-      below = c.usage_row-row.ensures.below.each c.loop-r.r;
+      used = omega (
+        arith,
+        flow_sum (tables_of t) (before_of t) (steps_of t) (use_share (tables_of t) c.args.m.0) c.loop-r.r _ _ _ _ _ t.moves c.requires.flow within
+            (used_here (tables_of t) t.rows.now.tables (before_of t) c.args.m.0 c.loop-r.r c.usage_row-row.result.now t.rows_tables (c.usage_row-row.ensures.values _ t.rows_stand) within) c.from.ensures c.from-in-loop-r.ensures,
+      );
     }
 
 pub returns-in-Some : goal.returns-in-Some

@@ -5,18 +5,17 @@ use Rattle.ra_model.specs.Numbers.{resource_count}
 use Rattle.ra_model.specs.Broken.{transient_test, row_transient}
 use Rattle.ra_weigh_causes.specs.Trials.{tables_of, initial_of, before_of, after_of}
 use Rattle.ra_weigh_causes.proofs.RowLemmas.{between_here}
-use Rattle.ra_weigh_causes.proofs.trial.Trial.row_transient.Goals as goal
+use Rattle.ra_weigh_causes.proofs.trial.Trial.transient_by_steps.Goals as goal
 
 pub loop-r-init : goal.loop-r-init
 loop-r-init c = first_none _
 
-pub transient_test-requires : goal.transient_test-requires
-transient_test-requires c =
+pub transient_after-used-requires : goal.transient_after-used-requires
+transient_after-used-requires c =
     let t = c.args.self.now in
     let within : c.loop-r.r < resource_count (tables_of t) =
     omega (arith, c.loop-r-test.true, c.resources-r-end.ensures) in
     record {
-      machine = c.requires;
       resource = within;
       kept = between_here (tables_of t) t.rows.now.tables (initial_of t) t.rows.now.start (before_of t) c.args.m.0
           c.loop-r.r c.transient_row-row.result.now t.rows_tables t.rows_start
