@@ -4,7 +4,6 @@ use Rattle.std.proofs.Common.{arith}
 use Rattle.std.specs.Prelude.{IfSome}
 use Rattle.ra_base.specs.Sums.{total, fresh, greatest}
 use Rattle.ra_base.specs.declared.costs.MovedCount.{MovedCount}
-use Rattle.ra_base.proofs.Greatest.{greatest_same}
 use Rattle.ra_model.specs.Numbers.{service_count, process_count, service_weight_of}
 use Rattle.ra_model.specs.Limits.{WellFormed}
 use Rattle.ra_model.specs.Costs.{service_cost, objective}
@@ -50,7 +49,7 @@ unfolding changed_count
 count_apart st steps counts j k are before few =
     rw (are.each j (omega arith), are.each k few) (counts_apart st steps j k before)
 
--- the greatest of them after the move, and now
+-- the greatest of them after the move
 pub greatest_then : (st : Situation) (steps : List Step) (moved : MovedCounts)
     (counts : List (Option MovedCount)) → MayMove st steps → AreMovedOf st moved →
     AreCountsOf st steps (length steps) counts →
@@ -60,12 +59,6 @@ unfolding changed_count
 greatest_then st steps moved counts is moves are =
     rw (are.each 0 (omega arith), are.each 1 (omega arith), are.each 2 (omega arith))
     (greatest_after_move st steps moved is moves)
-
-pub greatest_now : (st : Situation) (moved : MovedCounts) (now : ℕ) → AreMovedOf st moved →
-    now ≡ greatest (length moved.counts) (λ s. get_or moved.counts s 0) →
-    now ≡ greatest (service_count st.tables) (moved_at st)
-greatest_now st moved now moves is = is ∙ ap (λ n. greatest n (λ s. get_or moved.counts s 0)) moves.one_each
-    ∙ greatest_same (service_count st.tables) (λ s. get_or moved.counts s 0) (moved_at st) moves.each
 
 pub service_is : (st : Situation) (weight most cost : ℕ) → cost ≡ weight * most →
     weight ≡ service_weight_of st.tables → most ≡ greatest (service_count st.tables) (moved_at st) →
@@ -91,14 +84,14 @@ cost_is st steps kept rows_added rows_taken places_added places_taken service_ad
     let places = places_change st steps move in
     omega arith
 
--- without what the processes cost on the machines that they enter, the cost is no higher
+-- without what the processes cost on the machines that they enter, and a part of the service cost, it is no higher
 pub cost_least : (st : Situation) (steps : List Step)
     (kept rows_added rows_taken places_taken service_added service_taken bound : ℕ) → WellFormed st.tables →
     MayMove st steps → kept ≡ cost_at st →
     rows_added ≡ total (end_count steps) (fresh (end_in steps) (row_cost st.tables (applied st.here steps))) →
     rows_taken ≡ total (end_count steps) (fresh (end_in steps) (row_cost st.tables st.here)) →
     places_taken ≡ total (length steps) (gone (place_cost st.tables st.start) steps) →
-    service_added ≡ service_cost_at (after_move st steps) → service_taken ≡ service_cost_at st →
+    service_added ≤ service_cost_at (after_move st steps) → service_taken ≡ service_cost_at st →
     bound + (rows_taken + service_taken + places_taken) ≤ kept + rows_added + service_added →
     bound ≤ cost_at (after_move st steps)
 cost_least st steps kept rows_added rows_taken places_taken service_added service_taken bound limits move now
@@ -106,9 +99,15 @@ cost_least st steps kept rows_added rows_taken places_taken service_added servic
     omega (
       arith,
       high,
-      cost_is st steps kept rows_added rows_taken _ places_taken service_added service_taken limits move now
-          rows_come rows_go refl places_go service_comes service_goes,
+      service_comes,
+      cost_is st steps kept rows_added rows_taken _ places_taken (service_cost_at (after_move st steps)) service_taken
+          limits move now rows_come rows_go refl places_go refl service_goes,
     )
+
+-- the service cost is a part of the cost
+pub service_within : (st : Situation) → service_cost_at st ≤ cost_at st
+unfolding objective
+service_within st = omega arith
 
 -- a cost below a bound, and one that isn't
 pub found_below : (bound cost said : ℕ) → said ≡ cost → said < bound → IsIfBelow bound cost (Some said)

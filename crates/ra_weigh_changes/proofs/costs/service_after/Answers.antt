@@ -1,7 +1,7 @@
 use Rattle.std.proofs.Common.{arith, ◌∙◌, refl}
-use Rattle.ra_weigh_changes.proofs.CostLaws.{counts_of_cells, count_change, count_apart, greatest_then, greatest_now}
+use Rattle.ra_weigh_changes.proofs.CostLaws.{counts_of_cells, count_change, count_apart, greatest_then}
 use Rattle.ra_weigh_changes.proofs.CostLaws.{service_is}
-use Rattle.ra_weigh_changes.proofs.costs.change_of_service.Goals as goal
+use Rattle.ra_weigh_changes.proofs.costs.service_after.Goals as goal
 use Rattle.ra_moves.specs.Replacing.{after_move}
 
 pub greatest_after-after-requires-clause-first : goal.greatest_after-after-requires-clause-first
@@ -34,22 +34,13 @@ pub greatest_after-after-requires-clause-second_third : goal.greatest_after-afte
 greatest_after-after-requires-clause-second_third c =
     count_apart _ _ _ 1 2 c.counts_of-counts.ensures (omega arith) (omega arith)
 
-pub returns-clause-added : goal.returns-clause-added
-returns-clause-added c =
+pub returns-clause-value : goal.returns-clause-value
+returns-clause-value c =
     let world = c.args.world.now in
     let counts = counts_of_cells _ c.cells.result.now _ c.cells.ensures.stand
     c.greatest-greatest.ensures in
     service_is (after_move world c.args.mv.now.steps)
-    c.from-weight.result c.from.result _ refl
-    (c.from-weight.ensures ∙ (rw c.instance.ensures.value at c.service_weight.ensures))
-    (c.from.ensures ∙ c.greatest_after-after.ensures.value
+    c.from.result c.from-2.result _ refl
+    (c.from.ensures ∙ (rw c.instance.ensures.value at c.service_weight.ensures))
+    (c.from-2.ensures ∙ c.greatest_after-after.ensures.value
     ∙ greatest_then _ _ _ _ c.requires counts c.counts_of-counts.ensures)
-
-pub returns-clause-taken : goal.returns-clause-taken
-returns-clause-taken c =
-    let world = c.args.world.now in
-    let counts = counts_of_cells _ c.cells.result.now _ c.cells.ensures.stand
-    c.greatest-greatest.ensures in
-    service_is world c.from-weight.result
-    c.from-2.result _ refl (c.from-weight.ensures ∙ (rw c.instance.ensures.value at c.service_weight.ensures))
-    (c.from-2.ensures ∙ greatest_now _ _ _ counts c.greatest-now.ensures.value)
