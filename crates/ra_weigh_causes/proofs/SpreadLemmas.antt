@@ -1,9 +1,9 @@
 -- A service of which one process moves stays in as many locations if others of it stay where that leaves, or if none are
 -- where it comes.
-use Rattle.std.proofs.Common.{◌≡◌, ◌≢◌, ℕ, ◌+◌, ◌^◌, ◌<◌, ◌≤◌, eqb, ltb, ◌&&◌, true, List, length, sym, ap, ap₂, ◌∙◌, arith}
+use Rattle.std.proofs.Common.{◌≡◌, ◌≢◌, ℕ, ◌+◌, ◌^◌, ◌<◌, ◌≤◌, eqb, ltb, ◌&&◌, List, length, sym, ap, ◌∙◌, arith}
 use Rattle.std.proofs.Common.{⊎_elim, eq-eqb, ne_eqb, lt-ltb, refl, None, subst}
 use Rattle.std.proofs.lemmas.Bool.{cases_eq, cases_lt}
-use Rattle.ra_base.specs.Sums.{total, one_if}
+use Rattle.ra_base.specs.Sums.{one_if}
 use Rattle.ra_base.specs.declared.ids.Machine.{Machine}
 use Rattle.ra_base.proofs.Sums.{total_le, total_only, total_change_two}
 use Rattle.ra_base.proofs.Counts.{one_if_true, one_if_le}

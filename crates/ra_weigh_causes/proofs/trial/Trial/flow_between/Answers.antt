@@ -1,5 +1,5 @@
 -- One step after another.
-use Rattle.std.proofs.Common.{◌≡◌, length, sym, ap, ◌∙◌, arith}
+use Rattle.std.proofs.Common.{◌≡◌, length, sym, ◌∙◌, arith}
 use Rattle.ra_model.specs.Usage.{transient_share}
 use Rattle.ra_weigh_causes.specs.Trials.{tables_of, initial_of, steps_of, before_of}
 use Rattle.ra_weigh_causes.proofs.StepLemmas.{step_process}

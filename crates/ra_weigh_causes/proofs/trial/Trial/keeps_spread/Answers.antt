@@ -1,6 +1,5 @@
 -- What a move can break is broken where a step leads.
-use Rattle.std.proofs.Common.{◌≡◌, ◌<◌, None, length, refl, sym, arith}
-use Rattle.ra_base.proofs.Searches.{first_none_at}
+use Rattle.std.proofs.Common.{◌≡◌, ◌<◌, length, refl, sym, arith}
 use Rattle.ra_model.specs.Numbers.{service_count}
 use Rattle.ra_model.specs.Broken.{spread_test, broken_spread}
 use Rattle.ra_moves.specs.Touched.{service_in}

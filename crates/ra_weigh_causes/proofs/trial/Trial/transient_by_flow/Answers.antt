@@ -1,5 +1,5 @@
 -- One resource after another, with what comes and without what goes.
-use Rattle.std.proofs.Common.{◌≡◌, ◌+◌, ◌<◌, get_or, ◌∙◌, sym, arith}
+use Rattle.std.proofs.Common.{◌≡◌, ◌<◌, ◌∙◌, sym, arith}
 use Rattle.ra_base.proofs.Searches.{first_none, first_more_none, first_found}
 use Rattle.ra_model.specs.Numbers.{resource_count}
 use Rattle.ra_model.specs.Usage.{transient_share, transient_of}
