@@ -1,3 +1,4 @@
+mod each;
 mod instances;
 mod limits;
 mod plans;
@@ -175,4 +176,31 @@ fn a_window_of_machines_goes_round(rt: HostRuntime) {
         let inst = many_machines(rt.alloc(), count).expect(&rt, "no instance");
         try_on(&rt, rt.alloc(), inst, &[0, 31, 62, 5, 7, 40, 61], &trials);
     }
+}
+
+// Chains and swaps of each form, on machines that are nearly full, with services that have to be spread and near.
+#[test]
+fn each_chain_and_each_swap(rt: HostRuntime) {
+    let inst = busy(rt.alloc()).expect(&rt, "no instance");
+    try_on(
+        &rt,
+        rt.alloc(),
+        inst,
+        &[0, 2, 3, 0, 4, 1, 3, 2],
+        &[Trial::EachMove],
+    );
+}
+
+#[test]
+fn each_chain_and_each_swap_with_far_labels(rt: HostRuntime) {
+    let flags = list(rt.alloc(), &[false, false, true, false, false]).expect(&rt, "no memory");
+    let inst = seven_processes(rt.alloc()).expect(&rt, "no instance");
+    let closed = closing(&rt, inst, flags);
+    try_on(
+        &rt,
+        rt.alloc(),
+        closed,
+        &[0, 0, 1, 3, 3, 4, 1],
+        &[Trial::EachMove],
+    );
 }

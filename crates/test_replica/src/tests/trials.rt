@@ -2,6 +2,7 @@
 ghost use Rattle.std.specs.Prelude.{◌≡◌, ◌<◌};
 ghost use Rattle.ra_model.specs.Assignments.{IsAssignment};
 
+use super::each::each_agrees;
 use super::walking::plans_agree;
 use super::weighing::weighs_shift;
 use super::worlds::{comes_home, tells_plainly};
@@ -21,6 +22,8 @@ pub(super) enum Trial {
     /// Plans of `proposals` proposals are compared along a walk; with each drawing at least `least` are done, and at
     /// least `least` moves are followed.
     Plans { proposals: u32, least: u32 },
+    /// Each chain and each swap is planned along a walk, and compared.
+    EachMove,
     /// What the world tells is compared after each of many moves.
     Telling,
     /// A process of the sample leaves and comes home.
@@ -83,6 +86,7 @@ fn passes<L: Ledger>(
         Trial::Plans { proposals, least } => {
             plans_agree(rt, alloc, beside, proposals, least, &mut steps)
         }
+        Trial::EachMove => each_agrees(rt, alloc, beside, &mut steps),
         Trial::Telling => tells_plainly(beside, &mut steps),
         Trial::ComingHome => comes_home(beside, &mut steps),
         Trial::Weighing => weighs_shift(beside, &mut steps),
