@@ -115,7 +115,7 @@ pub broken_cost : (w : Situation) (x : List ℕ) (d : Drawing) (allowed n : ℕ)
 unfolding cost_in option_cost steps_in judge
 broken_cost w x d allowed n broken = refused_cost _ _ _ broken
 
--- the same, of an option that a test has found broken
+-- an option that a test has found broken leaves the best one as it is
 pub best_broken : (w : Situation) (x : List ℕ) (d : Drawing) (allowed n : ℕ) (best : Best) (steps : List Step)
     (unbroken : Bool) →
     (unbroken ≡ true) ↔ (broken_by w steps ≡ None) →
@@ -138,7 +138,6 @@ option_offered i a x d k formed fits once =
           (λ p within. fits.in_range p (omega (arith, fits.one_each)));
     }
 
--- the same of steps that are those of an option
 -- what is told of the steps of an option is told of the option
 pub judged_in : (w : Situation) (x : List ℕ) (d : Drawing) (allowed n : ℕ) (steps : List Step) (verdict : Verdict) →
     steps_in w x d n ≡ steps → verdict ≡ judge w steps

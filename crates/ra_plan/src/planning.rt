@@ -84,7 +84,7 @@ fn fill<L: Ledger>(
     }
 }
 
-/// The same for words that ask for a shift. Option 0 is weighed at the end, if none is done.
+/// Gives a plan the move and the weighing of words that ask for a shift. Option 0 is weighed at the end, if none is done.
 fn fill_by_shift<L: Ledger>(
     world: &World<'_>,
     first: &Move,
@@ -110,8 +110,8 @@ fn fill_by_shift<L: Ledger>(
     plan.weighed = shift_weighing(world, &shift, &best, &plan.mv, steps);
 }
 
-/// The same for words that ask for a swap or a chain. Option 0 is weighed first and once, since most of these plans are
-/// for it: the others have to cost less.
+/// Gives a plan the move and the weighing of words that ask for a swap or a chain. Option 0 is weighed first and once,
+/// since most of these plans are for it: the others have to cost less.
 fn fill_by_move<L: Ledger>(
     world: &World<'_>,
     first: &Move,

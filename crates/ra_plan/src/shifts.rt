@@ -63,7 +63,8 @@ fn best_in_order(
     best
 }
 
-/// The same for a window of machines, whose sums are found side by side if their numbers allow it.
+/// The best of all options of a shift, which are a window of machines. Their sums are found side by side if their numbers
+/// allow it.
 fn best_in_window(world: &World<'_>, shift: &Shift<'_, '_>, words: &[u64; 8], allowed: u64) -> Best
     requires world { shift.now.world.now ≡ world.now }
     requires shift { kind_of words.now ≡ kind.Shift }

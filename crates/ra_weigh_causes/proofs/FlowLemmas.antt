@@ -58,7 +58,7 @@ flowed i a steps f n bound kept came went move all flows is =
     let went_all : went ≡ total (length steps) (gone f steps) = rw all at flows.went_is in
     omega (arith, came_all, went_all, is, tally_applied i a steps f move)
 
--- the same of rows of amounts that come and go
+-- Rows of amounts that come and go.
 
 pub flow_none : (i : Tables) (share : ℕ → ℕ → ℕ → ℕ) (steps : List Step) (nothing : List ℕ) →
     length nothing ≡ resource_count i → HasFlow i share steps 0 nothing nothing

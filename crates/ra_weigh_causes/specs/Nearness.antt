@@ -22,7 +22,7 @@ pub record LeavesNone (i : Tables) (b : List Machine) (s label : ℕ) : Type 0 w
   pub each : in_neighbourhood i b s label ≡ 0 → (u : ℕ) → u < service_count i → depends i u s ≡ true
       → in_neighbourhood i b u label ≡ 0
 
--- the same of the services before service n alone
+-- if service s has no process in a neighbourhood, no service before service n that needs it has one there
 pub record LeavesBelow (i : Tables) (b : List Machine) (s label n : ℕ) : Type 0 where
   pub each : in_neighbourhood i b s label ≡ 0 → (u : ℕ) → u < n → depends i u s ≡ true
       → in_neighbourhood i b u label ≡ 0

@@ -52,7 +52,7 @@ impl<'a, 'b> Trial<'a, 'b> {
         }
     }
 
-    /// The same, if it is known what comes and what goes.
+    /// The first use above its capacity, from what comes to the machine and what goes from it.
     #[inline(always)]
     fn capacity_by_flow(&self, m: Machine, flow: Flow<'_>) -> Option<Cause>
         requires machine { m.0 < machine_count (tables_of self.now) }
@@ -71,7 +71,7 @@ impl<'a, 'b> Trial<'a, 'b> {
         None
     }
 
-    /// The same by a look at each step for each resource.
+    /// The first use above its capacity, from each step for each resource.
     fn capacity_by_steps(&self, m: Machine) -> Option<Cause>
         requires { m.0 < machine_count (tables_of self.now) }
         ensures { result ≡ row_capacity (tables_of self.now) (after_of self.now) m.0 }
@@ -99,7 +99,7 @@ impl<'a, 'b> Trial<'a, 'b> {
         }
     }
 
-    /// The same, if it is known what comes and what goes.
+    /// The first transient use above its capacity, from what comes to the machine and what goes from it.
     #[inline(always)]
     fn transient_by_flow(&self, m: Machine, flow: Flow<'_>) -> Option<Cause>
         requires machine { m.0 < machine_count (tables_of self.now) }
@@ -120,7 +120,7 @@ impl<'a, 'b> Trial<'a, 'b> {
         None
     }
 
-    /// The same by a look at each step for each resource.
+    /// The first transient use above its capacity, from each step for each resource.
     fn transient_by_steps(&self, m: Machine) -> Option<Cause>
         requires { m.0 < machine_count (tables_of self.now) }
         ensures { result ≡

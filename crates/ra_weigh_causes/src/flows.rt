@@ -17,7 +17,7 @@ struct Side<'t> {
 }
 
 impl<'t> Side<'t> {
-    /// The same with more amounts, if these come as well; not if there are some already.
+    /// These amounts, or in their place those of one process more, if that comes as well. `None` if there are some already.
     #[inline(always)]
     fn with(self, also: bool, more: &'t [u32]) -> Option<Side<'t>>
         requires { length more.now ≡ length self.amounts.now }
@@ -87,7 +87,8 @@ impl<'a, 'b> Trial<'a, 'b> {
         })
     }
 
-    /// The same of transient use: a process neither comes to its initial machine nor goes from it.
+    /// What comes to the transient use of a machine and what goes from it, if that is one process each at most: a process
+    /// neither comes to its initial machine nor goes from it.
     #[inline(always)]
     pub(crate) fn flow_between<'t>(&'t self, m: Machine) -> Option<Flow<'t>>
         requires { m.0 < machine_count (tables_of self.now) }

@@ -123,7 +123,7 @@ impl<'a, 'b> Trial<'a, 'b> {
         self.count_from(kept, s, mark, x)
     }
 
-    /// The same, from the count before the move.
+    /// How many processes of a service are on machines with a mark after the move, from their number before it.
     #[inline(always)]
     #[tactic(auto, using(crate::proofs::StepLemmas::known, crate::proofs::FlowLemmas::flowing))]
     pub(crate) fn count_from(&self, kept: u32, s: Service, mark: Mark, x: u32) -> u32

@@ -98,7 +98,7 @@ exchanged_use i a steps m comes goes r move at = ⊎_elim
     rw (one, none) (second_use i a steps m r move at.exchange (ap (from_in steps) (sym one) ∙ at.here)))
     (cases_lt goes 1)
 
--- the same, of rows as they are read
+-- both steps of an exchange are steps of its move
 pub step_within : (steps : List Step) (m comes goes : ℕ) → IsExchangedAt steps m comes goes →
     (comes < length steps) × (goes < length steps)
 step_within steps m comes goes at = (omega (arith, at.other, at.exchange.two), omega (arith, at.other, at.exchange.two))

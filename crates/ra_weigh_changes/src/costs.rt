@@ -12,8 +12,8 @@ use ra_moves::Move;
 use ra_world::World;
 
 /// The cost after a move, whatever it breaks, if it is below a bound, from what its processes require. The service cost
-/// and what the processes cost on the machines that they enter are found last, since most moves cost too much without. The time grows with the number
-/// of resources alone, and no memory is taken.
+/// and what the processes cost on the machines that they enter are found last, since most moves cost too much without.
+/// The time grows with the number of resources alone, and no memory is taken.
 pub fn cost_after_move(
     world: &World<'_>,
     mv: &Move,

@@ -41,7 +41,7 @@ pub(crate) fn change_at_ends(world: &World<'_>, mv: &Move, required: &[u32; 60])
     change
 }
 
-/// The same, if two processes exchange their machines: these two are all.
+/// The change of load and balance cost by an exchange, which changes its two machines alone.
 #[inline(always)]
 fn change_at_exchange(world: &World<'_>, mv: &Move, required: &[u32; 60]) -> Change
     requires moves { MayMove world.now mv.now.steps }

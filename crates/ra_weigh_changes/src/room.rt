@@ -35,7 +35,7 @@ pub fn has_room(world: &World<'_>, mv: &Move, required: &[u32; 60]) -> bool
     true
 }
 
-/// The same, if two processes exchange their machines: what comes and what goes is known then for each of the two.
+/// Whether the two machines of an exchange have room after it. What comes and what goes is known for each of them.
 #[inline(always)]
 fn exchange_has_room(world: &World<'_>, mv: &Move, required: &[u32; 60]) -> bool
     requires moves { MayMove world.now mv.now.steps }

@@ -48,7 +48,7 @@ pub(crate) fn cost_entered(world: &World<'_>, mv: &Move) -> u128
     cost
 }
 
-/// The same on the machines that they leave.
+/// What the processes of the move cost on the machines that they leave: their process and machine cost.
 #[inline(always)]
 #[tactic(auto, using(ra_base::proofs::Sums::sums))]
 pub(crate) fn cost_left(world: &World<'_>, mv: &Move) -> u128
