@@ -1,5 +1,9 @@
--- The words of a worker's next proposal.
-use Rattle.std.proofs.Common.{◌≡◌, ℕ, ◌+◌, ◌<◌, ◌≤◌, List, length, refl, sym, ap, ◌∙◌, arith}
+-- The words of a worker's next proposals.
+use Rattle.std.proofs.Common.{◌≡◌, ℕ, ◌+◌, ◌%◌, ◌<◌, ◌≤◌, List, [], length, slice_set, slice_index_or, refl, ap}
+use Rattle.std.proofs.Common.{◌∙◌, ⊎_elim, arith}
+use Rattle.std.proofs.lemmas.Bool.{cases_lt}
+use Rattle.std.proofs.lemmas.List.{get_or-set_other}
+use Rattle.std.proofs.lemmas.Grind.{get_or-set_at}
 use Rattle.ra_base.specs.declared.causes.Drawing.{Drawing}
 use Rattle.ra_draws.specs.declared.budgets.Lots.{Lots}
 use Rattle.ra_draws.specs.declared.sources.Lot.{Lot}
@@ -20,18 +24,67 @@ lot_words : (l : Lots) (w k : ℕ) (lot : Lot) → lot ≡ lot_at l.lots.items w
 unfolding words words_of
 lot_words l w k lot is = ap (λ (x : Lot). proposal_words x.source k) is
 
--- the words of proposal k are drawn
-pub drawn_next : (l : Lots) (w k : ℕ) (lot : Lot) (before after : Drawn) (x : List ℕ) → w < worker_count l →
-    k ≤ budget l w → lot ≡ lot_at l.lots.items w → before.lot ≡ lot → after.lot ≡ before.lot →
-    (k < lot.budget → after.made ≡ k + 1) → (k < lot.budget → x ≡ proposal_words lot.source k) → AreDrawn l w after k x
-drawn_next l w k lot before after x exists within lot_is before_lot after_lot made drawn =
+-- the words of the proposals so far are in a list, and then those of one more
+pub ring_more : (lot : Lot) (m : ℕ) (ring : List (List ℕ)) (x : List ℕ) → m < length ring →
+    ((n : ℕ) → n < m → n < lot.budget → slice_index_or ring n [] ≡ proposal_words lot.source n) →
+    (m < lot.budget → x ≡ proposal_words lot.source m) →
+    (n : ℕ) → n < m + 1 → n < lot.budget → slice_index_or (slice_set ring m x) n [] ≡ proposal_words lot.source n
+ring_more lot m ring x room drawn more n near left =
+    ⊎_elim
+    (λ (old : n < m). get_or-set_other ring m n x [] (λ at. omega (arith, at, old)) ∙ drawn n old left)
+    (λ (new : m ≤ n).
+    let is : m ≡ n = omega (arith, new, near) in
+    get_or-set_at ring m n x [] (omega (arith, is)) room
+    ∙ more (omega (arith, is, left))
+    ∙ ap (λ (j : ℕ). proposal_words lot.source j) is)
+    (cases_lt n m)
+
+-- the words of the first sixteen proposals are drawn
+pub drawn_first : (l : Lots) (w : ℕ) (lot : Lot) (before after : Drawn) (ring : List (List ℕ)) → w < worker_count l →
+    lot ≡ lot_at l.lots.items w → before.lot ≡ lot → after.lot ≡ before.lot → (15 < lot.budget → after.made ≡ 16) →
+    ((n : ℕ) → n < 16 → n < lot.budget → slice_index_or ring n [] ≡ proposal_words lot.source n) →
+    AreDrawn l w after 0 ring
+drawn_first l w lot before after ring exists lot_is before_lot after_lot made drawn =
     let same = lot_budget l w lot lot_is in
     record {
       worker = exists;
-      within = within;
+      within = omega arith;
       lot = after_lot ∙ before_lot ∙ lot_is;
       made = λ left. made (omega (arith, left, same));
-      words = λ left. drawn (omega (arith, left, same)) ∙ lot_words l w k lot lot_is;
+      words = λ n from near left.
+          ap (λ (j : ℕ). slice_index_or ring j []) {x = n % 16} {y = n} (omega (arith, near))
+          ∙ drawn n near (omega (arith, left, same)) ∙ lot_words l w n lot lot_is;
+    }
+
+-- and then those of the one after sixteen, in the place of the first
+pub drawn_more : (l : Lots) (w k : ℕ) (lot : Lot) (before after : Drawn) (ring : List (List ℕ)) (x : List ℕ) →
+    AreDrawn l w before k ring → k < budget l w → length ring ≡ 16 → lot ≡ lot_at l.lots.items w →
+    after.lot ≡ before.lot → (k + 16 < lot.budget → after.made ≡ k + 16 + 1) →
+    (k + 16 < lot.budget → x ≡ proposal_words lot.source (k + 16)) →
+    AreDrawn l w after (k + 1) (slice_set ring (k % 16) x)
+drawn_more l w k lot before after ring x are some long lot_is after_lot made drawn =
+    let same = lot_budget l w lot lot_is in
+    let later : (n : ℕ) → k + 1 ≤ n → n < k + 17 → n < budget l w →
+    slice_index_or (slice_set ring (k % 16) x) (n % 16) [] ≡ words l w n =
+    λ n from near left.
+    ⊎_elim
+    (λ (old : n < k + 16).
+    get_or-set_other ring (k % 16) (n % 16) x [] (λ at. omega (arith, at, from, old))
+    ∙ are.words n (omega (arith, from)) old left)
+    (λ (new : k + 16 ≤ n).
+    let is : k + 16 ≡ n = omega (arith, new, near) in
+    get_or-set_at ring (k % 16) (n % 16) x [] (omega (arith, is)) (omega (arith, long))
+    ∙ drawn (omega (arith, is, left, same))
+    ∙ ap (λ (j : ℕ). proposal_words lot.source j) is
+    ∙ lot_words l w n lot lot_is)
+    (cases_lt n (k + 16))
+    in
+    record {
+      worker = are.worker;
+      within = omega (arith, some);
+      lot = after_lot ∙ are.lot;
+      made = λ left. omega (arith, made (omega (arith, left, same)));
+      words = λ n from near left. later n from (omega (arith, near)) left;
     }
 
 -- what is planned from the same words

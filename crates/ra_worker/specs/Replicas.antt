@@ -44,15 +44,18 @@ budget_at r = budget r.proposals.lots.now r.proposals.worker
 abbrev pub place_at : Replica → ℕ
 place_at r = r.place
 
--- the plan of its worker's next proposal, made at its place for the words and the allowance of that
-pub record IsNextPlan (r : Replica) (plan : Plan) : Type 0 where
+-- the plan of a proposal of its worker, made at its place for the words and the allowance of that
+pub record IsPlanAt (r : Replica) (k : ℕ) (plan : Plan) : Type 0 where
   pub place : plan.q ≡ place_at r
-  pub number : plan.k ≡ next_at r
+  pub number : plan.k ≡ k
   pub planned :
-      plan.mv ≡ plan_of r.world
-      (words (lots_at r) (worker_at r) (next_at r)) (lots_at r).drawing
-      (allowed (lots_at r) (worker_at r) (next_at r))
+      plan.mv ≡ plan_of r.world (words (lots_at r) (worker_at r) k) (lots_at r).drawing
+      (allowed (lots_at r) (worker_at r) k)
   pub weighed : plan.weighed ≡ weighed_of r.world plan.mv.steps
+
+-- that of the next one
+abbrev pub IsNextPlan : Replica → Plan → Type 0
+IsNextPlan r = IsPlanAt r (next_at r)
 
 -- a replica has taken in one entry: its place has grown by one, and its worker's number if the entry is that worker's
 pub record HasFollowed (before after : Replica) (e : Entry) : Type 0 where

@@ -1,19 +1,19 @@
-ghost use Rattle.std.specs.Prelude.{◌≡◌, ◌+◌, ◌<◌, ◌≤◌};
+ghost use Rattle.std.specs.Prelude.{◌≡◌, ℕ, ◌+◌, ◌<◌, ◌≤◌, [], slice_index_or};
 ghost use Rattle.ra_draws.specs.Words.{proposal_words};
-ghost use Rattle.ra_journal.specs.Entries.{worker_count, budget};
+ghost use Rattle.ra_journal.specs.Entries.{worker_count, budget, words};
 ghost use Rattle.ra_worker.specs.Proposals.{AreDrawn};
 
 use ra_draws::{Draws, Lot, Lots};
 
-/// The proposals of a worker: the number of the next one, and its words.
+/// The proposals of a worker: the number of the next one, and the words of the next sixteen.
 #[derive(Drop)]
 pub(crate) struct Proposals<'a> {
     pub(crate) lots: &'a Lots,
     pub(crate) worker: u32,
     draws: Draws<'a>,
     pub(crate) number: u64,
-    pub(crate) words: [u64; 8],
-    pub ghost drawn: { AreDrawn lots.now worker draws number words },
+    ring: [[u64; 8]; 16],
+    pub ghost drawn: { AreDrawn lots.now worker draws number ring },
 }
 
 impl<'a> Proposals<'a> {
@@ -26,13 +26,13 @@ impl<'a> Proposals<'a> {
     {
         let lot = lots.lot(worker);
         let mut draws = Draws::make(lot);
-        let words = draw(&mut draws, lot, 0);
+        let ring = draw_first(&mut draws, lot);
         Proposals {
             lots,
             worker,
             draws,
             number: 0,
-            words,
+            ring,
         }
     }
 
@@ -45,9 +45,19 @@ impl<'a> Proposals<'a> {
     {
         let _fits = self.budget();
         let lot = self.lots.lot(self.worker);
+        let words = draw(&mut self.draws, lot, self.number + 16);
+        self.ring[(self.number % 16) as usize] = words;
         self.number += 1;
-        let words = draw(&mut self.draws, lot, self.number);
-        self.words = words;
+    }
+
+    /// The words of one of the next sixteen proposals.
+    pub(crate) fn words(&self, number: u64) -> &[u64; 8]
+        requires from { self.now.number ≤ number }
+        requires near { number < self.now.number + 16 }
+        requires left { number < budget self.now.lots.now self.now.worker }
+        ensures { result.now ≡ words self.now.lots.now self.now.worker number }
+    {
+        &self.ring[(number % 16) as usize]
     }
 
     /// How many proposals the worker makes.
@@ -58,6 +68,23 @@ impl<'a> Proposals<'a> {
     {
         self.lots.lot(self.worker).budget
     }
+}
+
+/// The words of the first sixteen proposals, as far as the budget goes.
+fn draw_first(draws: &mut Draws<'_>, lot: &Lot) -> [[u64; 8]; 16]
+    requires lot { draws.old.lot ≡ lot.now }
+    requires made { draws.old.made ≡ 0 }
+    ensures lot { draws.new.lot ≡ draws.old.lot }
+    ensures made { 15 < lot.now.budget → draws.new.made ≡ 16 }
+    ensures words { (n : ℕ) → n < 16 → n < lot.now.budget
+        → slice_index_or result n [] ≡ proposal_words lot.now.source n }
+{
+    let mut ring = [[0; 8]; 16];
+    for number in 0..16 {
+        let words = draw(draws, lot, number);
+        ring[number as usize] = words;
+    }
+    ring
 }
 
 /// The words of a proposal, if it is one of the budget; the words before it are drawn already.

@@ -1,18 +1,19 @@
-ghost use Rattle.std.specs.Prelude.{◌≡◌, ◌+◌, ◌*◌, ◌^◌, ◌<◌, ◌≤◌, ◌-◌, ◌==◌, List, length, IfOk};
+ghost use Rattle.std.specs.Prelude.{◌≡◌, ◌+◌, ◌*◌, ◌^◌, ◌<◌, ◌≤◌, ◌-◌, ◌==◌, true, List, length, IfOk};
 ghost use Rattle.ra_base.specs.Sums.{one_if};
 ghost use Rattle.ra_base.specs.declared.causes.Drawing.TheVariants.{One, Two};
 ghost use Rattle.ra_model.specs.Numbers.{resource_count};
 ghost use Rattle.ra_journal.specs.declared.entries.Entry.{Entry as Recorded};
-ghost use Rattle.ra_journal.specs.Entries.{worker_count, budget};
+ghost use Rattle.ra_journal.specs.Entries.{worker_count, budget, allowed};
+ghost use Rattle.ra_journal.specs.Refusing.{IsRefused};
 ghost use Rattle.ra_topology.specs.Starts.{IsFeasibleStart};
 ghost use Rattle.ra_worker.specs.Following.{IsJudged};
-ghost use Rattle.ra_worker.specs.Replicas.{tables_at, start_at, lots_at, worker_at, next_at, budget_at, place_at, IsNextPlan, HasFollowed, IsAt, AreTold, HasTaken, HasPassed};
+ghost use Rattle.ra_worker.specs.Replicas.{tables_at, start_at, lots_at, worker_at, next_at, budget_at, place_at, IsPlanAt, IsNextPlan, HasFollowed, IsAt, AreTold, HasTaken, HasPassed};
 
 use crate::following::follow;
 use crate::proposals::Proposals;
 use ra_base::{Assignment, NoMemory, Parts, Steps};
 use ra_draws::Lots;
-use ra_journal::{Batch, Entry, allowed};
+use ra_journal::{Batch, Entry, allowed, is_refused};
 use ra_model::Instance;
 use ra_moves::Plan;
 use ra_plan::plan;
@@ -103,6 +104,13 @@ impl<'a> Replica<'a> {
         self.proposals.worker
     }
 
+    /// The lots of the workers.
+    pub fn lots(&self) -> &Lots
+        ensures { result.now ≡ lots_at self.now }
+    {
+        self.proposals.lots
+    }
+
     /// Plans its worker's next proposal, with its number and with how many entries it has taken in.
     pub fn offer<L: Ledger>(&self, steps: &mut Steps<L>) -> Plan
         requires left { next_at self.now < budget_at self.now }
@@ -112,17 +120,46 @@ impl<'a> Replica<'a> {
         ensures counted_two { (lots_at self.now).drawing ≡ Two →
             steps.new ≤ steps.old + 384 * resource_count (tables_at self.now) }
     {
+        self.offer_at(self.proposals.number, steps)
+    }
+
+    /// Plans one of its worker's next sixteen proposals, as if no move were done before it: with its number and with how
+    /// many entries it has taken in.
+    pub fn offer_at<L: Ledger>(&self, number: u64, steps: &mut Steps<L>) -> Plan
+        requires from { next_at self.now ≤ number }
+        requires near { number < next_at self.now + 16 }
+        requires left { number < budget_at self.now }
+        ensures plan { IsPlanAt self.now number result }
+        ensures counted_one { (lots_at self.now).drawing ≡ One →
+            steps.new ≤ steps.old + 24 * resource_count (tables_at self.now) }
+        ensures counted_two { (lots_at self.now).drawing ≡ Two →
+            steps.new ≤ steps.old + 384 * resource_count (tables_at self.now) }
+    {
         let lots = self.proposals.lots;
-        let number = self.proposals.number;
         let rise = allowed(lots, self.proposals.worker, number);
         plan(
             &self.world,
-            &self.proposals.words,
+            self.proposals.words(number),
             lots.drawing(),
             rise,
             self.place,
             number,
             steps,
+        )
+    }
+
+    /// Whether it is known at once that one of its worker's plans is refused wherever it is recorded while its guards are
+    /// untouched.
+    pub fn is_refused(&self, plan: &Plan) -> bool
+        requires { plan.now.k < budget_at self.now }
+        ensures { result ≡ true → IsRefused (tables_at self.now)
+            (allowed (lots_at self.now) (worker_at self.now) plan.now.k) plan.now }
+    {
+        is_refused(
+            self.world.instance(),
+            self.proposals.lots,
+            self.proposals.worker,
+            plan,
         )
     }
 

@@ -2,4 +2,5 @@ pub mod Seen
 pub mod Steps
 pub mod Owning
 pub mod Runs
+pub mod AheadLemmas
 mod RunLemmas

@@ -24,7 +24,7 @@ use Rattle.ra_worker.specs.Skipping.{has_used, is_behind, is_skipped}
 use Rattle.ra_worker.specs.Replicas.{IsNextPlan, AreTold, HasTaken}
 use Rattle.ra_worker.proofs.TurnLemmas.{may_commit, batch_next, batch_long, taken_at}
 use Rattle.ra_worker_crew.specs.declared.worker.Worker.{Worker}
-use Rattle.ra_worker_crew.specs.Working.{IsAtWork, HasOwn, HasRoom, IsBehind, HasTurned, HasMoved, shown_in}
+use Rattle.ra_worker_crew.specs.Working.{IsAtWork, HasOwn, HasRoom, IsBehind, HasTurned, HasMoved, MayGoOn, shown_in}
 use Rattle.ra_worker_crew.proofs.Seen.{legal_few, prefix_long, prefix_at, prefix_entries, entries_grow, own_count}
 
 -- a worker that has some budget left, and all its entries before a place, isn't skipped there
@@ -272,9 +272,15 @@ place_fewer s w work own left =
     )
 
 -- so it has a turn to spare besides those for what it has not taken in
-pub room_left : (s : Shared) (first w : Worker) → 2 * proposal_count (start_of s).lots ≤ first.pass.left →
-    IsAtWork s w → HasOwn w → first.pass.left ≤ w.pass.left + 2 * w.replica.place →
+pub room_left : (s : Shared) (w : Worker) → MayGoOn s w →
     w.replica.proposals.number < budget w.replica.proposals.lots.now w.replica.proposals.worker → HasRoom s 1 w
-room_left s first w enough work own turns left = record {
-  turns = omega (arith, enough, turns, place_fewer s w work own left);
+room_left s w may left = record { turns = omega (arith, may.turns, place_fewer s w may.work may.own left) }
+
+-- and it may go on after that turn
+pub may_on : (s : Shared) (w after : Worker) → MayGoOn s w → IsAtWork s after → HasOwn after → HasMoved w after →
+    MayGoOn s after
+may_on s w after may work own moved = record {
+  work = work;
+  own = own;
+  turns = omega (arith, may.turns, moved.turns, moved.fewer);
 }

@@ -1,3 +1,4 @@
+pub mod Ahead
 pub mod Working
 pub mod Running
 pub mod Crews

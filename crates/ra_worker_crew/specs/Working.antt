@@ -1,5 +1,5 @@
 -- A worker while it runs: its replica follows what its pass has seen of the journal.
-use Rattle.std.specs.Prelude.{◌≡◌, ℕ, ◌+◌, ◌<◌, ◌≤◌, length}
+use Rattle.std.specs.Prelude.{◌≡◌, ℕ, ◌+◌, ◌*◌, ◌<◌, ◌≤◌, length}
 use Rattle.ra_journal.specs.Batches.{batch_from}
 use Rattle.ra_journal.specs.declared.replies.Reply.{Reply}
 use Rattle.ra_journal.specs.declared.replies.Reply.TheVariants.{Recorded, Stale}
@@ -43,6 +43,12 @@ pub record HasMoved (before after : Worker) : Type 0 where
   pub number : after.pass.number ≡ before.pass.number
   pub turns : before.pass.left + before.replica.place ≤ after.pass.left + after.replica.place
   pub fewer : after.pass.left < before.pass.left
+
+-- it may go on: it has two turns left for each proposal of the run that its replica has not taken in
+pub record MayGoOn (s : Shared) (w : Worker) : Type 0 where
+  pub work : IsAtWork s w
+  pub own : HasOwn w
+  pub turns : 2 * proposal_count (start_of s).lots ≤ w.pass.left + 2 * w.replica.place
 
 -- its batch is what it has seen and not taken in, at most 1,024 entries
 pub record HasNext (w : Worker) : Type 0 where

@@ -2,6 +2,7 @@
 //! and takes turns at the journal that all share.
 #![tactic(auto)]
 
+mod ahead;
 mod crew;
 mod prepared;
 mod running;

@@ -1,5 +1,6 @@
 ghost use Rattle.ra_worker_crew.specs.Running.{MayRun, HasRun};
 
+use crate::ahead::Ahead;
 use crate::worker::Worker;
 use ra_io::Gate;
 use ra_shared::{Labour, Shared};
@@ -19,13 +20,20 @@ impl<'s, 'a, G: Gate> Labour<Desk<'s, 'a, G>> for Worker<'a> {
 
     ghost done = { λ desk before after. HasRun desk.shared.now before after };
 
-    // Until its budget is used it plans a proposal, passes the gate, and hands the plan in. If that is stale the proposal
-    // is still the next one, so it is planned again. No turn is taken while it plans.
+    // Until its budget is used it plans proposals, at one state, and hands each plan in after it has passed the gate. If
+    // one is stale its proposal is still the next one, so it is planned again. No turn is taken while it plans.
     fn labour<R: Wait>(&mut self, rt: &R, with: &Desk<'s, 'a, G>) {
+        let mut ahead = Ahead::make(self.replica.lots().len());
         'proposals: while self.has_left() {
-            let plan = self.plan_next();
-            with.gate.before_commit(self.pass.number(), plan.k);
-            self.hand_in(rt, with.shared, &plan);
+            let first = self.plan_next();
+            self.plan_ahead(&first, &mut ahead);
+            'round: while ahead.has_next() {
+                ahead.place_next(self.replica.place());
+                let plan = ahead.next(&first);
+                with.gate.before_commit(self.pass.number(), plan.k);
+                let quiet = self.hand_in(rt, with.shared, plan);
+                ahead.move_on(quiet);
+            }
         }
     }
 }

@@ -1,10 +1,12 @@
-ghost use Rattle.std.specs.Prelude.{◌≡◌, ◌+◌, ◌*◌, ◌<◌, true, false, length, IfOk};
+ghost use Rattle.std.specs.Prelude.{◌≡◌, ◌+◌, ◌*◌, ◌<◌, ◌≤◌, true, false, length, IfOk};
 ghost use mathlib.Core.List.{IsPrefix};
 ghost use Rattle.ra_journal.specs.Entries.{budget};
 ghost use Rattle.ra_turn.specs.Passes.{seen_by, made_by};
-ghost use Rattle.ra_worker.specs.Replicas.{IsNextPlan, AreTold, HasTaken};
+ghost use Rattle.ra_worker.specs.Replicas.{next_at, budget_at, place_at, IsPlanAt, IsNextPlan, AreTold, HasTaken, HasPassed};
+ghost use Rattle.ra_worker_crew.specs.Ahead.{AreAhead, Stands};
 ghost use Rattle.ra_worker_crew.specs.Working.{IsAtWork, IsQuiet, HasNext, HasOwn, HasRoom, IsBehind, HasMoved, HasTurned, shown_in};
 
+use crate::ahead::Ahead;
 use ra_base::{NoMemory, Steps};
 use ra_journal::{Batch, Reply};
 use ra_moves::Plan;
@@ -76,17 +78,58 @@ impl<'a> Worker<'a> {
 
     /// Plans its next proposal.
     pub(crate) fn plan_next(&self) -> Plan
-        requires { self.now.replica.proposals.number <
-            budget self.now.replica.proposals.lots.now self.now.replica.proposals.worker }
+        requires { next_at self.now.replica < budget_at self.now.replica }
         ensures { IsNextPlan self.now.replica result }
     {
-        offer::<Brand>(&self.replica, Blank::new(1))
+        self.plan_at(self.replica.next())
     }
 
-    /// Hands in a plan of its next proposal. If the commit copied nothing, all that its pass has seen and its replica
-    /// hasn't taken in is refused, so it passes over that. Else it takes in what was copied, and catches up past the
-    /// entry that the answer shows: its own, or the one that made the plan stale.
-    pub(crate) fn hand_in<R: Wait>(&mut self, rt: &R, shared: &Shared<'a>, plan: &Plan)
+    /// Plans ahead after the plan of its next proposal: as many as this round has, up to one that may be done.
+    pub(crate) fn plan_ahead(&self, first: &Plan, ahead: &mut Ahead)
+        requires left { next_at self.now.replica < budget_at self.now.replica }
+        requires first { IsNextPlan self.now.replica first.now }
+        ensures { Stands self.now.replica (next_at self.now.replica) first.now ahead.new }
+    {
+        let most = ahead.begin();
+        if most > 0 && self.replica.is_refused(first) {
+            self.plan_more(most.min(self.replica.left() - 1), ahead);
+        }
+    }
+
+    /// Plans so many proposals after its next one, up to one that may be done.
+    fn plan_more(&self, more: u64, ahead: &mut Ahead)
+        requires few { more ≤ 15 }
+        requires left { next_at self.now.replica + more < budget_at self.now.replica }
+        requires none { ahead.old.made ≡ 0 }
+        ensures at { ahead.new.at ≡ ahead.old.at }
+        ensures ahead { AreAhead self.now.replica (next_at self.now.replica + 1) ahead.new }
+    {
+        let _fits = self.replica.budget();
+        let first = self.replica.next() + 1;
+        for j in 0..more {
+            let plan = self.plan_at(first + j);
+            let refused = self.replica.is_refused(&plan);
+            ahead.add(plan);
+            if !refused {
+                return;
+            }
+        }
+    }
+
+    /// Plans one of its next sixteen proposals.
+    fn plan_at(&self, number: u64) -> Plan
+        requires from { next_at self.now.replica ≤ number }
+        requires near { number < next_at self.now.replica + 16 }
+        requires left { number < budget_at self.now.replica }
+        ensures { IsPlanAt self.now.replica number result }
+    {
+        offer_at::<Brand>(&self.replica, number, Blank::new(1))
+    }
+
+    /// Hands in a plan of its next proposal, and tells whether the turn was quiet. If the commit copied nothing, all that
+    /// its pass has seen and its replica hasn't taken in is refused, so it passes over that. Else it takes in what was
+    /// copied, and catches up past the entry that the answer shows: its own, or the one that made the plan stale.
+    pub(crate) fn hand_in<R: Wait>(&mut self, rt: &R, shared: &Shared<'a>, plan: &Plan) -> bool
         requires work { IsAtWork shared.now self.old }
         requires own { HasOwn self.old }
         requires plan { IsNextPlan self.old.replica plan.now }
@@ -96,14 +139,18 @@ impl<'a> Worker<'a> {
         ensures work { IsAtWork shared.now self.new }
         ensures own { HasOwn self.new }
         ensures moved { HasMoved self.old self.new }
+        ensures quiet { result ≡ true →
+            HasPassed self.old.replica self.new.replica (place_at self.new.replica) }
     {
         let reply = shared.commit_and_copy(rt, &mut self.pass, plan, &mut self.batch);
         let copied = self.batch.len();
         if copied == 0 {
             self.pass_over(shared);
+            true
         } else {
             self.take_copied(shared);
             self.catch_up_past(rt, shared, shown_by(&reply));
+            false
         }
     }
 
@@ -115,9 +162,8 @@ impl<'a> Worker<'a> {
         requires quiet { IsQuiet self.old }
         ensures work { IsAtWork _shared.now self.new }
         ensures pass { self.new.pass ≡ self.old.pass }
-        ensures place { self.new.replica.place ≡ length (seen_by self.old.pass) }
-        ensures number { self.new.replica.proposals.number ≡
-            self.old.replica.proposals.number + 1 }
+        ensures passed { HasPassed self.old.replica self.new.replica
+            (length (seen_by self.old.pass)) }
     {
         let seen = self.pass.seen();
         self.replica.pass_over(seen);
@@ -179,17 +225,18 @@ fn shown_by(reply: &Reply) -> u64
     }
 }
 
-/// Plans a replica's next proposal.
-fn offer<L: Ledger>(replica: &Replica<'_>, blank: Blank) -> Plan
+/// Plans one of a replica's next sixteen proposals.
+fn offer_at<L: Ledger>(replica: &Replica<'_>, number: u64, blank: Blank) -> Plan
     requires name { blank.name ≡ L.name }
     requires parts { blank.parts ≡ L.parts }
     requires some { 0 < blank.parts }
-    requires left { replica.now.proposals.number <
-        budget replica.now.proposals.lots.now replica.now.proposals.worker }
-    ensures { IsNextPlan replica.now result }
+    requires from { next_at replica.now ≤ number }
+    requires near { number < next_at replica.now + 16 }
+    requires left { number < budget_at replica.now }
+    ensures { IsPlanAt replica.now number result }
 {
     let mut steps = Steps::<L>::make(blank);
-    replica.offer(&mut steps)
+    replica.offer_at(number, &mut steps)
 }
 
 /// A replica takes in what it is told.

@@ -1,6 +1,5 @@
-use Rattle.std.proofs.Common.{◌≡◌, ◌≤◌, sym, ◌∙◌, arith}
 use Rattle.ra_journal.specs.Entries.{worker_count}
-use Rattle.ra_worker.proofs.ProposalLemmas.{drawn_next}
+use Rattle.ra_worker.proofs.ProposalLemmas.{drawn_first}
 use Rattle.ra_worker.proofs.proposals.Proposals.make.Goals as goal
 
 pub lot-lot-requires : goal.lot-lot-requires
@@ -13,7 +12,7 @@ make-draws-requires c = rw c.lot-lot.ensures (c.args.lots.now.fitting.each c.arg
 
 pub invariant_of-result : goal.invariant_of-result
 invariant_of-result c = record {
-  drawn = drawn_next c.args.lots.now c.args.worker 0 c.lot-lot.result.now c.make-draws.result c.draw-words.new.draws
-      c.draw-words.result c.requires (omega arith) c.lot-lot.ensures c.make-draws.ensures.lot c.draw-words.ensures.lot
-      c.draw-words.ensures.drawn c.draw-words.ensures.words;
+  drawn = drawn_first c.args.lots.now c.args.worker c.lot-lot.result.now c.make-draws.result c.draw_first-ring.new.draws
+      c.draw_first-ring.result c.requires c.lot-lot.ensures c.make-draws.ensures.lot c.draw_first-ring.ensures.lot
+      c.draw_first-ring.ensures.made c.draw_first-ring.ensures.words;
 }

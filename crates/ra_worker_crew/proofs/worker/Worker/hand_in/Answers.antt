@@ -1,4 +1,5 @@
 use Rattle.std.proofs.Common.{◌≡◌, ◌<◌, refl, sym, ap, subst, ◌∙◌, arith}
+use Rattle.ra_worker.specs.Replicas.{HasPassed}
 use Rattle.ra_worker_crew.specs.declared.worker.Worker.{Worker}
 use Rattle.ra_worker_crew.specs.Working.{IsBehind, shown_in}
 use Rattle.ra_worker_crew.proofs.Owning.{behind_same, copied_next, handed, shown, quiet_next, own_passed, place_grows}
@@ -41,7 +42,7 @@ returns-then-copied-eq0-clause-own g c =
     own_passed c.args.shared.now c.args.self.now after c.args.plan.now c.commit_and_copy-reply.result c.requires.work
     c.requires.own c.requires.left c.requires.plan refl c.commit_and_copy-reply.ensures.done
     c.commit_and_copy-reply.ensures.batch (sym c.len-copied.ensures.value ∙ c.if-copied-eq0.true) c.pass_over.new.self
-    c.pass_over.ensures.pass c.pass_over.ensures.number
+    c.pass_over.ensures.pass c.pass_over.ensures.passed.number
 
 pub returns-then-copied-eq0-clause-moved : goal.returns-then-copied-eq0-clause-moved
 returns-then-copied-eq0-clause-moved g c =
@@ -55,8 +56,13 @@ returns-then-copied-eq0-clause-moved g c =
       arith,
       place_grows c.args.shared.now c.args.self.now after c.args.plan.now c.commit_and_copy-reply.result c.requires.work
           c.requires.own c.requires.left c.requires.plan refl done,
-      c.pass_over.ensures.place,
+      c.pass_over.ensures.passed.place,
     ))
+
+pub returns-then-copied-eq0-clause-quiet : goal.returns-then-copied-eq0-clause-quiet
+returns-then-copied-eq0-clause-quiet g c =
+    λ quiet. subst (HasPassed c.args.self.now.replica c.pass_over.new.self.replica) (sym c.pass_over.ensures.passed.place)
+    c.pass_over.ensures.passed
 
 pub take_copied-requires-clause-work : goal.take_copied-requires-clause-work
 take_copied-requires-clause-work g c =
