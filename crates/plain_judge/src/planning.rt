@@ -1,13 +1,11 @@
-ghost use Rattle.std.specs.Prelude.{◌≡◌, ℕ, ◌<◌, None, if◌then◌else◌, length};
+ghost use Rattle.std.specs.Prelude.{◌≡◌, if◌then◌else◌};
 ghost use Rattle.ra_base.specs.Searches.{is_better};
-ghost use Rattle.ra_model.specs.Numbers.{machine_count};
 ghost use Rattle.ra_model.specs.Assignments.{IsAssignment};
 ghost use Rattle.ra_model.specs.Costs.{objective};
 ghost use Rattle.ra_model.specs.Situations.{situation};
 ghost use Rattle.ra_check.specs.Made.{IsMadeFor};
-ghost use Rattle.ra_moves.specs.Steps.{StandsAt, Distinct, from_in, to_in};
-ghost use Rattle.ra_moves.specs.Judging.{judge, repeat_of};
-ghost use Rattle.ra_moves.specs.Options.{plan_of, done_cost};
+ghost use Rattle.ra_moves.specs.Options.{done_cost};
+ghost use Rattle.plain_judge.specs.Plans.{IsPlanned};
 
 use crate::judging::judge_plainly;
 use ra_base::{Assignment, Drawing};
@@ -43,14 +41,8 @@ pub fn plan_plainly(
     requires same { other.old.items ≡ a.now.items }
     requires made { IsMadeFor scratch.old inst.now.tables }
     requires before { before ≡ objective inst.now.tables a0.now.items a.now.items }
-    ensures planned { result.mv ≡
-        plan_of (situation inst.now.tables a0.now.items a.now.items) words.now drawing allowed }
-    ensures judged { result.verdict ≡
-        judge (situation inst.now.tables a0.now.items a.now.items) result.mv.steps allowed }
-    ensures stands { StandsAt from_in result.mv.steps a.now.items }
-    ensures reaches { (j : ℕ) → j < length result.mv.steps →
-        to_in result.mv.steps j < machine_count inst.now.tables }
-    ensures distinct { repeat_of result.mv.steps ≡ None → Distinct result.mv.steps }
+    ensures planned { IsPlanned (situation inst.now.tables a0.now.items a.now.items) words.now
+        drawing allowed result }
     ensures unchanged { other.new ≡ other.old }
     ensures kept { IsMadeFor scratch.new inst.now.tables }
 {

@@ -37,23 +37,17 @@ loop-option-preserved c =
 pub returns-clause-planned : goal.returns-clause-planned
 unfolding plan_of plan_place
 returns-clause-planned c =
+    let inst = c.args.inst.now in
+    let best = c.loop-option.invariant.best in
+    let some : 0 < length c.args.a.now.items =
+    omega (arith, c.requires.fits.one_each, inst.well_formed.some_process) in
     let all : c.loop-option.option ≡ c.options-count.result = omega arith in
-    rw (all, c.options-count.ensures.value, c.machines-machines.ensures) at c.loop-option.invariant.best.move
-
-pub returns-clause-stands : goal.returns-clause-stands
-returns-clause-stands c =
-    let inst = c.args.inst.now in
-    rw c.loop-option.invariant.best.move
-    (option_stands _ _ _ _ _ (omega (arith, c.requires.fits.one_each, inst.well_formed.some_process))
-    inst.well_formed.some_machine)
-
-pub returns-clause-reaches : goal.returns-clause-reaches
-returns-clause-reaches c =
-    let inst = c.args.inst.now in
-    rw c.loop-option.invariant.best.move
-    (option_reaches _ _ _ _ _ (omega (arith, c.requires.fits.one_each, inst.well_formed.some_process))
-    inst.well_formed.some_machine
-    (λ p within. c.requires.fits.in_range p (omega (arith, c.requires.fits.one_each))))
-
-pub returns-clause-distinct : goal.returns-clause-distinct
-returns-clause-distinct c = distinct_from_none _
+    record {
+      move = rw (all, c.options-count.ensures.value, c.machines-machines.ensures) at best.move;
+      verdict = best.verdict;
+      stands = rw best.move (option_stands _ _ _ _ _ some inst.well_formed.some_machine);
+      reaches = rw best.move
+          (option_reaches _ _ _ _ _ some inst.well_formed.some_machine
+          (λ p within. c.requires.fits.in_range p (omega (arith, c.requires.fits.one_each))));
+      distinct = distinct_from_none _;
+    }
