@@ -305,7 +305,7 @@ def judge(model, initial, flags, lots, printed):
     order = order_of(printed)
     best_at, best, told = judged(inst, start, slack, drawing, [lot_of(word) for word in lots], order)
     head = cost_lines(inst.parts(start, best))
-    head += f"bound {inst.bound()[0]}\nbest_at {best_at}\n"
+    head += f"bound {inst.bound(start)[0]}\nbest_at {best_at}\n"
     head += f"assignment {joined(best)}\ndraws {drawing}\n"
     wanted = (head + "".join(told)).splitlines()
     for number, (want, got) in enumerate(zip(wanted, printed.splitlines())):
