@@ -45,18 +45,28 @@ class Lists(ToolCase):
 
     def test_plot(self):
         picture = self.expect(0, "plot", "new", "model", "initial", "--names", self.names(), "--title", "A & B")
-        for text in (">A &amp; B<", ">cpu<", ">disk<", ">north-1<", ">before<", ">after<"):
+        for text in (">A &amp; B<", ">cpu<", ">disk<", ">north-1<", ">before<", ">after<", "tools/plot --names names.json new model"):
             self.assertIn(text, picture)
         self.expect(2, "plot", "new", "model", "initial", "--out", "model")
         self.expect(2, "plot", "new", "model", "initial", "--names", "names.json", "--out", "names.json")
 
 
 class Machines(ToolCase):
-    def picture(self, machines, resources):
+    def picture(self, machines, resources, name=str):
         from reassign_tools.machine_pictures import draw_machines
         from reassign_tools.machine_uses import ResourceUse
         use = lambda name: ResourceUse(name, [100] * machines, [70] * machines, [m % 90 for m in range(machines)], [45] * machines)
-        return draw_machines([use(f"kind {r}") for r in range(resources)], list(map(str, range(machines))), "title", "command")
+        return draw_machines([use(f"kind {r}") for r in range(resources)], list(map(name, range(machines))), "title", "command")
+
+    def test_names(self):
+        """Names that are too long to stand side by side stand upright, and the panels further apart."""
+        short, long = self.picture(24, 2), self.picture(24, 2, "node-eu-a1-{}".format)
+        self.assertNotIn("rotate", short)
+        self.assertIn(">node-eu-a1-23<", long)
+        self.assertEqual(long.count("rotate(-90"), 48)
+        height = lambda picture: int(re.search(r'height="(\d+)"', picture)[1])
+        self.assertGreater(height(long), height(short) + 100)
+        self.assertNotIn("node-", self.picture(51, 2, "node-{}".format))
 
     def test_kinds(self):
         for machines, words in ((120, ">after<"), (121, "a bar for each machine"), (600, "a bar for each machine"), (601, "eight in ten")):

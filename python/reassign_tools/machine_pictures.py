@@ -1,11 +1,12 @@
 """The picture of the machines: how much of each capacity is in use, before and after."""
-from .pictures import ACROSS, BLACK, BLUE, FAINT, GREEN, GRID, MIDDLE, ORANGE, PALE, PALE_GREEN, Picture, grouped, wide
+from .pictures import ACROSS, BLACK, BLUE, FAINT, GREEN, GRID, MIDDLE, ORANGE, PALE, PALE_GREEN, Picture, cut, grouped, wide
 from .words import shown
 
 MOST_DOTS = 120  # machines that are drawn as dots joined by lines
 MOST_SINGLE = 600  # machines that are drawn one by one
 GROUP, MOST_GROUPS = 20, 100  # more are drawn in groups of at least so many, of which there are at most so many
 MOST_NUMBERS = 50
+LONGEST_NAME = 120  # of an upright one
 ONE_COLUMN = 4  # resources; more stand in two columns
 HEIGHT, STEP, BESIDE, NARROW = 170, 236, 96, 500
 
@@ -30,11 +31,24 @@ class Groups:
         return chosen
 
 
+class MachineNames:
+    """How the machines' names stand under an axis: upright if there isn't room for them side by side."""
+
+    def __init__(self, names, width):
+        self.size, room = 11 if len(names) <= 30 else 8, width / len(names)
+        self.are_upright = len(names) <= MOST_NUMBERS and max(wide(name, self.size) for name in names) > 1.4 * room
+        self.shown = [cut(name, self.size, LONGEST_NAME) for name in names] if self.are_upright else names
+
+    def height(self):
+        """How much more room they need upright."""
+        return round(max(wide(name, self.size) for name in self.shown)) - 10 if self.are_upright else 0
+
+
 class Panel:
     """The use of each machine of one resource."""
 
-    def __init__(self, picture, use, machine_names, left, top, width):
-        self.picture, self.use, self.names = picture, use, machine_names
+    def __init__(self, picture, use, names, left, top, width):
+        self.picture, self.use, self.names = picture, use, names
         self.before, self.after, self.safety = map(use.shares, (use.before, use.after, use.safety))
         self.order = sorted(range(len(use.capacity)), key=lambda machine: (self.before[machine], machine))
         self.left, self.top, self.width = left, top, width
@@ -83,11 +97,14 @@ class Panel:
         self.draw_names()
 
     def draw_names(self):
-        """The machines under the axis, if there is room for them."""
-        size, room = 11 if len(self.order) <= 30 else 8, self.width / len(self.order)
-        if len(self.order) <= MOST_NUMBERS and max(wide(name, size) for name in self.names) <= 1.4 * room:
-            for at, machine in enumerate(self.order):
-                self.picture.text(self.across(at, len(self.order)), self.top + HEIGHT + 14, self.names[machine], "middle", size)
+        """The machines under the axis, if they aren't too many."""
+        names, count = self.names, len(self.order)
+        for at, machine in enumerate(self.order if count <= MOST_NUMBERS else []):
+            x, y, name = self.across(at, count), self.top + HEIGHT + 14, names.shown[machine]
+            if names.are_upright:
+                self.picture.text(x + names.size / 3, y - 6, name, "end", names.size, upright=True)
+            else:
+                self.picture.text(x, y, name, "middle", names.size)
 
     def draw_single(self):
         """A bar for each machine after, and lines through all of them for what is before, and for safety."""
@@ -160,12 +177,14 @@ def draw_machines(uses, machine_names, title, command):
         groups = Groups(list(range(count)))
         in_groups = f", in {groups.count} groups of {'about ' * (count % groups.count > 0)}{groups.size()}"
     picture.heading(76, f"use of each machine, as a part of its capacity; machines in the order of their use before{in_groups}")
+    names = MachineNames(machine_names, width)
+    step = STEP + names.height()
     for at, use in enumerate(uses):
         left = picture.left + at % columns * (width + BESIDE)
-        Panel(picture, use, machine_names, left, 122 + STEP * (at // columns), width).draw()
+        Panel(picture, use, names, left, 122 + step * (at // columns), width).draw()
     picture.right = max(picture.right, picture.left + columns * width + (columns - 1) * BESIDE + 16)
     draw_legend(picture, picture.left + columns * width + (columns - 1) * BESIDE + 24, 132, count)
-    bottom = 122 + STEP * -(-len(uses) // columns) - 26
+    bottom = 122 + step * -(-len(uses) // columns) - 26
     return picture.written(max(bottom, 132 + 24 * 6), title, command)
 
 

@@ -59,11 +59,12 @@ class Picture:
     def dot(self, x, y, radius, fill, edge):
         self.shapes.append(f'<circle cx="{x:.1f}" cy="{y:.1f}" r="{radius}" fill="{fill}" stroke="{edge}"/>')
 
-    def text(self, x, y, words, anchor="start", size=13, colour=BLACK, weight="normal"):
+    def text(self, x, y, words, anchor="start", size=13, colour=BLACK, weight="normal", upright=False):
         if anchor == "start":
             self.right = max(self.right, x + wide(words, size) * (1.08 if weight == "bold" else 1) + 8)
+        turned = f' transform="rotate(-90 {x:.1f} {y:.1f})"' if upright else ""
         self.shapes.append(f'<text x="{x:.1f}" y="{y:.1f}" text-anchor="{anchor}" font-size="{size}" '
-                           f'font-weight="{weight}" fill="{colour}">{escape(words)}</text>')
+                           f'font-weight="{weight}" fill="{colour}"{turned}>{escape(words)}</text>')
 
     def heading(self, y, words):
         self.text(self.left, y, words, size=15, weight="bold")

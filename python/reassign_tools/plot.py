@@ -80,8 +80,9 @@ def machines(words, instance, end, command):
 
 
 def picture_of(words):
-    names = filter(None, (words.report, words.model, words.initial))
-    command = "tools/plot " + shown(shlex.join(["--run"] * words.run + list(names)))
+    files = filter(None, (words.report, words.model, words.initial))
+    options = ["--run"] * words.run + (["--names", words.names] if words.names else [])
+    command = "tools/plot " + shown(shlex.join([*options, *files]))
     instance = Instance(words.model, words.initial) if words.model else None
     if is_list(words.report):
         if words.run or not instance:
