@@ -1,7 +1,9 @@
 """rounds: when they end, what they tell, and how the next one is chosen."""
 import json
 
-from common import ToolCase, put, text_of
+from common import ToolCase, put, run, text_of
+
+from reassign_tools.round_choices import BEST, PARTS, START
 
 
 def lines_of(name):
@@ -28,6 +30,23 @@ class Rounds(ToolCase):
         self.expect(0, "rounds", *again, "--proposals", 1000, "--slack", "auto")
         self.assertEqual([one["cost"] for one in lines_of("log2")], costs)
 
+    def test_parts(self):
+        """Rounds go on with parts, of which each run is made again by the log."""
+        model, initial = self.make_instance("parts", 20, 400, 3, 3)
+        words = [model, initial, "--out", "parts/best", "--workers", 1, "--budget", 20_000, "--log", "parts/log"]
+        self.expect(0, "rounds", *words, "--rounds", 3)
+        rounds = lines_of("parts/log")
+        self.assertEqual([one["begins"] for one in rounds], ["start", "parts", "parts"])
+        runs = sum(one["runs"] for one in rounds)
+        self.assertGreater(runs, 3)
+        self.assertEqual([one["seed"] for one in rounds], [1, 17, 17 + 16 * rounds[1]["runs"]])
+        self.assertEqual(rounds[-1]["cost"], self.cost(model, initial, "parts/best"))
+        log = run("sh", "parts/best.rounds/log")
+        accepted = [int(line.split()[1]) for line in log.stdout.splitlines() if line.startswith("accepted ")]
+        self.assertEqual((log.returncode, len(accepted), sum(accepted)), (0, runs, 60_000), log.stdout + log.stderr)
+        self.expect(0, "rounds", *words, "--rounds", 1, "--keep", "--slack", 30)
+        self.assertEqual((lines_of("parts/log")[3]["round"], lines_of("parts/log")[3]["slack"]), (4, 30))
+
     def test_seconds(self):
         model, initial = self.make_instance("timed", 20, 100, 3, 2)
         self.expect(0, "rounds", model, initial, "--out", "timed/best", "--workers", 1, "--seconds", "0.01")
@@ -44,7 +63,7 @@ class Rounds(ToolCase):
     def test_words(self):
         words = ["model", "initial", "--out", "x"]
         for more in (["--seconds", 0], ["--seconds", "x"], ["--seconds", 1, "--rounds", 1], ["--proposals", 0], ["--slack", "some"],
-                     ["--log", "model"], ["--log", "x"]):
+                     ["--log", "model"], ["--log", "x"], ["--part", 1], ["--model-from", "initial", "--part", 0]):
             self.expect(2, "rounds", *words, *more)
 
     def test_call(self):
@@ -60,42 +79,74 @@ class Rounds(ToolCase):
 class Choices(ToolCase):
     """The choice of a round, by what is said to have come of those before."""
 
-    def played(self, rounds, found, slack=None, can_begin_anew=True):
-        """The choices of so many rounds, if `found` says what each comes to."""
+    def played(self, rounds, found, slack=None, can_begin_anew=True, processes=1000, has_parts=True):
+        """The choices of so many rounds of 100,000 proposals, if `found` says what each comes to."""
         from reassign_tools.round_choices import Chooser
-        chooser, best, made = Chooser(1_000_000, 1000, slack), 1_000_000, []
+        chooser, best, made = Chooser(1000 * processes, processes, slack), 1000 * processes, []
         for _ in range(rounds):
-            choice = chooser.next(best, bool(made), can_begin_anew)
+            choice = chooser.next(best, bool(made), can_begin_anew, has_parts)
             cost = found(choice, best)
-            chooser.learn(choice, cost, best)
+            chooser.learn(choice, cost, best, 100_000)
             best = min(best, cost) if cost is not None else best
             made.append(choice)
         return made
 
+    def kinds(self, *words, **more):
+        return [choice.kind for choice in self.played(*words, **more)]
+
     def test_goes_on(self):
         """As long as going on gains much, nothing begins anew after the first round."""
-        made = self.played(12, lambda choice, best: 500_000 if choice.is_anew else best - 5_000)
-        self.assertEqual([choice.is_anew for choice in made], [True] + [False] * 11)
+        made = self.kinds(12, lambda choice, best: 500_000 if choice.kind == START else best - 5_000)
+        self.assertEqual(made, [START] + [PARTS] * 11)
+
+    def test_few_proposals(self):
+        """All processes go on at once until they had 40 proposals each; and if nothing may be a part."""
+        found = lambda choice, best: best - 5_000
+        self.assertEqual(self.kinds(6, found, processes=10_000), [START] + [BEST] * 3 + [PARTS] * 2)
+        self.assertEqual(self.kinds(6, found, has_parts=False), [START] + [BEST] * 5)
+
+    def test_all_at_once_if_parts_find_nothing(self):
+        found = lambda choice, best: {START: 500_000, BEST: best - 5_000, PARTS: None}[choice.kind]
+        self.assertEqual(self.kinds(8, found, can_begin_anew=False), [START, PARTS] + [BEST] * 6)
+
+    def test_two_runs_that_end(self):
+        """If a run from the true start comes to its end, a second one follows."""
+        found = lambda choice, best: 10_000 if choice.kind == START else best - 50
+        self.assertEqual(self.kinds(5, found, processes=200), [START, START] + [PARTS] * 3)
 
     def test_begins_anew(self):
         """If going on gains nothing, nearly all rounds begin anew, and have the slack of least mean cost."""
-        made = self.played(30, lambda choice, best: 500_000 + 1_000 * choice.slack if choice.is_anew else None)
-        anew = [choice.slack for choice in made if choice.is_anew]
+        made = self.played(30, lambda choice, best: 500_000 + 1_000 * choice.slack if choice.kind == START else None)
+        anew = [choice.slack for choice in made if choice.kind == START]
         self.assertGreater(len(anew), 20)
-        self.assertEqual(set(anew), {0, 2, 10, 30})
+        self.assertEqual(set(anew), {0, 5, 10, 20})
         self.assertGreater(anew.count(0), len(anew) // 2)
 
     def test_slack_of_going_on(self):
-        """Rounds that go on have the slack that gains most, and try the others from time to time."""
-        made = self.played(30, lambda choice, best: 500_000 if choice.is_anew else best - (900 if choice.slack == 2 else 300))
-        on = [choice.slack for choice in made if not choice.is_anew]
+        """Rounds that go on with all processes have the slack that gains most, and try the others from time to time."""
+        gain = lambda choice: 900 if choice.slack == 2 else 300
+        made = self.played(30, lambda choice, best: 500_000 if choice.kind == START else best - gain(choice), has_parts=False)
+        on = [choice.slack for choice in made if choice.kind == BEST]
         self.assertGreater(on.count(2), len(on) // 2)
         self.assertGreater(on[10:].count(0) + on[10:].count(10), 1)
 
+    def test_slack_of_parts(self):
+        """Runs on parts have the slack that gains most for each proposal, and try the others from time to time."""
+        from reassign_tools.round_choices import Chooser
+        chooser, used = Chooser(1_000_000, 1000), []
+        for number in range(60):
+            used.append(chooser.part_slack())
+            proposals = 1000 + 100 * (number % 7)
+            chooser.learn_part(used[-1], proposals * (3 if used[-1] == 10 else 2), proposals)
+        self.assertEqual(used[:3], [20, 40, 10])
+        self.assertGreater(used.count(10), 35)
+        self.assertTrue(all(used[20:].count(slack) >= 2 for slack in (20, 40)))
+
     def test_given(self):
-        made = self.played(10, lambda choice, best: best - 1, slack=7)
+        made = self.played(10, lambda choice, best: best - 1, slack=7, has_parts=False)
         self.assertEqual({choice.slack for choice in made}, {7})
 
     def test_closed(self):
-        made = self.played(10, lambda choice, best: best - 1 if choice.is_anew else None, can_begin_anew=False)
-        self.assertEqual([choice.is_anew for choice in made], [True] + [False] * 9)
+        """A list that empties closed machines isn't left for the true start."""
+        made = self.kinds(10, lambda choice, best: best - 1 if choice.kind == START else None, can_begin_anew=False)
+        self.assertEqual(made.count(START), 1)

@@ -18,6 +18,7 @@ NEW has the best list so far. For example
 import copy
 import random
 from collections import Counter
+from itertools import chain
 
 from .files import Room, list_text, read_list, target, write_whole
 from .going_on import going_on
@@ -158,7 +159,7 @@ class Evacuation:
         """Puts the others back who needn't have moved: all of them, else by halves, in which those stand together whose
         services depend on each other; and anew, since one who went back may make room for another."""
         before = after = len(self.others())
-        places = self.model.places_by_dependency()
+        places = {service: place for place, service in enumerate(chain(*self.model.groups()))}
         while after and self.checks:
             groups = [sorted(self.others(), key=lambda p: (places[self.model.service[p]], p))]
             while groups:

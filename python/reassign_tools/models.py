@@ -159,22 +159,24 @@ class Model:
             members[service].append(process)
         return members
 
-
-    def places_by_dependency(self):
-        """A place for each service, in an order in which those that depend on each other stand together."""
+    def groups(self):
+        """The services in groups: two that depend on each other, directly or through others, are in one."""
         near = [set(needs) for needs in self.needs]
         for service, needs in enumerate(self.needs):
             for needed in needs:
                 near[needed].add(service)
-        places = {}
+        groups, seen = [], set()
         for first in range(self.services):
-            coming = [first]
+            group, coming = [], [first]
             while coming:
                 service = coming.pop()
-                if service not in places:
-                    places[service] = len(places)
-                    coming += sorted(near[service] - places.keys(), reverse=True)
-        return places
+                if service not in seen:
+                    seen.add(service)
+                    group.append(service)
+                    coming += sorted(near[service] - seen, reverse=True)
+            if group:
+                groups.append(group)
+        return groups
 
 
 def same_sizes(model, name, *lists):
