@@ -1,4 +1,4 @@
-"""The model of a run that goes on from a list, so that whatever it makes is feasible from the true start (docs/ROUNDS.md)."""
+"""The model of a run that goes on from a list, so that whatever it makes is feasible from the true start (python/ROUNDS.md)."""
 import copy
 import multiprocessing
 import os

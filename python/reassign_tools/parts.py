@@ -1,4 +1,4 @@
-"""Parts of a model: some processes that may move while all others stay where a list has them (docs/ROUNDS.md)."""
+"""Parts of a model: some processes that may move while all others stay where a list has them (python/ROUNDS.md)."""
 import random
 from dataclasses import dataclass, replace
 

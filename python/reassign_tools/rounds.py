@@ -1,7 +1,7 @@
 """Goes on from round to round, after the 1,000,000 proposals that one run may have.
 
 A round has as many proposals as one run may have, or --budget. It is one run of `reassign solve` from the true start, INITIAL;
-or it goes on from the best list so far, in models in which whatever a run makes is feasible from INITIAL too (docs/ROUNDS.md
+or it goes on from the best list so far, in models in which whatever a run makes is feasible from INITIAL too (python/ROUNDS.md
 says why). It goes on with all processes at once as long as these had few proposals, and then with parts: a run moves some
 processes, whose moves cost there exactly what they cost from INITIAL, and the others stay. A list is kept if `reassign check`
 from INITIAL calls it better. No list is kept, and no round begins at one, that has somebody on a closed machine who isn't
